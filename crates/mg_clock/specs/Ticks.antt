@@ -52,8 +52,8 @@ pub record BeginsTick (tick allowed : ℕ) (old new : ClockSeen) (timing : Timin
   pub read : IsReadUntilDue tick now old new
   pub timing_is : timing ≡ timing_of tick allowed now
 
--- A schedule waits for a step. Either the next tick begins, or a message arrived before the tick was
--- due: at most 20 times before each tick.
+-- A schedule waits for a step. Either the next tick begins, or a message arrived before the tick
+-- was due, which happens at most 20 times before each tick.
 abbrev pub StepBegins : TickSchedule → (old new : ClockSeen) → Step → TickSchedule → Type 0
 StepBegins s old new (Tick timing) next =
     BeginsTick (s.ticks + 1) s.allowed old new timing

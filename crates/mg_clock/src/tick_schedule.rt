@@ -18,7 +18,7 @@ pub struct TickSchedule {
     pub ticks: u64,
     /// The maximum lateness, in ticks of 20 ms, at which a tick's packets are still sent.
     pub allowed: u16,
-    /// How many messages were reported since the last tick began.
+    /// How many messages have been reported since the last tick began.
     pub messages: u16,
 }
 
@@ -38,8 +38,8 @@ impl TickSchedule {
     /// Waits until the next tick is due, and then begins it; returns early if a message arrives. After a delay, all
     /// missed ticks are due at once. At most 20 messages are reported before each tick.
     ///
-    /// [`ClockFailed`]: the clock can't be read, or 18,446,744,073,709,551,615 ticks have begun, or as many readings in
-    /// a row came before the tick was due.
+    /// [`ClockFailed`]: the clock can't be read, or 18,446,744,073,709,551,615 ticks have begun, or that many readings
+    /// in a row came before the tick was due.
     pub fn next_step<K: Watch>(&mut self, watch: &mut K) -> Result<Step, ClockFailed>
         ensures begins { IfOk result (λ step. StepBegins self.old
             (clock_seen (K.readings watch.old) (K.waits watch.old))

@@ -66,8 +66,8 @@ abbrev pub is_all : ContextId → Bool
 is_all contexts.All = true
 is_all _ = false
 
--- The error that rejects an action as a whole, if there is one: it names all contexts, or has a
--- faulty property. The first faulty property in the text counts.
+-- The error with which an action is rejected as a whole, if there is one: the action names all
+-- contexts, or has a faulty property. The first faulty property in the text counts.
 abbrev pub action_fault : Action → Option ErrorNumber
 action_fault a =
     if is_all a.context then Some NotServed else first_after context_property_fault [] a.properties

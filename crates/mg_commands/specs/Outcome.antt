@@ -69,7 +69,7 @@ takes_all words.Subtract = true
 takes_all words.AuditValue = true
 takes_all _ = false
 
--- the members of an action's context, in order of entry; none if it does not exist
+-- the members of an action's context, in order of entry, or none if the context does not exist
 abbrev pub members_in : Gateway → Target → List ℕ
 members_in w (targets.Number c) = members_at w.rooms c
 members_in w _ = []

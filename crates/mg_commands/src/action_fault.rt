@@ -1,4 +1,4 @@
-//! Why an action is rejected as a whole, before its commands.
+//! Why an action is rejected as a whole, before its commands are tried.
 
 ghost use Rattle.std.specs.Prelude.{◌≡◌, [], not};
 ghost use Rattle.std.specs.List.{list_any};

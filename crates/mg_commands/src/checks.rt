@@ -1,4 +1,4 @@
-//! The checks before a command is run. They change nothing.
+//! The checks that are made before a command is run. They change nothing.
 
 ghost use Rattle.std.specs.Prelude.{◌≡◌};
 ghost use Rattle.mg_words.specs.declared.error_number.ErrorNumber.TheVariants.{NotServed};
@@ -55,7 +55,7 @@ fn unless(fault: Option<ErrorNumber>) -> Result<(), ErrorNumber>
     }
 }
 
-/// Returns what descriptors ask for, if they are supported.
+/// Returns what the descriptors ask for, if they are supported.
 fn check_descriptors(
     source: &[u8],
     descriptors: &[Descriptor],

@@ -16,7 +16,7 @@ use mg_words::FRAME_MS;
 /// What a command's descriptors ask for.
 #[derive(Debug, Drop)]
 pub struct CommandParameters {
-    /// The settings that it changes.
+    /// The settings that the command changes.
     pub settings: Settings,
     /// Whether it has an Audit descriptor.
     pub has_audit: bool,
@@ -120,7 +120,7 @@ impl CommandParameters {
     }
 }
 
-/// Returns what descriptors ask for.
+/// Returns what the descriptors ask for.
 pub fn parameters_of(source: &[u8], descriptors: &[Descriptor]) -> CommandParameters
     ensures value { result ≡ parameters_of source.now descriptors.now }
 {

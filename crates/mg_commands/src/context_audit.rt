@@ -1,4 +1,4 @@
-//! The audit of a context, which reports who hears whom for each pair of members.
+//! The audit of a context: for each pair of members, it reports who hears whom.
 
 ghost use Rattle.std.specs.Prelude.{◌≡◌, All, map};
 ghost use Rattle.mg_reply.specs.Reply.{after_all};
@@ -40,7 +40,7 @@ fn audit_pair(engine: &Engine, first: &NamedMember, second: &NamedMember) -> Ite
     pair_item(second_hears, first_hears, first, second)
 }
 
-/// Reports the pairs of this member with all members that entered later.
+/// Reports each pair that consists of this member and one that entered later.
 fn put_pairs_of(engine: &Engine, first: &NamedMember, later: &[NamedMember], reply: &mut Reply)
     requires first { IsOnSeat engine.now.rooms first.now }
     requires later { All (IsOnSeat engine.now.rooms) later.now }

@@ -9,7 +9,7 @@ use crate::part::Part;
 use mg_scan::Span;
 use mg_text::{ControlPart, Descriptor, ErrorNumber, MediaPart, OtherWord, StreamPart};
 
-/// Returns whether a property is `nt/jit`, the supported one, ignoring case.
+/// Returns whether a property is `nt/jit`, the only one that is supported. Case is ignored.
 #[tactic(auto, unfolding(crate::specs::DescriptorFault::is_jitter))]
 pub fn is_jitter(source: &[u8], name: Span) -> bool
     ensures value { result ≡ is_jitter source.now name }
@@ -60,7 +60,7 @@ fn is_same_part(source: &[u8], a: Part, b: Part) -> bool
     }
 }
 
-/// Returns the fault in a part: its word is repeated, or it is not supported but has content.
+/// Returns the fault in a part: a repeated word, or content in a part that is not supported.
 fn fault_of(appeared: bool, part: Part) -> Option<ErrorNumber>
     ensures value { result ≡ fault_of appeared part }
 {

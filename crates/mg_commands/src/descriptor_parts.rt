@@ -32,7 +32,7 @@ pub fn open_descriptor(descriptor: &Descriptor) -> (Part, &[MediaPart], &[AuditW
     }
 }
 
-/// An iterator over the parts of descriptors, in text order. Contracts see the list of remaining parts.
+/// An iterator over the parts of descriptors, in text order. In contracts, it appears as the list of remaining parts.
 #[derive(Drop)]
 pub struct DescriptorParts<'a> {
     descriptors: &'a [Descriptor],

@@ -13,12 +13,12 @@
 //!
 //! Commands are tried in order, action by action, up to the first that fails. Commands that were not tried are not
 //! reported. A rejected command leaves the engine unchanged. The topology and the audit of an action's context are
-//! processed after its commands, unless one of them failed and ended the action.
+//! processed after the action's commands, unless a command failed and ended the action.
 //!
 //! A Modify, Subtract or AuditValue on `*` (RFC 3525, section 6.2.2) is tried on each current member of the action's
-//! context, in order of entry. The reply has an item for each member. An error for one does not stop the others, but
-//! the command then counts as failed. If it cannot be tried at all, the reply has one item, named `*`. That happens,
-//! for example, if a descriptor is faulty or the context has no members.
+//! context, in order of entry. The reply has an item for each member. An error for one member does not stop the others,
+//! but the command then counts as failed. If the command cannot be tried at all, the reply has one item, named `*`.
+//! That happens, for example, if a descriptor is faulty or the context has no members.
 //!
 //! A command marked `O-` (section 8.2.2) is optional: if it fails, the reply reports its error, and the next commands
 //! are still tried. An action that is rejected as a whole always ends the request, even if its commands are optional.

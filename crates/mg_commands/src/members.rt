@@ -25,7 +25,7 @@ fn takes_all(word: CommandWord) -> bool
     }
 }
 
-/// Returns the members of an action's context, in order of entry: none if the context does not exist.
+/// Returns the members of an action's context, in order of entry, or none if the context does not exist.
 fn members_in(engine: &Engine, target: Target) -> &[u32]
     ensures value { (w : Gateway) → StandsFor engine.now w → result.now ≡ members_in w target }
     ensures few { length result.now ≤ MEMBERS }
@@ -36,7 +36,7 @@ fn members_in(engine: &Engine, target: Target) -> &[u32]
     }
 }
 
-/// Returns the members on which a command for all members is tried (RFC 3525, section 6.2.2): at least one.
+/// Returns the members on which a command for all members is tried (RFC 3525, section 6.2.2). There is at least one.
 pub fn all_members(
     engine: &Engine,
     target: Target,

@@ -20,7 +20,7 @@ pub enum Name {
     Other,
 }
 
-/// Parses the part of a name after `RTP/`.
+/// Parses the part of a name that follows `RTP/`.
 #[tactic(auto, unfolding(crate::specs::Name::name_in_rtp))]
 fn name_in_rtp(text: &[u8]) -> Name
     ensures value { result ≡ name_in_rtp text.now }

@@ -7,8 +7,8 @@ use mg_text::RtpName;
 use mg_words::MEMBERS;
 use std::marker::Model;
 
-/// A member of a context, together with the name of its termination, so that the name is built only once. Contracts see
-/// the member.
+/// A member of a context, together with the name of its termination, so that the name is built only once. In contracts,
+/// only the member appears.
 #[derive(Drop)]
 pub struct NamedMember {
     seated: SeatedMember,

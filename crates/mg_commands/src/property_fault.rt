@@ -7,7 +7,7 @@ use crate::part::Part;
 use mg_text::{ControlPart, Descriptor, ErrorNumber, PropertyValue};
 use mg_words::uint16_of;
 
-/// Parses the value of `nt/jit` in milliseconds: one to five digits, at most 65535.
+/// Parses the value of `nt/jit`, in milliseconds: a number of one to five digits, with a value of at most 65535.
 pub fn jitter_of(source: &[u8], value: Option<PropertyValue>) -> Option<u16>
     ensures value { result ≡ jitter_of source.now value }
 {

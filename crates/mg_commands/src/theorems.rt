@@ -23,7 +23,7 @@ pub fn refused_commands_change_nothing()
 
 /// Every request preserves the consistency of terminations and contexts.
 ///
-/// So they are consistent after any requests, and a proof can use this without an engine.
+/// So they are consistent after any sequence of requests, and a proof can use this without an engine.
 pub fn requests_are_consistent()
     ensures theorem { RequestsAreConsistent }
 {

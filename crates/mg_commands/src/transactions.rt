@@ -97,7 +97,7 @@ fn put_refusal(source: &[u8], command: &Command, number: ErrorNumber, reply: &mu
     reply.put(Item::Command(command.word, term, Outcome::Failed(number)));
 }
 
-/// Tries a command for all members that its context has when it starts, in order of entry.
+/// Tries a command for all members that its context has when the command starts, in order of entry.
 fn try_all(
     engine: &mut Engine,
     source: &[u8],

@@ -45,8 +45,8 @@ has_requests xs = list_any is_request xs
 
 -- ## A request
 
--- The reply to a request that is run, and the world after it, with the gateway after its commands
--- and the reply kept.
+-- The reply to a request that is run, and the world after the request: the gateway after the
+-- request's commands, with the reply kept.
 abbrev pub run_and_kept : List ℕ → ℕ → World → TransactionState → List ℕ × World
 run_and_kept sender n w s =
     let text = sent_text n s.items in (
@@ -76,7 +76,7 @@ without_ranges sender (x ∷ xs) replies =
 abbrev pub with_front : List ℕ → List ℕ × World → List ℕ × World
 with_front text p = (text ++ p.0, p.1)
 
--- What is written for an item of a sender, and the world after it. For a request: a separator and
+-- What is written for an item from a sender, and the world after it. For a request: a separator and
 -- its reply. For an acknowledgement: nothing.
 abbrev pub item_replied : List ℕ → List ℕ → List ℕ → MessageItem → World → List ℕ × World
 item_replied source sender mark (items.Request request) w =

@@ -88,8 +88,8 @@ hearing ticks x = change_line ticks x (codes " hears" ++ names_in_line x.talkers
 abbrev pub lines_of_old : ℕ → List Listener → Listener → List ℕ
 lines_of_old ticks after x = if is_some (listener_at after x.number) then [] else ended_line ticks x
 
--- A new termination is reported completely. For an existing one, only what changed: its context,
--- its mode, and whose speech flows to it.
+-- A new termination is reported completely. For an existing one, only what changed is reported: its
+-- context, its mode, and whose speech flows to it.
 abbrev pub lines_of_new : ℕ → Option Listener → Listener → List ℕ
 lines_of_new ticks None x =
     made_line ticks x ++ (in_mode ticks x ++

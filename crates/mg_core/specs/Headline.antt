@@ -1,5 +1,5 @@
--- The headline theorem: the flows, totals and packets of a gateway after any events, and what
--- follows for those who must not be heard.
+-- The headline theorem: the flows, totals and packets of a gateway after any sequence of events,
+-- and what follows for those who must not be heard.
 use Rattle.std.specs.Prelude.{◌≡◌, ℕ, ◌<◌, ◌^◌, ℤ, Bool, true, false, List, [], ◌∷◌, ◌++◌, Option}
 use Rattle.std.specs.List.{list_all}
 use Rattle.mg_rooms.specs.Consistent.{IsConsistent}
@@ -32,23 +32,23 @@ ExtendsHistory old new event sent =
     → HasHistory config events before w old
     → (next : World) × HasHistory config (events ++ event ∷ []) (before ++ sent) next new
 
--- After any events, the flow that is returned equals the one recomputed from the context, the
--- modes, and all edits of contexts.
+-- After any sequence of events, the flow that is returned equals the one recomputed from the
+-- context, the modes, and all edits of contexts.
 abbrev pub FlowIsRecomputed : CoreState → ℕ → ℕ → Bool → Type 0
 FlowIsRecomputed state talker listener answer =
     (config : Config) (events : List Event) (sent : List Sent) (w : World)
     → HasHistory config events sent w state → answer ≡ flow w.gateway talker listener
 
--- After any events, the total that is returned equals the one recomputed from the members of the
--- context, their modes and their current frames.
+-- After any sequence of events, the total that is returned equals the one recomputed from the
+-- members of the context, their modes and their current frames.
 abbrev pub TotalIsRecomputed : CoreState → ℕ → ℕ → Option ℤ → Type 0
 TotalIsRecomputed state context i answer =
     (config : Config) (events : List Event) (sent : List Sent) (w : World)
     → HasHistory config events sent w state → answer ≡ total_at w.gateway context i
 
--- After any events, the packets of a tick are exactly the recomputed ones, in order of the
--- terminations' numbers. Each byte of a payload encodes the sum, limited once, of everyone whose
--- flow to the listener is open.
+-- After any sequence of events, the packets of a tick are exactly the recomputed ones, in order of
+-- the terminations' numbers. Each byte of a payload encodes the sum, limited once, of everyone
+-- whose flow to the listener is open.
 abbrev pub PacketsAreRecomputed : CoreState → List Datagram → Type 0
 PacketsAreRecomputed state outbox =
     (config : Config) (events : List Event) (sent : List Sent) (w : World)
@@ -76,8 +76,8 @@ GatewayDeterminesFuture =
 abbrev pub IsStart : Config → Type 0
 IsStart config = IsValidConfig config × (config.first_termination < 2 ^ 32)
 
--- After any events, terminations and contexts are consistent. So the terminations are in order of
--- their numbers, and a tick sends its packets in that order.
+-- After any sequence of events, terminations and contexts are consistent. So the terminations are
+-- in order of their numbers, and a tick sends its packets in that order.
 abbrev pub WorldsAreConsistent : Type 0
 WorldsAreConsistent =
     (config : Config) (events : List Event) (sent : List Sent) (w : World)

@@ -25,8 +25,8 @@ seen_at port events = filter (λ e. not (is_elsewhere port e)) events
 abbrev pub AreSameToEachPort : List Event → List Event → Type 0
 AreSameToEachPort a b = (port : ℕ) → seen_at port a ≡ seen_at port b
 
--- Two lists of events that are the same to each port send the same datagrams in the same order,
--- and end in the same world.
+-- For two lists of events that are the same to each port, the gateway sends the same datagrams in
+-- the same order, and ends in the same world.
 abbrev pub PortOrderIsIrrelevant : Type 0
 PortOrderIsIrrelevant =
     (config : Config) (a b : List Event) (s t : List Sent) (v w : World)

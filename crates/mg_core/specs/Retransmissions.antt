@@ -143,8 +143,8 @@ DroppedRequestsAreRerun =
     → request_replied source same again last
     ≡ run_and_kept same again.number last (replied source again last.gateway)
 
--- After any events, the kept replies satisfy their invariant: there are at most 32, and they answer
--- different requests.
+-- After any sequence of events, the kept replies satisfy their invariant: there are at most 32, and
+-- no two answer the same request.
 abbrev pub RepliesAreKept : Type 0
 RepliesAreKept =
     (config : Config) (events : List Event) (sent : List Sent) (w : World)

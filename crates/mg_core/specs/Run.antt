@@ -28,7 +28,7 @@ abbrev pub answer_line : Peer → List ℕ → List ℕ
 answer_line peer text =
     codes "say " ++ (peer_text peer ++ (codes " " ++ (escaped text ++ codes "\n")))
 
--- the line for a packet, its bytes in lower-case hexadecimal
+-- the line for a packet, with its bytes in lower-case hexadecimal
 abbrev pub packet_line : Datagram → List ℕ
 packet_line d =
     codes "rtp " ++ (decimal d.from ++
@@ -41,8 +41,8 @@ line_of (Packet d) = packet_line d
 abbrev pub lines_for : List Sent → List ℕ
 lines_for sent = flat_map line_of sent
 
--- Events run one after another, each in the world that the previous one left. For each, the lines
--- of what it sends are written, followed by the lines of what it changed.
+-- Events run one after another, each in the world that the previous one left. For each event, the
+-- lines for the datagrams sent are written, followed by the lines for what the event changed.
 abbrev pub ReportsChanges : World → List Event → List ℕ → World → Type 0
 ReportsChanges w [] text last = (text ≡ []) × (last ≡ w)
 ReportsChanges w (event ∷ events) text last =

@@ -72,7 +72,7 @@ bytes_of key spelled = spelled_bytes (spelling_of key) spelled
 abbrev pub an_event : Event → Option (Option Event)
 an_event e = Some (Some e)
 
--- three parts with one space between them: a media port, a peer, and hexadecimal digits
+-- three parts, separated by single spaces: a media port, a peer, and hexadecimal digits
 unfoldable pub rtp_of : List ℕ → Option (Option Event)
 rtp_of parts = do
   first ← cut 32 parts
@@ -83,8 +83,7 @@ rtp_of parts = do
   bytes ← datagram bytes
   an_event (Media port source bytes)
 
--- two parts after a line's first word, with one space between them: a peer, and the bytes of a
--- datagram
+-- the rest of a line after its first word: a peer, one space, and the bytes of a datagram
 unfoldable pub control_of : List ℕ → List ℕ → Option (Option Event)
 control_of key rest = do
   parts ← cut 32 rest

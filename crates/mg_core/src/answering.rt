@@ -24,10 +24,10 @@ use mg_text::{
 };
 use mg_words::SENDER_LIMIT;
 
-/// The maximum length of a reply and the line feed before it, in bytes.
+/// The maximum length, in bytes, of a reply together with the line feed before it.
 pub const REPLY_ROOM: usize = 1 + REPLY_LIMIT;
 
-/// Returns the error that rejects a message, or `None` if memory ran out.
+/// Returns the error with which a message is rejected, or `None` if memory ran out.
 pub fn refusal_of(fault: ReadFault) -> Option<ErrorNumber>
     ensures value { result ≡ refusal_of fault }
 {
@@ -39,7 +39,7 @@ pub fn refusal_of(fault: ReadFault) -> Option<ErrorNumber>
     }
 }
 
-/// Writes the error that rejects a message as a whole.
+/// Writes the error with which a message is rejected as a whole.
 #[tactic(auto, using(crate::proofs::AnswerLemmas::totals))]
 pub fn put_error(config: &Config, number: ErrorNumber, answer: &mut Bytes)
     requires room { HEAD_LIMIT + ERROR_LIMIT ≤ answer.old.room }
@@ -51,7 +51,7 @@ pub fn put_error(config: &Config, number: ErrorNumber, answer: &mut Bytes)
     write_error(number, answer);
 }
 
-/// Returns the items of a body: none if it is ignored.
+/// Returns the items of a body, or none if the body is ignored.
 pub fn items_of(body: &Body) -> &[MessageItem]
     ensures value { result.now ≡ items_of body.now }
 {
@@ -70,7 +70,7 @@ pub fn has_requests(items: &[MessageItem]) -> bool
         .any(|item| matches!(item, MessageItem::Request(_)))
 }
 
-/// Writes a reply, or an error in its place if it is too long: at most 16,000 bytes.
+/// Writes a reply of at most 16,000 bytes. If the reply is longer, writes an error instead.
 #[tactic(auto, using(crate::proofs::ReplyLemmas::sending))]
 fn put_reply(reply: &mut Reply, answer: &mut Bytes)
     requires whole { IsWhole reply.old }
@@ -152,7 +152,7 @@ fn acknowledge(kept: &mut Kept, sender: &[u8], ranges: &[Range])
     }
 }
 
-/// Handles an item of the message `source`. For a request, writes the separator `mark` and its reply.
+/// Handles an item of the message `source`. For a request, writes the separator `mark` and then the reply.
 ///
 /// Returns the separator before the next reply.
 #[tactic(auto, using(crate::proofs::ReplyLemmas::one_reply))]
@@ -191,7 +191,7 @@ fn put_item<'m>(
     }
 }
 
-/// Handles the items of the message `source`, and writes the replies to its requests with a line feed between them.
+/// Handles the items of the message `source`, and writes the replies to its requests, separated by line feeds.
 #[tactic(auto, using(crate::proofs::ReplyLemmas::replying))]
 pub fn put_replies(
     state: &mut CoreState,

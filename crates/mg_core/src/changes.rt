@@ -9,7 +9,7 @@ use itoa::Buffer;
 use mg_text::Bytes;
 use mg_words::{MEMBERS, Mode};
 
-/// The maximum length of a number in decimal, in bytes. The other constants are lengths in bytes, too.
+/// The maximum length, in bytes, of a number in decimal. The other constants are lengths in bytes, too.
 const NUMBER_LIMIT: usize = 20;
 
 /// The start of a line: `# `, ` ticks: RTP/` and two numbers.

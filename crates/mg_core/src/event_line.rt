@@ -12,16 +12,16 @@ use mg_text::{Bytes, write_port};
 use std::alloc::{AllocError, Global};
 use std::marker::Model;
 
-/// The maximum number of hexadecimal digits of a datagram.
+/// The maximum number of hexadecimal digits in a datagram.
 const DIGITS_ROOM: usize = 2 * DATAGRAM_LIMIT;
 
-/// The maximum length of what surrounds the digits of a datagram, in bytes: a peer, a space and a line feed.
+/// The maximum length, in bytes, of what surrounds the digits of a datagram: a peer, a space and a line feed.
 const DATAGRAM_START: usize = 2 + PEER_LIMIT;
 
 /// The maximum length of a line, in bytes: `rtp`, two spaces, a port, a peer, and the digits of a datagram.
 const LINE_ROOM: usize = 5 + PORT_LIMIT + DATAGRAM_START + DIGITS_ROOM;
 
-/// The script line of an event, which is built here and then written as a whole. Contracts see its text.
+/// The script line for an event. It is built here and then written as a whole. In contracts, it appears as its text.
 #[derive(Drop)]
 pub struct EventLine {
     line: Bytes,

@@ -7,7 +7,7 @@ use thiserror::Error;
 #[error("out of memory")]
 pub struct NoMemory;
 
-/// Why the lines of an event were not written completely.
+/// Why the lines for an event were not written completely.
 #[derive(Clone, Copy, Debug, PartialEq, Eq)]
 pub enum EventFault {
     Write,

@@ -39,7 +39,7 @@ fn watched_for(alloc: Global, shown: Shown) -> Result<Option<Watched>, AllocErro
     }
 }
 
-/// Makes the buffers of a runner: for the longest line, and for the terminations.
+/// Makes the buffers of a runner: one for the longest line, and one for the terminations.
 ///
 /// Fails only if the allocation does.
 fn outputs(alloc: Global, shown: Shown) -> Result<(Bytes, Option<Watched>), AllocError>

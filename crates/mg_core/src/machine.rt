@@ -31,13 +31,12 @@ use mg_text::{Bytes, ErrorNumber, HEAD_LIMIT, Message, REQUEST_LIMIT, Reply, rea
 use std::alloc::{AllocError, Global};
 use std::marker::Model;
 
-/// The maximum length of an answer, in bytes: a head and the replies to all requests, with a line feed
-/// between two replies.
+/// The maximum length, in bytes, of an answer: a head and the replies to all requests, separated by line feeds.
 pub const ANSWER_LIMIT: usize = HEAD_LIMIT + REQUEST_LIMIT * REPLY_ROOM - 1;
 
 /// The gateway as a state machine: datagrams and ticks go in, answers and packets come out.
 ///
-/// It opens nothing, waits for nothing, and reads no clock. It keeps no history, so contracts are about every world
+/// It opens nothing, waits for nothing, and reads no clock. It keeps no history, so its contracts hold for every world
 /// that its state represents, before and after a call.
 #[derive(Drop)]
 pub struct Core {
@@ -59,7 +58,7 @@ impl Model for Core {
     ghost invariant = { λ c. c.answer.room + length c.answer.text ≡ ANSWER_LIMIT };
 }
 
-/// Makes the store of kept replies, the reply under construction, and the buffer of answers.
+/// Makes the store of kept replies, the reply under construction, and the buffer for answers.
 ///
 /// Fails only if the allocation does.
 fn no_replies(alloc: Global) -> Result<(Kept, Reply, Bytes), AllocError>
@@ -181,7 +180,7 @@ impl Core {
         put_error(&config, number, &mut self.answer);
     }
 
-    /// Returns the text of the last answer: empty if there was none, or if memory ran out.
+    /// Returns the text of the last answer. It is empty if there was no answer, or if memory ran out.
     pub fn answer(&self) -> &[u8]
         ensures value { result.now ≡ self.now.answer }
     {
@@ -224,7 +223,7 @@ impl Core {
         self.outbox.as_slice()
     }
 
-    /// Returns whether a talker's speech flows to a listener: false if a number names no termination.
+    /// Returns whether a talker's speech flows to a listener, or false if either number names no termination.
     pub fn flow(&self, talker: u32, listener: u32) -> bool
         ensures value { (w : World) → StandsFor self.now.state w → result ≡ flow w.gateway talker listener }
         ensures headline { FlowIsRecomputed self.now.state talker listener result }
@@ -232,7 +231,7 @@ impl Core {
         self.state.engine.flow(talker, listener)
     }
 
-    /// Returns the sum of sample `i` over all talkers of a context in this tick, not limited to 16 bits.
+    /// Returns the sum of sample `i` over all talkers of a context in this tick. The sum is not limited to 16 bits.
     ///
     /// Returns `None` if the context does not exist, or if `i` is not below 160.
     pub fn total(&self, context: u32, i: usize) -> Option<i32>
@@ -289,7 +288,7 @@ impl Core {
         self.state.engine.stats(number)
     }
 
-    /// Returns how many rows of 160 samples were added, subtracted or written since the start, modulo 2^32.
+    /// Returns how many rows of 160 samples have been added, subtracted or written since the start, modulo 2^32.
     pub fn work(&self) -> u32
         ensures value { result ≡ self.now.state.engine.sums.work }
     {

@@ -15,14 +15,15 @@ use mg_words::ADDRESS_LIMIT;
 /// The maximum length of a peer, in bytes: an address, a colon and a port.
 pub const PEER_LIMIT: usize = ADDRESS_LIMIT + 1 + PORT_LIMIT;
 
-/// The maximum length of an answer's line, not counting the answer, in bytes: `say`, two spaces, a peer and a line
-/// feed.
+/// The maximum length, in bytes, of the line for an answer, not counting the answer itself: `say`, two spaces, a peer
+/// and a line feed.
 pub const LINE_START: usize = 6 + PEER_LIMIT;
 
-/// The number of hexadecimal digits of a packet.
+/// The number of hexadecimal digits in a packet.
 const DIGITS_LEN: usize = 2 * PACKET_LEN;
 
-/// The maximum length of a packet's line, in bytes: `rtp`, three spaces, a port, a peer, the digits and a line feed.
+/// The maximum length, in bytes, of the line for a packet: `rtp`, three spaces, a port, a peer, the digits and a line
+/// feed.
 const PACKET_LINE: usize = 7 + PORT_LIMIT + PEER_LIMIT + DIGITS_LEN;
 
 /// Writes a byte of text, escaped if necessary.

@@ -16,11 +16,12 @@ use std::io::{Read, Write};
 
 /// Runs a whole script on a new gateway, and writes a line for each answer and each packet.
 ///
-/// The lines of an event are written before more is read. `Ok` means that all of the input is a script, and that
-/// exactly the datagrams of its events were written. Its lines, events and datagrams are counted.
+/// The lines for an event are written before any more input is read. `Ok` means that all of the input is a script, and
+/// that exactly the datagrams sent in response to its events were written. The script's lines, events and datagrams are
+/// counted.
 ///
 /// A fault says how far the script was run, within the text that was read. The lines before the named line were run,
-/// and their output was written completely, before more was read:
+/// and their output was written completely before any more input was read:
 /// - `Script`: the first bad line has this number, and the lines before it were run.
 /// - `Read`: the lines whose ends had been read were run, and no others. A run also ends with `Read` after
 ///   4,294,967,295 reads.

@@ -13,7 +13,7 @@ use std::alloc::{AllocError, AllocFailed, Global};
 /// The maximum length of a script line, in bytes.
 pub const LINE_LIMIT: usize = 140000;
 
-/// The maximum length of a datagram, in bytes: the limit of UDP.
+/// The maximum length of a datagram, in bytes: UDP's own limit.
 pub const DATAGRAM_LIMIT: usize = 65535;
 
 /// Why a line was not parsed.
@@ -127,7 +127,7 @@ fn spelling_of(key: &[u8]) -> Option<Spelling>
     }
 }
 
-/// Parses the last part of a line, in the form that the first word of the line determines.
+/// Parses the last part of a line. The first word of the line says what form that part has.
 fn bytes_of(alloc: Global, key: &[u8], spelled: &[u8]) -> Result<Vec<u8>, ParseFault>
     ensures { Reads (λ bytes. bytes.items) result (bytes_of key.now spelled.now) }
 {
@@ -138,7 +138,7 @@ fn bytes_of(alloc: Global, key: &[u8], spelled: &[u8]) -> Result<Vec<u8>, ParseF
     }
 }
 
-/// Parses an RTP datagram: a port, a peer and hexadecimal digits, with one space between them.
+/// Parses an RTP datagram: a port, a peer and a string of hexadecimal digits, separated by single spaces.
 #[tactic(auto, unfolding(crate::specs::Script::rtp_of))]
 fn rtp_of(alloc: Global, parts: &[u8]) -> Result<Option<Event>, ParseFault>
     ensures { Reads (λ event. event) result (rtp_of parts.now) }
@@ -162,7 +162,7 @@ fn rtp_of(alloc: Global, parts: &[u8]) -> Result<Option<Event>, ParseFault>
     Ok(Some(Event::Media(port, source, TreeList::new(bytes))))
 }
 
-/// Parses a control datagram after its first word: a peer and bytes, with one space between them.
+/// Parses the rest of a control datagram's line: a peer, one space, and then the bytes.
 #[tactic(auto, unfolding(crate::specs::Script::control_of))]
 fn control_of(alloc: Global, key: &[u8], rest: &[u8]) -> Result<Option<Event>, ParseFault>
     ensures { Reads (λ event. event) result (control_of key.now rest.now) }
@@ -194,7 +194,7 @@ fn datagram_of(alloc: Global, line: &[u8]) -> Result<Option<Event>, ParseFault>
     control_of(alloc, key, rest)
 }
 
-/// Returns whether a line has no event: it is empty or a comment.
+/// Returns whether a line has no event because it is empty or a comment.
 fn is_comment(line: &[u8]) -> bool
     ensures value { result ≡ is_comment line.now }
 {

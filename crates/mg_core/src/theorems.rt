@@ -62,9 +62,9 @@ pub fn retransmissions_are_answered_alike()
     mg_kept::theorems::kept_reply_is_found();
 }
 
-/// A retransmitted request gets the same answer until its reply is acknowledged, or 32 other replies have been kept.
+/// A retransmitted request gets the same answer until its reply is acknowledged or 32 other replies have been kept.
 ///
-/// After that it is run again. Kept replies answer different requests.
+/// After that it is run again. No two kept replies answer the same request.
 pub fn replies_persist()
     ensures last { RepliesPersist }
     ensures newest { NewReplyIsNewest }
@@ -78,7 +78,7 @@ pub fn replies_persist()
     mg_kept::theorems::replies_stay_while_few_are_newer();
 }
 
-/// The terminations and contexts are consistent after any events.
+/// The terminations and contexts are consistent after any sequence of events.
 ///
 /// They are within the limits; no two have the same number, slot or seat; members and records agree. Terminations are
 /// in order of their numbers, so a tick sends its packets in that order.
@@ -92,7 +92,8 @@ pub fn worlds_are_consistent()
 /// The order of packets from different callers does not matter.
 ///
 /// Suppose two lists of events have the same control datagrams and ticks, and between these each port receives the same
-/// RTP datagrams in the same order. Then both lists send the same datagrams and end in the same world.
+/// RTP datagrams in the same order. Then the gateway sends the same datagrams and ends in the same world for both
+/// lists.
 pub fn port_order_is_irrelevant()
     ensures events { PortOrderIsIrrelevant }
     ensures histories { PortOrderInHistories }
@@ -120,7 +121,7 @@ pub fn unheard_changes_nothing()
     mg_commands::theorems::requests_keep_agreement();
 }
 
-/// The lines that report an event's changes determine its outcome. If nothing changed, there are none.
+/// The lines that report an event's changes determine the event's outcome. If nothing changed, there are no such lines.
 pub fn changes_are_reported()
     ensures complete { ReportDeterminesOutcome }
     ensures exact { OnlyChangesAreReported }
@@ -140,12 +141,13 @@ pub fn recordings_are_read()
     ensures cut { CutRecordingsAreRead }
 {}
 
-/// The headline theorem: the parts of the headline that the contracts of a core's calls do not state.
+/// The headline theorem: the parts of the headline that go beyond the contracts of a core's calls.
 ///
-/// The clauses `headline` and `packets` of a [`Core`](crate::Core) say that after any events, what it returns and sends
-/// equals what is recomputed from the resulting world. This theorem states the rest. The events determine that world
-/// and the content of each packet. Packets are sent in order of the terminations' numbers. A rejected command changes
-/// nothing, not even a later packet. Nobody hears himself, and an isolated participant is not heard.
+/// The clauses `headline` and `packets` of a [`Core`](crate::Core) say that after any sequence of events, what the core
+/// returns and sends equals what is recomputed from the resulting world. This theorem states the rest. The events
+/// determine that world and the content of each packet. Packets are sent in order of the terminations' numbers. A
+/// rejected command changes nothing, not even a later packet. Nobody hears himself, and an isolated participant is not
+/// heard.
 pub fn headline()
     ensures world { EventsDetermineOutcome }
     ensures packets { PayloadsAreMixes }

@@ -14,14 +14,14 @@ use std::io::Write;
 use std::marker::Model;
 use std::mem;
 
-/// The maximum length of the reported changes, in bytes: every termination ends and as many new ones are made.
+/// The maximum length of the reported changes, in bytes, if every termination ends and as many new ones are made.
 const CHANGES_LIMIT: usize = TERMINATIONS * (ENDED_LIMIT + NEW_LIMIT);
 
-/// The terminations of a gateway after its last changes. Contracts see them as a list.
+/// The terminations of a gateway after its last changes. In contracts, they appear as a list.
 #[derive(Drop)]
 pub struct Watched {
     listeners: KeptListeners,
-    /// The terminations after a change, while it is written.
+    /// The terminations after a change, while the change is being written.
     next: KeptListeners,
     text: Bytes,
 }

@@ -1,5 +1,5 @@
--- Who hears whom, by modes and by everything that happened (RFC 3525, sections 7.1.7 and 7.1.18).
--- That a newcomer and each member hear each other is this project's own rule.
+-- Who hears whom, as determined by modes and by everything that has happened (RFC 3525, sections
+-- 7.1.7 and 7.1.18). That a newcomer and each member hear each other is this project's own rule.
 use Rattle.std.specs.Prelude.{ℕ, ◌==◌, ◌&&◌, ◌||◌, not, Bool, true, List, [], ◌∷◌, is_some}
 use Rattle.std.specs.Prelude.{if◌then◌else◌}
 use Rattle.std.specs.List.{list_any}
@@ -21,7 +21,7 @@ mentions first second a b = is_forward first second a b || is_forward first seco
 
 -- Whether the last word on a pair lets the listener hear the talker, looking back from the newest
 -- edit. The last word is the last triple that mentions the pair after both entered their context.
--- Without one, each hears the other.
+-- Without a last word, each hears the other.
 abbrev pub may_hear : List ContextEdit → ℕ → ℕ → Bool
 may_hear [] talker listener = true
 may_hear (Enter n ∷ es) talker listener =
@@ -44,8 +44,8 @@ share_context w a b =
 abbrev pub hears : Gateway → ℕ → ℕ → Bool
 hears w talker listener = share_context w talker listener && may_hear w.edits talker listener
 
--- whether the talker is silenced for the listener: they share a context, it talks, and the last
--- word mutes it for the listener
+-- whether the talker is silenced for the listener: they share a context, the talker talks, and the
+-- last word mutes it for the listener
 abbrev pub is_silenced : Gateway → ℕ → ℕ → Bool
 is_silenced w talker listener =
     share_context w talker listener

@@ -68,7 +68,7 @@ progress_of s = (s.number, (s.ticks, (s.packets, s.sent_last)))
 
 -- A packet depends only on the configuration, the terminations and contexts, all edits, the
 -- progress of the listener's packets, and certain frames. These are the frames of those whose
--- speech flows to the listener; in Loopback, its own.
+-- speech flows to the listener or, in Loopback, the listener's own frame.
 abbrev pub PacketsDependOnHeard : Type 0
 PacketsDependOnHeard =
     (a b : Gateway) (r : Record) → a.config ≡ b.config → a.rooms ≡ b.rooms → a.edits ≡ b.edits

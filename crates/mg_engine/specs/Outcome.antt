@@ -1,4 +1,5 @@
--- The outcome of an edit: its error, or the gateway after it with what it changed.
+-- The outcome of an edit: its error, or the gateway after the edit together with what the edit
+-- changed.
 use Rattle.std.specs.Prelude.{ℕ, List, ◌++◌, [], ◌∷◌, Some, None, Result, Ok, Err}
 use Rattle.mg_rooms.specs.declared.record.Record.{Record}
 use Rattle.mg_rooms.specs.declared.target.Target.{Target}

@@ -45,7 +45,7 @@ concealed_in_tick w = count_by (conceals w) (numbers_of w)
 
 -- ## Packets
 
--- whether a mode sends to its peer
+-- whether a termination in this mode sends to its peer
 abbrev pub sends : Mode → Bool
 sends Inactive = false
 sends ReceiveOnly = false

@@ -9,7 +9,7 @@ use Rattle.mg_engine.specs.Mix.{is_loopback}
 use Rattle.mg_engine.specs.Tick.{sent_to}
 
 -- how many talkers are silenced for a listener: other members of its context that talk, but that
--- the last word mutes for it
+-- the last word mutes for this listener
 abbrev pub silenced_for : Gateway → ℕ → ℕ
 silenced_for w listener = count_by (λ talker. is_silenced w talker listener) (numbers_of w)
 

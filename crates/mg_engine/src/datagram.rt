@@ -12,7 +12,7 @@ use mg_words::{Peer, SAMPLES};
 /// An RTP packet to be sent.
 #[derive(Clone, Copy, Debug, PartialEq, Eq)]
 pub struct Datagram {
-    /// The gateway's media port that it is sent from.
+    /// The media port from which the gateway sends the packet.
     pub from: u16,
     /// The destination.
     pub to: Peer,

@@ -77,7 +77,7 @@ pub struct Engine {
     media: Vec<HeldMedia>,
     /// The slots of terminations, in order of their numbers.
     held: ArrayVec<u8, TERMINATIONS>,
-    /// Who hears whom, by the places of members.
+    /// Who hears whom, in terms of the members' places.
     flows: FlowTable,
     /// The slot of the member at each place.
     seating: Seating,
@@ -207,7 +207,7 @@ impl Engine {
         self.config.limits().slot_port(slot)
     }
 
-    /// Returns who hears whom, by the places of members.
+    /// Returns who hears whom, in terms of the members' places.
     pub fn flows(&self) -> &FlowTable
         ensures value { result.now ≡ self.now.flows }
         ensures represented { (w : Gateway) → StandsFor self.now w → RepresentsFlows w result.now }
@@ -215,7 +215,7 @@ impl Engine {
         &self.flows
     }
 
-    /// Returns the frame of each termination, in the row of its slot, and the total of each context, in its room.
+    /// Returns the sums: each termination's frame is in the row of its slot, and each context's total is in its room.
     pub fn sums(&self) -> &Sums
         ensures value { result.now ≡ self.now.sums }
         ensures represented { (w : Gateway) → StandsFor self.now w → RepresentsTotals w result.now }
@@ -261,7 +261,7 @@ impl Engine {
         }
     }
 
-    /// Makes a termination in the action's context, and that context if it is new (RFC 3525, section 7.2.1).
+    /// Makes a termination in the action's context, and makes that context too if it is new (RFC 3525, section 7.2.1).
     pub fn add(&mut self, target: Target, settings: &Settings) -> Result<Record, ErrorNumber>
         ensures outcome { (w : Gateway) → StandsFor self.old w → IsOutcome self.new result (add w target settings.now) }
         ensures refused { OnErr result (self.new ≡ self.old) }
@@ -351,7 +351,8 @@ impl Engine {
         }
     }
 
-    /// Returns the context to which the triples of an action would be applied, or the error if it does not exist.
+    /// Returns the context to which the triples of an action would be applied, or the error if that context does not
+    /// exist.
     ///
     /// A topology without triples has the same result.
     pub fn topology_context(&self, target: Target) -> Result<u32, ErrorNumber>
@@ -417,7 +418,7 @@ impl Engine {
         }
     }
 
-    /// Returns whether a talker's speech flows to a listener: false if a number names no termination.
+    /// Returns whether a talker's speech flows to a listener, or false if either number names no termination.
     pub fn flow(&self, talker: u32, listener: u32) -> bool
         ensures value { (w : Gateway) → StandsFor self.now w → result ≡ flow w talker listener }
     {
@@ -433,7 +434,7 @@ impl Engine {
 
     /// Returns whether `listener` hears `talker`, regardless of modes.
     ///
-    /// The listener hears the talker if they are different members of the same context and the last word on the two
+    /// The listener hears the talker if they are different members of the same context and the last word on the pair
     /// allows it. The first argument is the listener.
     pub fn hears(&self, listener: u32, talker: u32) -> bool
         ensures value { (w : Gateway) → StandsFor self.now w → result ≡ hears w talker listener }
@@ -470,7 +471,7 @@ impl Engine {
         self.flows.hears(to, from)
     }
 
-    /// Returns the sum of sample `i` over all talkers of a context in this tick, not limited to 16 bits.
+    /// Returns the sum of sample `i` over all talkers of a context in this tick. The sum is not limited to 16 bits.
     ///
     /// Returns `None` if the context does not exist, or if `i` is not below 160.
     pub fn total(&self, context: u32, i: usize) -> Option<i32>
@@ -483,7 +484,7 @@ impl Engine {
         Some(*self.sums.total(Room::new(room), i))
     }
 
-    /// Returns how many rows of samples were added, subtracted or written since the start, modulo 2^32.
+    /// Returns how many rows of samples have been added, subtracted or written since the start, modulo 2^32.
     pub fn work(&self) -> u32
         ensures value { result ≡ self.now.sums.work }
     {
@@ -555,7 +556,7 @@ impl Engine {
         self.held[i]
     }
 
-    /// Appends the packet of the termination in a slot, if it sends.
+    /// Appends the packet from the termination in a slot, if that termination sends.
     fn put_packet(&mut self, slot: u8, outbox: &mut Outbox)
         requires room { length outbox.old.items < TERMINATIONS }
         requires shared { AreShared self.old outbox.old.items }
@@ -577,8 +578,7 @@ impl Engine {
         self.address(&sender, to, outbox);
     }
 
-    /// Completes the last packet of an outbox, whose payload is already set, as a packet from a termination to its
-    /// peer.
+    /// Completes the last packet in an outbox as a packet from a termination to its peer. The payload is already set.
     fn address(&self, sender: &Record, to: Chosen, outbox: &mut Outbox)
         requires member { record_at self.now.rooms sender.now.number ≡ Some sender.now }
         requires last { 0 < length outbox.old.items }
@@ -599,7 +599,8 @@ impl Engine {
 
     /// Appends a packet whose payload is what is sent to a member. The packet's header and addresses are set later.
     ///
-    /// In Loopback that is its own frame, otherwise the sum of the speech that flows to it.
+    /// In Loopback the payload is the member's own frame; otherwise it is the sum of the speech that flows to the
+    /// member.
     fn put_payload(&mut self, sender: &Record, law: Law, outbox: &mut Outbox)
         requires member { record_at self.old.rooms sender.now.number ≡ Some sender.now }
         requires sends { IsTrue (sends sender.now.mode) }
@@ -656,7 +657,7 @@ impl Engine {
         push_payload(outbox, &payload);
     }
 
-    /// Encodes a room's total, minus the listener and the talkers silenced for it.
+    /// Encodes a room's total, minus the frames of the listener and of the talkers silenced for it.
     fn mix(&mut self, listener: &Record, place: Place, law: Law) -> [u8; SAMPLES]
         requires place { IsOnPlace self.old.rooms listener.now.number listener.now place }
         requires listens { IsTrue (listens listener.now.mode) }
@@ -775,7 +776,7 @@ fn stats_in(media: &[HeldMedia], slot: u8) -> Stats
     media[usize::from(slot)].stats()
 }
 
-/// Returns the action's context with its room, or the error if it does not exist.
+/// Returns the action's context with its room, or the error if that context does not exist.
 fn topology_room(rooms: &Rooms, target: Target) -> Result<TopologyRoom, ErrorNumber>
     requires sound { IsSound rooms.now }
     ensures value { MatchResult result
@@ -800,7 +801,7 @@ fn slot_of(rooms: &Rooms, number: u32) -> Option<u8>
     rooms.record(number).map(|record| record.slot)
 }
 
-/// Sets the depth of a slot's play list, if a command specifies one.
+/// Sets the depth of a slot's play list, if a command specifies a depth.
 fn tune(media: &mut Vec<HeldMedia>, slot: u8, depth: Option<u16>)
     requires slot { slot < length media.old.items }
     ensures tuned { media.new.items ≡ slice_set media.old.items slot

@@ -9,7 +9,7 @@ ghost use Rattle.mg_engine.specs.aids.Joined.{SetsRow, room_for};
 use mg_rooms::{Mode, mode_talks};
 use mg_sums::{Room, Row, Sums};
 
-/// Returns the room that a member's row is joined to: the member's room if its mode talks, otherwise none.
+/// Returns the room that a member's row is joined to: the member's room if the member talks, otherwise none.
 fn room_for(mode: Mode, room: u8) -> Option<Room>
     requires room { room < context_limit }
     ensures value { result ≡ room_for mode room }
@@ -58,7 +58,7 @@ fn join(sums: &mut Sums, row: Row, room: Option<Room>)
     }
 }
 
-/// Joins a member's row to its room if its mode talks, and to no room otherwise.
+/// Joins a member's row to the member's room if the member talks, and to no room otherwise.
 pub fn join_if_talking(sums: &mut Sums, row: Row, room: u8, mode: Mode)
     requires room { room < context_limit }
     ensures rooms { SetsRow sums.old.rooms sums.new.rooms row (room_for mode room) }

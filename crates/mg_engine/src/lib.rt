@@ -18,9 +18,9 @@
 //! silences for the listener. In Loopback a termination is sent its own frame, which costs no rows. Two listeners in a
 //! context share a payload if they hear the same talkers and use the same law, and if the payload is among the
 //! context's newest eight. `specs/Work.antt` has the proved bound for a tick. An edit costs at most four rows, and an
-//! RTP datagram none.
+//! RTP datagram costs none.
 //!
-//! The engine keeps no history, so one state may represent several gateways. Its contracts are about every `Gateway`
+//! The engine keeps no history, so one state may represent several gateways. Its contracts hold for every `Gateway`
 //! (`specs/Gateway.antt`) that the state represents, before and after a call (`StandsFor` in `specs/Stands.antt`).
 #![tactic(auto)]
 

@@ -66,7 +66,7 @@ impl HeldMedia {
         self.is_sending = false;
     }
 
-    /// Sets the depth of the play list, within the limits, if a command specifies one.
+    /// Sets the depth of the play list, within the limits, if a command specifies a depth.
     pub fn tune(&mut self, depth: Option<u16>)
         ensures value { self.new ≡ slot_tuned depth self.old }
     {

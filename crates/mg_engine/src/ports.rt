@@ -7,7 +7,7 @@ use mg_rooms::Limits;
 use std::alloc::{AllocError, Global};
 use std::marker::Model;
 
-/// The slots of the media ports. Contracts see the limits that define the pool.
+/// The slots of the media ports. In contracts, the pool appears as the limits that define it.
 #[derive(Drop)]
 pub struct PortPool {
     limits: Limits,

@@ -11,7 +11,7 @@ use std::marker::Model;
 /// How many of a room's newest packets are searched.
 const NEWEST: usize = 8;
 
-/// The packets of one room whose payloads other members can share: at most one for each member.
+/// In one room, the packets whose payloads other members can share: at most one packet for each member.
 #[derive(Drop)]
 pub struct RoomShares {
     shares: ArrayVec<Share, MEMBERS>,
@@ -43,7 +43,7 @@ impl RoomShares {
         self.shares.clear();
     }
 
-    /// Searches the newest packets for one that carries the sum of these talkers, encoded with this law.
+    /// Finds a recent packet that mixes exactly these talkers and uses this law.
     ///
     /// If everybody in a room talks, no two members hear the same sum. The room then has a packet for each member, and
     /// searching all of them for every member would be quadratic. Members that only listen find their sum among the
@@ -68,7 +68,7 @@ impl RoomShares {
     }
 }
 
-/// Returns the first packet that carries the sum of these talkers, encoded with this law.
+/// Returns the first packet that mixes exactly these talkers and uses this law.
 fn packet_among(shares: &[Share], talkers: Mask, law: Law) -> Option<u8>
     ensures found { IfSome result (λ packet. Contains shares.now
         (record { talkers = talkers; law = law; packet = packet })) }

@@ -6,7 +6,7 @@ use arrayvec::ArrayVec;
 use mg_flow::Place;
 use mg_rooms::{MEMBERS, Rooms};
 
-/// A member of a context with its place, from one lookup. It is valid until the next edit.
+/// A member of a context with its place, both found in one lookup. It is valid until the next edit.
 #[derive(Clone, Copy, Debug, Default, PartialEq, Eq)]
 pub struct SeatedMember {
     /// The number of the termination.
@@ -43,7 +43,7 @@ fn seated_member(rooms: &Rooms, number: u32) -> SeatedMember
     }
 }
 
-/// Returns the terminations with these numbers, with their places.
+/// Returns the terminations with these numbers, together with their places.
 pub fn seated_members(rooms: &Rooms, numbers: &[u32]) -> ArrayVec<SeatedMember, MEMBERS>
     requires few { length numbers.now ≤ MEMBERS }
     requires there { (i : ℕ) → i < length numbers.now → IsSome (record_at rooms.now (slice_index_or numbers.now i 0)) }

@@ -25,7 +25,7 @@ pub fn is_loopback(mode: Mode) -> bool
     matches!(mode, Mode::Loopback)
 }
 
-/// Returns the destination of a termination's packets, if it sends.
+/// Returns the destination of a termination's packets, if the termination sends.
 pub fn sent_to(sender: &Record) -> Option<Chosen>
     ensures value { result ≡ sent_to sender.now }
 {

@@ -1,10 +1,10 @@
 use mg_g711::Law;
 use mg_topology::mask::Mask;
 
-/// A packet of this tick whose payload other listeners of its room share.
+/// A packet of this tick whose payload other listeners in the room can share.
 #[derive(Clone, Copy, Debug, PartialEq, Eq)]
 pub struct Share {
-    /// The seats of the talkers whose speech flows to its listener.
+    /// The seats of the talkers whose speech flows to the packet's listener.
     pub talkers: Mask,
     /// The law that encodes its payload.
     pub law: Law,

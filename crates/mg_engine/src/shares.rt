@@ -10,7 +10,7 @@ use mg_words::CONTEXTS;
 use std::alloc::{AllocError, Global};
 use std::marker::Model;
 
-/// The packets of this tick whose payloads can be shared, by the listener's room.
+/// The packets of this tick whose payloads can be shared, grouped by the listener's room.
 #[derive(Drop)]
 pub struct Shares {
     rooms: Vec<RoomShares>,
@@ -47,7 +47,7 @@ impl Shares {
         clear_all(&mut self.rooms);
     }
 
-    /// Searches this room's newest packets for one that carries the sum of these talkers, encoded with this law.
+    /// Finds a recent packet of this room that mixes exactly these talkers and uses this law.
     pub fn find(&self, room: u8, talkers: Mask, law: Law) -> Option<u8>
         requires room { room < context_limit }
         ensures found { IfSome result (λ packet. Contains (shares_in self.now room)

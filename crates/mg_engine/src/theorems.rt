@@ -44,7 +44,7 @@ pub fn none_hears_itself()
 /// An isolated participant is not heard.
 ///
 /// After an Isolate on two terminations, neither's speech flows to the other until one of them enters a context or
-/// another triple mentions the two. The packets to one of them are the same, whatever the other says.
+/// another triple mentions the two. The packets to either of them are the same, whatever the other says.
 pub fn isolated_are_not_heard()
     ensures flow { IsolatedAreNotHeard }
     ensures packets { UnheardChangesNoPacket }
@@ -52,7 +52,7 @@ pub fn isolated_are_not_heard()
 
 /// The payload of a packet is the encoding of what its listener is sent.
 ///
-/// Except in Loopback, that is the sum of all speech that flows to it, limited once.
+/// Except in Loopback, that is the sum of all speech that flows to the listener, limited once.
 pub fn payloads_are_mixes()
     ensures theorem { PayloadsAreMixes }
 {}
@@ -64,7 +64,7 @@ pub fn triples_are_limited()
 
 /// The terminations and contexts of a new gateway are consistent, and each edit and RTP datagram preserves that.
 ///
-/// So they are consistent after any edits and datagrams, and a proof can use this without an engine.
+/// So they are consistent after any sequence of edits and datagrams, and a proof can use this without an engine.
 pub fn worlds_are_consistent()
     ensures start { (config : Config) → IsValidConfig config → config.first_termination ≤ LAST_TERMINATION →
         IsConsistent (start_of config).rooms }
@@ -99,7 +99,7 @@ pub fn port_order_is_irrelevant()
 /// the total. An edit concerns only the action's context and the context of the termination that it names. A datagram
 /// concerns only the context of the termination with its port.
 ///
-/// The theorem uses the relations of two clauses: `outcome` of [`Engine::edit`](crate::Engine::edit) and `taken` of
+/// The theorem uses the relations from two clauses: `outcome` of [`Engine::edit`](crate::Engine::edit) and `taken` of
 /// [`Engine::media`](crate::Engine::media). What an engine represents is consistent
 /// ([`Engine::terminations`](crate::Engine::terminations)).
 pub fn other_contexts_are_unaffected()

@@ -2,7 +2,7 @@ use crate::triple_term::TripleTerm;
 use arrayvec::ArrayVec;
 use mg_words::Association;
 
-/// The maximum number of triples in an edit. A control datagram cannot hold more, as `read` of `mg_text` ensures.
+/// The maximum number of triples in an edit. A control datagram cannot hold more, as `read` in `mg_text` ensures.
 pub const TRIPLES: usize = 1200;
 
 /// Who hears whom among the members that two terms match (RFC 3525, section 7.1.18).

@@ -3,7 +3,7 @@
 pub enum TripleTerm {
     /// `*`: each member of the context.
     Every,
-    /// A termination by its number.
+    /// A termination, named by its number.
     Number(u32),
     /// `ROOT`, or a `$` that denotes no termination: neither is allowed in a triple.
     Barred,

@@ -51,7 +51,7 @@ fn seat_of(rooms: &Rooms, context: u32, number: u32) -> Option<Mask>
     }
 }
 
-/// Returns the seats of the members that a term matches, or `None` if it names anything else. The term must be
+/// Returns the seats of the members that a term matches, or `None` if the term names anything else. The term must be
 /// allowed.
 fn seats_of(rooms: &Rooms, flows: &FlowTable, at: TopologyRoom, term: TripleTerm) -> Option<Mask>
     requires allowed { is_barred term ≡ false }
@@ -69,7 +69,7 @@ fn seats_of(rooms: &Rooms, flows: &FlowTable, at: TopologyRoom, term: TripleTerm
     }
 }
 
-/// Converts a triple to seats, or returns its first error.
+/// Converts a triple to seats, or returns the first error in it.
 fn triple_of(
     rooms: &Rooms,
     flows: &FlowTable,
@@ -106,7 +106,7 @@ fn triple_of(
     Ok(by_seats)
 }
 
-/// Converts the triples of an edit to seats, in order, or returns their first error.
+/// Converts the triples of an edit to seats, in order, or returns the first error in them.
 pub fn triples_of(
     rooms: &Rooms,
     flows: &FlowTable,

@@ -79,7 +79,7 @@ fn written(alloc: Global, shown: Shown, script: &[u8]) -> Result<Vec<u8>> {
     Ok(writer)
 }
 
-/// Returns whether a script's output matches the file with its name and this extension.
+/// Returns whether a script's output matches the file with the script's name and this extension.
 fn is_as_stored<R: Files + AllocGlobal>(
     rt: &R,
     name: &str,

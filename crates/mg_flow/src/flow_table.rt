@@ -16,10 +16,10 @@ use std::marker::Model;
 
 /// Who hears whom in all rooms of a gateway, and for each listener the masks of its talkers.
 ///
-/// Contracts see the list of rooms, each with its topology and the masks of who talks and who listens. They describe
-/// the table in terms of `specs/Table.antt`. [`FlowTable::new`] represents the empty list of edits, and each call adds
-/// its edits to the lists that the table represents. So every table represents some list
-/// ([`each_table_represents_edits`]).
+/// In contracts, the table appears as the list of rooms, each with its topology and the masks of who talks and who
+/// listens. Contracts describe the table in terms of `specs/Table.antt`. The table that [`FlowTable::new`] returns
+/// represents the empty list of edits, and each call adds its edits to the lists that the table represents. So every
+/// table represents some list ([`each_table_represents_edits`]).
 ///
 /// [`each_table_represents_edits`]: crate::theorems::each_table_represents_edits
 #[derive(Debug, Drop)]
@@ -81,7 +81,7 @@ impl FlowTable {
     }
 
     /// Returns whether `listener` hears `talker`: they are different members of the same room, and the last word on the
-    /// two allows it.
+    /// pair allows it.
     ///
     /// The first argument is the listener.
     pub fn hears(&self, listener: Place, talker: Place) -> bool
@@ -128,7 +128,7 @@ impl FlowTable {
         room.silenced(usize::from(place.seat))
     }
 
-    /// Adds a member at a free place. It hears all other members of the room, and they hear it.
+    /// Adds a member in a free place. It hears all other members of the room, and they hear it.
     pub fn on_enter(&mut self, place: Place, talks: bool, listens: bool)
         requires within { IsWithinLimits place }
         requires free { IsFalse (holds self.old place) }

@@ -1,13 +1,13 @@
 //! For each listener, the talkers that it hears and those that are silenced.
 //!
 //! A gateway has [`CONTEXTS`] rooms, one for each context. A member of a context has a [`Place`]: the room and a seat
-//! in it. A [`FlowTable`] keeps a topology for each room. For each place it keeps whether the member talks and whether
-//! it listens, according to its stream mode (RFC 3525, section 7.1.7). From these it derives two sets of seats for each
-//! listener:
+//! in it. A [`FlowTable`] keeps a topology for each room. For each place it records whether the member talks and
+//! whether it listens, according to its stream mode (RFC 3525, section 7.1.7). From these it derives two sets of seats
+//! for each listener:
 //!
-//! - [`FlowTable::open`]: the members whose speech flows to it. They talk, it listens, and the last word on the two
-//!   allows it (RFC 3525, section 7.1.18).
-//! - [`FlowTable::silenced`]: the talkers of the room that the last word mutes for it.
+//! - [`FlowTable::open`]: the members whose speech flows to the listener. Each of them talks, the listener listens, and
+//!   the last word on the pair lets the speech through (RFC 3525, section 7.1.18).
+//! - [`FlowTable::silenced`]: the room's talkers that the last word mutes for the listener.
 //!
 //! ```rust
 //! let mut table = FlowTable::new(alloc)?;
@@ -19,7 +19,7 @@
 //! assert_eq!(rt; *table.silenced(second), 0b01);
 //! ```
 //!
-//! A table keeps no history. So its contracts are about every list of edits that it represents, before and after a call
+//! A table keeps no history. So its contracts hold for every list of edits that it represents, before and after a call
 //! (`StandsFor` in `specs/Table.antt`). `specs/Edits.antt` defines what a list of edits means, looking back from the
 //! newest. [`theorems`] states the consequences. For a proof without such a list, the clauses `kept`, `place`,
 //! `places`, `hears` and `others` say what is stored, what changes, and what is unchanged.

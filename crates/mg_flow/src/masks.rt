@@ -49,7 +49,7 @@ fn open_row(topology: &Topology, talks: Mask, listens: Mask, listener: usize) ->
     }
 }
 
-/// Returns the talkers, other than the listener, that the last word mutes for it.
+/// Returns the talkers, other than the listener itself, that the last word mutes for this listener.
 fn silenced_row(topology: &Topology, talks: Mask, listener: usize) -> Mask
     requires { listener < SEATS }
     ensures { (talker : ℕ) →

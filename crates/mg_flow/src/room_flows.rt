@@ -12,8 +12,8 @@ use std::marker::Model;
 
 /// The state of one room.
 ///
-/// Contracts see its topology, and the masks of who talks and who listens; the masks of each listener follow from
-/// these.
+/// In contracts, it appears as its topology and the masks of who talks and who listens. Each listener's masks follow
+/// from these.
 #[derive(Debug, Drop)]
 pub(crate) struct RoomFlows {
     topology: Topology,

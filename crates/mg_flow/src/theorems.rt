@@ -1,7 +1,7 @@
-//! What the edits of all rooms determine, however they are stored.
+//! What the edits in all rooms determine, however they are stored.
 //!
-//! The functions have empty bodies: their contracts are the theorems. A proof that needs one calls the function. Lists
-//! of edits start with the newest.
+//! The functions have empty bodies: their contracts are the theorems. A proof that needs a theorem calls its function.
+//! Lists of edits start with the newest.
 
 ghost use Rattle.std.specs.Prelude.{◌≡◌, ℕ, ◌∷◌, ◌==◌, ◌&&◌, ◌||◌, Bool, true, false, if◌then◌else◌, List, IsTrue, IsFalse};
 ghost use Rattle.mg_topology.specs.declared.triple.Triple.{Triple};
@@ -51,7 +51,7 @@ pub fn edits_change_last_words()
         else may_hear es a b) }
 {}
 
-/// Every other talker in a listener's room is either open or silenced for it.
+/// Every other talker in a listener's room is either open or silenced for that listener.
 pub fn talkers_are_open_or_silenced()
     ensures one { (es : List FlowEdit) (talker listener : Place) → IsTrue (listens_in es listener) →
         (flows_in es talker listener || is_silenced_in es talker listener) ≡

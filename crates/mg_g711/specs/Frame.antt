@@ -1,4 +1,4 @@
--- A frame of samples, as contracts see it: a list.
+-- A frame of samples, as it appears in contracts: a list.
 use Rattle.std.specs.Prelude.{◌≡◌, ◌/◌, ℤ, pos, int_lt, unsigned_abs, List, length, All, FitsSigned}
 use Rattle.std.specs.Int.{w16}
 use Rattle.mg_g711.specs.Law.{signed}

@@ -11,7 +11,7 @@ pub const FRAME_LEN: usize = 160;
 
 /// 20 ms of one channel: 160 samples at 8000 Hz, the earliest first (RFC 3551, sections 4.2 and 6).
 ///
-/// Contracts see a frame as a list; `IsFrame` says that it has 160 samples of 16 bits.
+/// In contracts, a frame appears as a list; `IsFrame` says that the list has 160 samples of 16 bits.
 pub type Frame = [i16; FRAME_LEN];
 
 /// Decodes the 160 bytes of a packet's payload, one sample per byte.

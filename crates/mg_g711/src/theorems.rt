@@ -1,7 +1,7 @@
 //! Properties of the levels as a whole.
 //!
-//! The functions have empty bodies: their contracts are the theorems. A proof that needs one for particular values
-//! calls the function.
+//! The functions have empty bodies: their contracts are the theorems. A proof that needs a theorem for particular
+//! values calls its function.
 
 ghost use Rattle.std.specs.Prelude.{◌≡◌, ◌≢◌, ℕ, ◌+◌, ◌<◌, ◌≤◌, ◌≤ℤ◌, pos, unsigned_abs};
 ghost use Rattle.mg_g711.specs.Law.{byte_of, least_of, level_of, magnitude_of, quantized_of, sample_of};

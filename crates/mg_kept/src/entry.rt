@@ -8,7 +8,7 @@ use mg_words::{REPLY_LIMIT, SENDER_LIMIT};
 use std::alloc::{AllocError, Global};
 use std::marker::Model;
 
-/// A place for a kept reply, with room for the longest text. Contracts see only the reply.
+/// A place for a kept reply, with room for the longest text. In contracts, only the reply appears.
 #[derive(Drop)]
 pub(crate) struct Entry {
     sender: ArrayVec<u8, SENDER_LIMIT>,

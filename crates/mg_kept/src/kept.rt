@@ -7,7 +7,7 @@ use mg_words::{KEPT_REPLIES, REPLY_LIMIT, SENDER_LIMIT};
 use std::alloc::{AllocError, Global};
 use std::marker::Model;
 
-/// The replies that are kept to answer retransmissions. Contracts see them as a list, oldest first.
+/// The replies that are kept to answer retransmissions. In contracts, they appear as a list, oldest first.
 #[derive(Drop)]
 pub struct Kept {
     /// A place for each reply that may be kept. The first `len` places hold replies, oldest first.

@@ -6,7 +6,8 @@ use std::io::{ErrorKind, Read};
 /// The maximum number of bytes that one read requests.
 pub const READ_SIZE: usize = 4096;
 
-/// Reads some bytes. Returns how many bytes were read: 0 if the read was interrupted, and `None` at the end.
+/// Reads some bytes. Returns how many bytes were read (0 if the read was interrupted), or `None` at the end of the
+/// input.
 pub fn read_some<R: Read>(
     reader: &mut R,
     buffer: &mut [u8; READ_SIZE],

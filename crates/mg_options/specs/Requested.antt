@@ -1,5 +1,5 @@
--- What arguments ask of a program: a run, or no run and the kinds of errors that say why. A request
--- for help or for the version counts as such an error.
+-- What the arguments ask of a program: a run, or no run and the kinds of errors that say why. A
+-- request for help or for the version counts as such an error.
 use Rattle.std.specs.Prelude.{◌≡◌, ◌⊎◌, [], ◌∷◌, IsErrAnd, Result, Err}
 use Rattle.clap.specs.Kinds.{Kinds, IsAmong}
 use Rattle.clap.specs.declared.error.kind.ErrorKind.{ErrorKind}

@@ -16,7 +16,7 @@ use std::marker::Model;
 
 /// A jitter buffer: the frames of one RTP source, in order of sequence number.
 ///
-/// Contracts see a play list as the record `PlayList` from `specs/Playout.antt`.
+/// In contracts, a play list appears as the record `PlayList` from `specs/Playout.antt`.
 #[derive(Drop)]
 pub struct Playout {
     phase: Phase,

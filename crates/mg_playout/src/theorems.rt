@@ -17,7 +17,7 @@ use crate::played::Played;
 use crate::playout::Playout;
 use crate::source::Source;
 
-/// Every play list has 2 to 16 places, valid frames, and a wait of at least one tick if it waits.
+/// Every play list has 2 to 16 places and valid frames and, while it is waiting, at least one tick left to wait.
 pub fn play_lists_are_valid(list: &Playout)
     ensures { IsValidList list.now }
 {
@@ -31,7 +31,7 @@ pub fn distances_recover_the_number()
         int_rem_euclid (pos from +ℤ distance_of from to) (pos 65536) ≡ pos to }
 {}
 
-/// A frame that is accepted waits under its own sequence number, whenever it arrives.
+/// An accepted frame is queued by its sequence number, no matter when it arrives.
 pub fn placed_frame_waits_under_its_number()
     ensures { (list : PlayList) (ssrc sequence : ℕ) (frame : List ℤ) →
         IsValidList list → sequence < 65536 →
@@ -40,7 +40,7 @@ pub fn placed_frame_waits_under_its_number()
         frame_under (placed list ssrc sequence frame).0 sequence ≡ Some frame }
 {}
 
-/// The other frames stay under their sequence numbers as long as there is a place for them. A start drops them all.
+/// The other frames keep their sequence numbers as long as there is room for them. They are all dropped at a start.
 pub fn other_frames_keep_their_numbers()
     ensures stay { (list : PlayList) (ssrc sequence : ℕ) (frame : List ℤ) (after : Source) (other : ℕ) →
         IsValidList list → sequence < 65536 → other < 65536 → other ≢ sequence →
@@ -56,7 +56,7 @@ pub fn other_frames_keep_their_numbers()
 
 /// Without new frames, a running play list plays its frames in order of sequence number, one per tick.
 ///
-/// At a place without a frame, no received frame is played. A waiting list does the same when its wait is over.
+/// If a place is empty, no received frame is played for it. A list that is waiting does the same once its wait is over.
 pub fn ticks_give_frames_in_order()
     ensures run { (list : PlayList) (ticks : ℕ) → list.phase ≡ Phase.Run →
         given_after ticks list ≡ given_at list.places list.last ticks }

@@ -1,4 +1,4 @@
--- The calls of some ports, and what is known about them.
+-- The calls on some ports, and what is known about these calls.
 use Rattle.std.specs.Prelude.{◌≡◌, ◌⊎◌, ℕ, ◌-◌, ◌^◌, ◌<◌, List, ◌++◌, take, Option, Some, None}
 use Rattle.std.specs.Prelude.{Result, Ok, Err}
 use Rattle.mg_words.specs.declared.peer.Peer.{Peer}

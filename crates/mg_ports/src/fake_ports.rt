@@ -58,7 +58,7 @@ impl FakePorts {
         self.log.calls()
     }
 
-    /// Begins a call. Fails if its number is in the list of calls that fail.
+    /// Begins a call. Fails if the call's number is in the list of calls that fail.
     fn begin(&mut self) -> Result<(), PortFault>
         ensures log { self.new.log ≡ self.old.log }
         ensures fault { OnErr result (IsCounted self.old.failures self.new.failures) }

@@ -3,8 +3,8 @@
 //! Socket 0 is the control socket, and socket s + 1 is the media socket of slot s of the pool.
 //!
 //! [`Ports`] is what a gateway needs from its sockets: to receive a datagram without blocking, to send one, and to
-//! count the calls that failed. [`FakePorts`] are in-memory ports for tests: they return given datagrams, fail on
-//! chosen calls, and log each call.
+//! count the calls that failed. [`FakePorts`] provides in-memory ports for tests: it returns given datagrams, fails on
+//! chosen calls, and logs each call.
 //!
 //! ```rust
 //! let mut ports = FakePorts::new(alloc, waiting, failing);
@@ -14,8 +14,8 @@
 //! }
 //! ```
 //!
-//! Contracts describe ports by their calls (`specs/Calls.antt`). Ports may log each receive with its result, and each
-//! send with its arguments. The ports of an operating system log nothing.
+//! Contracts describe ports by the calls on them (`specs/Calls.antt`). Ports may log each receive with its result, and
+//! each send with its arguments. The ports of an operating system log nothing.
 #![tactic(auto)]
 
 mod arrival;

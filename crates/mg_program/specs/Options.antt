@@ -1,4 +1,4 @@
--- The command line, as the parser of arguments sees it, and what arguments ask of the program.
+-- The command line, as the parser of arguments sees it, and what the arguments ask of the program.
 use Rattle.std.specs.Prelude.{ℕ, Bool, true, false, if◌then◌else◌, List, [], ◌∷◌, Option, Some}
 use Rattle.std.specs.Prelude.{None, is_none, unwrap_or, option_and_then, Result, Ok, Err, codes}
 use Rattle.std.specs.Prelude.{fold}
@@ -120,7 +120,7 @@ abbrev pub bind_address_in : List Row → Result (Option (List ℕ)) BindAddress
 bind_address_in found = option_map_or (λ text. bind_address text >>= (λ address. Ok (Some address)))
     (first_of (codes "bind-address") found) (Ok None)
 
--- ## What arguments ask of the program
+-- ## What the arguments ask of the program
 
 -- a string that doesn't name anything is a fault of the arguments
 abbrev pub valid : {A E : Type 0} → Result A E → Result A Kinds

@@ -11,7 +11,8 @@ use Rattle.mg_program.specs.Draws.{IsDrawn}
 use Rattle.mg_program.specs.Replay.{Replays}
 use Rattle.mg_program.specs.Serve.{Serves, ServesByClock}
 
--- a clock-driven run with the numbers that were drawn, or none: the system has no random numbers
+-- a clock-driven run with the numbers that were drawn, or none because the system has no random
+-- numbers
 abbrev pub RunsDrawn : {W : Type 0} → (W → Option (List ℕ)) → Config → Service → Draws → ℕ → W → W
     → Status → Type 0
 RunsDrawn contents config service draws late old new status =

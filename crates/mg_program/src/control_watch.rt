@@ -54,7 +54,7 @@ impl<'a, C: Clock> ControlWatch<'a, C> {
         self.watch.wait(time.saturating_sub(passed))
     }
 
-    /// Returns the time since a reading of the clock: zero if the clock can't be read.
+    /// Returns the time since a reading of the clock, or zero if the clock can't be read.
     fn passed_since(&mut self, begun: Result<u64, ClockFailed>) -> Duration {
         match (begun, self.watch.now()) {
             (Ok(begun), Ok(now)) => Duration::from_nanos(now.saturating_sub(begun)),

@@ -5,7 +5,7 @@ use mg_core::Config;
 use std::io;
 use std::random::RandomSource;
 
-/// Which of the numbers that RTP packets start with are drawn at random, because no option gives them.
+/// Which of the initial numbers for RTP packets are drawn at random because no option gives them.
 #[derive(Clone, Copy, Debug, PartialEq, Eq)]
 pub struct Draws {
     pub ssrc: bool,
@@ -14,8 +14,8 @@ pub struct Draws {
 }
 
 impl Draws {
-    /// Draws the numbers, and returns the configuration with them (RFC 3550, sections 5.1 and 8). The error is the
-    /// system's: it has no random numbers.
+    /// Draws the numbers, and returns the configuration with them (RFC 3550, sections 5.1 and 8). If the system has no
+    /// random numbers, the error is the system's.
     pub fn draw<G: RandomSource>(self, random: &G, config: Config) -> io::Result<Config>
         ensures drawn { IfOk result (λ drawn. IsDrawn self config drawn) }
     {

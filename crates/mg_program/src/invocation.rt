@@ -7,9 +7,9 @@ use mg_core::{Config, Peer, Shown};
 pub enum Invocation {
     /// Run a script, and write for each event what the second field selects.
     Replay(Config, Shown),
-    /// Run a gateway on UDP ports, driven by lines of the input.
+    /// Run a gateway on UDP ports, driven by input lines.
     Serve(Config, Service),
-    /// Run a gateway on UDP ports, driven by the clock, after drawing some numbers of its configuration. The last number
+    /// Run a gateway on UDP ports, driven by the clock. First draw some numbers for its configuration. The last field
     /// is the maximum lateness of a tick, in ticks: if a tick is later than that, its packets are not sent.
     Live(Config, Service, Draws, u16),
     /// Check that the gateway with this control port answers.

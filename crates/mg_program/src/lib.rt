@@ -7,12 +7,12 @@
 //! let status = program(&rt, &rt, &rt, alloc, &words, &mut input, &mut output, &mut errors, &mut reports);
 //! ```
 //!
-//! [`requested_run`] returns what the arguments ask for. [`Sockets`] are the sockets of a gateway, bound at the start.
-//! None of their calls blocks, and a media socket is not read unless the system reported a datagram. [`UdpPorts`] lend
-//! them to a session (`mg_serve`), and send no packet in a late tick. [`ControlWatch`] is a clock that also waits for
-//! messages.
+//! [`requested_run`] returns what the arguments ask for. [`Sockets`] holds a gateway's sockets, which are bound at
+//! startup. None of its calls blocks, and a media socket is not read unless the system reported a datagram.
+//! [`UdpPorts`] lends them to a session (`mg_serve`), and sends no packet in a late tick. [`ControlWatch`] is a clock
+//! that also waits for messages.
 //!
-//! `specs/Program.antt` defines how a run ends, and `specs/Options.antt` defines what arguments ask for.
+//! `specs/Program.antt` defines how a run ends, and `specs/Options.antt` defines what the arguments ask for.
 #![tactic(auto)]
 
 mod address;

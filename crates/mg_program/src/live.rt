@@ -56,9 +56,9 @@ fn live_on<P: Ports, K: Watch, W: Write, T: Write>(
 /// Runs a new gateway on UDP ports, driven by the system's clock: a poll and a tick every 20 ms, and a poll when a
 /// message arrives in between. It ends only on a fault, which is reported to `errors`.
 ///
-/// After a delay all missed polls and ticks are executed at once. If a tick is more than `late` ticks late, its packets
-/// are not sent. So callers hear a gap, and timestamps stay in step with the clock. `reports` receives the number of
-/// packets that weren't sent, and the periodic reports if they are enabled.
+/// After a delay, all missed polls and ticks are executed in one go. If a tick is behind by more than `late` ticks, its
+/// packets are not sent. So callers hear a gap, and timestamps stay in step with the clock. `reports` receives the
+/// number of packets that weren't sent, and the periodic reports if they are enabled.
 pub fn live<N: Net, C: Clock, W: Write, E: Write, T: Write>(
     net: &N,
     clock: &C,
@@ -87,8 +87,8 @@ pub fn live<N: Net, C: Clock, W: Write, E: Write, T: Write>(
     status_after(&Err(fault), &config, errors)
 }
 
-/// Starts a clock that watches the control socket, or returns how the program ends if that fails. A fault is reported
-/// to `errors`.
+/// Starts a clock that watches the control socket. If that fails, returns the program's exit status. A fault is
+/// reported to `errors`.
 fn watch_control<'a, N: Net, C: Clock, E: Write>(
     net: &N,
     clock: &'a C,

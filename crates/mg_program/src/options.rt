@@ -22,7 +22,7 @@ use mg_options::{long_number, long_value, program_command, short_number, short_v
 use std::alloc::Global;
 use std::convert::AsStr;
 
-/// The error message for a gateway to check that isn't named by its address and port.
+/// The error message if the gateway to check isn't named by its address and port.
 const NO_GATEWAY: &str =
     "invalid value for '<ADDRESS:PORT>': not an IPv4 address, a colon and a port";
 
@@ -222,7 +222,7 @@ fn config_at(address: [u8; 4], control_address: [u8; 4], matches: &ArgMatches<'_
     }
 }
 
-/// Returns which numbers no option gives, so that they are drawn at random.
+/// Returns which numbers are drawn at random because no option gives them.
 fn draws_of(matches: &ArgMatches<'_>) -> Draws
     ensures value { result ≡ draws_of (rows_of (found_of matches.now)) }
 {
@@ -233,14 +233,14 @@ fn draws_of(matches: &ArgMatches<'_>) -> Draws
     }
 }
 
-/// Returns how many ticks late a tick may be for its packets to be sent.
+/// Returns the maximum lateness, in ticks, at which a tick's packets are still sent.
 fn late_of(matches: &ArgMatches<'_>) -> u16
     ensures value { result ≡ number_or 65536 (codes "late") 5 (rows_of (found_of matches.now)) }
 {
     short_value(matches, "late").unwrap_or(5)
 }
 
-/// Returns the seconds between reports: 0 for none.
+/// Returns the seconds between reports, or 0 for no reports.
 fn report_of(matches: &ArgMatches<'_>) -> u16
     ensures value { result ≡ number_or 65536 (codes "report") 0 (rows_of (found_of matches.now)) }
 {

@@ -78,7 +78,7 @@ impl Readiness {
     }
 }
 
-/// Marks the sockets that the system reported as ready.
+/// Marks as ready the sockets that the system reported.
 fn set_reported(events: &Events, ready: &mut [bool; SOCKETS])
     ensures kept { AreStillReady ready.old ready.new }
     ensures reported { AreReported (items events.now) ready.new }

@@ -19,7 +19,7 @@ use std::alloc::Global;
 use std::io::{Read, Write};
 use std::net::Net;
 
-/// Binds the sockets of a gateway, or returns how the program ends if that fails. A fault is reported to `errors`.
+/// Binds the sockets of a gateway. If that fails, returns the program's exit status. A fault is reported to `errors`.
 ///
 /// An invalid configuration is reported before a port is bound.
 pub fn bind<N: Net, E: Write>(
@@ -50,7 +50,7 @@ pub fn bind<N: Net, E: Write>(
     }
 }
 
-/// Runs a new gateway on these ports, driven by lines of the input.
+/// Runs a new gateway on these ports, driven by input lines.
 fn serve_on<P: Ports, R: Read, W: Write, T: Write>(
     alloc: Global,
     config: Config,
@@ -78,8 +78,8 @@ fn serve_on<P: Ports, R: Read, W: Write, T: Write>(
     )
 }
 
-/// Runs a new gateway on UDP ports, driven by lines of the input. A fault is reported to `errors`. Periodic reports, if
-/// they are enabled, go to `reports`.
+/// Runs a new gateway on UDP ports, driven by input lines. A fault is reported to `errors`. Periodic reports, if they
+/// are enabled, go to `reports`.
 ///
 /// An invalid configuration is reported before a port is bound, and a port that can't be bound is reported before a
 /// line is read.

@@ -42,7 +42,7 @@ fn push_number(title: &mut Title, option: &str, number: u32)
     push_text(title, buffer.format(number).as_bytes());
 }
 
-/// Returns the title of a recording: the configuration of its gateway, as the options of `mg_bridge replay`.
+/// Returns the title of a recording: the configuration of its gateway, written as options of `mg_bridge replay`.
 pub fn title_of(config: &Config) -> Title
     ensures value { result.items ≡ title_text config.now }
 {

@@ -15,8 +15,8 @@ pub struct UdpPorts {
     failures: u64,
 }
 
-/// Returns whether an address cannot be a caller's: it is 0.0.0.0, multicast, reserved or broadcast. The address
-/// 0.0.0.0 puts a call on hold; a packet to it would reach this machine itself.
+/// Returns true if no caller can have this address, that is, if it is 0.0.0.0, multicast, reserved or broadcast. The
+/// address 0.0.0.0 puts a call on hold; a packet to it would reach this machine itself.
 fn is_unusable_destination(address: [u8; 4]) -> bool {
     address == [0; 4] || is_multicast(address)
 }

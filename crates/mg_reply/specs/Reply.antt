@@ -25,7 +25,7 @@ abbrev pub last_is_action : Bool → List Item → Bool
 last_is_action before [] = before
 last_is_action before (x ∷ xs) = last_is_action (is_action x) xs
 
--- a single error, which rejects the whole request
+-- a single error, with which the whole request is rejected
 abbrev pub is_refusal : List Item → Bool
 is_refusal (Fault e ∷ []) = true
 is_refusal _ = false

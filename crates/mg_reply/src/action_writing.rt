@@ -40,7 +40,7 @@ fn put_outcome(draft: &mut Draft, outcome: Outcome)
     }
 }
 
-/// Appends a comma and an association. Comma and association are one literal, so that one store writes both.
+/// Appends a comma and an association. The comma and the association are one literal, so that one store writes both.
 fn put_association(draft: &mut Draft, association: Association)
     ensures value { draft.new ≡ drafted draft.old (codes "," ++ association_text association) }
 {
@@ -105,7 +105,7 @@ fn close(draft: &mut Draft, is_empty: bool)
     }
 }
 
-/// Appends an item with the mark before it, if it is of this kind. Returns whether the next part is the first.
+/// Appends an item, preceded by the mark, if the item is of this kind. Returns whether the next part is the first.
 #[tactic(auto, using(crate::proofs::ListedLemmas::one_other), unfolding(crate::specs::Listed::listed))]
 fn put_if_of(
     draft: &mut Draft,

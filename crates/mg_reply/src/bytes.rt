@@ -8,7 +8,7 @@ use std::marker::Model;
 
 /// A text buffer of fixed capacity.
 ///
-/// Contracts see the text and the room that remains, in bytes.
+/// In contracts, it appears as the text and the room that remains, in bytes.
 #[derive(Drop)]
 pub struct Bytes {
     /// The whole buffer, which starts with the text.
@@ -27,7 +27,7 @@ impl Model for Bytes {
     ghost invariant = { λ b. b.len ≤ length b.bytes.items };
 }
 
-/// Writes a name into a buffer: all 16 bytes of its storage.
+/// Writes a name into a buffer: all 16 bytes of the name's storage.
 fn write_at(bytes: &mut [u8], at: usize, name: &RtpName)
     requires fits { at + NAME_ROOM ≤ length bytes.old }
     ensures value { take (at + length name.now) bytes.new ≡ take at bytes.old ++ name.now }

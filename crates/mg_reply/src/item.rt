@@ -14,10 +14,10 @@ pub enum Item {
     Triple(RtpName, RtpName, Association),
     /// A command that was tried, the termination that it names, and its outcome.
     Command(CommandWord, Term, Outcome),
-    /// The error that rejects an action, or the whole request if it is the only item.
+    /// The error with which an action is rejected or, if this is the only item, the whole request.
     Fault(ErrorNumber),
-    /// The end of an action in this context. The action has the items since the end of the previous action. They are
-    /// written in the order topology, commands, errors, whatever order they were put in.
+    /// The end of an action in this context. The action consists of the items since the end of the previous action.
+    /// They are written in the order topology, commands, errors, whatever order they were put in.
     Action(ContextId),
 }
 

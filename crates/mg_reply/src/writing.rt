@@ -20,13 +20,13 @@ use mg_words::{ADDRESS_LIMIT, ERROR_LIMIT, ErrorNumber, address_text};
 #[derive(Clone, Copy, Debug, PartialEq, Eq)]
 pub struct TooLong;
 
-/// The maximum length of a port in decimal, in bytes.
+/// The maximum length, in bytes, of a port in decimal.
 pub const PORT_LIMIT: usize = 5;
 
-/// The maximum length of a message head, in bytes: 13 for `MEGACO/1 []:` and a line feed, an address and a port.
+/// The maximum length of a message head, in bytes: 13 for `MEGACO/1 []:` and a line feed, plus an address and a port.
 pub const HEAD_LIMIT: usize = 13 + ADDRESS_LIMIT + PORT_LIMIT;
 
-/// Writes a port in decimal: at most 5 bytes.
+/// Writes a port in decimal (at most 5 bytes).
 #[tactic(auto, using(crate::proofs::WrittenLemmas::lengths))]
 pub fn write_port(port: u16, out: &mut Bytes)
     requires room { PORT_LIMIT ≤ out.old.room }
@@ -37,7 +37,7 @@ pub fn write_port(port: u16, out: &mut Bytes)
     out.push(buffer.format(port).as_bytes());
 }
 
-/// Writes an IPv4 address in dotted decimal: at most 15 bytes.
+/// Writes an IPv4 address in dotted decimal (at most 15 bytes).
 pub fn write_address(address: [u8; 4], out: &mut Bytes)
     requires room { ADDRESS_LIMIT ≤ out.old.room }
     ensures value { out.new ≡ appended out.old (address_text address) }
@@ -46,7 +46,7 @@ pub fn write_address(address: [u8; 4], out: &mut Bytes)
     out.push(address_text(address).as_slice());
 }
 
-/// Writes the head of a message from the gateway at this address and port: at most 33 bytes.
+/// Writes the head (at most 33 bytes) of a message from the gateway at this address and port.
 #[tactic(auto, using(crate::proofs::WrittenLemmas::lengths))]
 pub fn write_head(address: [u8; 4], port: u16, out: &mut Bytes)
     requires room { HEAD_LIMIT ≤ out.old.room }
@@ -60,7 +60,7 @@ pub fn write_head(address: [u8; 4], port: u16, out: &mut Bytes)
     out.push(b"\n");
 }
 
-/// Writes an error descriptor: at most 64 bytes.
+/// Writes an error descriptor (at most 64 bytes).
 #[tactic(auto, using(crate::proofs::WrittenLemmas::lengths))]
 pub fn write_error(number: ErrorNumber, out: &mut Bytes)
     requires room { ERROR_LIMIT ≤ out.old.room }

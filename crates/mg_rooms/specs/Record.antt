@@ -30,7 +30,7 @@ fresh number slot place =
 abbrev pub at_place : Record → EntryPlace → Record
 at_place old place = record old { context = place.context; seat = place.seat }
 
--- the termination after a command's settings are applied, or the error in its media
+-- the termination with a command's settings applied, or the error in its media
 abbrev pub with_settings : Limits → Settings → Record → Result Record ErrorNumber
 with_settings limits settings old = do
   local ← media_after (local_choice limits.address (slot_port limits old.slot)) settings.local

@@ -39,7 +39,7 @@ context_at w c = find (λ x. x.number == c) w.contexts
 abbrev pub holder_of : Registry → ℕ → Option Record
 holder_of w slot = find (λ r. r.slot == slot) w.terminations
 
--- the members of a context; none if the context does not exist
+-- the members of a context, or none if the context does not exist
 abbrev pub members_at : Registry → ℕ → List ℕ
 members_at w c = option_map_or (λ x. x.members) (context_at w c) []
 

@@ -1,4 +1,4 @@
-//! The single steps by which commands change terminations and contexts.
+//! The individual steps by which commands change terminations and contexts.
 
 ghost use Rattle.std.specs.Prelude.{◌≡◌, ◌<◌, IfSome, Some, true, length, nat_le};
 ghost use Rattle.mg_words.specs.Limits.{last_termination};
@@ -63,7 +63,7 @@ impl Tables {
         }
     }
 
-    /// Adds a termination to a context at a free place.
+    /// Adds a termination to a context, in a free place.
     pub(crate) fn enter(&mut self, place: EntryPlace, number: u32)
         requires can { CanEnter self.old place }
         ensures value { self.new ≡ entered self.old place number }

@@ -137,7 +137,7 @@ impl Tables {
         }
     }
 
-    /// Returns a termination after a command's settings are applied.
+    /// Returns a termination with a command's settings applied.
     pub(crate) fn with_settings(
         &self,
         settings: &Settings,

@@ -4,11 +4,10 @@
 //!
 //! [`Rooms`] stores terminations by slot and contexts by room. A slot belongs to a termination and its media port, a
 //! room to a context, and a seat to a member of a context. Slots, rooms and seats are small numbers that are reused, so
-//! that the crates above can use fixed-size tables. The numbers of terminations and contexts increase, and none is used
-//! twice.
+//! that the crates above can use fixed-size tables. Termination and context numbers only go up, and none is used twice.
 //!
 //! Each command names the action's context as a [`Target`] and, except for an Add, a termination by its number. It
-//! either succeeds, or is rejected by the first check that fails and changes nothing:
+//! either succeeds, or the first check that fails rejects it and nothing changes:
 //!
 //! ```rust
 //! let mut rooms = Rooms::new(alloc, limits)?;
@@ -19,10 +18,11 @@
 //!
 //! [`Rooms::new`] allocates all memory; no other call allocates.
 //!
-//! Contracts see a registry: the terminations and contexts in numerical order (`specs/Registry.antt`). The contract of
-//! each call states the outcome of its command on that registry (`specs/Outcome.antt`). It also states that the new
-//! registry is sound (`specs/Sound.antt`), and what the call leaves unchanged (`specs/Lasting.antt`). Each call returns
-//! the termination with the room of its context. [`theorems`] states when a resource is exhausted.
+//! In contracts, a [`Rooms`] appears as a registry: the terminations and contexts in numerical order
+//! (`specs/Registry.antt`). The contract of each call states the outcome of its command on that registry
+//! (`specs/Outcome.antt`). It also states that the new registry is sound (`specs/Sound.antt`), and what the call leaves
+//! unchanged (`specs/Lasting.antt`). Each call returns the termination with the room of its context. [`theorems`]
+//! states when a resource is exhausted.
 #![tactic(auto)]
 
 mod changes;

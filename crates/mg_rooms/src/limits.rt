@@ -8,7 +8,7 @@ use mg_words::{LAST_CONTEXT, TERMINATIONS};
 pub struct Limits {
     /// The gateway's own IPv4 address.
     pub address: [u8; 4],
-    /// The UDP port of slot 0, which must be even. Slot s has the port `base_port + 2 * s`.
+    /// The UDP port of slot 0. It must be even. Slot s has the port `base_port + 2 * s`.
     pub base_port: u16,
     /// The number of slots, from 1 to [`TERMINATIONS`].
     pub slots: u16,

@@ -43,7 +43,7 @@ impl Record {
         }
     }
 
-    /// Returns the termination at another place.
+    /// Returns the termination, moved to another place.
     pub(crate) fn at_place(self, place: EntryPlace) -> Record
         ensures value { result ≡ at_place self place }
     {

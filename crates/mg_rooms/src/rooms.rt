@@ -18,8 +18,8 @@ use std::marker::Model;
 
 /// The terminations and contexts of a gateway.
 ///
-/// Contracts see the terminations and contexts in order of their numbers, and the next numbers
-/// (`specs/Registry.antt`). `IsConsistent` (`specs/Consistent.antt`) holds after any commands.
+/// In contracts, they appear in order of their numbers, together with the next numbers (`specs/Registry.antt`).
+/// `IsConsistent` (`specs/Consistent.antt`) holds after any sequence of commands.
 #[derive(Drop)]
 pub struct Rooms {
     tables: Tables,
@@ -69,7 +69,7 @@ impl Rooms {
         Some(self.tables.member_of(record))
     }
 
-    /// Returns the numbers of a context's members in order of entry: none if the context does not exist.
+    /// Returns the numbers of a context's members in order of entry, or none if the context does not exist.
     pub fn members(&self, context: u32) -> &[u32]
         ensures value { result.now ≡ members_at self.now context }
         ensures few { length result.now ≤ MEMBERS }
@@ -109,7 +109,7 @@ impl Rooms {
         self.tables.member(target, number)
     }
 
-    /// Makes a termination in the action's context, and that context if it is new (RFC 3525, section 7.2.1).
+    /// Makes a termination in the action's context, and makes that context too if it is new (RFC 3525, section 7.2.1).
     ///
     /// Returns the new termination.
     #[tactic(auto, using(crate::proofs::RoomsLemmas::rules))]

@@ -14,7 +14,7 @@ use std::marker::Model;
 
 /// The terminations by slot and the contexts by room.
 ///
-/// Contracts see them in order of their numbers. The calls preserve only what the tables need. The invariant of
+/// In contracts, they appear in order of their numbers. The calls preserve only what the tables need. The invariant of
 /// [`Rooms`](crate::Rooms) says that the members of contexts agree with the contexts of terminations.
 #[derive(Drop)]
 pub struct Tables {
@@ -67,7 +67,7 @@ impl Tables {
         self.slots[slot]
     }
 
-    /// Returns the members of a context in order of entry: none if the context does not exist.
+    /// Returns the members of a context in order of entry, or none if the context does not exist.
     pub(crate) fn members(&self, context: u32) -> &[u32]
         ensures value { result.now ≡ members_at self.now context }
         ensures few { length result.now ≤ MEMBERS }
@@ -89,7 +89,7 @@ impl Tables {
         Some(room as u8)
     }
 
-    /// Returns a termination with the room of its context, which must exist.
+    /// Returns a termination with the room of its context. The context must exist.
     pub(crate) fn member_of(&self, termination: Record) -> Member
         requires there { IsSome (context_at self.now termination.context) }
         ensures termination { result.record ≡ termination }

@@ -23,7 +23,7 @@ pub fn tables_that_are_not_full_have_a_free_place()
     ensures room { (w : Registry) → IsConsistent w → length w.contexts < CONTEXTS → IsSome (free_room w) }
 {}
 
-/// A resource is reported exhausted exactly when it is.
+/// A resource is reported as exhausted exactly when it is exhausted.
 ///
 /// The resources are slots, termination numbers, the seats of a context, contexts, and context numbers.
 pub fn exhausted_resources_are_refused()
@@ -35,8 +35,8 @@ pub fn exhausted_resources_are_refused()
         ((CONTEXTS ≤ length w.contexts) ⊎ (LAST_CONTEXT < w.next_context)) }
 {}
 
-/// A new gateway is consistent, and every command preserves that. So it is consistent after any commands, and a proof
-/// can use this without tables.
+/// A new gateway is consistent, and every command preserves that. So it is consistent after any sequence of commands,
+/// and a proof can use this without tables.
 pub fn outcomes_are_consistent()
     ensures start { (limits : Limits) → AreValidLimits limits → limits.first_termination ≤ LAST_TERMINATION →
         IsConsistent (start_of limits) }

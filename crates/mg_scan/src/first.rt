@@ -10,7 +10,7 @@ use crate::octets::content_len;
 use memchr::memchr3;
 use mg_words::is_word_byte;
 
-/// Returns the quoted text in bytes that start with a quotation mark.
+/// Returns the quoted text that the bytes start with, given that the first byte is a quotation mark.
 fn quoted_at(bytes: &[u8]) -> Option<Result<Found, ScanFault>>
     requires { 0 < length bytes.now }
     ensures { FindsAs bytes.now (quoted_at (drop 1 bytes.now)) result }
@@ -52,7 +52,7 @@ fn token_at(bytes: &[u8]) -> Option<Result<Found, ScanFault>>
     }
 }
 
-/// Returns the session description in bytes that start with a brace.
+/// Returns the session description that the bytes start with, given that the first byte is a brace.
 fn octets_at(bytes: &[u8]) -> Option<Result<Found, ScanFault>>
     requires { 0 < length bytes.now }
     ensures { FindsAs bytes.now (octets_at (drop 1 bytes.now)) result }

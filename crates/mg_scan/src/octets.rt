@@ -6,9 +6,9 @@ use memchr::memchr;
 /// The byte that escapes a closing brace.
 const ESCAPE: u8 = b'\\';
 
-/// Returns how many bytes precede the brace that closes a session description, if it is closed.
+/// Returns how many bytes precede the brace that closes a session description, if the description is closed.
 ///
-/// That is the first brace without a backslash before it.
+/// The closing brace is the first one without a backslash before it.
 pub fn content_len(bytes: &[u8]) -> Option<usize>
     ensures in_range { IfSome result (λ n. n < length bytes.now) }
     ensures value { result ≡ content_len false bytes.now }

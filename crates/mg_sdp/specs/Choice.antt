@@ -1,4 +1,4 @@
--- Which alternative is chosen (RFC 3525, section 7.1.8): the first that can be served.
+-- Which alternative is chosen (RFC 3525, section 7.1.8): the first acceptable one.
 use Rattle.std.specs.Prelude.{ℕ, ◌==◌, ◌&&◌, not, Bool, true, false, List, Option, Some}
 use Rattle.std.specs.Prelude.{is_some, unwrap_or, find}
 use Rattle.std.specs.List.{filter_map}
@@ -29,7 +29,7 @@ is_served_local address port offer =
 abbrev pub is_served_remote : Offer → Bool
 is_served_remote offer = is_open_port offer.port && is_some offer.address && is_some offer.law
 
--- the offers of the alternatives whose lines can be served
+-- the offers of the alternatives whose lines are supported
 abbrev pub offers_of : List (Option Offer) → List Offer
 offers_of alternatives = filter_map (λ offer. offer) alternatives
 
@@ -37,7 +37,7 @@ abbrev pub local_of : List ℕ → ℕ → Offer → Chosen
 local_of address port offer =
     record { address = address; port = port; law = unwrap_or offer.law Mu }
 
--- the first offer that the gateway can receive; in mu-law if the law is left to it
+-- the first offer whose media the gateway can receive, in mu-law if the law is left to the gateway
 abbrev pub local_choice : List ℕ → ℕ → List (Option Offer) → Option Chosen
 local_choice address port alternatives =
     option_map (local_of address port)
@@ -50,7 +50,7 @@ remote_of offer = do
   law ← offer.law
   Some (record { address = address; port = port; law = law })
 
--- the first offer that the gateway can send
+-- the first offer whose media the gateway can send
 abbrev pub remote_choice : List (Option Offer) → Option Chosen
 remote_choice alternatives =
     option_and_then remote_of (find is_served_remote (offers_of alternatives))

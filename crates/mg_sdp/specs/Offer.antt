@@ -1,5 +1,5 @@
 -- What an alternative offers. This project's profile of RFC 4566, sections 5.1 (v=), 5.7 (c=), 5.14
--- (m=) and 6 (a=ptime), decides which lines can be served. All other lines are ignored.
+-- (m=) and 6 (a=ptime), decides which lines are supported. All other lines are ignored.
 use Rattle.std.specs.Prelude.{ℕ, ◌&&◌, ◌||◌, not, nat_eq, Bool, List, [], ◌∷◌, Option, Some, None}
 use Rattle.std.specs.Prelude.{codes, if◌then◌else◌}
 use Rattle.std.specs.Str.{byte, bytes_eq}
@@ -27,7 +27,7 @@ abbrev pub only_media : List (List ℕ) → Option MediaLine
 only_media (value ∷ []) = media_in (fields_of value)
 only_media _ = None
 
--- What an alternative offers, or None if its lines cannot be served. The last connection line
+-- What an alternative offers, or None if its lines are not supported. The last connection line
 -- counts; if there is none, the address is left to the gateway.
 unfoldable pub offer_of : List (List ℕ) → Option Offer
 offer_of lines = do

@@ -10,7 +10,7 @@ use crate::part::AlternativePart;
 /// What an alternative asks for, according to the lines read so far.
 #[derive(Clone, Copy, Debug, PartialEq, Eq)]
 pub struct Alternative {
-    /// Whether each `v=` line and each attribute so far can be served.
+    /// Whether each `v=` line and each attribute so far is supported.
     pub holds: bool,
     /// What the only media line asks for.
     pub media: AlternativePart<MediaLine>,
@@ -18,7 +18,7 @@ pub struct Alternative {
     pub connection: AlternativePart<Option<[u8; 4]>>,
 }
 
-/// Returns whether an attribute can be served: a packet time must be 20 ms; all others are ignored.
+/// Returns whether an attribute is supported: a packet time must be 20 ms. All other attributes are ignored.
 fn is_served_attribute(value: &[u8]) -> bool
     ensures value { result ≡ is_served_attribute value.now }
 {
@@ -75,7 +75,7 @@ impl Alternative {
         new
     }
 
-    /// Returns what the alternative offers, or `None` if its lines cannot be served.
+    /// Returns what the alternative offers, or `None` if its lines are not supported.
     pub fn offer(self) -> Option<Offer>
         ensures value { result ≡ offer_by self }
     {

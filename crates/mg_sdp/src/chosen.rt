@@ -16,7 +16,7 @@ pub struct Chosen {
     pub law: Law,
 }
 
-/// Returns whether an address is the gateway's own or left to the gateway.
+/// Returns whether an address is the gateway's own or is left to the gateway.
 fn is_own_address(asked: Option<[u8; 4]>, own: [u8; 4]) -> bool
     ensures value { result ≡ is_own_address own asked }
 {
@@ -26,7 +26,7 @@ fn is_own_address(asked: Option<[u8; 4]>, own: [u8; 4]) -> bool
     }
 }
 
-/// Returns whether a port is the termination's own or left to the gateway.
+/// Returns whether a port is the termination's own or is left to the gateway.
 fn is_own_port(asked: Option<u16>, own: u16) -> bool
     ensures value { result ≡ is_own_port own asked }
 {
@@ -69,7 +69,7 @@ fn first_remote(offers: &[Option<Offer>]) -> Option<Offer>
 
 /// Chooses from the alternatives of a Local: the first that allows the gateway's address and the termination's port.
 ///
-/// If the law is left to the gateway, it chooses mu-law. Returns `None` if no alternative can be served.
+/// If the law is left to the gateway, it chooses mu-law. Returns `None` if no alternative is acceptable.
 pub fn choose(sessions: &Sessions, address: [u8; 4], port: u16) -> Option<Chosen>
     ensures value { result ≡ local_choice address port sessions.now }
 {
@@ -80,7 +80,7 @@ pub fn choose(sessions: &Sessions, address: [u8; 4], port: u16) -> Option<Chosen
 
 /// Chooses from the alternatives of a Remote: the first with an address, a port other than 0, and a law.
 ///
-/// Returns `None` if no alternative can be served.
+/// Returns `None` if no alternative is acceptable.
 pub fn choose_remote(sessions: &Sessions) -> Option<Chosen>
     ensures value { result ≡ remote_choice sessions.now }
 {

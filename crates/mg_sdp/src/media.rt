@@ -50,7 +50,7 @@ fn requested_port(field: &[u8]) -> Option<Option<u16>>
     }
 }
 
-/// Parses the value of a media line. Returns `None` if it cannot be served.
+/// Parses the value of a media line. Returns `None` if the line is not supported.
 #[tactic(auto, unfolding(crate::specs::Media::media_in))]
 pub fn media_of(value: &[u8]) -> Option<MediaLine>
     ensures value { result ≡ media_in (fields_of value.now) }

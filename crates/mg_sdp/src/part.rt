@@ -5,6 +5,6 @@ pub enum AlternativePart<T> {
     Missing,
     /// A line has this part.
     Given(T),
-    /// A line has this part in a form that cannot be served.
+    /// A line has this part in a form that is not supported.
     Faulty,
 }

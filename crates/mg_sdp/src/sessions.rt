@@ -7,8 +7,8 @@ use std::marker::Model;
 
 /// What the alternatives of a descriptor offer.
 ///
-/// Contracts see a list with an entry for each alternative in order: its offer, or `None` if its lines cannot be
-/// served.
+/// In contracts, they appear as a list with an entry for each alternative, in order: its offer, or `None` if its lines
+/// are not supported.
 #[derive(Debug, Drop)]
 pub struct Sessions {
     pub(crate) offers: ArrayVec<Option<Offer>, ALTERNATIVE_LIMIT>,

@@ -1,7 +1,7 @@
 //! Properties of session descriptions.
 //!
-//! The functions have empty bodies: their contracts are the theorems. A proof that needs one for particular values
-//! calls the function.
+//! The functions have empty bodies: their contracts are the theorems. A proof that needs a theorem for particular
+//! values calls its function.
 
 ghost use Rattle.std.specs.Prelude.{◌≡◌, ◌≢◌, ℕ, List, [], ◌∷◌, Ok, Some};
 ghost use Rattle.mg_sdp.specs.Alternatives.{AreAlternatives};

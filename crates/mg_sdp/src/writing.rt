@@ -38,7 +38,7 @@ fn payload_type(law: Law) -> &'static str
     }
 }
 
-/// Writes the description of a Local: four lines, each with CR LF at its end, at most 68 bytes.
+/// Writes the description in a Local: four lines, each with CR LF at its end. They have at most 68 bytes in total.
 #[tactic(auto, using(crate::proofs::WrittenLemmas::lengths))]
 pub fn write_local(chosen: &Chosen) -> ArrayVec<u8, TEXT_LIMIT>
     ensures value { result.items ≡ session_text chosen.now }
@@ -54,7 +54,7 @@ pub fn write_local(chosen: &Chosen) -> ArrayVec<u8, TEXT_LIMIT>
     out
 }
 
-/// Writes the description of a Remote, in the same form as a Local.
+/// Writes the description in a Remote, in the same form as in a Local.
 pub fn write_remote(chosen: &Chosen) -> ArrayVec<u8, TEXT_LIMIT>
     ensures value { result.items ≡ session_text chosen.now }
 {

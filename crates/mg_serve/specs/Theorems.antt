@@ -58,7 +58,7 @@ CutSessionsAreReadBack =
     → (first : List Event) × (others : List Event) × (events_of_trace trace ≡ first ++ others)
     × (script.events_of (lines_of false front) ≡ Some first)
 
--- A run over a script wrote the lines of the datagrams that a run over a session's events sends.
+-- A run over a script wrote the lines for the datagrams that a run over a session's events sends.
 -- These are the datagrams that the session sent. The run over the script ended in the session's
 -- world.
 pub record WroteWhatWasSent (setup : Setup) (trace : List TraceEntry) (next last : World)

@@ -1,6 +1,6 @@
 //! A gateway on UDP ports, driven by lines or by a clock.
 //!
-//! The line `poll` receives the datagrams that arrived at the ports, and `tick` advances by 20 ms and sends the
+//! The command `poll` receives the datagrams that arrived at the ports, and `tick` advances by 20 ms and sends the
 //! packets. `stats` prints the counts, and `quit` ends the run. Whoever writes the lines is the gateway's clock.
 //!
 //! ```rust

@@ -7,8 +7,8 @@ pub type Text = ArrayVec<u8, 512>;
 
 /// Returns the counts as a line, without a line feed.
 ///
-/// They are the control datagrams, the RTP datagrams, the ticks, the sends, the failures, the dropped RTP datagrams by
-/// cause, and the concealed frames.
+/// They are the numbers of control datagrams, RTP datagrams, ticks, sends, failures, dropped RTP datagrams by cause,
+/// and concealed frames.
 pub fn counts_text(counts: &Counts) -> Text {
     let Counts {
         control,

@@ -1,6 +1,6 @@
 use mg_core::{Counts, DROP_CAUSES, Taken};
 
-/// What arrived at a media port since the last report.
+/// What has arrived at a media port since the last report.
 #[derive(Clone, Copy, Debug, PartialEq, Eq)]
 pub struct PortCounts {
     pub counts: Counts,
@@ -8,8 +8,8 @@ pub struct PortCounts {
     pub strangers: u64,
     /// The termination that had the port at the last report, if its caller was expected to send.
     expected: Option<u32>,
-    /// The tick of the last packet that a play list accepted, or of the report since which the caller has been expected
-    /// to send, if that is later.
+    /// The tick of the last packet that a play list accepted or, if that is later, of the report since which the caller
+    /// has been expected to send.
     heard: u64,
 }
 
@@ -36,10 +36,10 @@ impl PortCounts {
         self.strangers = self.strangers.saturating_add(1);
     }
 
-    /// Returns how many ticks an expected caller has been silent.
+    /// Returns for how many ticks an expected caller has been silent.
     ///
-    /// `expected` is the termination whose caller should send now. The silence starts at the last accepted packet, or
-    /// at the report since which that caller has been expected to send, if that is later.
+    /// `expected` is the termination whose caller should send now. The silence starts at the last accepted packet or,
+    /// if that is later, at the report since which that caller has been expected to send.
     pub fn silent_ticks(&mut self, expected: Option<u32>, ticks: u64) -> u64 {
         if self.expected != expected {
             self.expected = expected;
@@ -52,7 +52,7 @@ impl PortCounts {
     }
 
     /// Returns whether the caller would sound bad (packets were dropped, late, too early or duplicates, or the play
-    /// list restarted), or whether strangers sent packets to the port.
+    /// list restarted), or whether somebody else sent packets to the port.
     pub fn has_trouble(&self) -> bool {
         let [started, _, pushed, again, late] = self.counts.placed;
         started > 1

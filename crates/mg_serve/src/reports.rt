@@ -11,12 +11,13 @@ const TICKS: u64 = 50;
 
 /// Prints reports for an operator.
 ///
-/// Every `every` ticks it prints the totals since the start, and a line for each media port that had trouble since the
-/// last report. After a stall it prints how many packets were too late to be sent. What can't be printed is skipped.
+/// Every `every` ticks it prints the totals since the start, and a line for each media port that has had trouble since
+/// the last report. After a stall it prints how many packets were too late to be sent. What can't be printed is
+/// skipped.
 #[derive(Drop)]
 pub struct Reports<'a, E: Write> {
     every: u64,
-    /// Packets of late ticks since the last tick that was on time.
+    /// Packets from late ticks since the last tick that was on time.
     late: u64,
     ports: Vec<PortCounts>,
     writer: &'a mut E,
@@ -48,7 +49,8 @@ impl<'a, E: Write> Reports<'a, E> {
         }
     }
 
-    /// Counts the packets of a late tick. The next tick that is on time prints how many packets were too late.
+    /// Counts the packets of a late tick. The number of packets that were too late is printed at the next tick that is
+    /// on time.
     pub fn count_late(&mut self, timing: Timing, packets: u64) {
         if timing == Timing::Late {
             self.late = self.late.saturating_add(packets);
@@ -73,7 +75,7 @@ impl<'a, E: Write> Reports<'a, E> {
         }
     }
 
-    /// Prints what arrived at a slot's port, if it had trouble, and resets its counts.
+    /// Prints what arrived at a slot's port, if the port had trouble, and resets the port's counts.
     fn print_slot(&mut self, config: Config, core: &Core, slot: u8, ticks: u64) {
         let Some(port) = self.ports.get_mut(usize::from(slot)) else {
             return;
@@ -130,7 +132,7 @@ fn print_totals<E: Write>(counts: &Counts, strangers: u64, writer: &mut E) {
     write_line(&line, writer);
 }
 
-/// Prints what arrived at a media port since the last report. `termination` is 0 if no termination has the port.
+/// Prints what has arrived at a media port since the last report. `termination` is 0 if no termination has the port.
 fn print_port<E: Write>(
     port: u16,
     termination: u32,

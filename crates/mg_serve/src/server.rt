@@ -305,7 +305,7 @@ impl<'a, E: Write> Server<'a, E> {
         }
     }
 
-    /// Handles the datagrams waiting at a socket: at most 64, and none after a failed receive.
+    /// Handles at most 64 of the datagrams waiting at a socket, and none after a failed receive.
     fn turn<P: Ports, W: Write>(
         &mut self,
         alloc: Global,

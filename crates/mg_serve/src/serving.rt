@@ -20,9 +20,9 @@ use std::io::{Read, Write};
 /// It prints `ready`, and executes the lines of the input up to the first `quit` or the end of the input. Sockets that
 /// the configuration does not include are not used.
 ///
-/// - `poll` reads the control socket, then each media socket in ascending order, at most 64 datagrams from each. A
-///   control message is answered at once; a message from an address that isn't a controller's is dropped. A failed
-///   receive ends that socket's turn.
+/// - `poll` reads at most 64 datagrams from each socket: first from the control socket, then from the media sockets in
+///   ascending order. A control message is answered at once; a message from an address that isn't a controller's is
+///   dropped. A failed receive ends that socket's turn.
 /// - `tick` advances by 20 ms and sends the packets. If a send fails, only that packet is lost.
 /// - `stats` prints `control=a media=b ticks=c sent=d failed=e dropped=f,g,h,i,j,k concealed=l`: [`Counts`] explains
 ///   them.
@@ -33,8 +33,8 @@ use std::io::{Read, Write};
 /// control datagram for which there was no memory. `run` from `mg_core` runs such a script again. If printing fails,
 /// the current input line is still executed in full, and nothing more is printed.
 ///
-/// At the given interval it prints, for an operator, the totals since the start and a line for each media port that had
-/// trouble since the last report. A report that can't be printed is skipped.
+/// At the given interval it prints, for an operator, the totals since the start and a line for each media port that has
+/// had trouble since the last report. A report that can't be printed is skipped.
 ///
 /// On return, with or without an error, the complete lines that it read and their effects form a session of a new
 /// gateway. `Read` and `Write` mean that the input or the output failed; it also returns `Read` after 4,294,967,295
@@ -98,8 +98,8 @@ fn drive<P: Ports, R: Read, W: Write, E: Write>(
 /// before each tick.
 ///
 /// The k-th tick begins when a reading of the clock first shows that it is due: `k * 20 ms` after the clock's start.
-/// After a delay all missed ticks are executed at once. If a tick is more than `allowed` ticks late, its packets are
-/// not sent. The next tick that is on time reports how many packets were not sent.
+/// After a delay, all missed ticks are executed in one go. If a tick is behind by more than `allowed` ticks, its
+/// packets are not sent. At the next tick that is on time, it reports how many packets were not sent.
 ///
 /// It ends only on a fault: `Read` if the clock can't be read, `Write` if printing failed, `NoMemory` or `BadConfig`
 /// before anything is executed.

@@ -1,4 +1,4 @@
-//! Tests of the smaller libraries through their public calls.
+//! Tests of the smaller libraries through their public functions.
 //!
 //! Like `mg_tests`, they are in a separate crate, because a crate with tests is proved twice. They test what no
 //! contract says, and call each public function with a few arguments.

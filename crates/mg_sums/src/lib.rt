@@ -1,12 +1,12 @@
 //! The frames of a conference mixer, and one total for each room.
 //!
 //! Each termination has a [`Row`], numbered by its slot, and each context has a [`Room`]. A [`Sums`] keeps the frame of
-//! each row and the room that it is joined to, if any. A row is joined while its termination talks. For each room it
-//! keeps the sum of the joined frames, sample by sample, as 160 numbers of 32 bits. These totals are never limited: at
-//! most [`TERMINATIONS`] 16-bit samples are added.
+//! each row and the room that the row is joined to, if any. A row is joined while its termination talks. For each room,
+//! the [`Sums`] keeps the sum of the joined frames, sample by sample, as 160 numbers of 32 bits. These totals are never
+//! limited: at most [`TERMINATIONS`] 16-bit samples are added.
 //!
 //! So a listener's mix needs no sum over all talkers. It is the room's total minus the rows that the listener must not
-//! hear: its own (the base) and those silenced for it. It is limited once to 16 bits, and encoded as G.711.
+//! hear: the listener's own (the base) and the silenced ones. The mix is limited once to 16 bits, and encoded as G.711.
 //!
 //! ```rust
 //! let mut sums = Sums::new(alloc)?;
@@ -25,8 +25,8 @@
 //! through [`Sums::frame`] and [`Sums::total`].
 //!
 //! [`Sums::new`] allocates all memory; no other call allocates. `specs/Sums.antt` defines totals and mixes, and
-//! [`theorems`] states the consequences. The vector code is in [`kernels`]; [`ranges`] exposes to proofs the ranges
-//! that a kernel requires.
+//! [`theorems`] states the consequences. The vector code is in [`kernels`]; [`ranges`] makes the ranges that a kernel
+//! requires available to proofs.
 #![tactic(auto)]
 
 pub mod kernels;

@@ -3,7 +3,7 @@ ghost use Rattle.mg_words.specs.Limits.{context_limit};
 
 use std::marker::Model;
 
-/// The room of a context: a number below [`CONTEXTS`](crate::CONTEXTS), which contracts see.
+/// The room of a context. In contracts, it appears as its number, which is below [`CONTEXTS`](crate::CONTEXTS).
 #[derive(Clone, Copy, Debug, PartialEq, Eq, Hash)]
 pub struct Room {
     number: u8,

@@ -3,7 +3,8 @@ ghost use Rattle.mg_words.specs.Limits.{termination_limit};
 
 use std::marker::Model;
 
-/// The row of a termination: the number of its slot, below [`TERMINATIONS`](crate::TERMINATIONS), which contracts see.
+/// The row of a termination. In contracts, it appears as the number of its slot, which is below
+/// [`TERMINATIONS`](crate::TERMINATIONS).
 #[derive(Clone, Copy, Debug, PartialEq, Eq, Hash)]
 pub struct Row {
     number: u8,

@@ -17,8 +17,8 @@ use std::marker::Model;
 
 /// The frames of all rows, the rooms that the rows are joined to, and a total for each room.
 ///
-/// Contracts see the record `SumsState` from `specs/Sums.antt`. It has no totals: an invariant says that each stored
-/// total is the sum of its room.
+/// In contracts, they appear as the record `SumsState` from `specs/Sums.antt`. The record has no totals: an invariant
+/// says that each stored total is the sum of its room's frames.
 #[derive(Drop)]
 pub struct Sums {
     frames: Vec<FrameRow>,
@@ -117,7 +117,7 @@ impl Sums {
     /// once.
     ///
     /// The base is the listener's own row, or `None` if the listener does not talk. `minus` lists the rows that are
-    /// silenced for it. All must be joined to the room, and no two may be the same.
+    /// silenced for the listener. All must be joined to the room, and no two may be the same.
     pub fn mix(&mut self, room: Room, base: Option<Row>, minus: &[Row], law: Law) -> [u8; SAMPLES]
         requires rows { AreOfRoom self.old.rooms room (left_out_by base minus.now) }
         ensures mix { result
@@ -147,7 +147,7 @@ impl Sums {
         self.totals[room.number()].sum(i)
     }
 
-    /// Returns the frame that was last set for a row: silence if none was set.
+    /// Returns the frame that was last set for a row, or silence if none was set.
     pub fn frame(&self, row: Row) -> &Frame
         ensures value { result.now ≡ frame_of_row self.now row }
         ensures frame { IsFrame result.now }

@@ -285,7 +285,7 @@ fn leads_one_way(rt: HostRuntime) -> Result<(), Fail> {
     lead_one_way(&rt, rt.alloc(), &mut engine)
 }
 
-/// Makes a conference of callers with the same peer, one in each of these modes.
+/// Adds a termination for each of these modes to one new conference. All terminations have the same Remote.
 fn add_crowd(engine: &mut Engine, modes: &[Mode]) -> Result<(), Fail> {
     let mut target = Target::New;
     for mode in modes {
@@ -295,7 +295,7 @@ fn add_crowd(engine: &mut Engine, modes: &[Mode]) -> Result<(), Fail> {
     Ok(())
 }
 
-/// Starts an engine with a conference of callers with the same peer, one in each of these modes.
+/// Starts an engine with a conference that has a termination for each of these modes.
 fn crowd(alloc: Global, modes: &[Mode]) -> Result<Engine, Fail> {
     let mut engine = Engine::new(alloc, Config::default()).map_err(|_| "sound")?;
     add_crowd(&mut engine, modes)?;

@@ -1,4 +1,4 @@
-//! Tests of the larger crates through their public calls.
+//! Tests of the larger crates through their public functions.
 //!
 //! They are in a separate crate, because a crate with tests is proved twice, and that costs more the larger the crate
 //! is. Whatever a script can show is in a script (`mg_examples`). These tests cover the rest: causes, counts, failed

@@ -207,7 +207,7 @@ const CALLERS: &[u8] = b"say 127.0.0.1:2945 !/1 [127.0.0.1]:2945 T=1{C=${\
     A=${M{O{MO=SR},L{v=0\\nc=IN IP4 $\\nm=audio $ RTP/AVP 0\\n},R{v=0\\nc=IN IP4 127.0.0.1\\nm=audio 40002 RTP/AVP 0\\n}}},\
     A=${M{O{MO=SR},L{v=0\\nc=IN IP4 $\\nm=audio $ RTP/AVP 8\\n},R{v=0\\nc=IN IP4 127.0.0.1\\nm=audio 40004 RTP/AVP 8\\n}}}}}\n";
 
-/// Returns the counts of running a script.
+/// Returns the counts from running a script.
 fn counted(alloc: Global, script: &[u8]) -> Result<Counts, Fail> {
     let mut reader = Cursor::new(script);
     let mut written = Vec::new(alloc);
@@ -403,7 +403,7 @@ const TWO_ADDS: &[u8] = b"!/1 [127.0.0.1]:2945 T=1{C=${A=$,A=$}}";
 const LAST_ADDED: &[u8] =
     b"MEGACO/1 [127.0.0.1]:2944\nReply=1{Context=1{Add=RTP/4294967295,Add=${Error=432{\"no termination or port left\"}}}}";
 
-/// Returns whether a core answers each message from the controller with its text.
+/// Returns whether a core answers each message from the controller with the text given for it.
 fn answers_each(
     alloc: Global,
     core: &mut Core,
@@ -417,7 +417,7 @@ fn answers_each(
     Ok(true)
 }
 
-/// Returns whether a new core answers each message from the controller with its text.
+/// Returns whether a new core answers each message from the controller with the text given for it.
 ///
 /// It is false if the configuration is invalid.
 fn answers_all(

@@ -31,14 +31,14 @@ fn sized(bytes: &[u8]) -> &[u8]
     &bytes[..bytes.len().min(65535)]
 }
 
-/// Returns the line of a control datagram.
+/// Returns the line for a control datagram.
 fn control(alloc: Global, source: Peer, bytes: &[u8]) -> Result<Vec<u8>, Fail> {
     let mut line = EventLine::new(alloc)?;
     line.control(source, sized(bytes));
     Ok(Vec::from_slice(alloc, line.as_slice())?)
 }
 
-/// Returns the line of an RTP datagram, built after another line.
+/// Returns the line for an RTP datagram, built after another line.
 fn media(alloc: Global, port: u16, source: Peer, bytes: &[u8]) -> Result<Vec<u8>, Fail> {
     let mut line = EventLine::new(alloc)?;
     line.control(source, b"another");
@@ -106,7 +106,7 @@ fn played(alloc: Global, script: &[u8]) -> Result<(Vec<u8>, Counts), Fail> {
     }
 }
 
-/// Returns whether the line of a control datagram runs like the `say` line with its text.
+/// Returns whether the line for a control datagram runs like the `say` line with the same text.
 fn is_as_said(alloc: Global, text: &[u8]) -> Result<bool, Fail> {
     let line = control(alloc, CONTROLLER, text)?;
     let mut said = Vec::from_slice(alloc, b"say 127.0.0.1:2945 ")?;
@@ -133,7 +133,7 @@ fn runs_control_datagrams(rt: HostRuntime) -> Result<(), Fail> {
 const ADD: &[u8] = b"!/1 [127.0.0.1]:2945 T=1{C=${\
     A=${M{O{MO=SR},L{v=0\nc=IN IP4 $\nm=audio $ RTP/AVP 0\n}}}}}";
 
-/// Returns the line of a frame of silence.
+/// Returns the line for a frame of silence.
 fn frame(alloc: Global) -> Result<Vec<u8>, Fail> {
     let mut packet = Vec::from_slice(alloc, b"\x80\0\0\x01\0\0\0\0\0\0\0\x63")?;
     packet.resize(172, 0xFF)?;

@@ -91,7 +91,7 @@ const FRESH: Record = Record {
     remote: None,
 };
 
-/// The first termination, with settings that can be served.
+/// The first termination, with settings that are supported.
 const SET: Record = Record {
     mode: Mode::SendOnly,
     depth: 2,
@@ -120,7 +120,7 @@ fn modify_fault(rooms: &mut Rooms, settings: &Settings) -> Option<ErrorNumber> {
     rooms.modify(Target::Number(1), 1, settings).err()
 }
 
-/// Media that cannot be served change nothing.
+/// Media that are not supported change nothing.
 fn refuse_settings(rt: &impl Abort, rooms: &mut Rooms) {
     let unserved = Settings {
         mode: Some(Mode::SendOnly),

@@ -464,8 +464,8 @@ fn takes_messages_of_controllers_alone(rt: HostRuntime) -> Result<(), Fail> {
     Ok(())
 }
 
-/// Returns the reports of a session of 50 ticks. A termination's Remote is port 40000 of 127.0.0.1. Packets arrive at its
-/// port from there and from port 40001, and at a port without a termination.
+/// Returns the reports of a session of 50 ticks. A termination's Remote is port 40000 of 127.0.0.1. Packets arrive at
+/// its port from there and from port 40001, and at a port without a termination.
 fn reported_with(alloc: Global, symmetric_rtp: bool) -> Result<Vec<u8>, AllocError> {
     let mut arrivals = Vec::new(alloc);
     let waiting: [(usize, u16, &[u8]); 4] = [

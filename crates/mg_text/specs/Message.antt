@@ -74,7 +74,7 @@ abbrev pub IsTooMany : List ℕ → Type 0
 IsTooMany source =
     (message_limit < length source) ⊎ ((m : Message) × IsTree source m × ExceedsLimits m)
 
--- the bytes start with a head of another version, whatever follows it
+-- the bytes start with a head of another version, whatever follows the head
 pub record HasOtherVersion (source : List ℕ) (version : ℕ) : Type 0 where
   pub short : length source ≤ message_limit
   pub tokens : List Token

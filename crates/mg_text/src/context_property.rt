@@ -10,7 +10,7 @@ pub struct NamedTriple {
     pub association: Association,
 }
 
-/// A property of a context that ContextAudit asks for (RFC 3525, Annex B.2, contextAuditProperties).
+/// A context property that a ContextAudit asks for (RFC 3525, Annex B.2, contextAuditProperties).
 #[derive(Clone, Copy, Debug, PartialEq, Eq)]
 pub enum ContextWord {
     Topology,
@@ -18,7 +18,7 @@ pub enum ContextWord {
     Emergency,
 }
 
-/// A property of an action's context, before its commands (RFC 3525, Annex B.2, contextRequest).
+/// A property of an action's context, given before the action's commands (RFC 3525, Annex B.2, contextRequest).
 #[derive(Drop)]
 pub enum ContextProperty {
     Topology(TreeList<NamedTriple>),

@@ -50,7 +50,7 @@ fn content_at<'t>(source: &[u8], tokens: &'t [Token]) -> Result<(bool, &'t [Toke
     Ok((true, rest))
 }
 
-/// Parses a descriptor whose content is not kept, after its keyword.
+/// Parses the rest of a descriptor after its keyword, and discards the content.
 #[tactic(auto, unfolding(crate::specs::aids::Commands::other_at))]
 fn other_at<'t>(
     source: &[u8],

@@ -143,8 +143,8 @@ fn answered(message: Result<Message, ReadFault>, len: usize) -> Result<Message, 
 /// Parses a datagram as a message. It allocates memory for the tokens and the tree.
 ///
 /// Returns `TooMany` for a datagram of more than 8192 bytes. Otherwise returns `Version` if the head has a version
-/// other than 1, whatever follows it. Returns `Syntax` for anything else that does not follow the grammar. Returns
-/// `TooMany` for a message with more than 4 requests, or with more than 64 commands in total.
+/// other than 1, whatever follows the head. Returns `Syntax` for anything else that does not follow the grammar.
+/// Returns `TooMany` for a message with more than 4 requests, or with more than 64 commands in total.
 pub fn read(alloc: Global, source: &[u8]) -> Result<Message, ReadFault>
     // The result is a message.
     ensures found { IfOk result (λ m. IsMessage source.now m) }

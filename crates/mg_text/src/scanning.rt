@@ -24,7 +24,7 @@ pub fn tokens_of(
 
 /// Appends a token, passed as separate parts in registers.
 ///
-/// A whole token would be written to the stack and read back in pieces of other sizes, which stalls the processor.
+/// A whole token would be written to the stack and read back in differently sized pieces, which stalls the processor.
 #[inline(never)]
 fn put(tokens: &mut Vec<Token>, kind: TokenKind, start: usize, end: usize) -> Result<(), AllocError>
     ensures items { IfOk result (λ _.

@@ -44,7 +44,7 @@ fn ranges_at<'t>(
     Ok((Some(MessageItem::Acknowledgement(ranges)), rest))
 }
 
-/// Parses a Reply or Pending item after its keyword. Returns no item, because it is not kept.
+/// Parses a Reply or Pending item after its keyword. Returns no item, because such an item is not kept.
 #[tactic(auto, unfolding(crate::specs::aids::Requests::answer_at))]
 fn answer_at<'t>(
     source: &[u8],

@@ -2,7 +2,7 @@ ghost use Rattle.std.specs.Prelude.{◌≡◌};
 
 use std::marker::Model;
 
-/// A list of parts of a message, in order. Contracts see it as a list.
+/// A list of parts of a message, in order. In contracts, it appears as a list.
 #[derive(Drop)]
 pub struct TreeList<T> {
     items: Vec<T>,

@@ -8,7 +8,7 @@ use std::marker::Model;
 
 /// An iterator over the seats of a set in ascending order; see [`mask::seats`].
 ///
-/// Contracts see the list of remaining seats.
+/// In contracts, it appears as the list of remaining seats.
 #[derive(Debug, Drop)]
 pub struct Seats {
     left: Mask,

@@ -1,7 +1,7 @@
-//! What the edits of a context determine, however they are stored.
+//! What the edits in a context determine, however they are stored.
 //!
-//! The functions have empty bodies: their contracts are the theorems. A proof that needs one calls the function. Lists
-//! of edits start with the newest.
+//! The functions have empty bodies: their contracts are the theorems. A proof that needs a theorem calls its function.
+//! Lists of edits start with the newest.
 
 ghost use Rattle.std.specs.Prelude.{◌≡◌, ◌≢◌, ℕ, ◌<◌, ◌≤◌, ◌^◌, [], ◌∷◌, ◌++◌, ◌==◌, ◌||◌, ◌↔◌, Bool, List, Some, IsTrue, IsFalse, Any, Contains};
 ghost use Rattle.std.specs.List.{list_any, filter, range_with_len};
@@ -94,12 +94,12 @@ pub fn masks_are_sets()
     ensures same { (a b : ℕ) → ((seat : ℕ) → has_seat a seat ≡ has_seat b seat) → a ≡ b }
 {}
 
-/// Each member of a context has a seat. A member limit that is too high fails here.
+/// Each member of a context has a seat. If the limit on members is too high, this proof fails.
 pub fn each_member_has_a_seat()
     ensures { member_limit ≤ seat_limit }
 {}
 
-/// The list of a mask's seats has exactly its seats, in ascending order.
+/// The list of a mask's seats has exactly the mask's seats, in ascending order.
 ///
 /// Any test that agrees with the mask on each seat gives the same list.
 pub fn seats_are_listed()

@@ -10,9 +10,9 @@ use std::marker::Model;
 
 /// Who hears whom among the seats of one context.
 ///
-/// Contracts see the held seats and the rows, and read them through `holds`, `hears` and `StandsFor`.
-/// [`Topology::new`] represents the empty list of edits, and each call adds its edits to the lists that the topology
-/// represents. So every topology represents some list.
+/// In contracts, a topology appears as the held seats and the rows, which are read through `holds`, `hears` and
+/// `StandsFor`. The topology that [`Topology::new`] returns represents the empty list of edits, and each call adds its
+/// edits to the lists that the topology represents. So every topology represents some list.
 #[derive(Debug, Drop)]
 pub struct Topology {
     held: Mask,
@@ -111,7 +111,7 @@ impl Topology {
         apply_to_rows(&mut self.rows, triple);
     }
 
-    /// Returns the seats of the members that the listener hears: none if the listener's seat is not held.
+    /// Returns the seats of the members that the listener hears, or none if the listener's seat is not held.
     #[tactic(auto, using(crate::proofs::MaskLemmas::seat_rules))]
     pub fn talkers(&self, listener: usize) -> Mask
         ensures kept { (talker : ℕ) → has_seat result talker ≡ hears self.now talker listener }

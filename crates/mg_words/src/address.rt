@@ -41,7 +41,7 @@ fn push_number(out: &mut ArrayVec<u8, ADDRESS_LIMIT>, n: u8)
     let _ = out.try_extend_from_slice(buffer.format(n).as_bytes());
 }
 
-/// Writes an IPv4 address in dotted decimal, without leading zeros: at most 15 bytes.
+/// Writes an IPv4 address in dotted decimal, without leading zeros (at most 15 bytes).
 #[tactic(auto, using(crate::proofs::AddressLemmas::lengths))]
 pub fn address_text(address: [u8; 4]) -> ArrayVec<u8, ADDRESS_LIMIT>
     ensures value { result.items ≡ address_text address }

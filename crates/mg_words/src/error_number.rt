@@ -19,7 +19,7 @@ pub enum ErrorNumber {
     IdentifierNotAllowed,
     /// The action's context does not exist, or cannot be entered.
     UnknownContext,
-    /// The limit on contexts is reached, or their numbers are exhausted.
+    /// The limit on contexts is reached, or context numbers are exhausted.
     NoContextLeft,
     /// Both names of a Oneway triple match the same termination.
     IllegalCombination,
@@ -27,7 +27,7 @@ pub enum ErrorNumber {
     UnknownTermination,
     /// A command names all terminations of a context that has none.
     WildcardMatchedNone,
-    /// No slot is free, or the numbers of terminations are exhausted.
+    /// No slot is free, or termination numbers are exhausted.
     NoTerminationLeft,
     /// An Add names an existing termination, or a Move names the context that the termination is in.
     AlreadyInContext,
@@ -43,9 +43,9 @@ pub enum ErrorNumber {
     DescriptorTwice,
     /// The message exceeds a limit, or asks for a command, context, stream or reservation that is not supported.
     NotServed,
-    /// No session description in Local or Remote can be served.
+    /// No session description in Local or Remote is acceptable.
     NoMedia,
-    /// The reply would exceed the size limit. Its commands stay in effect.
+    /// The reply would exceed the size limit. The request's commands stay in effect.
     ReplyTooLong,
 }
 
@@ -100,7 +100,7 @@ impl ErrorNumber {
         self.row().1
     }
 
-    /// Writes the error descriptor, `Error=NUMBER{"TEXT"}`: at most 64 bytes.
+    /// Writes the error descriptor, `Error=NUMBER{"TEXT"}` (at most 64 bytes).
     #[tactic(auto, using(crate::proofs::ErrorLemmas::parts), unfolding(crate::specs::ErrorNumber::error_text))]
     pub fn descriptor(self) -> ArrayVec<u8, ERROR_LIMIT>
         ensures value { result.items ≡ error_text self }

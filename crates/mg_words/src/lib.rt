@@ -1,11 +1,11 @@
 //! The protocol's keywords, names, numbers and errors, and the gateway's limits.
 //!
-//! It has types for modes, associations, commands, contexts, terminations and errors (Megaco, RFC 3525), each with its
-//! text. Another type holds a termination's counters. The crate also has parsers for the numbers, ports and IPv4
+//! This crate has types for modes, associations, commands, contexts, terminations and errors (Megaco, RFC 3525), each
+//! with its text. Another type holds a termination's counters. It also has parsers for the numbers, ports and IPv4
 //! addresses in control messages, session descriptions and scripts.
 //!
-//! Each parser takes a whole string and returns its value, or `None` if it has none. Leading zeros are allowed; signs
-//! and spaces are not:
+//! Each parser takes a whole string and returns the string's value, or `None` if it has no value. Leading zeros are
+//! allowed; signs and spaces are not:
 //!
 //! ```rust
 //! assert_eq!(rt; port_of(b"02945"), Some(2945));

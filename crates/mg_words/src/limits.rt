@@ -34,7 +34,7 @@ pub const REQUEST_LIMIT: usize = 4;
 /// The maximum number of commands in a message.
 pub const COMMAND_LIMIT: usize = 64;
 
-/// The maximum length of a termination's name, a domain name or a device name, in bytes.
+/// The maximum length, in bytes, of a termination's name, of a domain name and of a device name.
 pub const TERM_LIMIT: usize = 64;
 
 /// The maximum length of a sender's name, in bytes: a domain name in angle brackets, a colon and a five-digit port.
@@ -73,7 +73,8 @@ pub fn constants_are_limits()
     ensures numbers { (LAST_TERMINATION ≡ last_termination) × (LAST_CONTEXT ≡ last_context) }
 {}
 
-/// What the crates above assume about the limits: rooms and slots fit in 8 bits. A limit that is too high fails here.
+/// What the crates above assume about the limits: rooms and slots fit in 8 bits. If a limit is too high, this proof
+/// fails.
 pub fn limits_fit()
     ensures rooms { context_limit ≤ 2 ^ 8 }
     ensures slots { termination_limit ≤ 2 ^ 8 }

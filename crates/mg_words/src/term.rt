@@ -9,7 +9,7 @@ use arrayvec::ArrayVec;
 use itoa::Buffer;
 use std::marker::Model;
 
-/// The name of a termination: a word of 1 to 64 bytes. Contracts see it as a list of bytes.
+/// The name of a termination: a word of 1 to 64 bytes. In contracts, it appears as a list of bytes.
 #[derive(Drop)]
 pub struct Term {
     bytes: ArrayVec<u8, TERM_LIMIT>,

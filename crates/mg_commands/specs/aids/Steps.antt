@@ -35,7 +35,7 @@ use Rattle.mg_commands.specs.aids.ByActions.{with_commands}
 abbrev pub is_served : Command → Bool
 is_served c = is_served_word c.word && not c.wants_wildcard
 
--- what descriptors ask for, if they are supported
+-- what the descriptors ask for, if they are supported
 abbrev pub check_descriptors : List ℕ → List Descriptor → Result CommandParameters ErrorNumber
 check_descriptors source xs = do
   _ ← unless (descriptors_fault source xs)

@@ -42,13 +42,13 @@ TextGrows old new before text f =
     Leads StandsFor old new (λ w next. (out : List ℕ) × (f w ≡ (out, next))
     × (text ≡ before ++ out))
 
--- the text that is written for a reply: its own, or an error in its place
+-- the text that is written for a reply: the reply's own text, or an error instead
 abbrev pub put_text : Answered → List ℕ
 put_text r =
     if is_too_long r then reply_text r.number (reported.Fault numbers.ReplyTooLong ∷ [])
     else reply_text r.number r.items
 
--- the error that rejects a message, unless memory ran out
+-- the error with which a message is rejected, unless memory ran out
 abbrev pub refusal_of : ReadFault → Option ErrorNumber
 refusal_of (readings.Syntax place) = Some numbers.Syntax
 refusal_of (readings.Version n) = Some numbers.Version
@@ -65,7 +65,7 @@ abbrev pub event_text : Shown → World → List Sent → World → List ℕ
 event_text shows.Sent w sent next = lines_for sent
 event_text shows.SentAndFlows w sent next = lines_for sent ++ changes_by w next
 
--- an event was run, its text was written, and what it sent was counted
+-- an event was run, its text was written, and the datagrams sent were counted
 pub record EventDone (shown : Shown) (event : Event) (w next : World) (n m : ℕ)
     (old new : Option (List ℕ)) : Type 0 where
   pub sent : List Sent
@@ -113,7 +113,7 @@ abbrev pub LeadsOn : {E : Type 0} → (World → Type 0) → (World → Type 0) 
 LeadsOn Old New result Comes =
     (w : World) → Old w → (next : World) × Comes w next × OnOk result (New next)
 
--- lines were run, and what they sent was counted
+-- lines were run, and the datagrams sent were counted
 pub record RanCounted (shown : Shown) (w : World) (lines : List (List ℕ)) (last : World)
     (n m : ℕ) (old new : Option (List ℕ)) : Type 0 where
   pub ran : Ran shown w lines last old new

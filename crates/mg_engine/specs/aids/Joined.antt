@@ -12,7 +12,7 @@ use Rattle.mg_engine.specs.Place.{IsOnPlace}
 abbrev pub room_of_row : List (Option ℕ) → ℕ → Option ℕ
 room_of_row joined row = slice_index_or joined row None
 
--- the room that a member's row is joined to: its own, if its mode talks
+-- the room that a member's row is joined to: the member's own, if the member talks
 abbrev pub room_for : Mode → ℕ → Option ℕ
 room_for mode room = if talks mode then Some room else None
 

@@ -17,7 +17,7 @@ is_wide (Command word term outcome) = nat_le 9 (length (item_text (Command word 
 is_wide (Fault e) = nat_le 9 (length (item_text (Fault e)))
 is_wide (Action id) = nat_le 9 (length (action_text id []))
 
--- whether a reply is too long: it is marked as such, or its text is
+-- whether a reply is too long: it is marked as too long, or its text is too long
 abbrev pub is_too_long : Answered → Bool
 is_too_long r = r.is_long || nat_lt reply_limit (length (reply_text r.number r.items))
 

@@ -17,6 +17,8 @@ mod lines;
 #[cfg(test)]
 mod options;
 #[cfg(test)]
+mod outlet;
+#[cfg(test)]
 mod playout;
 #[cfg(test)]
 mod ports;

@@ -1,0 +1,2 @@
+pub mod Outlet
+pub mod Passing

@@ -1,0 +1,32 @@
+//! A writer that never waits for its reader.
+//!
+//! An [`Outlet`] keeps written text in a queue, and passes it on to another writer only while that one is [`Ready`]. So
+//! a slow reader of standard output can't delay the gateway's ticks:
+//!
+//! ```rust
+//! let mut output = Outlet::watching(&rt, rt.alloc(), rt.stdout(), 64 << 20, Overflow::End)?;
+//! output.write_all(line)?;
+//! output.flush()?;
+//! ```
+//!
+//! If the reader is so slow that the queue is full, text is dropped; [`Overflow`] says which. The caller flushes often,
+//! such as after each tick, and calls [`Outlet::finish`] at the end.
+//!
+//! `specs/Outlet.antt` defines what an outlet does: bytes move from the front of the queue to the end of what the writer
+//! holds, and written text joins the queue unless it is dropped. [`theorems`] states the consequences.
+#![tactic(auto)]
+
+mod outlet;
+mod outlet_fault;
+mod overflow;
+mod passing;
+mod ready;
+mod system_ready;
+pub mod theorems;
+
+pub use crate::outlet::Outlet;
+pub use crate::outlet_fault::OutletFault;
+pub use crate::overflow::Overflow;
+pub use crate::passing::CHUNK;
+pub use crate::ready::Ready;
+pub use crate::system_ready::SystemReady;

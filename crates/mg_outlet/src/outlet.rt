@@ -1,0 +1,209 @@
+ghost use Rattle.std.specs.Prelude.{◌≡◌, [], length, Some, None, Err, IfErr, IfOk, IfSome, OnErr, OnOk};
+ghost use Rattle.std.specs.Io.{WritesAtMost};
+ghost use Rattle.std.specs.Io.KnownBytes.{Keeps, WriteAppends};
+ghost use Rattle.mg_outlet.specs.Passing.{Moves};
+ghost use Rattle.mg_outlet.specs.Outlet.{queued, dropped, failure, writer, readiness, has_ended, new_outlet, drops, IsFlushed, IsWritten};
+
+use crate::outlet_fault::OutletFault;
+use crate::overflow::Overflow;
+use crate::passing::{CHUNK, pass_all, pass_on};
+use crate::ready::Ready;
+use crate::system_ready::SystemReady;
+use circular_buffer::HeapCircularBuffer;
+use std::alloc::{AllocError, Global};
+use std::io::{self, Write};
+use std::net::Net;
+use std::os::fd::AsRawFd;
+
+/// The maximum number of chunks that one flush passes on: 1 MiB.
+const FLUSH_CHUNKS: u16 = 256;
+
+/// A writer that never waits for its reader.
+///
+/// Written text joins a queue in memory, whole or not at all. [`flush`](Write::flush) passes on what it can without
+/// waiting, in order. So does [`write`](Write::write), if 4,096 bytes are queued already. A flush passes on at most 1
+/// MiB and a write at most 4,096 bytes, so that a reader that resumes doesn't cost much time at once either.
+///
+/// If the other writer fails, each later call returns its error, and nothing more is written. If it was interrupted or
+/// would have waited, the outlet tries again later.
+#[derive(Drop)]
+pub struct Outlet<W, R> {
+    writer: W,
+    ready: R,
+    queue: HeapCircularBuffer<u8>,
+    overflow: Overflow,
+    /// How many writes were dropped.
+    dropped: u64,
+    failure: Option<io::Error>,
+}
+
+impl<W: Write + AsRawFd + Drop> Outlet<W, SystemReady> {
+    /// Makes an outlet in front of a descriptor, such as standard output. The system is asked whether a write waits.
+    ///
+    /// A regular file or `/dev/null` is always ready: a write to it goes to the page cache. A terminal may report that
+    /// it is ready with less than 4,096 bytes free, so a write to it can wait.
+    pub fn watching<N: Net>(
+        net: &N,
+        alloc: Global,
+        writer: W,
+        limit: usize,
+        overflow: Overflow,
+    ) -> Result<Self, OutletFault>
+        ensures value { IfOk result (λ outlet. outlet ≡ new_outlet writer (readiness outlet) limit overflow) }
+    {
+        let descriptor = writer.as_raw_fd();
+        let ready = match SystemReady::new(net, alloc, descriptor) {
+            Ok(ready) => ready,
+            Err(error) => return Err(OutletFault::Watch { descriptor, error }),
+        };
+        match Outlet::new(alloc, writer, ready, limit, overflow) {
+            Ok(outlet) => Ok(outlet),
+            Err(_) => Err(OutletFault::Memory { limit }),
+        }
+    }
+}
+
+impl<W: Write, R: Ready> Outlet<W, R> {
+    /// Makes an outlet with an empty queue of at most `limit` bytes, which are allocated now.
+    pub fn new(
+        alloc: Global,
+        writer: W,
+        ready: R,
+        limit: usize,
+        overflow: Overflow,
+    ) -> Result<Self, AllocError>
+    where
+        W: Drop,
+        R: Drop,
+        ensures value { IfOk result (λ outlet. outlet ≡ new_outlet writer ready limit overflow) }
+    {
+        let queue = HeapCircularBuffer::with_capacity(alloc, limit)?;
+        Ok(Outlet {
+            writer,
+            ready,
+            queue,
+            overflow,
+            dropped: 0,
+            failure: None,
+        })
+    }
+
+    /// Returns the other writer.
+    pub fn get_ref(&self) -> &W
+        ensures value { result.now ≡ writer self.now }
+    {
+        &self.writer
+    }
+
+    /// Returns how many bytes are queued.
+    pub fn queued(&self) -> usize
+        ensures value { result ≡ length (queued self.now) }
+    {
+        self.queue.len()
+    }
+
+    /// Returns how many writes were dropped.
+    pub fn dropped(&self) -> u64
+        ensures value { result ≡ dropped self.now }
+    {
+        self.dropped
+    }
+
+    /// Returns whether the outlet drops all that is written from now on, because a text didn't fit.
+    pub fn has_ended(&self) -> bool
+        ensures value { result ≡ has_ended self.now }
+    {
+        self.overflow == Overflow::End && self.dropped > 0
+    }
+
+    /// Passes on all that is queued. Unlike other calls it waits for the reader, so it is for the end of the program.
+    pub fn finish(&mut self) -> io::Result<()>
+        ensures passed { Moves (length (queued self.old)) (queued self.old) (queued self.new)
+            (W.contents (writer self.old)) (W.contents (writer self.new)) }
+        ensures empty { OnOk result (queued self.new ≡ []) }
+        ensures count { dropped self.new ≡ dropped self.old }
+        ensures fails { IfErr result (λ e. failure self.new ≡ Some e) }
+        ensures works { OnOk result (failure self.new ≡ None) }
+        ensures sticks { IfSome (failure self.old) (λ e. (result ≡ Err e) × (self.new ≡ self.old)) }
+    {
+        self.check()?;
+        let outcome = pass_all(&mut self.queue, &mut self.writer);
+        self.keep(outcome)
+    }
+
+    /// Passes on at most this many chunks of the queue.
+    fn pass(&mut self, chunks: u16) -> io::Result<()>
+        ensures flushed { IsFlushed W.contents R.answers self.old self.new }
+        ensures fails { IfErr result (λ e. failure self.new ≡ Some e) }
+        ensures works { OnOk result (failure self.new ≡ None) }
+        ensures sticks { IfSome (failure self.old) (λ e. (result ≡ Err e) × (self.new ≡ self.old)) }
+    {
+        self.check()?;
+        let outcome = pass_on(&mut self.queue, &mut self.writer, &mut self.ready, chunks);
+        self.keep(outcome)
+    }
+
+    /// Returns the error of an earlier write to the other writer.
+    fn check(&self) -> io::Result<()>
+        ensures fails { IfErr result (λ e. failure self.now ≡ Some e) }
+        ensures works { OnOk result (failure self.now ≡ None) }
+    {
+        match self.failure {
+            Some(error) => Err(error),
+            None => Ok(()),
+        }
+    }
+
+    /// Keeps an error for later calls.
+    fn keep(&mut self, outcome: io::Result<()>) -> io::Result<()>
+        ensures value { result ≡ outcome }
+        ensures fails { IfErr outcome (λ e. self.new ≡ record self.old { failure = Some e }) }
+        ensures works { OnOk outcome (self.new ≡ self.old) }
+    {
+        if let Err(error) = outcome {
+            self.failure = Some(error);
+        }
+        outcome
+    }
+
+    /// Returns whether a text is dropped now.
+    fn drops(&self, text: &[u8]) -> bool
+        ensures value { result ≡ drops self.now (queued self.now) text.now }
+    {
+        text.len() > self.queue.capacity() - self.queue.len() || self.has_ended()
+    }
+}
+
+impl<W: Write, R: Ready> Write for Outlet<W, R> {
+    /// Accepts all of a text, or drops it, and returns its length in both cases.
+    fn write(&mut self, text: &[u8]) -> io::Result<usize>
+        ensures bound { WritesAtMost result text.now }
+        ensures bytes { WriteAppends None None result text.now }
+        ensures length { IfOk result (λ n. n ≡ length text.now) }
+        ensures written { OnOk result (IsWritten W.contents R.answers text.now self.old self.new) }
+        ensures unwritten { OnErr result (IsFlushed W.contents R.answers self.old self.new) }
+        ensures fails { IfErr result (λ e. failure self.new ≡ Some e) }
+        ensures works { OnOk result (failure self.new ≡ None) }
+        ensures sticks { IfSome (failure self.old) (λ e. (result ≡ Err e) × (self.new ≡ self.old)) }
+    {
+        let chunks = if self.queue.len() < CHUNK { 0 } else { 1 };
+        self.pass(chunks)?;
+        if self.drops(text) {
+            self.dropped = self.dropped.saturating_add(1);
+        } else {
+            self.queue.fill_from_slice(text);
+        }
+        Ok(text.len())
+    }
+
+    /// Passes on queued bytes as long as the other writer is ready, at most 1 MiB.
+    fn flush(&mut self) -> io::Result<()>
+        ensures bytes { Keeps None None }
+        ensures flushed { IsFlushed W.contents R.answers self.old self.new }
+        ensures fails { IfErr result (λ e. failure self.new ≡ Some e) }
+        ensures works { OnOk result (failure self.new ≡ None) }
+        ensures sticks { IfSome (failure self.old) (λ e. (result ≡ Err e) × (self.new ≡ self.old)) }
+    {
+        self.pass(FLUSH_CHUNKS)
+    }
+}

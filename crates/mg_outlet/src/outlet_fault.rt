@@ -1,0 +1,14 @@
+use std::io;
+use std::os::fd::RawFd;
+use thiserror::Error;
+
+/// Why an outlet couldn't be made.
+#[derive(Debug, Drop, Error)]
+pub enum OutletFault {
+    /// The system can't report when the descriptor is writable, for this reason. The descriptor may be closed.
+    #[error("cannot watch file descriptor {descriptor}: {error}")]
+    Watch { descriptor: RawFd, error: io::Error },
+    /// There is no memory for a queue of this many bytes.
+    #[error("no memory for {limit} bytes of output")]
+    Memory { limit: usize },
+}

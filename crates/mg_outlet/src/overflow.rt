@@ -1,0 +1,8 @@
+/// Which text an outlet drops once a text doesn't fit into its queue.
+#[derive(Clone, Copy, Debug, PartialEq, Eq)]
+pub enum Overflow {
+    /// Drops that text and all later text. The reader gets a prefix of everything that was written.
+    End,
+    /// Drops that text only. The reader may miss whole writes, and never a part of one.
+    Skip,
+}

@@ -10,7 +10,7 @@ fn words(rt: &HostRuntime) -> io::Result<Vec<String>> {
     Ok(env::args(rt)?.skip(1).collect(rt.alloc())?)
 }
 
-/// Reports why the arguments cannot be read. Returns how the program ends.
+/// Reports why the arguments cannot be read. Returns the exit status.
 fn report_error<E: Write>(error: &io::Error, errors: &mut E) -> Status
     ensures memory { error_kind error.now ≡ ErrorKind.OutOfMemory → result ≡ Status.NoMemory }
     ensures usage { error_kind error.now ≢ ErrorKind.OutOfMemory → result ≡ Status.Usage }
@@ -23,7 +23,7 @@ fn report_error<E: Write>(error: &io::Error, errors: &mut E) -> Status
     Status::Usage
 }
 
-/// Returns the running program's arguments without its name, or how the program ends if they cannot be read.
+/// Returns the running program's arguments without its name. If they cannot be read, returns the exit status.
 ///
 /// Reading them fails if an argument is not valid UTF-8, which is a usage error, or if memory runs out. Errors are
 /// reported to `errors`.

@@ -6,11 +6,15 @@ use clap::Command;
 use std::alloc::Global;
 
 /// The version of the programs.
-pub const VERSION: &str = "0.1.0";
+pub const VERSION: &str = "0.2.0";
+
+/// The toolchain that proves and builds the programs: what `rt version` prints. `.ci/dist` compares the two.
+pub const TOOLCHAIN: &str = "rattle-kit-13f logic dac8208d650f15bf";
 
 /// Makes the command line of a program, to which options and subcommands are added.
 ///
-/// Its arguments do not include the program's name. `--version` prints the name and the version.
+/// Its arguments do not include the program's name. `--version` prints the name and the version, then the toolchain on a
+/// line of its own ([`report_error`](crate::report_error)).
 pub fn program_command<'a>(alloc: Global, name: &'a str, about: &'a str) -> Command<'a>
     ensures app { app_of result ≡ program_line name.now }
 {

@@ -24,7 +24,7 @@ mod status;
 mod value;
 
 pub use arguments::program_arguments;
-pub use command::{VERSION, program_command};
+pub use command::{TOOLCHAIN, VERSION, program_command};
 pub use reporting::report_error;
 pub use rule::{long_number, short_number};
 pub use status::Status;

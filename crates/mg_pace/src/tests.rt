@@ -4,7 +4,9 @@ use crate::pacer::pace;
 use crate::program::program;
 use crate::schedule::Schedule;
 use mg_clock::{ClockFailed, MAX_POLLS, Watch};
+use mg_options::{TOOLCHAIN, VERSION};
 use std::alloc::Global;
+use std::test::Fail;
 use std::time::Duration;
 
 /// A clock that returns the given readings, and then fails.
@@ -160,9 +162,12 @@ fn prints_help(rt: HostRuntime) {
 }
 
 #[test]
-fn prints_its_version(rt: HostRuntime) {
-    let (status, output, errors) = answer(rt.alloc(), &["--version"], &[]);
+fn prints_its_version(rt: HostRuntime) -> Result<(), Fail> {
+    let alloc = rt.alloc();
+    let (status, output, errors) = answer(alloc, &["--version"], &[]);
     assert_eq!(rt; status, 0);
-    assert_eq!(rt; output.as_slice(), b"mg_pace 0.1.0\n".as_slice());
+    let wanted = format!(in alloc; "mg_pace {VERSION}\n{TOOLCHAIN}\n")?;
+    assert_eq!(rt; output.as_slice(), wanted.as_bytes());
     assert!(rt; errors.is_empty());
+    Ok(())
 }

@@ -3,8 +3,8 @@
 use clap::Command;
 use clap::error::ErrorKind;
 use mg_options::{
-    Status, VERSION, long_number, long_value, program_arguments, program_command, report_error,
-    short_number, short_value,
+    Status, TOOLCHAIN, VERSION, long_number, long_value, program_arguments, program_command,
+    report_error, short_number, short_value,
 };
 use std::alloc::Global;
 use std::test::Fail;
@@ -64,12 +64,14 @@ fn end_on(alloc: Global, word: &str, unprinted: Status) -> (Status, Vec<u8>, Vec
 }
 
 #[test]
-fn prints_the_version(rt: HostRuntime) {
-    assert_eq!(rt; VERSION, "0.1.0");
-    let (status, output, errors) = end_on(rt.alloc(), "--version", Status::Failed);
+fn prints_the_version(rt: HostRuntime) -> Result<(), Fail> {
+    let alloc = rt.alloc();
+    let (status, output, errors) = end_on(alloc, "--version", Status::Failed);
     assert_eq!(rt; status, Status::Done);
-    assert_eq!(rt; output.as_slice(), b"gateway 0.1.0\n".as_slice());
+    let wanted = format!(in alloc; "gateway {VERSION}\n{TOOLCHAIN}\n")?;
+    assert_eq!(rt; output.as_slice(), wanted.as_bytes());
     assert!(rt; errors.is_empty());
+    Ok(())
 }
 
 #[test]

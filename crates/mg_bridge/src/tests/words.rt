@@ -1,5 +1,6 @@
 use super::run_program;
 use mg_core::Config;
+use mg_options::{TOOLCHAIN, VERSION};
 use mg_program::{Invocation, requested_run, title_of};
 use std::alloc::{AllocError, Global};
 use std::test::Fail;
@@ -28,10 +29,12 @@ fn refuses_arguments(rt: HostRuntime) {
 }
 
 #[test]
-fn prints_its_version(rt: HostRuntime) {
+fn prints_its_version(rt: HostRuntime) -> Result<(), Fail> {
     let done = run_program(&rt, &["--version"], b"");
     assert_eq!(rt; done.status, 0);
-    assert_eq!(rt; done.output.as_slice(), b"mg_bridge 0.1.0\n".as_slice());
+    let wanted = format!(in rt.alloc(); "mg_bridge {VERSION}\n{TOOLCHAIN}\n")?;
+    assert_eq!(rt; done.output.as_slice(), wanted.as_bytes());
+    Ok(())
 }
 
 #[test]

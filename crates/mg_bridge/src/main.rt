@@ -15,7 +15,7 @@
 mod tests;
 
 use mg_options::program_arguments;
-use mg_program::program;
+use mg_program::{System, program};
 use std::process::ExitCode;
 
 fn main(rt: HostRuntime) -> ExitCode {
@@ -27,10 +27,14 @@ fn main(rt: HostRuntime) -> ExitCode {
     let mut input = rt.stdin();
     let mut output = rt.stdout();
     let mut reports = rt.stderr();
+    let system = System {
+        net: &rt,
+        clock: &rt,
+        random: &rt,
+        files: &rt,
+    };
     let code = program(
-        &rt,
-        &rt,
-        &rt,
+        &system,
         rt.alloc(),
         words.as_slice(),
         &mut input,

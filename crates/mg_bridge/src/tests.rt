@@ -8,7 +8,7 @@ mod replaying;
 mod serving;
 mod words;
 
-use mg_program::program;
+use mg_program::{System, program};
 use std::net::{IpAddr, Ipv4Addr, SocketAddr};
 
 /// How a run of the program ended, and its output.
@@ -27,10 +27,14 @@ fn run_program(rt: &HostRuntime, words: &[&str], text: &[u8]) -> Outcome {
     let mut output = Vec::new(alloc);
     let mut errors = Vec::new(alloc);
     let mut reports = Vec::new(alloc);
+    let system = System {
+        net: rt,
+        clock: rt,
+        random: rt,
+        files: rt,
+    };
     let status = program(
-        rt,
-        rt,
-        rt,
+        &system,
         alloc,
         words,
         &mut input,

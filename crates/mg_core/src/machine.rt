@@ -6,6 +6,7 @@ ghost use Rattle.mg_engine.specs.Config.{IsValidConfig};
 ghost use Rattle.mg_engine.specs.Flow.{flow};
 ghost use Rattle.mg_engine.specs.Mix.{total_at};
 ghost use Rattle.mg_engine.specs.Gateway.{stats_of};
+ghost use Rattle.mg_engine.specs.Tick.{conceals};
 ghost use Rattle.mg_engine.specs.Work.{RisesAtMost, tick_work};
 ghost use Rattle.mg_scan.specs.Span.{text_of};
 ghost use Rattle.mg_words.specs.Limits.{sender_limit};
@@ -286,6 +287,13 @@ impl Core {
         ensures value { (w : World) → StandsFor self.now.state w → result ≡ stats_of w.gateway number }
     {
         self.state.engine.stats(number)
+    }
+
+    /// Returns whether the next tick conceals a missing frame of a termination.
+    pub fn conceals(&self, number: u32) -> bool
+        ensures value { (w : World) → StandsFor self.now.state w → result ≡ conceals w.gateway number }
+    {
+        self.state.engine.conceals(number)
     }
 
     /// Returns how many rows of 160 samples have been added, subtracted or written since the start, modulo 2^32.

@@ -24,7 +24,7 @@ fn is_stray(remote: Option<Chosen>, source: Peer) -> bool
     }
 }
 
-/// Returns the law that a termination accepts in payloads from a source.
+/// Returns the law that payloads from a source must use.
 pub fn law_for(termination: &Record, source: Peer) -> Result<Law, DropCause>
     ensures value { result ≡ law_for termination.now source.address }
 {

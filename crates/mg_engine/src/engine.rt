@@ -19,7 +19,7 @@ ghost use Rattle.mg_engine.specs.Totals.{RepresentsTotals};
 ghost use Rattle.mg_engine.specs.Work.{RisesAtMost, sending_work, tick_work};
 ghost use Rattle.mg_engine.specs.declared.datagram.Datagram.{Datagram};
 ghost use Rattle.mg_engine.specs.Place.{IsOnPlace, IsOnSeat};
-ghost use Rattle.mg_engine.specs.Tick.{sends, sent_to, packets, all_played, all_ended, sent_in_tick, after_tick, concealed_in_tick};
+ghost use Rattle.mg_engine.specs.Tick.{sends, sent_to, packets, all_played, all_ended, sent_in_tick, after_tick, conceals, concealed_in_tick};
 ghost use Rattle.mg_g711.specs.Law.{byte_of};
 ghost use Rattle.mg_words.specs.Mode.{listens};
 ghost use Rattle.mg_flow.specs.Table as table;
@@ -501,6 +501,16 @@ impl Engine {
         }
     }
 
+    /// Returns whether the next tick conceals a missing frame of a termination.
+    pub fn conceals(&self, number: u32) -> bool
+        ensures value { (w : Gateway) → StandsFor self.now w → result ≡ conceals w number }
+    {
+        match slot_of(&self.rooms, number) {
+            Some(slot) => conceals_in(self.media.as_slice(), slot),
+            None => false,
+        }
+    }
+
     /// Advances by 20 ms: advances each play list, and fills the outbox with a packet from each termination that sends.
     ///
     /// Packets are in order of the terminations' numbers. Returns how many frames conceal a missing one.
@@ -774,6 +784,14 @@ fn stats_in(media: &[HeldMedia], slot: u8) -> Stats
     ensures value { result ≡ (media_at media.now slot).stats }
 {
     media[usize::from(slot)].stats()
+}
+
+/// Returns whether the next tick conceals a missing frame of the termination in a slot.
+fn conceals_in(media: &[HeldMedia], slot: u8) -> bool
+    requires slot { slot < length media.now }
+    ensures value { result ≡ is_concealing (media_at media.now slot) }
+{
+    media[usize::from(slot)].conceals()
 }
 
 /// Returns the action's context with its room, or the error if that context does not exist.

@@ -94,6 +94,13 @@ impl HeldMedia {
         self.play.tick()
     }
 
+    /// Returns whether the next tick plays the last frame in place of a missing one.
+    pub fn conceals(&self) -> bool
+        ensures value { result ≡ is_concealing self.now }
+    {
+        self.play.conceals()
+    }
+
     /// Returns the counters.
     pub fn stats(&self) -> Stats
         ensures value { result ≡ self.now.stats }

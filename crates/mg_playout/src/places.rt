@@ -3,7 +3,7 @@ ghost use Rattle.std.specs.Option.{option_copied, option_flatten};
 ghost use Rattle.circular_buffer.specs.Buffer.{buffer};
 ghost use Rattle.mg_g711.specs.Frame.{IsFrame};
 ghost use Rattle.mg_playout.specs.Places.{empty_places, frame_at, has_no_frame, fallen, resized, started_with};
-ghost use Rattle.mg_playout.specs.Played.{given, sound_of};
+ghost use Rattle.mg_playout.specs.Played.{given, is_concealed, sound_of};
 
 use crate::played::Played;
 use circular_buffer::HeapCircularBuffer;
@@ -133,6 +133,16 @@ impl Places {
         self.ring.truncate_front(depth);
         self.ring.push_back(None);
         played
+    }
+
+    /// Returns whether the last frame would be played in place of a missing frame at place 0.
+    pub(crate) fn conceals(&self) -> bool
+        ensures { result ≡ is_concealed (given (frame_at self.now.places 0) self.now.last) }
+    {
+        matches!(
+            (self.ring.get(1), self.ring.get(0)),
+            (Some(None), Some(Some(_)))
+        )
     }
 
     /// Drops the last frame.

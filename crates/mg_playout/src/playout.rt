@@ -40,7 +40,7 @@ impl Playout {
     ghost use Rattle.mg_playout.specs.Playout.{first_list, placed, ticked, with_depth, started, shifted};
     ghost use Rattle.mg_playout.specs.aids.Turns.{turn_of, turn_at};
     ghost use Rattle.mg_playout.specs.Places.{frame_at};
-    ghost use Rattle.mg_playout.specs.Played.{given, sound_of};
+    ghost use Rattle.mg_playout.specs.Played.{given, is_concealed, sound_of};
     ghost use Rattle.mg_playout.specs.Order.{IsValidList};
 
     /// Makes an idle play list without a source, with a depth of four places.
@@ -103,6 +103,13 @@ impl Playout {
             }
             Phase::Run => self.advance(),
         }
+    }
+
+    /// Returns whether the next tick plays the last frame in place of a missing one.
+    pub fn conceals(&self) -> bool
+        ensures value { result ≡ is_concealed ((ticked self.now).1) }
+    {
+        self.phase == Phase::Run && !self.places.is_empty() && self.places.conceals()
     }
 
     /// Sets the depth, in places of 20 ms. Frames at places that no longer exist are dropped.

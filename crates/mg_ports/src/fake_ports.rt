@@ -3,6 +3,7 @@ ghost use Rattle.mg_ports.specs.Calls.{IsCounted, receipt_of};
 
 use crate::arrival::Arrival;
 use crate::call::Call;
+use crate::failure_causes::FailureCauses;
 use crate::log::Log;
 use crate::payload::Payload;
 use crate::port_fault::PortFault;
@@ -133,5 +134,9 @@ impl Ports for FakePorts {
 
     fn failures(&self) -> u64 {
         self.failures
+    }
+
+    fn failure_causes(&self) -> FailureCauses {
+        FailureCauses::default()
     }
 }

@@ -20,6 +20,7 @@
 
 mod arrival;
 mod call;
+mod failure_causes;
 mod fake_ports;
 mod log;
 mod payload;
@@ -29,6 +30,7 @@ mod receipt;
 
 pub use crate::arrival::Arrival;
 pub use crate::call::Call;
+pub use crate::failure_causes::FailureCauses;
 pub use crate::fake_ports::FakePorts;
 pub use crate::payload::Payload;
 pub use crate::port_fault::PortFault;

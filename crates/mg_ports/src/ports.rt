@@ -3,6 +3,7 @@ ghost use Rattle.mg_ports.specs.declared.call.Call.{Call};
 ghost use Rattle.mg_ports.specs.declared.call.Call.TheVariants.{Receive, Send, BeginTick};
 ghost use Rattle.mg_ports.specs.Calls.{Logged, IsCounted, receipt_of};
 
+use crate::failure_causes::FailureCauses;
 use crate::port_fault::PortFault;
 use mg_clock::Timing;
 use mg_words::Peer;
@@ -42,4 +43,7 @@ pub trait Ports {
     /// Returns how many receives and sends failed. A count that reaches its maximum stays there.
     fn failures(&self) -> u64
         ensures value { result ≡ failed self.now };
+
+    /// Returns how many receives and sends failed, by cause, if these ports count causes; otherwise all counts are 0.
+    fn failure_causes(&self) -> FailureCauses;
 }

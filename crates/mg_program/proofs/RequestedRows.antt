@@ -25,6 +25,7 @@ anybody report = record {
   report = report;
   records = false;
   symmetric_rtp = false;
+  metrics = None;
 }
 
 -- all numbers that RTP packets start with are drawn
@@ -76,6 +77,19 @@ live_symmetric : requested (codes "live" ∷ codes "--symmetric-rtp" ∷ []) ≡
     Ok (Live standard (record (anybody 0) { symmetric_rtp = true }) all_drawn 5)
 unfolding requested command_line options config_at clap_on_literals
 live_symmetric = refl
+
+live_writes_metrics : requested (codes "live" ∷ codes "--metrics" ∷ codes "m.prom" ∷ []) ≡
+    Ok (Live standard (record (anybody 0) { metrics = Some (codes "m.prom") }) all_drawn 5)
+unfolding requested command_line options config_at clap_on_literals
+live_writes_metrics = refl
+
+metrics_without_a_path : requested (codes "live" ∷ codes "--metrics=" ∷ []) ≡ Err (kind.ValueValidation ∷ [])
+unfolding requested command_line options config_at clap_on_literals
+metrics_without_a_path = refl
+
+serve_writes_no_metrics : requested (codes "serve" ∷ codes "--metrics=m.prom" ∷ []) ≡ Err (kind.UnknownArgument ∷ [])
+unfolding requested command_line options config_at clap_on_literals
+serve_writes_no_metrics = refl
 
 -- behind a router that translates addresses one to one
 live_bound : requested (codes "live" ∷ codes "--address=203.0.113.5" ∷ codes "--bind-address" ∷ codes "10.0.0.1" ∷ []) ≡

@@ -6,5 +6,6 @@ pub mod Replay
 pub mod Readiness
 pub mod Title
 pub mod Draws
+pub mod FilePath
 pub mod Serve
 pub mod Program

@@ -28,6 +28,8 @@ use Rattle.mg_program.specs.declared.controller_fault.ControllerFault.{Controlle
 use Rattle.mg_program.specs.declared.bind_address_fault.BindAddressFault.{BindAddressFault}
 use Rattle.mg_program.specs.Address.{bind_address, own_address}
 use Rattle.mg_program.specs.Controllers.{controllers_of}
+use Rattle.mg_program.specs.FilePath.{file_path}
+use Rattle.mg_program.specs.declared.file_path_fault.FilePathFault.{FilePathFault}
 
 -- ## The command line
 
@@ -74,7 +76,9 @@ check_line = with_rule (new_app (codes "check")) gateway_rule
 
 -- the subcommand that has a clock
 abbrev pub live_line : App
-live_line = with_rule (sockets_line (codes "live")) (number_rule (codes "late") 0 65535)
+live_line =
+    with_rule (with_rule (sockets_line (codes "live")) (number_rule (codes "late") 0 65535))
+    (text_rule (codes "metrics"))
 
 -- the command line, with one of the subcommands
 unfoldable pub command_line : App
@@ -120,6 +124,11 @@ abbrev pub bind_address_in : List Row → Result (Option (List ℕ)) BindAddress
 bind_address_in found = option_map_or (λ text. bind_address text >>= (λ address. Ok (Some address)))
     (first_of (codes "bind-address") found) (Ok None)
 
+-- the file for metrics, if the options name one
+abbrev pub metrics_in : List Row → Result (Option Text) FilePathFault
+metrics_in found = option_map_or (λ text. file_path text >>= (λ path. Ok (Some path)))
+    (first_of (codes "metrics") found) (Ok None)
+
 -- ## What the arguments ask of the program
 
 -- a string that doesn't name anything is a fault of the arguments
@@ -132,12 +141,14 @@ abbrev pub service_in : List Row → Result Service Kinds
 service_in found = do
   controllers ← valid (controllers_in found)
   bound ← valid (bind_address_in found)
+  metrics ← valid (metrics_in found)
   Ok (record {
     controllers = controllers;
     bind_address = bound;
     report = number_or 65536 (codes "report") 0 found;
     records = is_set (codes "record") found;
     symmetric_rtp = is_set (codes "symmetric-rtp") found;
+    metrics = metrics;
   })
 
 -- the numbers that no option gives, which a gateway in real time draws at random

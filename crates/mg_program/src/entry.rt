@@ -9,9 +9,11 @@ use crate::live::live;
 use crate::options::requested_run;
 use crate::replay::replay;
 use crate::serve::serve;
+use crate::system::System;
 use mg_options::{Status, report_error};
 use std::alloc::Global;
 use std::convert::AsStr;
+use std::fs::Files;
 use std::io::{Read, Write};
 use std::net::Net;
 use std::random::RandomSource;
@@ -28,15 +30,14 @@ pub fn program<
     N: Net,
     C: Clock,
     G: RandomSource,
+    F: Files,
     S: AsStr,
     R: Read,
     W: Write,
     E: Write,
     T: Write,
 >(
-    net: &N,
-    clock: &C,
-    random: &G,
+    system: &System<'_, N, C, G, F>,
     alloc: Global,
     words: &'a [S],
     input: &mut R,
@@ -56,18 +57,23 @@ pub fn program<
             replay(alloc, config, shown, input, output, errors)
         }
         Ok(Invocation::Serve(config, service)) => {
-            serve(net, alloc, config, &service, input, output, errors, reports)
+            serve(
+                system.net, alloc, config, &service, input, output, errors, reports,
+            )
         }
-        Ok(Invocation::Live(config, service, draws, late)) => match draws.draw(random, config) {
+        Ok(Invocation::Live(config, service, draws, late)) => match draws.draw(
+            system.random,
+            config,
+        ) {
             Ok(config) => live(
-                net, clock, alloc, config, &service, late, output, errors, reports,
+                system, alloc, config, &service, late, output, errors, reports,
             ),
             Err(error) => {
                 let _ = writeln!(errors, "cannot draw random numbers: {error}");
                 Status::Failed
             }
         },
-        Ok(Invocation::Check(gateway)) => check(net, clock, gateway, output, errors),
+        Ok(Invocation::Check(gateway)) => check(system.net, system.clock, gateway, output, errors),
         Err(error) => report_error(&error, Status::Failed, output, errors),
     };
     status.code()

@@ -4,7 +4,8 @@
 //!
 //! ```rust
 //! let words = ["replay", "--slots", "4"];
-//! let status = program(&rt, &rt, &rt, alloc, &words, &mut input, &mut output, &mut errors, &mut reports);
+//! let system = System { net: &rt, clock: &rt, random: &rt, files: &rt };
+//! let status = program(&system, alloc, &words, &mut input, &mut output, &mut errors, &mut reports);
 //! ```
 //!
 //! [`requested_run`] returns what the arguments ask for. [`Sockets`] holds a gateway's sockets, which are bound at
@@ -25,8 +26,11 @@ mod controller_fault;
 mod controllers;
 mod draws;
 mod entry;
+mod file_path;
+mod file_path_fault;
 mod invocation;
 mod live;
+mod metrics_file;
 mod options;
 mod readiness;
 mod replay;
@@ -34,8 +38,10 @@ mod serve;
 mod service;
 mod sockets;
 mod status;
+mod system;
 mod title;
 mod udp_ports;
+mod unsent;
 
 pub use crate::bind_address_fault::BindAddressFault;
 pub use crate::bind_fault::BindFault;
@@ -45,10 +51,13 @@ pub use crate::controller_fault::ControllerFault;
 pub use crate::controllers::Controllers;
 pub use crate::draws::Draws;
 pub use crate::entry::program;
+pub use crate::file_path::FilePath;
+pub use crate::file_path_fault::FilePathFault;
 pub use crate::invocation::Invocation;
 pub use crate::options::requested_run;
 pub use crate::readiness::SOCKETS;
 pub use crate::service::Service;
 pub use crate::sockets::Sockets;
+pub use crate::system::System;
 pub use crate::title::{Title, title_of};
 pub use crate::udp_ports::UdpPorts;

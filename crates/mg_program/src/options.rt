@@ -6,13 +6,15 @@ ghost use Rattle.mg_options.specs.Line.{text_rule};
 ghost use Rattle.mg_options.specs.Numbers.{number_or};
 ghost use Rattle.mg_program.specs.Options.{address_in, requested, command_line, config_at, controller_rule, controllers_in};
 ghost use Rattle.mg_program.specs.Options.{bind_address_in, check_in, check_line, draws_of, flag_rule, is_set, live_line, options, replay_line, run_of};
-ghost use Rattle.mg_program.specs.Options.{gateway_in, gateway_rule, run_in, service_in, sockets_line, subcommand_line};
+ghost use Rattle.mg_program.specs.Options.{gateway_in, gateway_rule, metrics_in, run_in, service_in, sockets_line, subcommand_line};
 
 use crate::address::{AddressFault, bind_address, own_address};
 use crate::bind_address_fault::BindAddressFault;
 use crate::controller_fault::ControllerFault;
 use crate::controllers::Controllers;
 use crate::draws::Draws;
+use crate::file_path::FilePath;
+use crate::file_path_fault::FilePathFault;
 use crate::invocation::Invocation;
 use crate::service::Service;
 use clap::error::ErrorKind;
@@ -31,6 +33,13 @@ fn address_option<'a>(alloc: Global, name: &'a str) -> Arg<'a>
     ensures rule { rule_of result ≡ text_rule name.now }
 {
     Arg::new(alloc, name).long(name).value_name("ADDRESS")
+}
+
+/// Makes an option that takes the path of a file. Its parser accepts any text.
+fn file_option<'a>(alloc: Global, name: &'a str) -> Arg<'a>
+    ensures rule { rule_of result ≡ text_rule name.now }
+{
+    Arg::new(alloc, name).long(name).value_name("FILE")
 }
 
 /// Adds the options of a gateway, which every subcommand has.
@@ -135,11 +144,13 @@ fn live<'a>(alloc: Global) -> Result<Command<'a>, Error>
     ensures app { IfOk result (λ command. app_of command ≡ live_line) }
     ensures memory { IfErr result (λ error. kind_of error ≡ ErrorKind.OutOfMemory) }
 {
-    let command = on_sockets(alloc, "live", "Run a gateway on UDP ports in real time")?.arg(
-        short_number(alloc, "late").help(
+    let command = on_sockets(alloc, "live", "Run a gateway on UDP ports in real time")?
+        .arg(short_number(alloc, "late").help(
             "Maximum lateness of sent packets, in ticks of 20 ms, 0–65535 [default: 5]",
-        ),
-    )?;
+        ))?
+        .arg(file_option(alloc, "metrics").help(
+            "File for metrics in Prometheus' text format, replaced every 5 seconds",
+        ))?;
     Ok(command)
 }
 
@@ -292,6 +303,19 @@ fn bind_address_of(matches: &ArgMatches<'_>) -> Result<Option<[u8; 4]>, BindAddr
     }
 }
 
+/// Returns the file for metrics, if the command line names one.
+fn metrics_of(matches: &ArgMatches<'_>) -> Result<Option<FilePath>, FilePathFault>
+    ensures value { result ≡ metrics_in (rows_of (found_of matches.now)) }
+{
+    match matches.get_str("metrics") {
+        Some(text) => match FilePath::of(text) {
+            Ok(path) => Ok(Some(path)),
+            Err(fault) => Err(fault),
+        },
+        None => Ok(None),
+    }
+}
+
 /// Returns the options of a gateway on sockets, or the error message.
 fn service_of(matches: &ArgMatches<'_>) -> Result<Service, &'static str>
     ensures service { IfOk result (λ service. service_in (rows_of (found_of matches.now)) ≡ Ok service) }
@@ -305,12 +329,17 @@ fn service_of(matches: &ArgMatches<'_>) -> Result<Service, &'static str>
         Ok(address) => address,
         Err(fault) => return Err(fault.message()),
     };
+    let metrics = match metrics_of(matches) {
+        Ok(metrics) => metrics,
+        Err(fault) => return Err(fault.message()),
+    };
     Ok(Service {
         controllers,
         bind_address,
         report: report_of(matches),
         records: is_set("record", matches),
         symmetric_rtp: is_set("symmetric-rtp", matches),
+        metrics,
     })
 }
 

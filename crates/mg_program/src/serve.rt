@@ -12,8 +12,10 @@ use crate::status::status_after;
 use crate::title::title_of;
 use crate::udp_ports::UdpPorts;
 use mg_core::{Config, Counts, RunFault};
+use mg_monitor::Reports;
 use mg_options::Status;
 use mg_ports::Ports;
+use mg_serve::Monitor;
 use mio::Events;
 use std::alloc::Global;
 use std::io::{Read, Write};
@@ -51,14 +53,14 @@ pub fn bind<N: Net, E: Write>(
 }
 
 /// Runs a new gateway on these ports, driven by input lines.
-fn serve_on<P: Ports, R: Read, W: Write, T: Write>(
+fn serve_on<P: Ports, R: Read, W: Write, M: Monitor>(
     alloc: Global,
     config: Config,
     service: &Service,
     ports: &mut P,
     input: &mut R,
     output: &mut W,
-    reports: &mut T,
+    monitor: &mut M,
 ) -> Result<Counts, RunFault>
     ensures session { ServedSession (setup_of config service.now) (title_if service.now.records config)
         (R.remaining input.old) (R.remaining input.new) (P.calls ports.old) (P.calls ports.new) (W.contents output.old)
@@ -73,8 +75,7 @@ fn serve_on<P: Ports, R: Read, W: Write, T: Write>(
         ports,
         input,
         output,
-        service.report,
-        reports,
+        monitor,
     )
 }
 
@@ -100,7 +101,19 @@ pub fn serve<N: Net, R: Read, W: Write, E: Write, T: Write>(
         Ok(sockets) => sockets,
         Err(status) => return status,
     };
+    let Ok(mut monitor) = Reports::new(alloc, service.report, reports) else {
+        let _ = writeln!(errors, "{}", RunFault::NoMemory);
+        return Status::NoMemory;
+    };
     let mut ports = UdpPorts::new(sockets);
-    let outcome = serve_on(alloc, config, service, &mut ports, input, output, reports);
+    let outcome = serve_on(
+        alloc,
+        config,
+        service,
+        &mut ports,
+        input,
+        output,
+        &mut monitor,
+    );
     status_after(&outcome, &config, errors)
 }

@@ -4,6 +4,7 @@ ghost use Rattle.mg_program.specs.Serve.{setup_of};
 ghost use Rattle.mg_program.specs.Title.{if_recorded};
 
 use crate::controllers::Controllers;
+use crate::file_path::FilePath;
 use mg_core::Config;
 use mg_serve::Setup;
 
@@ -20,6 +21,8 @@ pub struct Service {
     pub records: bool,
     /// Whether callers use symmetric RTP: their packets come from the address and port of their Remote.
     pub symmetric_rtp: bool,
+    /// The file for metrics, if a gateway in real time writes one.
+    pub metrics: Option<FilePath>,
 }
 
 impl Service {

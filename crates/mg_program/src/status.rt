@@ -6,7 +6,7 @@ use mg_core::{Config, Counts, RunFault};
 use mg_options::Status;
 use std::io::Write;
 
-/// Returns how the program ends after a run.
+/// Returns the exit status after a run.
 #[tactic(auto, unfolding(crate::specs::Status::status_of))]
 fn status_of(outcome: &Result<Counts, RunFault>) -> Status
     ensures value { result ≡ status_of outcome.now }
@@ -29,7 +29,7 @@ fn report_fault<E: Write>(fault: &RunFault, config: &Config, errors: &mut E) {
     };
 }
 
-/// Reports why a run failed, if it did. Returns how the program ends after the run.
+/// Reports why a run failed, if it did. Returns the exit status.
 pub fn status_after<E: Write>(
     outcome: &Result<Counts, RunFault>,
     config: &Config,

@@ -3,8 +3,9 @@ ghost use Rattle.mg_ports.specs.Calls.{IsCounted};
 
 use crate::address::is_multicast;
 use crate::sockets::Sockets;
+use crate::unsent::Unsent;
 use mg_core::Peer;
-use mg_ports::{PortFault, Ports, Timing};
+use mg_ports::{FailureCauses, PortFault, Ports, Timing};
 
 /// A gateway's ports, on the system's UDP sockets.
 #[derive(Drop)]
@@ -13,6 +14,7 @@ pub struct UdpPorts {
     /// Whether the current tick, whose packets are being sent, is on time.
     timing: Timing,
     failures: u64,
+    causes: FailureCauses,
 }
 
 /// Returns true if no caller can have this address, that is, if it is 0.0.0.0, multicast, reserved or broadcast. The
@@ -30,18 +32,36 @@ impl UdpPorts {
             sockets,
             timing: Timing::OnTime,
             failures: 0,
+            causes: FailureCauses::default(),
         }
     }
 
     /// Sends from a socket. A packet from a media socket is sent only in a tick that is on time, and only to a unicast
     /// address.
-    fn send_in_time(&self, socket: usize, to: Peer, bytes: &[u8]) -> Result<(), PortFault>
+    fn send_in_time(&self, socket: usize, to: Peer, bytes: &[u8]) -> Result<(), Unsent>
         ensures late { 0 < socket → self.now.timing ≡ Timing.Late → is_err result ≡ true }
     {
-        if socket > 0 && (self.timing == Timing::Late || is_unusable_destination(to.address)) {
-            return Err(PortFault);
+        if socket > 0 && self.timing == Timing::Late {
+            return Err(Unsent::Late);
         }
-        self.sockets.try_send(socket, to, bytes)
+        if socket > 0 && is_unusable_destination(to.address) {
+            return Err(Unsent::Held);
+        }
+        match self.sockets.try_send(socket, to, bytes) {
+            Ok(()) => Ok(()),
+            Err(PortFault) => Err(Unsent::Refused),
+        }
+    }
+
+    /// Counts why a datagram was not sent.
+    fn count_cause(&mut self, cause: Unsent)
+        ensures failures { self.new.failures ≡ self.old.failures }
+    {
+        match cause {
+            Unsent::Late => self.causes.late = self.causes.late.saturating_add(1),
+            Unsent::Held => self.causes.held = self.causes.held.saturating_add(1),
+            Unsent::Refused => self.causes.refused = self.causes.refused.saturating_add(1),
+        }
     }
 
     /// Counts a failure, if this result is an error.
@@ -64,12 +84,21 @@ impl Ports for UdpPorts {
         buffer: &mut [u8],
     ) -> Result<Option<(usize, Peer)>, PortFault> {
         let answer = self.sockets.receive_ready(socket, buffer);
+        if answer.is_err() {
+            self.causes.receives = self.causes.receives.saturating_add(1);
+        }
         self.count(&answer);
         answer
     }
 
     fn send(&mut self, socket: usize, to: Peer, bytes: &[u8]) -> Result<(), PortFault> {
-        let answer = self.send_in_time(socket, to, bytes);
+        let answer = match self.send_in_time(socket, to, bytes) {
+            Ok(()) => Ok(()),
+            Err(cause) => {
+                self.count_cause(cause);
+                Err(PortFault)
+            }
+        };
         self.count(&answer);
         answer
     }
@@ -80,5 +109,9 @@ impl Ports for UdpPorts {
 
     fn failures(&self) -> u64 {
         self.failures
+    }
+
+    fn failure_causes(&self) -> FailureCauses {
+        self.causes
     }
 }

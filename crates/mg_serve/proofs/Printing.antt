@@ -50,6 +50,22 @@ front_after x y z s t h k = record {
   written = Appends-trans x y z s k.front h k.written;
 }
 
+-- what was printed stays printed
+pub puts_kept : (a b : Bool) (x y z : Option (List ℕ)) (s : List ℕ) → Puts a b s x y → Keeps y z → Puts a b s x z
+puts_kept false false x y z s h same = Appends-kept x y z s h same
+puts_kept false true x y z s h same = (
+  h.0,
+  record {
+    front = h.1.front;
+    rest = h.1.rest;
+    parts = h.1.parts;
+    cut = h.1.cut;
+    written = Appends-kept x y z h.1.front h.1.written same;
+  },
+)
+puts_kept true false x y z s h same = absurd h
+puts_kept true true x y z s h same = Keeps-trans x y z h same
+
 pub puts_both : (a b c : Bool) (x y z : Option (List ℕ)) (s t : List ℕ) → Puts a b s x y → Puts b c t y z →
     Puts a c (s ++ t) x z
 puts_both false false false x y z s t h k = Appends-trans x y z s t h k

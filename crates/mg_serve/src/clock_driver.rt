@@ -7,6 +7,7 @@ ghost use Rattle.mg_serve.specs.aids.Outside.{LeadsByTrace, outside};
 
 use crate::command::Command;
 use crate::form::Form;
+use crate::monitor::Monitor;
 use crate::server::Server;
 use crate::setup::Setup;
 use mg_clock::{Step, TickSchedule, Watch};
@@ -18,21 +19,19 @@ use std::io::Write;
 
 /// Drives a server with a clock: a poll and a tick every 20 ms, and a poll for each message in between.
 #[derive(Drop)]
-pub struct ClockDriver<'a, E: Write> {
-    pub server: Server<'a, E>,
+pub struct ClockDriver<'a, M: Monitor> {
+    pub server: Server<'a, M>,
     pub schedule: TickSchedule,
 }
 
-impl<'a, E: Write> ClockDriver<'a, E> {
-    /// Makes a driver for a new gateway, before the first tick. A tick may be at most `allowed` ticks late. A report is
-    /// written every `seconds` seconds; 0 disables reports.
+impl<'a, M: Monitor> ClockDriver<'a, M> {
+    /// Makes a driver for a new gateway, before the first tick. A tick may be at most `allowed` ticks late.
     pub fn new(
         alloc: Global,
         config: Config,
         form: Form,
         allowed: u16,
-        seconds: u16,
-        reports: &'a mut E,
+        monitor: &'a mut M,
     ) -> Result<Self, StartFault>
         ensures bad { (result ≡ Err StartFault.BadConfig) ↔ ¬ IsValidConfig config }
         ensures sound { OnOk result (IsValidConfig config) }
@@ -43,7 +42,7 @@ impl<'a, E: Write> ClockDriver<'a, E> {
             driver.schedule ≡ record { ticks = 0; allowed = allowed; messages = 0 }) }
     {
         Ok(ClockDriver {
-            server: Server::new(alloc, config, form, seconds, reports)?,
+            server: Server::new(alloc, config, form, monitor)?,
             schedule: TickSchedule::new(allowed),
         })
     }

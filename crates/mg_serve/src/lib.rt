@@ -4,7 +4,7 @@
 //! packets. `stats` prints the counts, and `quit` ends the run. Whoever writes the lines is the gateway's clock.
 //!
 //! ```rust
-//! let counts = serve(alloc, Config::default(), None, &mut ports, &mut input, &mut output, 0, &mut reports)?;
+//! let counts = serve(alloc, &setup, None, &mut ports, &mut input, &mut output, &mut monitor)?;
 //! ```
 //!
 //! [`serve`] is proved for any [`Ports`](mg_ports::Ports). On return, the complete lines that it read and their effects
@@ -18,14 +18,14 @@ mod command;
 mod form;
 mod line;
 mod line_driver;
+mod monitor;
 mod output;
-mod port_counts;
 mod printer;
-mod reports;
 mod server;
 mod serving;
 mod setup;
 pub mod theorems;
+mod tick_report;
 
 // A theorem can name a command in a contract only if the type is exported.
 #[doc(hidden)]
@@ -33,7 +33,9 @@ pub use crate::command::Command;
 // The same is true of the form in which a session is printed.
 #[doc(hidden)]
 pub use crate::form::Form;
+pub use crate::monitor::Monitor;
 pub use crate::serving::{serve, serve_by_clock};
 pub use crate::setup::Setup;
+pub use crate::tick_report::TickReport;
 pub use mg_clock::Timing;
 pub use mg_core::{Config, Counts, RunFault};

@@ -10,6 +10,7 @@ ghost use Rattle.mg_serve.specs.aids.Outside.{LeadsByTrace, outside};
 use crate::command::Command;
 use crate::form::Form;
 use crate::line::Line;
+use crate::monitor::Monitor;
 use crate::server::Server;
 use crate::setup::Setup;
 use mg_core::{Config, DATAGRAM_LIMIT, RunFault, StartFault};
@@ -20,20 +21,18 @@ use std::io::{Read, Write};
 
 /// Drives a server with lines, which may arrive in pieces of any size.
 #[derive(Drop)]
-pub struct LineDriver<'a, E: Write> {
-    pub server: Server<'a, E>,
+pub struct LineDriver<'a, M: Monitor> {
+    pub server: Server<'a, M>,
     pub partial: Line,
 }
 
-impl<'a, E: Write> LineDriver<'a, E> {
-    /// Makes a driver for a new gateway, before the first line. A report is written every `seconds` seconds; 0 disables
-    /// reports.
+impl<'a, M: Monitor> LineDriver<'a, M> {
+    /// Makes a driver for a new gateway, before the first line.
     pub fn new(
         alloc: Global,
         config: Config,
         form: Form,
-        seconds: u16,
-        reports: &'a mut E,
+        monitor: &'a mut M,
     ) -> Result<Self, StartFault>
         ensures bad { (result ≡ Err StartFault.BadConfig) ↔ ¬ IsValidConfig config }
         ensures sound { OnOk result (IsValidConfig config) }
@@ -43,7 +42,7 @@ impl<'a, E: Write> LineDriver<'a, E> {
         ensures partial { IfOk result (λ driver. driver.partial ≡ []) }
     {
         Ok(LineDriver {
-            server: Server::new(alloc, config, form, seconds, reports)?,
+            server: Server::new(alloc, config, form, monitor)?,
             partial: Line::new(),
         })
     }

@@ -20,7 +20,8 @@ const PRINTED_LIMIT: usize = 1000;
 /// The maximum length of a text line, in bytes: the comment mark, the text, and a line feed.
 const TEXT_ROOM: usize = 3 + PRINTED_LIMIT;
 
-/// Prints what a gateway does, with one write per line. Once printing has failed, it prints nothing more.
+/// Prints what a gateway does, with one write per line. It flushes the writer after each tick and each text. Once
+/// printing has failed, it prints nothing more.
 #[derive(Drop)]
 pub struct Printer {
     form: Form,
@@ -49,6 +50,16 @@ fn put<W: Write>(has_failed: &mut bool, text: &[u8], writer: &mut W)
     if !*has_failed {
         *has_failed = write_whole(text, writer).is_err();
     }
+}
+
+/// Writes `text`, unless an earlier write has failed, and then flushes the writer.
+#[tactic(auto, using(crate::proofs::Printing::puts_kept))]
+fn put_now<W: Write>(has_failed: &mut bool, text: &[u8], writer: &mut W)
+    requires some { ¬ (text.now ≡ []) }
+    ensures value { Puts has_failed.old has_failed.new text.now (W.contents writer.old) (W.contents writer.new) }
+{
+    put(has_failed, text, writer);
+    let _ = writer.flush();
 }
 
 /// Appends `text` as one line, without a line feed at the end. Line feeds in it are left out, and only the first 1,000
@@ -129,7 +140,7 @@ impl Printer {
     {
         match self.form {
             Form::Plain => {}
-            Form::Recording => put(&mut self.has_failed, b"tick\n", writer),
+            Form::Recording => put_now(&mut self.has_failed, b"tick\n", writer),
         }
     }
 
@@ -144,7 +155,7 @@ impl Printer {
         self.text.push(front);
         push_line(text, &mut self.text);
         self.text.push(b"\n");
-        put(&mut self.has_failed, self.text.as_slice(), writer);
+        put_now(&mut self.has_failed, self.text.as_slice(), writer);
     }
 
     /// Prints `text` as one line, for whoever drives the gateway.

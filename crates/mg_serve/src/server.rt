@@ -21,16 +21,17 @@ ghost use Rattle.mg_serve.specs.aids.Outside.{LeadsByTrace, outside};
 
 use crate::command::Command;
 use crate::form::Form;
+use crate::monitor::Monitor;
 use crate::output::counts_text;
 use crate::printer::Printer;
-use crate::reports::Reports;
 use crate::setup::Setup;
+use crate::tick_report::TickReport;
 use mg_clock::Timing;
 use mg_core::{Answer, Config, Core, Counts, DATAGRAM_LIMIT, Datagram, Peer, StartFault};
 use mg_lines::WriteFailed;
 use mg_ports::Ports;
 use mg_sdp::Chosen;
-use std::alloc::{AllocError, Global};
+use std::alloc::Global;
 use std::io::Write;
 
 /// The maximum number of datagrams from one socket in a poll.
@@ -38,18 +39,16 @@ const TURN: usize = 64;
 
 /// A gateway that is driven over ports. Each call receives the session's setup as an argument.
 #[derive(Drop)]
-pub struct Server<'a, E: Write> {
+pub struct Server<'a, M: Monitor> {
     pub core: Core,
     pub printer: Printer,
-    reports: Reports<'a, E>,
+    monitor: &'a mut M,
     /// Lines that were executed.
     pub lines: u64,
     /// Answers and packets that were sent successfully.
     pub sent: u64,
     /// Control datagrams that were dropped because memory ran out while they were read.
     pub unread: u64,
-    /// Datagrams that were dropped because of their sender.
-    pub strangers: u64,
 }
 
 /// Sends a datagram, and counts it if the send succeeds.
@@ -111,27 +110,13 @@ fn media_port(setup: &Setup<'_>, socket: u16) -> u16
     setup.config().base_port + 2 * (socket - 1)
 }
 
-/// Makes a server's outputs: a printer for whoever drives it, and reports for the operator.
-fn outputs<'a, E: Write>(
-    alloc: Global,
-    form: Form,
-    seconds: u16,
-    reports: &'a mut E,
-) -> Result<(Printer, Reports<'a, E>), AllocError>
-    ensures printer { IfOk result (λ outputs. outputs.0 ≡ record { form = form; has_failed = false }) }
-{
-    let printer = Printer::new(alloc, form)?;
-    Ok((printer, Reports::new(alloc, seconds, reports)?))
-}
-
-impl<'a, E: Write> Server<'a, E> {
-    /// Makes a server with a new gateway. A report is written every `seconds` seconds; 0 disables reports.
+impl<'a, M: Monitor> Server<'a, M> {
+    /// Makes a server with a new gateway, watched by a monitor.
     pub fn new(
         alloc: Global,
         config: Config,
         form: Form,
-        seconds: u16,
-        reports: &'a mut E,
+        monitor: &'a mut M,
     ) -> Result<Self, StartFault>
         ensures bad { (result ≡ Err StartFault.BadConfig) ↔ ¬ IsValidConfig config }
         ensures sound { OnOk result (IsValidConfig config) }
@@ -139,15 +124,13 @@ impl<'a, E: Write> Server<'a, E> {
         ensures printer { IfOk result (λ server. server.printer ≡ record { form = form; has_failed = false }) }
     {
         let core = Core::new(alloc, config)?;
-        let (printer, reports) = outputs(alloc, form, seconds, reports)?;
         Ok(Server {
             core,
-            printer,
-            reports,
+            printer: Printer::new(alloc, form)?,
+            monitor,
             lines: 0,
             sent: 0,
             unread: 0,
-            strangers: 0,
         })
     }
 
@@ -222,7 +205,7 @@ impl<'a, E: Write> Server<'a, E> {
         let port = media_port(setup, socket);
         let taken = self.core.media(port, source, bytes);
         self.printer.media(port, source, bytes, writer);
-        self.reports.count(socket, taken, self.core.counts().ticks);
+        self.monitor.count_media(socket, bytes, taken);
     }
 
     /// Returns whether a datagram from this peer is accepted at a socket.
@@ -266,8 +249,7 @@ impl<'a, E: Write> Server<'a, E> {
             (λ w. Becomes (is_admitted setup.now w socket source) setup.now socket (source, bytes.now) w) }
     {
         if !self.admits(setup, socket, source) {
-            self.strangers = self.strangers.saturating_add(1);
-            self.reports.count_stranger(socket);
+            self.monitor.count_stranger(socket);
         } else if socket == 0 {
             self.take_control(alloc, setup, ports, source, bytes, writer);
         } else {
@@ -346,12 +328,13 @@ impl<'a, E: Write> Server<'a, E> {
             (outside (P.calls ports.new) (W.contents writer.new) self.new.printer)
             (Performs setup.now Command.Poll) }
     {
+        self.monitor.begin_poll();
         for socket in 0..=setup.config().slots {
             self.turn(alloc, setup, ports, socket, buffer, writer);
         }
     }
 
-    /// Advances by 20 ms, sends the packets unless the tick is late, and writes a report if one is due.
+    /// Advances by 20 ms, and sends the packets unless the tick is late.
     fn tick<P: Ports, W: Write>(
         &mut self,
         setup: &Setup<'_>,
@@ -365,24 +348,28 @@ impl<'a, E: Write> Server<'a, E> {
             (Performs setup.now (Command.Tick timing)) }
     {
         ports.begin_tick(timing);
+        self.monitor.begin_tick(&self.core);
         self.core.tick();
         self.printer.tick(writer);
         send_packets(ports, setup, self.core.outbox(), &mut self.sent);
         self.report(setup, ports, timing);
     }
 
-    /// Reports to the operator after a tick: packets that were too late, and the counts if a report is due.
+    /// Reports a tick to the monitor.
     fn report<P: Ports>(&mut self, setup: &Setup<'_>, ports: &P, timing: Timing)
         ensures core { self.new.core ≡ self.old.core }
         ensures printer { self.new.printer ≡ self.old.printer }
     {
-        let packets = self.core.outbox().len() as u64;
-        self.reports.count_late(timing, packets);
         let counts = self.counts(ports);
-        if self.reports.is_due(counts.ticks) {
-            self.reports
-                .print(setup.config(), &self.core, &counts, self.strangers);
-        }
+        let report = TickReport {
+            config: setup.config(),
+            core: &self.core,
+            counts,
+            unread: self.unread,
+            failures: ports.failure_causes(),
+            timing,
+        };
+        self.monitor.end_tick(&report);
     }
 
     /// Returns the counts, including the failures of the ports.

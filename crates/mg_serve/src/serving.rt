@@ -8,6 +8,7 @@ ghost use Rattle.mg_serve.specs.Serve.{ServedByClock, ServedSession, form_of};
 use crate::clock_driver::ClockDriver;
 use crate::form::Form;
 use crate::line_driver::LineDriver;
+use crate::monitor::Monitor;
 use crate::setup::Setup;
 use mg_clock::Watch;
 use mg_core::{Counts, DATAGRAM_LIMIT, RunFault};
@@ -33,22 +34,20 @@ use std::io::{Read, Write};
 /// control datagram for which there was no memory. `run` from `mg_core` runs such a script again. If printing fails,
 /// the current input line is still executed in full, and nothing more is printed.
 ///
-/// At the given interval it prints, for an operator, the totals since the start and a line for each media port that has
-/// had trouble since the last report. A report that can't be printed is skipped.
+/// It tells the monitor about datagrams and ticks.
 ///
 /// On return, with or without an error, the complete lines that it read and their effects form a session of a new
 /// gateway. `Read` and `Write` mean that the input or the output failed; it also returns `Read` after 4,294,967,295
 /// reads without an end of input. It returns `BadConfig` if and only if the configuration is invalid. It returns
 /// `NoMemory` only before it has read anything.
-pub fn serve<P: Ports, R: Read, W: Write, E: Write>(
+pub fn serve<P: Ports, R: Read, W: Write, M: Monitor>(
     alloc: Global,
     setup: &Setup<'_>,
     title: Option<&[u8]>,
     ports: &mut P,
     reader: &mut R,
     writer: &mut W,
-    seconds: u16,
-    reports: &mut E,
+    monitor: &mut M,
 ) -> Result<Counts, RunFault>
     ensures session { ServedSession setup.now (option_map (λ text. text.now) title.entry) (R.remaining reader.old)
         (R.remaining reader.new) (P.calls ports.old) (P.calls ports.new) (W.contents writer.old)
@@ -56,13 +55,13 @@ pub fn serve<P: Ports, R: Read, W: Write, E: Write>(
     ensures bad { (result ≡ Err RunFault.BadConfig) ↔ ¬ IsValidConfig setup.now.config }
     ensures sound { OnOk result (IsValidConfig setup.now.config) }
 {
-    let mut driver = LineDriver::new(alloc, setup.config(), form_of(title), seconds, reports)?;
+    let mut driver = LineDriver::new(alloc, setup.config(), form_of(title), monitor)?;
     drive(&mut driver, alloc, setup, title, ports, reader, writer)
 }
 
 /// Drives a new gateway with the lines of the input, up to the first `quit` or the end.
-fn drive<P: Ports, R: Read, W: Write, E: Write>(
-    driver: &mut LineDriver<'_, E>,
+fn drive<P: Ports, R: Read, W: Write, M: Monitor>(
+    driver: &mut LineDriver<'_, M>,
     alloc: Global,
     setup: &Setup<'_>,
     title: Option<&[u8]>,
@@ -99,11 +98,11 @@ fn drive<P: Ports, R: Read, W: Write, E: Write>(
 ///
 /// The k-th tick begins when a reading of the clock first shows that it is due: `k * 20 ms` after the clock's start.
 /// After a delay, all missed ticks are executed in one go. If a tick is behind by more than `allowed` ticks, its
-/// packets are not sent. At the next tick that is on time, it reports how many packets were not sent.
+/// packets are not sent.
 ///
 /// It ends only on a fault: `Read` if the clock can't be read, `Write` if printing failed, `NoMemory` or `BadConfig`
 /// before anything is executed.
-pub fn serve_by_clock<P: Ports, K: Watch, W: Write, E: Write>(
+pub fn serve_by_clock<P: Ports, K: Watch, W: Write, M: Monitor>(
     alloc: Global,
     setup: &Setup<'_>,
     title: Option<&[u8]>,
@@ -111,8 +110,7 @@ pub fn serve_by_clock<P: Ports, K: Watch, W: Write, E: Write>(
     watch: &mut K,
     allowed: u16,
     writer: &mut W,
-    seconds: u16,
-    reports: &mut E,
+    monitor: &mut M,
 ) -> RunFault
     ensures session { ServedByClock setup.now (option_map (λ text. text.now) title.entry) allowed
         (clock_seen (K.readings watch.old) (K.waits watch.old)) (clock_seen (K.readings watch.new) (K.waits watch.new))
@@ -120,22 +118,15 @@ pub fn serve_by_clock<P: Ports, K: Watch, W: Write, E: Write>(
         result }
     ensures bad { (result ≡ RunFault.BadConfig) ↔ ¬ IsValidConfig setup.now.config }
 {
-    match ClockDriver::new(
-        alloc,
-        setup.config(),
-        form_of(title),
-        allowed,
-        seconds,
-        reports,
-    ) {
+    match ClockDriver::new(alloc, setup.config(), form_of(title), allowed, monitor) {
         Ok(mut driver) => drive_by_clock(&mut driver, alloc, setup, title, ports, watch, writer),
         Err(fault) => RunFault::from(fault),
     }
 }
 
 /// Drives a new gateway with a clock.
-fn drive_by_clock<P: Ports, K: Watch, W: Write, E: Write>(
-    driver: &mut ClockDriver<'_, E>,
+fn drive_by_clock<P: Ports, K: Watch, W: Write, M: Monitor>(
+    driver: &mut ClockDriver<'_, M>,
     alloc: Global,
     setup: &Setup<'_>,
     title: Option<&[u8]>,

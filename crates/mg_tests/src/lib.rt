@@ -14,7 +14,11 @@ mod failing_writer;
 #[cfg(test)]
 mod flows;
 #[cfg(test)]
+mod loss;
+#[cfg(test)]
 mod machine;
+#[cfg(test)]
+mod metrics;
 #[cfg(test)]
 mod recorded;
 #[cfg(test)]

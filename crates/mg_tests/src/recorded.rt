@@ -3,6 +3,7 @@
 use crate::failing_writer::FailingWriter;
 use crate::serve::{HEARTBEAT, call_log, config, ports};
 use mg_core::{Shown, run};
+use mg_monitor::Reports;
 use mg_serve::{RunFault, Setup, serve};
 use std::alloc::{AllocError, Global};
 use std::io::Write;
@@ -35,8 +36,7 @@ fn record<W: Write>(
         &mut ports,
         &mut input,
         writer,
-        0,
-        &mut reports,
+        &mut Reports::new(alloc, 0, &mut reports)?,
     );
     let call_log = call_log(alloc, &ports)?;
     let result = match result {

@@ -3,6 +3,7 @@
 use crate::failing_reader::FailingReader;
 use crate::failing_writer::FailingWriter;
 use mg_clock::{ClockFailed, Watch};
+use mg_monitor::Reports;
 use mg_ports::{Arrival, Call, FakePorts, Payload, Peer, Receipt};
 use mg_serve::{Config, Counts, RunFault, Setup, Timing, serve, serve_by_clock};
 use std::alloc::{AllocError, Global};
@@ -10,13 +11,13 @@ use std::io::Cursor;
 use std::test::Fail;
 use std::time::Duration;
 
-const CALLER: Peer = Peer {
+pub const CALLER: Peer = Peer {
     address: [127, 0, 0, 1],
     port: 40000,
 };
 
 /// Makes context 1 with a termination that talks and listens, and whose caller is on port 40000.
-const ADD: &[u8] = b"MEGACO/1 [127.0.0.1]:2945 Transaction=1{Context=${Add=${Media{\
+pub const ADD: &[u8] = b"MEGACO/1 [127.0.0.1]:2945 Transaction=1{Context=${Add=${Media{\
     LocalControl{Mode=SendReceive},Local{v=0\nc=IN IP4 $\nm=audio $ RTP/AVP 0\n},\
     Remote{v=0\nc=IN IP4 127.0.0.1\nm=audio 40000 RTP/AVP 0\n}}}}}";
 
@@ -100,8 +101,7 @@ fn session(
         &mut ports,
         &mut input,
         &mut printed,
-        0,
-        &mut reports,
+        &mut Reports::new(alloc, 0, &mut reports)?,
     );
     let call_log = call_log(alloc, &ports)?;
     Ok(Outcome {
@@ -139,8 +139,7 @@ fn loses_the_packet_whose_send_fails(rt: HostRuntime) -> Result<(), Fail> {
         &mut ports,
         &mut input,
         &mut printed,
-        0,
-        &mut reports,
+        &mut Reports::new(alloc, 0, &mut reports)?,
     );
     assert!(rt; result.is_ok());
     let wanted: &[u8] =
@@ -279,7 +278,7 @@ fn resends_a_lost_answer(rt: HostRuntime) -> Result<(), Fail> {
 }
 
 /// Returns the lines of a poll and this many ticks.
-fn poll_and_ticks(alloc: Global, ticks: u64) -> Result<String, AllocError> {
+pub fn poll_and_ticks(alloc: Global, ticks: u64) -> Result<String, AllocError> {
     let mut lines = String::new(alloc);
     lines.push_str("poll\n")?;
     for _ in 0..ticks {
@@ -302,8 +301,7 @@ fn reported(alloc: Global, seconds: u16, ticks: u64) -> Result<Vec<u8>, AllocErr
         &mut ports,
         &mut input,
         &mut printed,
-        seconds,
-        &mut reports,
+        &mut Reports::new(alloc, seconds, &mut reports)?,
     );
     Ok(reports)
 }
@@ -316,12 +314,12 @@ fn reports_what_had_trouble(rt: HostRuntime) -> Result<(), Fail> {
     let first =
         b"totals control=1 media=2 ticks=50 sent=51 failed=0 strangers=0 started=0 placed=0 pushed=0 again=0 late=0 \
         dropped=1,0,0,1,0,0 concealed=0\n\
-        trouble port=30000 termination=1 packets=1 started=0 pushed=0 again=0 late=0 dropped=0,0,0,1,0,0 strangers=0 silent=0\n\
-        trouble port=30002 termination=0 packets=1 started=0 pushed=0 again=0 late=0 dropped=1,0,0,0,0,0 strangers=0 silent=0\n";
+        trouble port=30000 termination=1 packets=1 lost=0 concealed=0 started=0 pushed=0 again=0 late=0 dropped=0,0,0,1,0,0 strangers=0 silent=0\n\
+        trouble port=30002 termination=0 packets=1 lost=0 concealed=0 started=0 pushed=0 again=0 late=0 dropped=1,0,0,0,0,0 strangers=0 silent=0\n";
     let second =
         b"totals control=1 media=2 ticks=100 sent=101 failed=0 strangers=0 started=0 placed=0 pushed=0 again=0 late=0 \
         dropped=1,0,0,1,0,0 concealed=0\n\
-        trouble port=30000 termination=1 packets=0 started=0 pushed=0 again=0 late=0 dropped=0,0,0,0,0,0 strangers=0 silent=1\n";
+        trouble port=30000 termination=1 packets=0 lost=0 concealed=0 started=0 pushed=0 again=0 late=0 dropped=0,0,0,0,0,0 strangers=0 silent=1\n";
     let both = reported(alloc, 1, 100)?;
     assert_eq!(rt;
         both.as_slice().strip_prefix(first.as_slice()),
@@ -348,8 +346,7 @@ fn refuses_a_bad_configuration(rt: HostRuntime) -> Result<(), Fail> {
         &mut ports,
         &mut input,
         &mut printed,
-        0,
-        &mut reports,
+        &mut Reports::new(alloc, 0, &mut reports)?,
     );
     assert!(rt; matches!(result, Err(RunFault::BadConfig)));
     assert!(rt; printed.is_empty());
@@ -375,8 +372,7 @@ fn ends_where_a_read_fails(rt: HostRuntime) -> Result<(), Fail> {
         &mut ports,
         &mut input,
         &mut printed,
-        0,
-        &mut reports,
+        &mut Reports::new(alloc, 0, &mut reports)?,
     );
     assert!(rt; matches!(result, Err(RunFault::Read)));
     assert_eq!(rt; call_log(alloc, &ports)?.as_str(), "n0c1n1n2");
@@ -396,8 +392,7 @@ fn call_log_with_writer(alloc: Global, calls: usize, lines: &[u8]) -> Result<Str
         &mut ports,
         &mut input,
         &mut output,
-        0,
-        &mut reports,
+        &mut Reports::new(alloc, 0, &mut reports)?,
     );
     if !matches!(result, Err(RunFault::Write)) {
         return Ok(String::new(alloc));
@@ -454,8 +449,7 @@ fn takes_messages_of_controllers_alone(rt: HostRuntime) -> Result<(), Fail> {
         &mut ports,
         &mut input,
         &mut printed,
-        1,
-        &mut reports,
+        &mut Reports::new(alloc, 1, &mut reports)?,
     );
     assert!(rt; matches!(result, Ok(counts) if counts.control == 2 && counts.media == 1));
     assert_eq!(rt; call_log(alloc, &ports)?.as_str(), "c0c0a0c0c0a0n0c1n1n2");
@@ -494,8 +488,7 @@ fn reported_with(alloc: Global, symmetric_rtp: bool) -> Result<Vec<u8>, AllocErr
         &mut ports,
         &mut input,
         &mut printed,
-        1,
-        &mut reports,
+        &mut Reports::new(alloc, 1, &mut reports)?,
     );
     Ok(reports)
 }
@@ -506,8 +499,8 @@ fn takes_packets_from_remotes_alone(rt: HostRuntime) -> Result<(), Fail> {
     let wanted =
         b"totals control=1 media=1 ticks=50 sent=51 failed=0 strangers=2 started=0 placed=0 pushed=0 again=0 late=0 \
         dropped=0,0,0,1,0,0 concealed=0\n\
-        trouble port=30000 termination=1 packets=1 started=0 pushed=0 again=0 late=0 dropped=0,0,0,1,0,0 strangers=1 silent=0\n\
-        trouble port=30002 termination=0 packets=0 started=0 pushed=0 again=0 late=0 dropped=0,0,0,0,0,0 strangers=1 silent=0\n";
+        trouble port=30000 termination=1 packets=1 lost=0 concealed=0 started=0 pushed=0 again=0 late=0 dropped=0,0,0,1,0,0 strangers=1 silent=0\n\
+        trouble port=30002 termination=0 packets=0 lost=0 concealed=0 started=0 pushed=0 again=0 late=0 dropped=0,0,0,0,0,0 strangers=1 silent=0\n";
     assert_eq!(rt; reported_with(alloc, true)?.as_slice(), wanted.as_slice());
     let wanted: &[u8] = b"totals control=1 media=3 ticks=50 sent=51 failed=0 strangers=0 ";
     assert!(rt; reported_with(alloc, false)?.as_slice().starts_with(wanted));
@@ -552,8 +545,7 @@ fn begins_ticks_by_the_clock_until_it_fails(rt: HostRuntime) -> Result<(), Fail>
         &mut watch,
         1,
         &mut printed,
-        0,
-        &mut reports,
+        &mut Reports::new(alloc, 0, &mut reports)?,
     );
     assert!(rt; matches!(fault, RunFault::Read));
     assert_eq!(rt; printed.as_slice(), b"ready\n".as_slice());

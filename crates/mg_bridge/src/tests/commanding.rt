@@ -1,5 +1,5 @@
 use super::local;
-use mg_program::program;
+use mg_program::{System, program};
 use std::cell::Cell;
 use std::io;
 use std::io::{ErrorKind, Read};
@@ -108,10 +108,14 @@ fn answered(rt: &HostRuntime, port: u16, words: &[&str]) -> Result<(usize, usize
     let mut output = Vec::new(alloc);
     let mut errors = Vec::new(alloc);
     let mut reports = Vec::new(alloc);
+    let system = System {
+        net: rt,
+        clock: &clock,
+        random: rt,
+        files: rt,
+    };
     program(
-        rt,
-        &clock,
-        rt,
+        &system,
         alloc,
         words,
         &mut senders,

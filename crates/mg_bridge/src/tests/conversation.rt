@@ -1,5 +1,6 @@
 use super::local;
 use mg_core::{Config, Counts, Peer, RunFault};
+use mg_monitor::Reports;
 use mg_ports::{PortFault, Ports};
 use mg_program::{SOCKETS, Sockets, UdpPorts};
 use mg_serve::{Setup, serve};
@@ -78,7 +79,7 @@ fn serve_lines<P: Ports>(
     config: Config,
     ports: &mut P,
     lines: &str,
-) -> (Result<Counts, RunFault>, Vec<u8>) {
+) -> Result<(Result<Counts, RunFault>, Vec<u8>), AllocError> {
     let mut input = lines.as_bytes();
     let mut printed = Vec::new(alloc);
     let mut reports = Vec::new(alloc);
@@ -89,10 +90,9 @@ fn serve_lines<P: Ports>(
         ports,
         &mut input,
         &mut printed,
-        0,
-        &mut reports,
+        &mut Reports::new(alloc, 0, &mut reports)?,
     );
-    (result, printed)
+    Ok((result, printed))
 }
 
 /// Returns whether the datagram that a socket receives after `before` others is a packet with this payload.
@@ -118,7 +118,7 @@ fn carry_speech(
     first.send_to(&speech(0x80), local(29502))?;
     second.send_to(&speech(0), local(29504))?;
     let lines = lines(alloc)?;
-    let (result, printed) = serve_lines(alloc, config, ports, lines.as_str());
+    let (result, printed) = serve_lines(alloc, config, ports, lines.as_str())?;
     assert_eq!(rt; printed.as_slice(), b"ready\n".as_slice());
     let counts = result?;
     assert_eq!(rt; counts.lines, 204);
@@ -151,7 +151,7 @@ fn lose_packets(
     caller: &UdpSocket,
 ) -> Result<(), Fail> {
     caller.send_to(ONE_UNREACHABLE, local(29600))?;
-    let (result, printed) = serve_lines(alloc, config, ports, "poll\ntick\ntick\nstats\n");
+    let (result, printed) = serve_lines(alloc, config, ports, "poll\ntick\ntick\nstats\n")?;
     assert!(rt; result.is_ok());
     let wanted: &[u8] =
         b"ready\ncontrol=1 media=0 ticks=2 sent=3 failed=2 dropped=0,0,0,0,0,0 concealed=0\n";
@@ -183,7 +183,7 @@ fn send_to_unicast_addresses(
     caller: &UdpSocket,
 ) -> Result<(), Fail> {
     caller.send_to(HELD, local(28700))?;
-    let (result, _) = serve_lines(alloc, config, ports, "poll\ntick\n");
+    let (result, _) = serve_lines(alloc, config, ports, "poll\ntick\n")?;
     let counts = result?;
     assert_eq!(rt; counts.sent, 2);
     assert_eq!(rt; counts.failed, 2);
@@ -211,7 +211,7 @@ fn take_at_two_addresses(
     caller.send_to(b"MEGACO/2", control)?;
     let media = SocketAddr::new(IpAddr::V4(Ipv4Addr::new(127, 0, 0, 3)), 29702);
     caller.send_to(b"x", media)?;
-    let (result, _) = serve_lines(alloc, config, ports, "poll\n");
+    let (result, _) = serve_lines(alloc, config, ports, "poll\n")?;
     let counts = result?;
     assert_eq!(rt; counts.control, 1);
     assert_eq!(rt; counts.media, 1);
@@ -297,7 +297,7 @@ fn take_messages(
         let message = padded(alloc, length)?;
         caller.send_to(message.as_slice(), local(29900))?;
     }
-    let (result, _) = serve_lines(alloc, config, ports, "poll\n");
+    let (result, _) = serve_lines(alloc, config, ports, "poll\n")?;
     assert_eq!(rt; result?.control, 3);
     let answered: &[u8] = b"MEGACO/1 [127.0.0.1]:29900\nReply=1{Context=-{AuditValue=ROOT}}";
     let refused: &[u8] = b"MEGACO/1 [127.0.0.1]:29900\nError=501{\"not served\"}";

@@ -1,5 +1,5 @@
 use super::Outcome;
-use mg_program::program;
+use mg_program::{System, program};
 use std::cell::Cell;
 use std::io;
 use std::io::ErrorKind;
@@ -58,10 +58,14 @@ fn run_live(rt: &HostRuntime, random: &Counting, words: &[&str]) -> Outcome {
     let mut output = Vec::new(alloc);
     let mut errors = Vec::new(alloc);
     let mut reports = Vec::new(alloc);
+    let system = System {
+        net: rt,
+        clock: &clock,
+        random: random,
+        files: rt,
+    };
     let status = program(
-        rt,
-        &clock,
-        random,
+        &system,
         alloc,
         words,
         &mut input,

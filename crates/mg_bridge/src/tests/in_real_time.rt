@@ -1,11 +1,11 @@
-use super::local;
-use mg_program::program;
+use super::{local, run_program};
+use mg_program::{System, program};
 use std::cell::Cell;
-use std::io;
 use std::io::ErrorKind;
 use std::net::UdpSocket;
 use std::test::Fail;
 use std::time::{Clock, Duration};
+use std::{env, fs, io};
 
 const MS: u64 = 1_000_000;
 
@@ -87,10 +87,14 @@ fn turns_a_stall_into_a_gap(rt: HostRuntime) -> Result<(), Fail> {
     let mut output = Vec::new(alloc);
     let mut errors = Vec::new(alloc);
     let mut reports = Vec::new(alloc);
+    let system = System {
+        net: &rt,
+        clock: &clock,
+        random: &rt,
+        files: &rt,
+    };
     let status = program(
-        &rt,
-        &clock,
-        &rt,
+        &system,
         alloc,
         &words,
         &mut input,
@@ -186,10 +190,14 @@ fn answers_before_the_next_tick(rt: HostRuntime) -> Result<(), Fail> {
     let mut output = Vec::new(alloc);
     let mut errors = Vec::new(alloc);
     let mut reports = Vec::new(alloc);
+    let system = System {
+        net: &rt,
+        clock: &clock,
+        random: &rt,
+        files: &rt,
+    };
     let status = program(
-        &rt,
-        &clock,
-        &rt,
+        &system,
         alloc,
         &words,
         &mut input,
@@ -200,4 +208,104 @@ fn answers_before_the_next_tick(rt: HostRuntime) -> Result<(), Fail> {
     assert_eq!(rt; status, 3);
     assert_eq!(rt; clock.answered.get(), Some(0));
     Ok(())
+}
+
+/// A clock that advances only when it waits. It fails after 5,000 readings.
+#[derive(Drop)]
+struct PatientClock {
+    now: Cell<u64>,
+    readings: Cell<u64>,
+}
+
+impl Clock for PatientClock {
+    fn monotonic(&self) -> io::Result<Duration> {
+        self.readings.set(self.readings.get().saturating_add(1));
+        if self.readings.get() > 5000 {
+            return Err(io::Error::from(ErrorKind::Other));
+        }
+        Ok(Duration::from_nanos(self.now.get()))
+    }
+
+    fn since_1970(&self) -> io::Result<Duration> {
+        Err(io::Error::from(ErrorKind::Other))
+    }
+
+    fn sleep(&self, duration: Duration) {
+        let time = u64::try_from(duration.as_nanos()).unwrap_or(u64::MAX);
+        self.now.set(self.now.get().saturating_add(time));
+    }
+}
+
+#[test]
+fn writes_metrics(rt: HostRuntime) -> Result<(), Fail> {
+    let alloc = rt.alloc();
+    let clock = PatientClock {
+        now: Cell::new(0),
+        readings: Cell::new(0),
+    };
+    let mut path = env::temp_dir(&rt)?;
+    path.push("mg_bridge_writes_metrics.prom")?;
+    let words = [
+        "live",
+        "--control-port",
+        "28920",
+        "--base-port",
+        "28922",
+        "--slots",
+        "1",
+        "--metrics",
+        path.as_str(),
+    ];
+    let mut input: &[u8] = b"";
+    let mut output = Vec::new(alloc);
+    let mut errors = Vec::new(alloc);
+    let mut reports = Vec::new(alloc);
+    let system = System {
+        net: &rt,
+        clock: &clock,
+        random: &rt,
+        files: &rt,
+    };
+    let status = program(
+        &system,
+        alloc,
+        &words,
+        &mut input,
+        &mut output,
+        &mut errors,
+        &mut reports,
+    );
+    assert_eq!(rt; status, 3);
+    assert_eq!(rt; errors.as_slice(), b"read failed\n".as_slice());
+    let text = fs::read(&rt, path.as_str())?;
+    fs::remove_file(&rt, path.as_str())?;
+    assert!(rt; text.as_slice().starts_with(b"# HELP lobbysorrel_info "));
+    assert!(rt;
+        text.as_slice()
+            .ends_with(b"# TYPE lobbysorrel_port_silence_seconds gauge\n")
+    );
+    Ok(())
+}
+
+#[test]
+fn refuses_a_file_that_cannot_be_written(rt: HostRuntime) {
+    let words = [
+        "live",
+        "--control-port",
+        "28930",
+        "--base-port",
+        "28932",
+        "--slots",
+        "1",
+        "--metrics",
+        "/proc/metrics.prom",
+    ];
+    let done = run_program(&rt, &words, b"");
+    assert_eq!(rt; done.status, 3);
+    assert!(rt; done.output.is_empty());
+    assert!(rt;
+        done.errors
+            .as_slice()
+            .starts_with(b"cannot write /proc/metrics.prom: ")
+    );
 }

@@ -1,13 +1,17 @@
-use crate::output::Text;
 use crate::port_counts::PortCounts;
+use arrayvec::ArrayVec;
 use mg_clock::Timing;
-use mg_core::{Config, Core, Counts, Record, TERMINATIONS, Taken};
+use mg_core::{Core, Counts, Record, TERMINATIONS, Taken};
+use mg_serve::{Monitor, TickReport};
 use mg_words::mode_talks;
 use std::alloc::{AllocError, Global};
 use std::io::Write;
 
 /// Ticks per second.
 const TICKS: u64 = 50;
+
+/// A line that is built before it is printed.
+type Text = ArrayVec<u8, 512>;
 
 /// Prints reports for an operator.
 ///
@@ -17,8 +21,12 @@ const TICKS: u64 = 50;
 #[derive(Drop)]
 pub struct Reports<'a, E: Write> {
     every: u64,
+    /// How many ticks have passed.
+    ticks: u64,
     /// Packets from late ticks since the last tick that was on time.
     late: u64,
+    /// Datagrams that were dropped because of their sender.
+    strangers: u64,
     ports: Vec<PortCounts>,
     writer: &'a mut E,
 }
@@ -28,63 +36,59 @@ impl<'a, E: Write> Reports<'a, E> {
     pub fn new(alloc: Global, seconds: u16, writer: &'a mut E) -> Result<Self, AllocError> {
         Ok(Reports {
             every: u64::from(seconds) * TICKS,
+            ticks: 0,
             late: 0,
+            strangers: 0,
             ports: vec![in alloc; PortCounts::new(); TERMINATIONS]?,
             writer,
         })
     }
 
-    /// Counts an RTP datagram at a media socket by its outcome. Media sockets are numbered from 1. `ticks` is the
-    /// number of ticks so far.
-    pub fn count(&mut self, slot: u16, taken: Taken, ticks: u64) {
-        if let Some(port) = self.ports.get_mut(usize::from(slot).wrapping_sub(1)) {
-            port.count(taken, ticks);
-        }
-    }
-
-    /// Counts an RTP datagram that arrived at a media socket and was dropped because of its sender.
-    pub fn count_stranger(&mut self, slot: u16) {
-        if let Some(port) = self.ports.get_mut(usize::from(slot).wrapping_sub(1)) {
-            port.count_stranger();
-        }
+    /// Returns the counts of a media socket. Media sockets are numbered from 1.
+    fn port(&mut self, socket: u16) -> Option<&mut PortCounts> {
+        self.ports.get_mut(usize::from(socket).wrapping_sub(1))
     }
 
     /// Counts the packets of a late tick. The number of packets that were too late is printed at the next tick that is
     /// on time.
-    pub fn count_late(&mut self, timing: Timing, packets: u64) {
+    fn count_late(&mut self, timing: Timing, packets: u64) {
         if timing == Timing::Late {
             self.late = self.late.saturating_add(packets);
         } else if self.late > 0 {
-            let _ = writeln!(self.writer, "{} packets were too late", self.late);
+            let mut line = Text::new();
+            let _ = writeln!(line, "{} packets were too late", self.late);
+            write_line(&line, self.writer);
+            let _ = self.writer.flush();
             self.late = 0;
         }
     }
 
-    /// Returns whether a report is due after this many ticks.
-    pub fn is_due(&self, ticks: u64) -> bool {
-        self.every > 0 && ticks % self.every == 0
+    /// Returns whether a report is due.
+    fn is_due(&self) -> bool {
+        self.every > 0 && self.ticks % self.every == 0
     }
 
-    /// Prints a report with these counts.
-    pub fn print(&mut self, config: Config, core: &Core, counts: &Counts, strangers: u64) {
-        print_totals(counts, strangers, self.writer);
+    /// Prints a report.
+    fn print(&mut self, report: &TickReport<'_>) {
+        print_totals(&report.counts, self.strangers, self.writer);
         for slot in 0..=u8::MAX {
-            if u16::from(slot) < config.slots {
-                self.print_slot(config, core, slot, counts.ticks);
+            if u16::from(slot) < report.config.slots {
+                self.print_slot(report, slot);
             }
         }
+        let _ = self.writer.flush();
     }
 
     /// Prints what arrived at a slot's port, if the port had trouble, and resets the port's counts.
-    fn print_slot(&mut self, config: Config, core: &Core, slot: u8, ticks: u64) {
+    fn print_slot(&mut self, report: &TickReport<'_>, slot: u8) {
         let Some(port) = self.ports.get_mut(usize::from(slot)) else {
             return;
         };
-        let held = core.rooms().held(slot);
-        let silent = port.silent_ticks(expected(held), ticks);
+        let held = report.core.rooms().held(slot);
+        let silent = port.silent_ticks(expected(held), self.ticks);
         if port.has_trouble() || silent >= self.every {
             print_port(
-                config.base_port.wrapping_add(2 * u16::from(slot)),
+                report.config.base_port.wrapping_add(2 * u16::from(slot)),
                 held.map_or(0, |record| record.number),
                 port,
                 silent / TICKS,
@@ -92,6 +96,46 @@ impl<'a, E: Write> Reports<'a, E> {
             );
         }
         port.clear();
+    }
+}
+
+impl<'a, E: Write> Monitor for Reports<'a, E> {
+    fn begin_poll(&mut self) {}
+
+    fn count_stranger(&mut self, socket: u16) {
+        self.strangers = self.strangers.saturating_add(1);
+        if let Some(port) = self.port(socket) {
+            port.count_stranger();
+        }
+    }
+
+    fn count_media(&mut self, socket: u16, bytes: &[u8], taken: Taken) {
+        let ticks = self.ticks;
+        if let Some(port) = self.port(socket) {
+            port.count(bytes, taken, ticks);
+        }
+    }
+
+    fn begin_tick(&mut self, core: &Core) {
+        if self.every == 0 {
+            return;
+        }
+        for place in 0..core.terminations() {
+            let record = core.termination(place);
+            if core.conceals(record.number) {
+                if let Some(port) = self.ports.get_mut(usize::from(record.slot)) {
+                    port.count_concealed();
+                }
+            }
+        }
+    }
+
+    fn end_tick(&mut self, report: &TickReport<'_>) {
+        self.ticks = report.counts.ticks;
+        self.count_late(report.timing, report.core.outbox().len() as u64);
+        if self.is_due() {
+            self.print(report);
+        }
     }
 }
 
@@ -132,23 +176,25 @@ fn print_totals<E: Write>(counts: &Counts, strangers: u64, writer: &mut E) {
     write_line(&line, writer);
 }
 
-/// Prints what has arrived at a media port since the last report. `termination` is 0 if no termination has the port.
+/// Prints what has happened at a media port since the last report. `termination` is 0 if no termination has the port.
 fn print_port<E: Write>(
     port: u16,
     termination: u32,
-    arrived: &PortCounts,
+    seen: &PortCounts,
     silent: u64,
     writer: &mut E,
 ) {
-    let counts = arrived.counts;
-    let strangers = arrived.strangers;
+    let counts = seen.counts;
+    let strangers = seen.strangers;
+    let lost = seen.lost();
+    let concealed = counts.concealed;
     let [started, _, pushed, again, late] = counts.placed;
     let [a, b, c, d, e, f] = counts.dropped;
     let packets = counts.media;
     let mut line = Text::new();
     let _ = writeln!(
         line,
-        "trouble port={port} termination={termination} packets={packets} started={started} pushed={pushed} again={again} late={late} dropped={a},{b},{c},{d},{e},{f} strangers={strangers} silent={silent}"
+        "trouble port={port} termination={termination} packets={packets} lost={lost} concealed={concealed} started={started} pushed={pushed} again={again} late={late} dropped={a},{b},{c},{d},{e},{f} strangers={strangers} silent={silent}"
     );
     write_line(&line, writer);
 }

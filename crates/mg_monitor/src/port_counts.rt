@@ -1,11 +1,17 @@
+use crate::loss::Loss;
 use mg_core::{Counts, DROP_CAUSES, Taken};
 
-/// What has arrived at a media port since the last report.
+/// What has happened at a media port since the last report.
 #[derive(Clone, Copy, Debug, PartialEq, Eq)]
 pub struct PortCounts {
+    /// RTP datagrams by outcome, and concealed frames.
     pub counts: Counts,
     /// RTP datagrams that were dropped because of their sender.
     pub strangers: u64,
+    /// The packets that never arrived, since the start.
+    loss: Loss,
+    /// How many packets had been lost at the last report.
+    lost_before: u64,
     /// The termination that had the port at the last report, if its caller was expected to send.
     expected: Option<u32>,
     /// The tick of the last packet that a play list accepted or, if that is later, of the report since which the caller
@@ -18,22 +24,35 @@ impl PortCounts {
         PortCounts {
             counts: Counts::new(),
             strangers: 0,
+            loss: Loss::new(),
+            lost_before: 0,
             expected: None,
             heard: 0,
         }
     }
 
     /// Counts an RTP datagram by its outcome. `ticks` is the number of ticks so far.
-    pub fn count(&mut self, taken: Taken, ticks: u64) {
+    pub fn count(&mut self, bytes: &[u8], taken: Taken, ticks: u64) {
         self.counts.count_media(taken);
         if let Taken::Placed(_) = taken {
             self.heard = ticks;
+            self.loss.count_packet(bytes);
         }
     }
 
     /// Counts an RTP datagram that was dropped because of its sender.
     pub fn count_stranger(&mut self) {
         self.strangers = self.strangers.saturating_add(1);
+    }
+
+    /// Counts a missing frame that is replaced by the previous one.
+    pub fn count_concealed(&mut self) {
+        self.counts.concealed = self.counts.concealed.saturating_add(1);
+    }
+
+    /// Returns how many packets were found to be lost since the last report.
+    pub fn lost(&self) -> u64 {
+        self.loss.lost().saturating_sub(self.lost_before)
     }
 
     /// Returns for how many ticks an expected caller has been silent.
@@ -51,14 +70,16 @@ impl PortCounts {
         }
     }
 
-    /// Returns whether the caller would sound bad (packets were dropped, late, too early or duplicates, or the play
-    /// list restarted), or whether somebody else sent packets to the port.
+    /// Returns whether the caller would sound bad (packets were lost, dropped, late, too early or duplicates, frames
+    /// were concealed, or the play list restarted), or whether somebody else sent packets to the port.
     pub fn has_trouble(&self) -> bool {
         let [started, _, pushed, again, late] = self.counts.placed;
         started > 1
             || pushed > 0
             || again > 0
             || late > 0
+            || self.lost() > 0
+            || self.counts.concealed > 0
             || self.counts.dropped != [0; DROP_CAUSES]
             || self.strangers > 0
     }
@@ -67,5 +88,6 @@ impl PortCounts {
     pub fn clear(&mut self) {
         self.counts = Counts::new();
         self.strangers = 0;
+        self.lost_before = self.loss.lost();
     }
 }

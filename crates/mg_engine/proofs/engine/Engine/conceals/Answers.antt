@@ -1,0 +1,50 @@
+use Rattle.std.proofs.Common.{ℕ, List, refl, sym, ap, subst, ◌∙◌}
+use Rattle.mg_playout.specs.Played.{is_concealed}
+use Rattle.mg_playout.specs.Playout as play_lists
+use Rattle.mg_rooms.specs.Registry.{record_at}
+use Rattle.mg_engine.specs.Gateway.{media_of}
+use Rattle.mg_engine.specs.Media as media
+use Rattle.mg_engine.specs.Stands.{EngineState, StandsFor, media_at}
+use Rattle.mg_engine.specs.aids.Found.{conceals_in}
+use Rattle.mg_engine.specs.aids.MediaSteps.{is_concealing}
+use Rattle.mg_engine.proofs.EditLemmas.{none_too}
+use Rattle.mg_engine.proofs.GatewayLemmas.{has_media, with_slot, with_no_slot}
+use Rattle.mg_engine.proofs.engine.Engine.conceals.Goals as goal
+
+pub returns-in-Some : goal.returns-in-Some
+returns-in-Some c = record {
+  value = λ w h.
+      let k : EngineState = record {
+        config = c.self.inside.config;
+        rooms = c.self.inside.rooms;
+        media = c.self.inside.media.items;
+        flows = c.self.inside.flows;
+        sums = c.self.inside.sums;
+        shares = c.self.inside.shares;
+      } in
+      let stands = subst (λ (x : EngineState). StandsFor x w) (sym c.self.view_is) h in
+      let (r, there, slot) = with_slot (record_at k.rooms c.args.number) c.in-Some.slot
+      (sym c.slot_of.ensures.value ∙ c.in-Some.is) in
+      let (s, found, is) = has_media k w c.args.number r stands there in
+      c.conceals_in.ensures.value
+      ∙ ap (λ (ms : List media.SlotMedia). is_concealing (media_at ms c.in-Some.slot)) c.as_slice.ensures.value
+      ∙ ap (λ (n : ℕ). is_concealing (media_at k.media n)) (sym slot)
+      ∙ ap (λ (list : play_lists.PlayList). is_concealed ((play_lists.ticked list).1)) is.play
+      ∙ ap conceals_in (sym found);
+}
+
+pub returns-in-None : goal.returns-in-None
+returns-in-None c = record {
+  value = λ w h.
+      let k : EngineState = record {
+        config = c.self.inside.config;
+        rooms = c.self.inside.rooms;
+        media = c.self.inside.media.items;
+        flows = c.self.inside.flows;
+        sums = c.self.inside.sums;
+        shares = c.self.inside.shares;
+      } in
+      let stands = subst (λ (x : EngineState). StandsFor x w) (sym c.self.view_is) h in
+      let none = with_no_slot (record_at k.rooms c.args.number) (sym c.slot_of.ensures.value ∙ c.in-None.is) in
+      ap conceals_in (sym (none_too k w c.args.number stands.numbers none (media_of w c.args.number) refl));
+}

@@ -1,0 +1,188 @@
+use crate::delays::Delays;
+use crate::page::Page;
+use crate::port_counter::PortCounter;
+use crate::port_totals::PortTotals;
+use crate::seconds::Seconds;
+use mg_core::Core;
+use mg_ports::FailureCauses;
+use mg_serve::TickReport;
+use std::io::{self, Write};
+use std::time::Duration;
+
+/// Returns how many terminations have accepted a packet within the last second.
+pub fn sending(core: &Core, ports: &[PortTotals], ticks: u64) -> usize {
+    let mut sending: usize = 0;
+    for place in 0..core.terminations() {
+        let slot = usize::from(core.termination(place).slot);
+        if let Some(port) = ports.get(slot) {
+            sending = sending.saturating_add(usize::from(port.is_sending(ticks)));
+        }
+    }
+    sending
+}
+
+/// Returns how many contexts there are: each has a first member.
+fn contexts(core: &Core) -> usize {
+    let mut contexts: usize = 0;
+    for place in 0..core.terminations() {
+        let record = core.termination(place);
+        let first = core.rooms().members(record.context).first();
+        contexts = contexts.saturating_add(usize::from(first == Some(&record.number)));
+    }
+    contexts
+}
+
+/// Writes the metrics of ticks.
+pub fn put_timing<W: Write>(
+    ticks: u64,
+    delays: &Delays,
+    longest: Duration,
+    page: &mut Page<'_, W>,
+) -> io::Result<()> {
+    page.counter("ticks_total", "Ticks of 20 ms that have begun", ticks)?;
+    page.histogram("tick_delay_seconds", "How late ticks began", delays)?;
+    let help = "The longest poll and tick in the last five seconds";
+    page.gauge("step_seconds_max", help, &Seconds::of(longest))
+}
+
+/// Writes how much of the gateway is in use.
+pub fn put_use<W: Write>(
+    report: &TickReport<'_>,
+    sending: usize,
+    page: &mut Page<'_, W>,
+) -> io::Result<()> {
+    page.gauge("contexts", "Contexts (conferences)", &contexts(report.core))?;
+    let help = "Terminations";
+    page.gauge("terminations", help, &report.core.terminations())?;
+    let help = "Media ports: the maximum number of terminations";
+    page.gauge("slots", help, &report.config.slots)?;
+    let help = "Terminations that accepted a packet within the last second";
+    page.gauge("callers_sending", help, &sending)
+}
+
+/// Writes the counts of datagrams.
+pub fn put_datagrams<W: Write>(report: &TickReport<'_>, page: &mut Page<'_, W>) -> io::Result<()> {
+    let counts = report.counts;
+    let help = "Messages accepted from controllers";
+    page.counter("control_messages_total", help, counts.control)?;
+    let help = "Messages dropped for lack of memory";
+    page.counter("control_messages_unread_total", help, report.unread)?;
+    let [started, placed, pushed, duplicate, late] = counts.placed;
+    let [
+        no_termination,
+        stray,
+        no_local,
+        not_rtp,
+        payload_type,
+        length,
+    ] = counts.dropped;
+    let results = [
+        ("started", started),
+        ("placed", placed),
+        ("pushed", pushed),
+        ("duplicate", duplicate),
+        ("late", late),
+        ("no_termination", no_termination),
+        ("stray", stray),
+        ("no_local", no_local),
+        ("not_rtp", not_rtp),
+        ("payload_type", payload_type),
+        ("length", length),
+    ];
+    let help = "RTP datagrams received";
+    page.counters("rtp_packets_total", help, "result", &results)?;
+    let help = "Answers and packets sent";
+    page.counter("datagrams_sent_total", help, counts.sent)?;
+    let FailureCauses {
+        receives,
+        late,
+        held,
+        refused,
+    } = report.failures;
+    let causes = [("late", late), ("held", held), ("refused", refused)];
+    let help = "Answers and packets not sent";
+    page.counters("datagrams_unsent_total", help, "cause", &causes)?;
+    let help = "Receives that the system refused";
+    page.counter("receives_failed_total", help, receives)
+}
+
+/// Returns a port's number and totals, if a termination has the port or datagrams have arrived at it.
+fn seen_port(report: &TickReport<'_>, ports: &[PortTotals], slot: u8) -> Option<(u16, PortTotals)> {
+    if u16::from(slot) >= report.config.slots {
+        return None;
+    }
+    let totals = *ports.get(usize::from(slot))?;
+    if totals.packets == 0 && report.core.rooms().held(slot).is_none() {
+        return None;
+    }
+    let port = report.config.base_port.wrapping_add(2 * u16::from(slot));
+    Some((port, totals))
+}
+
+/// Writes the metrics of each port.
+pub fn put_ports<W: Write>(
+    report: &TickReport<'_>,
+    ports: &[PortTotals],
+    page: &mut Page<'_, W>,
+) -> io::Result<()> {
+    put_terminations(report, ports, page)?;
+    put_port_counter(PortCounter::Packets, report, ports, page)?;
+    put_port_counter(PortCounter::Lost, report, ports, page)?;
+    put_port_counter(PortCounter::Concealed, report, ports, page)?;
+    put_silences(report, ports, page)
+}
+
+/// Writes which termination has which port.
+fn put_terminations<W: Write>(
+    report: &TickReport<'_>,
+    ports: &[PortTotals],
+    page: &mut Page<'_, W>,
+) -> io::Result<()> {
+    let name = "port_termination";
+    page.begin(
+        name,
+        "gauge",
+        "The n of the termination RTP/n that has the port",
+    )?;
+    for slot in 0..=u8::MAX {
+        let held = report.core.rooms().held(slot);
+        if let (Some(record), Some((port, _))) = (held, seen_port(report, ports, slot)) {
+            page.sample_for(name, "port", &port, &record.number)?;
+        }
+    }
+    Ok(())
+}
+
+/// Writes a counter of each port.
+fn put_port_counter<W: Write>(
+    counter: PortCounter,
+    report: &TickReport<'_>,
+    ports: &[PortTotals],
+    page: &mut Page<'_, W>,
+) -> io::Result<()> {
+    page.begin(counter.name(), "counter", counter.help())?;
+    for slot in 0..=u8::MAX {
+        if let Some((port, totals)) = seen_port(report, ports, slot) {
+            page.sample_for(counter.name(), "port", &port, &counter.of(&totals))?;
+        }
+    }
+    Ok(())
+}
+
+/// Writes for how long no packet has been accepted at each port.
+fn put_silences<W: Write>(
+    report: &TickReport<'_>,
+    ports: &[PortTotals],
+    page: &mut Page<'_, W>,
+) -> io::Result<()> {
+    let name = "port_silence_seconds";
+    let help = "Time since the last accepted packet, or since the start";
+    page.begin(name, "gauge", help)?;
+    for slot in 0..=u8::MAX {
+        if let Some((port, totals)) = seen_port(report, ports, slot) {
+            let silent = Seconds::of_ticks(totals.silent_ticks(report.counts.ticks));
+            page.sample_for(name, "port", &port, &silent)?;
+        }
+    }
+    Ok(())
+}

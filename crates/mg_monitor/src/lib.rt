@@ -1,0 +1,33 @@
+//! What an operator sees of a gateway: reports on standard error, and metrics for Prometheus.
+//!
+//! Both are [`Monitor`](mg_serve::Monitor)s of a server, so they can't change what the gateway does. [`Reports`] prints
+//! the totals since the start and a line for each media port that has had trouble. [`Metrics`] passes text in
+//! Prometheus' format to a [`Sink`] every five seconds. [`Both`] makes one monitor of two.
+//!
+//! ```rust
+//! let mut monitor = Reports::new(alloc, 60, &mut errors)?;
+//! let counts = serve(alloc, &setup, None, &mut ports, &mut input, &mut output, &mut monitor)?;
+//! ```
+//!
+//! [`Loss`] counts the packets of an RTP stream that never arrived.
+#![tactic(auto)]
+
+mod both;
+mod delays;
+mod families;
+mod loss;
+mod metrics;
+mod page;
+mod port_counter;
+mod port_counts;
+mod port_totals;
+mod reports;
+mod seconds;
+mod sink;
+
+pub use crate::both::Both;
+pub use crate::delays::Delays;
+pub use crate::loss::Loss;
+pub use crate::metrics::Metrics;
+pub use crate::reports::Reports;
+pub use crate::sink::Sink;

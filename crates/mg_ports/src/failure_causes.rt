@@ -1,0 +1,12 @@
+/// How many receives and sends failed, by cause. A count that reaches its maximum stays there.
+#[derive(Clone, Copy, Debug, Default, PartialEq, Eq)]
+pub struct FailureCauses {
+    /// Receives that the system refused.
+    pub receives: u64,
+    /// Packets of late ticks.
+    pub late: u64,
+    /// Packets to a Remote that can't be a caller: 0.0.0.0, which puts a call on hold, or a multicast address.
+    pub held: u64,
+    /// Sends that the system refused.
+    pub refused: u64,
+}

@@ -1,0 +1,20 @@
+/// Why a text is not the path of a file.
+#[derive(Clone, Copy, Debug, PartialEq, Eq)]
+pub enum FilePathFault {
+    /// It is empty.
+    Empty,
+    /// It has more than 4,000 bytes.
+    TooLong,
+}
+
+impl FilePathFault {
+    /// Returns the error text.
+    pub fn message(self) -> &'static str {
+        match self {
+            FilePathFault::Empty => "invalid value for '--metrics <FILE>': an empty path",
+            FilePathFault::TooLong => {
+                "invalid value for '--metrics <FILE>': a path of more than 4000 bytes"
+            }
+        }
+    }
+}

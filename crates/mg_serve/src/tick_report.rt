@@ -1,0 +1,18 @@
+use mg_clock::Timing;
+use mg_core::{Config, Core, Counts};
+use mg_ports::FailureCauses;
+
+/// What a monitor learns at the end of a tick.
+#[derive(Drop)]
+pub struct TickReport<'a> {
+    pub config: Config,
+    pub core: &'a Core,
+    /// The counts since the start.
+    pub counts: Counts,
+    /// Control datagrams that were dropped because memory ran out while they were read.
+    pub unread: u64,
+    /// The failed receives and sends since the start, by cause.
+    pub failures: FailureCauses,
+    /// Whether the tick was late, so that none of its packets was sent.
+    pub timing: Timing,
+}

@@ -8,15 +8,84 @@
 //! `tick` advances by 20 ms and sends the packets, `stats` prints the counts, and `quit` ends the run. Another program,
 //! `mg_pace`, writes `poll` and `tick` when the clock says that they are due.
 //!
-//! With `--record`, `live` and `serve` print a recording: a script of all events.
+//! With `--record`, `live` and `serve` print a recording: a script of all events. They never wait for the readers of
+//! standard output and standard error; other subcommands do.
 #![tactic(auto)]
 
+mod live_output;
 #[cfg(test)]
 mod tests;
 
-use mg_options::program_arguments;
+use crate::live_output::LiveOutput;
+use mg_options::{Status, program_arguments};
+use mg_outlet::{Outlet, OutletFault, Overflow, SystemReady};
 use mg_program::{System, program};
+use std::io::{Stderr, Write};
 use std::process::ExitCode;
+
+/// The maximum number of bytes on their way to standard output: at 256 callers, 14 seconds of a recording.
+const OUTPUT_LIMIT: usize = 64 << 20;
+
+/// The maximum number of bytes on their way to standard error.
+const ERRORS_LIMIT: usize = 1 << 20;
+
+/// Returns the system as the program uses it.
+fn system_of(rt: &HostRuntime) -> System<'_, HostRuntime, HostRuntime, HostRuntime, HostRuntime> {
+    System {
+        net: rt,
+        clock: rt,
+        random: rt,
+        files: rt,
+    }
+}
+
+/// Makes an outlet for lines on standard error.
+fn error_outlet(rt: &HostRuntime) -> Result<Outlet<Stderr, SystemReady>, OutletFault> {
+    Outlet::watching(rt, rt.alloc(), rt.stderr(), ERRORS_LIMIT, Overflow::Skip)
+}
+
+/// Runs a gateway, which never waits for a reader. At the end, only `serve` waits until its output has been read.
+fn run_gateway(rt: &HostRuntime, words: &[String], is_serve: bool) -> Result<u8, OutletFault> {
+    let outlet = Outlet::watching(rt, rt.alloc(), rt.stdout(), OUTPUT_LIMIT, Overflow::End)?;
+    let mut output = LiveOutput::new(outlet, error_outlet(rt)?);
+    let mut errors = error_outlet(rt)?;
+    let mut reports = error_outlet(rt)?;
+    let mut input = rt.stdin();
+    let code = program(
+        &system_of(rt),
+        rt.alloc(),
+        words,
+        &mut input,
+        &mut output,
+        &mut errors,
+        &mut reports,
+    );
+    let _ = if is_serve {
+        output.finish()
+    } else {
+        output.flush()
+    };
+    let _ = reports.flush();
+    let _ = errors.flush();
+    Ok(code)
+}
+
+/// Runs a program that isn't a gateway.
+fn run_plainly(rt: &HostRuntime, words: &[String]) -> u8 {
+    let mut input = rt.stdin();
+    let mut output = rt.stdout();
+    let mut errors = rt.stderr();
+    let mut reports = rt.stderr();
+    program(
+        &system_of(rt),
+        rt.alloc(),
+        words,
+        &mut input,
+        &mut output,
+        &mut errors,
+        &mut reports,
+    )
+}
 
 fn main(rt: HostRuntime) -> ExitCode {
     let mut errors = rt.stderr();
@@ -24,23 +93,16 @@ fn main(rt: HostRuntime) -> ExitCode {
         Ok(words) => words,
         Err(status) => return ExitCode::from(status.code()),
     };
-    let mut input = rt.stdin();
-    let mut output = rt.stdout();
-    let mut reports = rt.stderr();
-    let system = System {
-        net: &rt,
-        clock: &rt,
-        random: &rt,
-        files: &rt,
-    };
-    let code = program(
-        &system,
-        rt.alloc(),
-        words.as_slice(),
-        &mut input,
-        &mut output,
-        &mut errors,
-        &mut reports,
-    );
-    ExitCode::from(code)
+    let subcommand = words.first().map(|word| word.as_str());
+    let is_serve = subcommand == Some("serve");
+    if !is_serve && subcommand != Some("live") {
+        return ExitCode::from(run_plainly(&rt, words.as_slice()));
+    }
+    match run_gateway(&rt, words.as_slice(), is_serve) {
+        Ok(code) => ExitCode::from(code),
+        Err(fault) => {
+            let _ = writeln!(errors, "{fault}");
+            ExitCode::from(Status::Failed.code())
+        }
+    }
 }

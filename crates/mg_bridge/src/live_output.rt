@@ -1,0 +1,48 @@
+use mg_outlet::{Outlet, Ready};
+use std::io::{self, Write};
+
+/// The output of a gateway, which never waits for its reader. If the reader is so slow that the output ends, this is
+/// reported once to an operator.
+#[derive(Drop)]
+pub struct LiveOutput<W, R, E> {
+    outlet: Outlet<W, R>,
+    errors: E,
+    has_reported: bool,
+}
+
+impl<W: Write, R: Ready, E: Write> LiveOutput<W, R, E> {
+    pub fn new(outlet: Outlet<W, R>, errors: E) -> Self {
+        LiveOutput {
+            outlet,
+            errors,
+            has_reported: false,
+        }
+    }
+
+    /// Passes on all that is queued. Unlike other calls it waits for the reader.
+    pub fn finish(&mut self) -> io::Result<()> {
+        self.outlet.finish()
+    }
+
+    /// Reports the end of the output, if it ended since the last call.
+    fn report_end(&mut self) {
+        if self.outlet.has_ended() && !self.has_reported {
+            self.has_reported = true;
+            let line = b"standard output ended: its reader is too slow\n";
+            let _ = self.errors.write_all(line.as_slice());
+            let _ = self.errors.flush();
+        }
+    }
+}
+
+impl<W: Write, R: Ready, E: Write> Write for LiveOutput<W, R, E> {
+    fn write(&mut self, text: &[u8]) -> io::Result<usize> {
+        let count = self.outlet.write(text)?;
+        self.report_end();
+        Ok(count)
+    }
+
+    fn flush(&mut self) -> io::Result<()> {
+        self.outlet.flush()
+    }
+}

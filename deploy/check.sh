@@ -1,8 +1,9 @@
 #!/bin/sh
-# Checks the units, the firewall rules and the Debian package. Prints one line for each check.
+# Checks the units, what they do at a stop, the firewall rules, the alert rules and the Debian package. Prints one line
+# for each check.
 # usage: check.sh
-# It needs python3 and dpkg-deb. It skips a check whose program is missing: systemd-analyze, nft (needs root), lintian,
-# man, or bash.
+# It needs python3 and dpkg-deb. It skips a check whose program is missing: systemd-analyze, nft (needs root), promtool,
+# lintian, man, or bash.
 set -eu
 here=$(CDPATH='' cd -- "$(dirname -- "$0")" && pwd)
 work=$(mktemp -d)
@@ -24,6 +25,11 @@ verify() {
     [ ! -s "$work/said" ] || fail "systemd-analyze verify: $(cat "$work/said")"
 }
 
+# rules KIND FILE: runs `promtool KIND rules FILE`.
+rules() {
+    promtool "$1" rules "$here/prometheus/$2" > "$work/said" 2>&1 || fail "promtool $1 rules $2: $(cat "$work/said")"
+}
+
 if has systemd-analyze 'the units'; then
     cp "$here/lobbysorrel@.service" "$work/lobbysorrel@1.service"
     verify lobbysorrel@1.service
@@ -40,6 +46,76 @@ if has nft 'the firewall rules'; then
         echo 'lobbysorrel-firewall.service: valid'
     fi
 fi
+if has promtool 'the alert rules'; then
+    rules check lobbysorrel.rules.yml
+    rules test lobbysorrel_test.yml
+    echo "lobbysorrel.rules.yml: valid, and its tests pass"
+fi
+
+# metrics NUMBER: writes a metrics file, as a gateway does, with this number of terminations.
+metrics() {
+    {
+        printf 'lobbysorrel_terminations{gateway="192.0.2.1:2944"} %s\n' "$1"
+        printf 'lobbysorrel_port_termination{gateway="192.0.2.1:2944",port="30002"} 7\n'
+    } > "$work/metrics.new"
+    mv "$work/metrics.new" "$work/metrics"
+}
+
+# drains STATUS WANTED [SECONDS]: how `drain` must exit, and all that it must print, without the name of the file.
+drains() {
+    status=0
+    "$here/drain" "$work/metrics" "${3:-0}" > "$work/said" 2>&1 || status=$?
+    said=$(sed "s|$work/||g" "$work/said")
+    [ "$status" = "$1" ] || fail "drain: status $status, not $1: $said"
+    [ "$said" = "$2" ] || fail "drain: '$said', not '$2'"
+}
+
+drains 2 'drain: there is no file metrics'
+metrics 0
+drains 0 'metrics: 0 terminations'
+metrics 1
+drains 1 'metrics: 1 termination
+drain: 1 termination left: RTP/7 (port 30002)' 1
+(sleep 1.5; metrics 0) &
+drains 0 'metrics: 1 termination
+metrics: 0 terminations' 10
+wait
+for text in '' 0x0 -1 1.5 'a b' 99999999999999999999; do
+    metrics "$text"
+    drains 2 "drain: metrics doesn't state the number of terminations"
+done
+metrics 0
+drains 2 'drain: more than 65535 seconds: 65536' 65536
+drains 2 'drain: not a number of seconds: ten' ten
+touch -d '1 minute ago' "$work/metrics"
+status=0
+"$here/drain" "$work/metrics" > "$work/said" 2>&1 || status=$?
+if [ "$status" != 2 ] || ! grep -q 'is 6[0-9] seconds old: is the gateway running?' "$work/said"; then
+    fail "drain with an old file: status $status: $(cat "$work/said")"
+fi
+echo 'drain: as expected'
+
+# stops WANTED [VARIABLE=VALUE]..: all that the unit's ExecStop must print in this environment.
+command=$(sed -n "s|^ExecStop=-/bin/sh -c '\(.*\)'$|\1|p" "$here/lobbysorrel@.service" |
+    sed "s|/usr/lib/lobbysorrel|$here|; s|/run/lobbysorrel/%i/gateway.prom|$work/metrics|")
+stops() {
+    wanted=$1
+    shift
+    said=$(env -i "$@" sh -c "$command" 2>&1 | sed "s|$work/||g")
+    [ "$said" = "$wanted" ] || fail "ExecStop with '$*': '$said', not '$wanted'"
+}
+
+metrics 1
+left='metrics: 1 termination
+drain: 1 termination left: RTP/7 (port 30002)'
+stops '' DRAIN=60
+stops "$left" MAINPID=1
+stops "$left" MAINPID=1 DRAIN=0
+(sleep 1.5; metrics 0) &
+stops 'metrics: 1 termination
+metrics: 0 terminations' MAINPID=1 DRAIN=60
+wait
+echo 'ExecStop: as expected'
 
 package=$("$here/package.sh" "$work")
 again=$("$here/package.sh" "$work/again")
@@ -60,6 +136,7 @@ if has man 'the manual pages'; then
 fi
 if has bash 'the completions'; then
     cat "$work"/root/usr/share/bash-completion/completions/* - > "$work/completions" << 'END'
+compopt() { :; } # it works only while the shell completes
 COMP_WORDS=("$@") COMP_CWORD=$(($# - 1))
 "_$1" "$1" "${COMP_WORDS[COMP_CWORD]}" "${COMP_WORDS[COMP_CWORD - 1]}"
 echo "${COMPREPLY[*]}"
@@ -76,6 +153,8 @@ END
     completes --flows mg_bridge replay --fl
     completes '' mg_bridge serve --slots ''
     completes serve mg_bridge help s
+    touch "$work/gateway.prom"
+    completes "$work/gateway.prom" mg_bridge live --metrics "$work/gateway.p"
     completes --ticks mg_pace --t
     echo 'bash completions: as expected'
 fi

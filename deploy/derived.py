@@ -17,6 +17,7 @@ MAINTAINER = "Lobbysorrel maintainers <maintainers@users.noreply.lobbysorrel.exa
 FILES = {
     "/etc/lobbysorrel/NAME.env": "Options of the gateway that the unit `lobbysorrel@NAME` runs (`mg_bridge live`).",
     "/etc/lobbysorrel/*.example": "Examples of options and firewall rules.",
+    "/run/lobbysorrel/NAME/gateway.prom": "Metrics of the gateway that the unit `lobbysorrel@NAME` runs.",
     "/usr/share/doc/lobbysorrel/OPERATING.md": "How to install, secure and monitor a gateway.",
 }
 PACE_STATUSES = "With 0 after `--ticks` ticks or when nothing reads its output any more. With 2, 3 or 4 for the same " \
@@ -26,7 +27,7 @@ COMPLETION = """\
 _{program}() {{
     local word=$2 words
     case $3 in
-        *[\\<\\>])
+        *[\\<\\>]{files})
             compopt -o filenames
             mapfile -t COMPREPLY < <(compgen -f -- "$word")
             return
@@ -123,6 +124,8 @@ def completion(program):
         after |= {f"*:{name}": one.names() for name, one in helps.items()}
     else:
         after = {"*": top.names()}
+    taken = (one.taking("FILE") for one in (top, *helps.values()))
+    files = "".join(f" | {option}" for option in sorted(set().union(*taken)))
     values = []
     # After an option with an address comes one of this machine; after one with a number nothing is proposed.
     for value, words in ("ADDRESS", "$(hostname -I | tr ' ' '\\n' | grep -v :)"), ("NUMBER", ""):
@@ -130,6 +133,7 @@ def completion(program):
         values += [f"        {' | '.join(taking)}) words={words} ;;"] * bool(taking)
     return COMPLETION.format(
         program=program,
+        files=files,
         values="\n".join(values),
         commands="\n".join(f"                {case}) words='{' '.join(words)}' ;;" for case, words in after.items()),
     )

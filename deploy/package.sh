@@ -54,6 +54,7 @@ put_compressed() {
 }
 
 put 755 usr/bin/ "$top/dist/mg_bridge" "$top/dist/mg_pace"
+put 755 usr/lib/lobbysorrel/ "$here/drain"
 put 644 usr/lib/systemd/system/ "$here/lobbysorrel@.service" "$here/lobbysorrel-firewall.service"
 for program in mg_bridge mg_pace; do
     put_compressed usr/share/man/man1/ "$derived/$program.1"
@@ -62,7 +63,7 @@ done
 for example in 1.env 2.env gateway.nft; do
     put 644 "etc/lobbysorrel/$example.example" "$here/$example"
 done
-put 644 usr/share/doc/lobbysorrel/examples/ "$here/sysctl.conf"
+put 644 usr/share/doc/lobbysorrel/examples/ "$here/sysctl.conf" "$here/prometheus/lobbysorrel.rules.yml"
 for page in BENCHMARKS CONTROLLERS OPERATING PROFILE RECORDINGS SCRIPTS SECURITY; do
     put 644 usr/share/doc/lobbysorrel/ "$top/docs/$page.md"
 done

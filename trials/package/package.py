@@ -190,27 +190,29 @@ def page_commands():
     """The blocks of commands in the page's section, without what needs a clone or a terminal."""
     section = (ROOT / "docs/OPERATING.md").read_text().partition("\n## Install as a service\n")[2].partition("\n## ")[0]
     found = re.findall(r"^```sh\n(.*?)^```$", section, re.M | re.S)
-    if len(found) != 2:
-        sys.exit("docs/OPERATING.md doesn't have two blocks of commands in \"Install as a service\"")
+    if len(found) != 3:
+        sys.exit("docs/OPERATING.md doesn't have three blocks of commands in \"Install as a service\"")
     return [re.sub(r"^(deploy/package.sh|editor|journalctl) .*\n", "", text, flags=re.M) for text in found]
 
 
 def build(packages):
-    """Builds the package twice, and a package with a higher version."""
+    """Builds the package twice, and packages with two higher versions, which it returns."""
     built = [Path(ran(ROOT / "deploy/package.sh", folder)) for folder in (packages, WORK / "again")]
     same = built[0].read_bytes() == built[1].read_bytes()
     check(f"built {built[0].name}, {built[0].stat().st_size:,} bytes; a second build has the same bytes: {same}", same)
     said = ran("lintian", "--allow-root", "--fail-on", "none", built[0])
     tags = [line for line in said.splitlines() if re.match("[EW]: ", line)]
     check(f"lintian: {len(tags)} errors and warnings{''.join(f'; {tag}' for tag in tags)}", not tags)
-    tree, version = WORK / "tree", f"{ran('dpkg-deb', '-f', built[0], 'Version')}+trial"
+    tree, version = WORK / "tree", ran("dpkg-deb", "-f", built[0], "Version")
+    versions = [f"{version}+trial1", f"{version}+trial2"]
     ran("dpkg-deb", "-R", built[0], tree)
     control = tree / "DEBIAN/control"
-    control.write_text(re.sub("^Version: .*$", f"Version: {version}", control.read_text(), flags=re.M))
-    with (tree / "etc/lobbysorrel/1.env.example").open("a") as example:
-        example.write("# An upgrade.\n")
-    ran("dpkg-deb", "--root-owner-group", "-b", tree, packages / "higher.deb")
-    return version
+    for higher in versions:
+        control.write_text(re.sub("^Version: .*$", f"Version: {higher}", control.read_text(), flags=re.M))
+        with (tree / "etc/lobbysorrel/1.env.example").open("a") as example:
+            example.write(f"# Upgrade {higher}.\n")
+        ran("dpkg-deb", "--root-owner-group", "-b", tree, packages / f"{higher}.deb")
+    return versions
 
 
 def install(system, command):
@@ -297,12 +299,50 @@ def reboot(system):
     check(f"after a reboot: both answer: {lives}; the rules are loaded: {rules}", lives and rules)
 
 
+def conference(system, metrics):
+    """Adds two terminations, and waits until the gateway's metrics count them. Returns their context and their names."""
+    soon(lambda: alive(PORTS["1"], 0.1))
+    answer, _ = ask("Context=${Add=$,Add=$}", PORTS["1"])
+    soon(lambda: system.tried(f"grep -q '^lobbysorrel_terminations{{.*}} 2$' {metrics}").returncode == 0, 10)
+    return re.search(r"Context=(\d+)", answer).group(1), re.findall(r"RTP/\d+", answer)
+
+
+def drain(system):
+    metrics, options = "/run/lobbysorrel/1/gateway.prom", "/etc/lobbysorrel/1.env"
+    _, names = conference(system, metrics)
+    start = time.monotonic()
+    system.run("systemctl stop lobbysorrel@1")
+    took, said = time.monotonic() - start, system.run("journalctl -u lobbysorrel@1 -o cat -n 5")
+    named = all(name in said for name in names) and "2 terminations left" in said
+    check(f"a stop with two terminations took {took:.1f} s; the journal names them: {named}", took < 2 and named)
+    system.run(f"echo DRAIN=60 >> {options}; systemctl start lobbysorrel@1")
+    context, _ = conference(system, metrics)
+    system.run("systemctl stop --no-block lobbysorrel@1")
+    time.sleep(3)
+    state, lives = *system.show("lobbysorrel@1", "ActiveState"), alive(PORTS["1"])
+    ask(f"Context={context}{{Subtract=*}}", PORTS["1"])
+    start = time.monotonic()
+    ended = soon(lambda: system.show("lobbysorrel@1", "ActiveState", "Result") == ["inactive", "success"], 15)
+    check(f"with DRAIN=60, it is {state} after 3 s, and answers: {lives}; it stopped {time.monotonic() - start:.1f} s after "
+          f"they were subtracted: {ended}", state == "deactivating" and lives and ended)
+    system.run(f"sed -i '/^DRAIN=/d' {options}; systemctl start lobbysorrel@1")
+
+
+def upgrade_without_restart(system, version, commands):
+    main, = system.show("lobbysorrel@1", "MainPID")
+    system.run(f"rm -f /tmp/lobbysorrel_*; cp /packages/{version}.deb /tmp/lobbysorrel_{version}_amd64.deb; {commands}")
+    now = system.run("dpkg-query -W -f '${Version}' lobbysorrel")
+    same = system.show("lobbysorrel@1", "MainPID") == [main]
+    check(f"upgrade to {now} as for a gateway with calls: the same process runs: {same}; both answer: {both_alive()}",
+          now == version and same and both_alive())
+
+
 def upgrade(system, version):
     system.run("echo '# mine' >> /etc/lobbysorrel/1.env; systemctl stop lobbysorrel@2")
     files = "md5sum /etc/lobbysorrel/*.env /etc/lobbysorrel/*.nft"
     kept = system.run(files)
     main, = system.show("lobbysorrel@1", "MainPID")
-    system.run("apt-get install -y /packages/higher.deb")
+    system.run(f"apt-get install -y /packages/{version}.deb")
     now = system.run("dpkg-query -W -f '${Version}' lobbysorrel")
     lives = soon(lambda: alive(PORTS["1"], 0.1))
     new, = system.show("lobbysorrel@1", "MainPID")
@@ -333,8 +373,8 @@ def remove(system, before):
 def main():
     packages = WORK / "packages"
     packages.mkdir()
-    version = build(packages)
-    install_commands, start_commands = page_commands()
+    quiet_version, version = build(packages)
+    install_commands, start_commands, quiet_commands = page_commands()
     with System(packages) as system:
         system.boot()
         print(f"booted Debian {system.run('cat /etc/debian_version')}, {system.run('systemctl --version | head -n 1')}: "
@@ -345,6 +385,8 @@ def main():
         wrong_options(system)
         kill(system)
         reboot(system)
+        drain(system)
+        upgrade_without_restart(system, quiet_version, quiet_commands)
         upgrade(system, version)
         remove(system, before)
     sys.exit(bool(failed))

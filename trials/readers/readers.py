@@ -137,21 +137,45 @@ class Load:
         self.thread.join()
 
 
-def read_some(pipe, into, stop):
-    while not stop.is_set():
-        into.append(os.read(pipe.fileno(), 65536))
+class Reader:
+    """Reads a gateway's output into a list until the end."""
+
+    def __init__(self, gateway, recording):
+        self.gateway, self.recording, self.ended = gateway, recording, threading.Event()
+        self.thread = threading.Thread(target=self.run)
+        self.thread.start()
+
+    def run(self):
+        while not self.ended.is_set() and (part := os.read(self.gateway.output.fileno(), 65536)):
+            self.recording.append(part)
+
+    def end(self):
+        self.ended.set()
+        self.thread.join()
+
+
+def recorded(gateway, recording):
+    """Stops a gateway once what was waiting is read, and returns the text of its recording."""
+    reader = Reader(gateway, recording)
+    before, size = -1000, 0
+    # Without callers, a recording grows by 250 bytes a second.
+    while size - before >= 1000:
+        time.sleep(0.5)
+        before, size = size, sum(map(len, recording))
+    gateway.process.terminate()
+    gateway.process.wait()
+    reader.end()
+    return gateway.title.encode() + b"# ready\n" + b"".join(recording)
 
 
 def slow_reader(folder):
     gateway = Gateway(folder, "--report", "1")
     callers = [udp() for _ in range(CALLERS)]
     check(f"{CALLERS} callers were added", gateway.add_callers(callers))
-    load, recording, stop = Load(gateway, callers, CALLERS), [], threading.Event()
-    reader = threading.Thread(target=read_some, args=(gateway.output, recording, stop))
-    reader.start()
+    load, recording = Load(gateway, callers, CALLERS), []
+    reader = Reader(gateway, recording)
     usual = gateway.late(10)
-    stop.set()
-    reader.join()
+    reader.end()
     counts, seconds, late = load.sent_during(lambda: gateway.late(10))
     wanted = int(50 * seconds)
     check(f"with readers, {100 * usual:.1f} % of the ticks began over 1 ms late; without, {100 * late:.1f} %",
@@ -160,15 +184,7 @@ def slow_reader(folder):
           wanted - 10 <= min(counts) and max(counts) <= wanted + 10)
     load.stop()
     size = sum(map(len, recording))
-    stop = threading.Event()
-    reader = threading.Thread(target=read_some, args=(gateway.output, recording, stop))
-    reader.start()
-    time.sleep(2)
-    gateway.process.terminate()
-    gateway.process.wait()
-    stop.set()
-    reader.join()
-    text = gateway.title.encode() + b"# ready\n" + b"".join(recording)
+    text = recorded(gateway, recording)
     replayed, ticks = gateway.replays(text)
     check(f"a reader that resumed got {len(text)} bytes, {len(text) - size} of them since then, which replay: {ticks} ticks",
           replayed and ticks > 50 * (10 + seconds))
@@ -187,16 +203,7 @@ def no_reader(folder):
     check(f"calls continue: each caller was sent {min(counts)} to {max(counts)} packets in 2 s, and messages are answered",
           90 <= min(counts) and gateway.answers())
     load.stop()
-    recording, stop = [], threading.Event()
-    reader = threading.Thread(target=read_some, args=(gateway.output, recording, stop))
-    reader.start()
-    soon(lambda: sum(map(len, recording)) > 64 << 20, 20)
-    time.sleep(2)
-    gateway.process.terminate()
-    gateway.process.wait()
-    stop.set()
-    reader.join()
-    text = gateway.title.encode() + b"# ready\n" + b"".join(recording)
+    text = recorded(gateway, [])
     replayed, ticks = gateway.replays(text)
     check(f"{len(text) / 2**20:.1f} MiB were recorded, which replay: {ticks} ticks", replayed and len(text) > 64 << 20)
 

@@ -11,6 +11,8 @@ mod flow;
 #[cfg(test)]
 mod g711;
 #[cfg(test)]
+mod journal;
+#[cfg(test)]
 mod kept;
 #[cfg(test)]
 mod lines;

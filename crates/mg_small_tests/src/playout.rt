@@ -237,3 +237,17 @@ fn start_forgets_the_last_frame(rt: HostRuntime) -> Result<(), Fail> {
     tick_all(&rt, &mut playout, &[Played::Silence; 3]);
     Ok(())
 }
+
+/// A list is idle until a frame starts it, and again after the tick that finds it empty.
+#[test]
+fn list_without_frames_is_idle(rt: HostRuntime) -> Result<(), Fail> {
+    let mut playout = Playout::new(rt.alloc())?;
+    assert!(rt; playout.is_idle());
+    place_all(&rt, &mut playout, &[(1, Placed::Started)]);
+    for _ in 0..4 {
+        assert!(rt; !playout.is_idle());
+        let _ = playout.tick();
+    }
+    assert!(rt; playout.is_idle());
+    Ok(())
+}

@@ -1,0 +1,173 @@
+-- The whole lines of a text.
+use Rattle.std.proofs.Common.{◌≡◌, ◌≤◌, ℕ, ◌+◌, ◌-◌, Bool, true, false, ◌||◌, List, [], ◌∷◌, ◌++◌, length, get_or, take, drop, refl, subst, ap, sym, ◌∙◌, append-nil, length-append, arith}
+use Rattle.std.proofs.Math.Seq.{get_or-append_seam}
+use Rattle.std.proofs.lemmas.Bool.Decides.{nat_tests}
+use Rattle.std.proofs.lemmas.List.{take_all, take_more}
+use Rattle.std.proofs.lemmas.List.Folds.{list_any-append}
+use Rattle.std.specs.Prelude.{◌==◌}
+use Rattle.mg_journal.specs.Text.{has_line_feed, whole_lines, EndsInLineFeed, IsWhole}
+
+or_true : (b : Bool) → (b || true) ≡ true
+or_true true = refl
+or_true false = refl
+
+or_false : (b : Bool) → (b || false) ≡ b
+or_false true = refl
+or_false false = refl
+
+fed_append : (a b : List ℕ) → has_line_feed (a ++ b) ≡ (has_line_feed a || has_line_feed b)
+fed_append a b = list_any-append (λ (c : ℕ). c == 10) a b
+
+fed_after : (a b : List ℕ) → has_line_feed b ≡ true → has_line_feed (a ++ b) ≡ true
+fed_after a b fed = fed_append a b ∙ (ap (λ c. has_line_feed a || c) fed ∙ or_true (has_line_feed a))
+
+fed_before : (a b : List ℕ) → has_line_feed b ≡ false → has_line_feed (a ++ b) ≡ has_line_feed a
+fed_before a b unfed = fed_append a b ∙ (ap (λ c. has_line_feed a || c) unfed ∙ or_false (has_line_feed a))
+
+-- without a line feed there is no whole line
+pub whole_none : (bytes : List ℕ) → has_line_feed bytes ≡ false → whole_lines bytes ≡ []
+unfolding whole_lines
+whole_none [] unfed = refl
+whole_none (b ∷ bytes) unfed = rw unfed refl
+
+-- bytes before a line feed belong to whole lines
+pub whole_before : (a b : List ℕ) → has_line_feed b ≡ true → whole_lines (a ++ b) ≡ a ++ whole_lines b
+unfolding whole_lines
+whole_before [] b fed = refl
+whole_before (x ∷ a) b fed = rw (fed_after (x ∷ a) b fed) (ap (λ l. x ∷ l) (whole_before a b fed))
+
+-- bytes without a line feed add no whole line
+pub whole_same : (a b : List ℕ) → has_line_feed b ≡ false → whole_lines (a ++ b) ≡ whole_lines a
+unfolding whole_lines
+whole_same [] b unfed = whole_none b unfed
+whole_same (x ∷ a) b unfed = rw (fed_before (x ∷ a) b unfed) (rw (whole_same a b unfed) refl)
+
+after_as : (a b : List ℕ) → (fed : Bool) → has_line_feed b ≡ fed → IsWhole a → whole_lines (a ++ b) ≡ a ++ whole_lines b
+after_as a b true fed whole = whole_before a b fed
+after_as a b false unfed whole =
+    whole_same a b unfed ∙ (whole ∙ (sym (append-nil a) ∙ ap (λ l. a ++ l) (sym (whole_none b unfed))))
+
+-- what follows whole lines begins a line
+pub whole_after : (a b : List ℕ) → IsWhole a → whole_lines (a ++ b) ≡ a ++ whole_lines b
+whole_after a b whole = after_as a b (has_line_feed b) refl whole
+
+pub whole_more : (a b : List ℕ) → IsWhole a → IsWhole b → IsWhole (a ++ b)
+whole_more a b whole more = whole_after a b whole ∙ ap (λ l. a ++ l) more
+
+-- a line with its line feed is whole, whatever is in it
+pub whole_line : (line : List ℕ) → IsWhole (line ++ 10 ∷ [])
+unfolding whole_lines
+whole_line line = whole_before line (10 ∷ []) refl
+
+-- ## Lengths
+
+pub whole_nil : whole_lines [] ≡ []
+unfolding whole_lines
+whole_nil = refl
+
+front_as : (b : ℕ) (bytes : List ℕ) (fed : Bool) → has_line_feed (b ∷ bytes) ≡ fed
+    → whole_lines bytes ++ drop (length (whole_lines bytes)) bytes ≡ bytes
+    → whole_lines (b ∷ bytes) ++ drop (length (whole_lines (b ∷ bytes))) (b ∷ bytes) ≡ b ∷ bytes
+unfolding whole_lines
+front_as b bytes true fed front = rw fed (ap (λ l. b ∷ l) front)
+front_as b bytes false unfed front = rw unfed refl
+
+-- the whole lines are the front of the bytes
+pub whole_front : (bytes : List ℕ) → whole_lines bytes ++ drop (length (whole_lines bytes)) bytes ≡ bytes
+unfolding whole_lines
+whole_front [] = refl
+whole_front (b ∷ bytes) = front_as b bytes (has_line_feed (b ∷ bytes)) refl (whole_front bytes)
+
+pub whole_le : (bytes : List ℕ) → length (whole_lines bytes) ≤ length bytes
+whole_le bytes =
+    omega (arith, ap length (whole_front bytes), length-append (whole_lines bytes) (drop (length (whole_lines bytes)) bytes))
+
+zero_as : (bytes : List ℕ) (fed : Bool) → has_line_feed bytes ≡ fed → length (whole_lines bytes) ≡ 0
+    → has_line_feed bytes ≡ false
+unfolding whole_lines
+zero_as bytes false unfed none = unfed
+zero_as [] true fed none = refl
+zero_as (b ∷ bytes) true fed none =
+    let some : whole_lines (b ∷ bytes) ≡ b ∷ whole_lines bytes = rw fed refl in
+    absurd (omega (arith, none, ap length some))
+
+some_as : (bytes : List ℕ) (fed : Bool) → has_line_feed bytes ≡ fed → (length (whole_lines bytes) ≡ 0 → ⊥)
+    → has_line_feed bytes ≡ true
+some_as bytes true fed some = fed
+some_as bytes false unfed some = absurd (some (ap length (whole_none bytes unfed)))
+
+-- a part without a whole line, and one with some, at the end of a text
+pub length_same : (text part : List ℕ) → length (whole_lines part) ≡ 0
+    → length (whole_lines (text ++ part)) ≡ length (whole_lines text)
+length_same text part none = ap length (whole_same text part (zero_as part (has_line_feed part) refl none))
+
+pub length_more : (text part : List ℕ) → (length (whole_lines part) ≡ 0 → ⊥)
+    → length (whole_lines (text ++ part)) ≡ length text + length (whole_lines part)
+length_more text part some =
+    ap length (whole_before text part (some_as part (has_line_feed part) refl some))
+    ∙ length-append text (whole_lines part)
+
+other_byte : (b : ℕ) → (b ≡ 10 → ⊥) → (b == 10) ≡ false
+other_byte b other = grind (arith, nat_tests, other)
+
+-- one more byte
+pub length_line : (text : List ℕ) (b : ℕ) → b ≡ 10 → length (whole_lines (text ++ b ∷ [])) ≡ length text + 1
+length_line text b feed =
+    ap (λ (c : ℕ). length (whole_lines (text ++ c ∷ []))) feed
+    ∙ (ap length (whole_line text) ∙ length-append text (10 ∷ []))
+
+pub length_byte : (text : List ℕ) (b : ℕ) → (b ≡ 10 → ⊥) → length (whole_lines (text ++ b ∷ [])) ≡ length (whole_lines text)
+length_byte text b other =
+    let unfed : has_line_feed (b ∷ []) ≡ false = rw (other_byte b other) refl in
+    ap length (whole_same text (b ∷ []) unfed)
+
+-- ## Whole lines of whole lines
+
+fed_as : (b : ℕ) (bytes : List ℕ) (fed : Bool) → has_line_feed (b ∷ bytes) ≡ fed
+    → has_line_feed (whole_lines bytes) ≡ has_line_feed bytes
+    → has_line_feed (whole_lines (b ∷ bytes)) ≡ has_line_feed (b ∷ bytes)
+unfolding whole_lines
+fed_as b bytes true fed same = rw fed (ap (λ c. (b == 10) || c) same ∙ fed)
+fed_as b bytes false unfed same = rw unfed refl
+
+fed_whole : (bytes : List ℕ) → has_line_feed (whole_lines bytes) ≡ has_line_feed bytes
+unfolding whole_lines
+fed_whole [] = refl
+fed_whole (b ∷ bytes) = fed_as b bytes (has_line_feed (b ∷ bytes)) refl (fed_whole bytes)
+
+twice_as : (b : ℕ) (bytes : List ℕ) (fed : Bool) → has_line_feed (b ∷ bytes) ≡ fed → IsWhole (whole_lines bytes)
+    → IsWhole (whole_lines (b ∷ bytes))
+unfolding whole_lines
+twice_as b bytes true fed whole =
+    let same : has_line_feed (b ∷ whole_lines bytes) ≡ true = ap (λ c. (b == 10) || c) (fed_whole bytes) ∙ fed in
+    rw fed (rw same (ap (λ l. b ∷ l) whole))
+twice_as b bytes false unfed whole = rw unfed refl
+
+pub whole_twice : (bytes : List ℕ) → IsWhole (whole_lines bytes)
+unfolding whole_lines
+whole_twice [] = refl
+whole_twice (b ∷ bytes) = twice_as b bytes (has_line_feed (b ∷ bytes)) refl (whole_twice bytes)
+
+-- ## The last line feed
+
+last_byte : (b : ℕ) (bytes : List ℕ)
+    → b ∷ bytes ≡ take (length bytes) (b ∷ bytes) ++ get_or (b ∷ bytes) (length bytes) 0 ∷ []
+last_byte b bytes =
+    let all : take (length bytes + 1) (b ∷ bytes) ≡ b ∷ bytes = take_all (length bytes + 1) (b ∷ bytes) (omega arith) in
+    sym all ∙ take_more (b ∷ bytes) (length bytes) 0 (omega arith)
+
+pub ends_whole : (lines : List ℕ) → EndsInLineFeed lines → IsWhole lines
+unfolding whole_lines
+ends_whole [] ends = refl
+ends_whole (b ∷ bytes) ends =
+    let at : length (b ∷ bytes) - 1 ≡ length bytes = omega arith in
+    let feed : get_or (b ∷ bytes) (length bytes) 0 ≡ 10 = ap (λ (n : ℕ). get_or (b ∷ bytes) n 0) (sym at) ∙ ends in
+    let parts : b ∷ bytes ≡ take (length bytes) (b ∷ bytes) ++ 10 ∷ [] =
+    last_byte b bytes ∙ ap (λ (c : ℕ). take (length bytes) (b ∷ bytes) ++ c ∷ []) feed in
+    subst (λ (l : List ℕ). IsWhole l) (sym parts) (whole_line (take (length bytes) (b ∷ bytes)))
+
+-- for callers that append a line feed themselves
+pub ends_line : (line : List ℕ) → EndsInLineFeed (line ++ 10 ∷ [])
+ends_line line =
+    let at : length (line ++ 10 ∷ []) - 1 ≡ length line = omega (arith, length-append line (10 ∷ [])) in
+    ap (λ (n : ℕ). get_or (line ++ 10 ∷ []) n 0) at ∙ get_or-append_seam line 10 [] 0

@@ -1,0 +1,5 @@
+pub mod Text
+pub mod Journal
+pub mod JournalFile
+pub mod Opening
+pub mod aids

@@ -1,0 +1,22 @@
+-- The text of a journal: whole lines.
+use Rattle.std.specs.Prelude.{◌≡◌, ℕ, ◌-◌, Bool, ◌==◌, List, [], ◌∷◌, length, slice_index}
+use Rattle.std.specs.Prelude.{if◌then◌else◌}
+use Rattle.std.specs.List.{list_any}
+
+-- whether a line ends among these bytes
+abbrev pub has_line_feed : List ℕ → Bool
+has_line_feed bytes = list_any (λ b. b == 10) bytes
+
+-- The whole lines of some bytes, which are the bytes up to the last line feed. What follows it is a
+-- partial line.
+unfoldable pub whole_lines : List ℕ → List ℕ
+whole_lines [] = []
+whole_lines (b ∷ bytes) = if has_line_feed (b ∷ bytes) then b ∷ whole_lines bytes else []
+
+-- the last line is whole too
+abbrev pub IsWhole : List ℕ → Type 0
+IsWhole bytes = whole_lines bytes ≡ bytes
+
+-- the last byte is a line feed
+abbrev pub EndsInLineFeed : List ℕ → Type 0
+EndsInLineFeed lines = slice_index lines (length lines - 1) ≡ 10

@@ -1,0 +1,54 @@
+-- A journal on a file.
+use Rattle.std.specs.Prelude.{◌≡◌, ℕ, ◌≤◌, Bool, true, false, List, length, take, Result, Ok, Err}
+use Rattle.std.specs.Prelude.{IfSome, if◌then◌else◌}
+use Rattle.std.specs.Option.{option_map}
+use Rattle.mg_journal.specs.declared.append_fault.AppendFault.{AppendFault}
+use Rattle.mg_journal.specs.declared.append_fault.AppendFault.TheVariants.{Refused, Broken}
+use Rattle.mg_journal.specs.declared.durability.Durability.{Durability}
+use Rattle.mg_journal.specs.declared.durability.Durability.TheVariants.{Written, Synced}
+use Rattle.mg_journal.specs.declared.failed_append.FailedAppend.{FailedAppend}
+use Rattle.mg_journal.specs.Text.{IsWhole, whole_lines}
+use Rattle.mg_journal.specs.Journal.{JournalState}
+use Rattle.mg_journal.specs.JournalFile.{FileState, grown, cut_to, synced}
+
+abbrev pub is_synced : Durability → Bool
+is_synced Written = false
+is_synced Synced = true
+
+-- the journal that a file holds
+abbrev pub journal_in : FileState → (syncs is_broken : Bool) → JournalState
+journal_in file syncs is_broken = record {
+  text = option_map whole_lines file.bytes;
+  synced = option_map whole_lines file.synced;
+  syncs = syncs;
+  is_broken = is_broken;
+}
+
+-- Unless the journal is broken, its file holds whole lines of this length, and no more of them are
+-- on the disk.
+abbrev pub IsJournal : FileState → ℕ → Bool → Type 0
+IsJournal file len true = Unit {0}
+IsJournal file len false =
+    IfSome file.bytes (λ bytes. IsWhole bytes × (length bytes ≡ len))
+    × IfSome file.synced (λ bytes. length bytes ≤ len)
+
+-- a text was written whole, or only its front
+abbrev pub Writes : {E : Type 0} → List ℕ → FileState → FileState → Result (Unit {0}) E → Type 0
+Writes text old new (Ok done) = new ≡ grown old text
+Writes text old new (Err error) = (n : ℕ) × (new ≡ grown old (take n text))
+
+-- a file was cut to a length or, if that failed, is unchanged
+abbrev pub CutsBack : ℕ → FileState → FileState → AppendFault → Type 0
+CutsBack len old new Refused = new ≡ cut_to len old
+CutsBack len old new Broken = new ≡ old
+
+-- the front of a text was written, and was cut off or not
+abbrev pub Leaves : List ℕ → ℕ → FileState → FileState → AppendFault → Type 0
+Leaves text len old new Refused = (n : ℕ) × (new ≡ cut_to len (grown old (take n text)))
+Leaves text len old new Broken = (n : ℕ) × (new ≡ grown old (take n text))
+
+abbrev pub Puts : List ℕ → ℕ → Durability → FileState → FileState
+    → Result (Unit {0}) FailedAppend → Type 0
+Puts text len durability old new (Ok done) =
+    new ≡ (if is_synced durability then synced (grown old text) else grown old text)
+Puts text len durability old new (Err failed) = Leaves text len old new failed.fault

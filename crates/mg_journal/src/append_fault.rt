@@ -1,0 +1,26 @@
+ghost use Rattle.std.specs.Prelude.{◌≡◌};
+ghost use Rattle.mg_journal.specs.Journal.{is_final};
+
+/// Why lines weren't appended to a journal.
+///
+/// The two faults call for different reactions. After `Refused`, the caller may go on. After `Broken`, it has to stop: it
+/// can't know whether a restarted program will read the lines.
+#[derive(Clone, Copy, Debug, PartialEq, Eq)]
+pub enum AppendFault {
+    /// None of the lines was appended. The next append may succeed.
+    Refused,
+    /// Some, all or none of the lines are in the journal. Each later append fails too.
+    Broken,
+}
+
+impl AppendFault {
+    /// Returns whether each later append fails too.
+    pub fn is_final(self) -> bool
+        ensures value { result ≡ is_final self }
+    {
+        match self {
+            AppendFault::Refused => false,
+            AppendFault::Broken => true,
+        }
+    }
+}

@@ -1,0 +1,35 @@
+use crate::file_call::FileCall;
+
+/// How many calls of each kind were made.
+#[derive(Clone, Copy, Default)]
+pub(crate) struct CallCounts {
+    reads: u64,
+    writes: u64,
+    cuts: u64,
+    syncs: u64,
+}
+
+impl CallCounts {
+    /// Counts a call. Returns its number, counted from 0.
+    pub(crate) fn count(&mut self, call: FileCall) -> u64 {
+        let before = *self;
+        match call {
+            FileCall::Read => {
+                self.reads = before.reads.wrapping_add(1);
+                before.reads
+            }
+            FileCall::Write => {
+                self.writes = before.writes.wrapping_add(1);
+                before.writes
+            }
+            FileCall::Cut => {
+                self.cuts = before.cuts.wrapping_add(1);
+                before.cuts
+            }
+            FileCall::Sync => {
+                self.syncs = before.syncs.wrapping_add(1);
+                before.syncs
+            }
+        }
+    }
+}

@@ -1,0 +1,46 @@
+use crate::journal_file::JournalFile;
+use crate::opening::Opening;
+use std::fs::{Files, OpenFile, OpenOptions};
+use std::io::{self, ErrorKind, Read, Seek, SeekFrom, Write};
+
+/// A file of the operating system. Nothing is known about it, so what it does is only tested.
+#[derive(Drop)]
+pub struct DiskFile<T: Read + Write + Seek + OpenFile + Drop> {
+    file: T,
+}
+
+/// Opens the file of a journal and finds its whole lines. Creates the file if it doesn't exist.
+///
+/// Nothing else may write to the file from now on; no lock prevents it. If the file is created, a crash of the machine may
+/// lose it even after a sync, until the system has written the directory.
+pub fn open_journal<R: Files>(files: &R, path: &str) -> io::Result<Opening<DiskFile<R::File>>> {
+    let file = OpenOptions::new()
+        .read(true)
+        .append(true)
+        .create(true)
+        .open(files, path)?;
+    Opening::new(DiskFile { file })
+}
+
+impl<T: Read + Write + Seek + OpenFile + Drop> JournalFile for DiskFile<T> {
+    fn read(&mut self, at: u64, buffer: &mut [u8]) -> io::Result<usize> {
+        self.file.seek(SeekFrom::Start(at))?;
+        self.file.read(buffer)
+    }
+
+    fn write(&mut self, bytes: &[u8]) -> io::Result<usize> {
+        self.file.write(bytes)
+    }
+
+    /// Fails if the file is shorter, because the system would extend it with zeros.
+    fn cut(&mut self, len: u64) -> io::Result<()> {
+        if self.file.metadata()?.len() < len {
+            return Err(io::Error::from(ErrorKind::UnexpectedEof));
+        }
+        self.file.set_len(len)
+    }
+
+    fn sync(&mut self) -> io::Result<()> {
+        self.file.sync_data()
+    }
+}

@@ -1,0 +1,46 @@
+ghost use Rattle.std.specs.Prelude.{◌≡◌, ℕ, ◌++◌, [], List, length, IfSome};
+ghost use Rattle.mg_journal.specs.Text.{whole_lines};
+ghost use Rattle.mg_journal.specs.aids.Opening.{IsExtent};
+
+/// How long a text and its whole lines are, in bytes.
+#[derive(Clone, Copy)]
+pub(crate) struct Extent {
+    pub(crate) whole: u64,
+    pub(crate) all: u64,
+}
+
+impl Extent {
+    /// The extent of no bytes.
+    pub(crate) fn new() -> Self
+        ensures value { IsExtent result [] }
+    {
+        Extent { whole: 0, all: 0 }
+    }
+
+    /// Returns the extent of a text that grew by `part`, unless it is too long for 64 bits.
+    pub(crate) fn after(self, part: &[u8]) -> Option<Extent>
+        ensures value { (text : List ℕ) → IsExtent self text →
+            IfSome result (λ extent. IsExtent extent (text ++ part.now)) }
+    {
+        let all = self.all.checked_add(part.len() as u64)?;
+        let len = whole_len(part);
+        if len == 0 {
+            return Some(Extent { all, ..self });
+        }
+        let whole = self.all + len as u64;
+        Some(Extent { whole, all })
+    }
+}
+
+/// Returns the length of the whole lines of a text: how far its last line feed is.
+fn whole_len(text: &[u8]) -> usize
+    ensures value { result ≡ length (whole_lines text.now) }
+{
+    let mut len = 0;
+    for (i, b) in text.iter().enumerate() {
+        if *b == b'\n' {
+            len = i + 1;
+        }
+    }
+    len
+}

@@ -1,0 +1,9 @@
+use crate::append_fault::AppendFault;
+use std::io;
+
+/// An append that failed, and the error because of which it did.
+#[derive(Drop)]
+pub(crate) struct FailedAppend {
+    pub(crate) fault: AppendFault,
+    pub(crate) error: io::Error,
+}

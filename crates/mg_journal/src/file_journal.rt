@@ -1,0 +1,85 @@
+ghost use Rattle.std.specs.Prelude.{◌≡◌, false, IfSome};
+ghost use Rattle.mg_journal.specs.aids.Appending.{IsJournal, is_synced, journal_in};
+
+use crate::append_fault::AppendFault;
+use crate::durability::Durability;
+use crate::journal::Journal;
+use crate::journal_file::JournalFile;
+use crate::writing::put_lines;
+use std::io;
+use std::marker::Model;
+
+/// A journal in a file. If a write fails, the file is cut back to the lines that it had before.
+#[derive(Drop)]
+pub struct FileJournal<F: JournalFile> {
+    file: F,
+    /// The length of the file, in bytes, unless the journal is broken.
+    len: u64,
+    durability: Durability,
+    is_broken: bool,
+    last_error: Option<io::Error>,
+}
+
+impl<F: JournalFile> Model for FileJournal<F> {
+    ghost use Rattle.mg_journal.specs.Journal.{JournalState};
+    ghost use Rattle.mg_journal.specs.aids.Appending.{IsJournal, is_synced, journal_in};
+
+    ghost Value = { JournalState };
+
+    ghost view = { λ j. journal_in (F.file j.file) (is_synced j.durability) j.is_broken };
+
+    ghost invariant = { λ j. IsJournal (F.file j.file) j.len j.is_broken };
+}
+
+impl<F: JournalFile> FileJournal<F> {
+    /// Makes a journal that continues a file of whole lines.
+    pub(crate) fn new(file: F, len: u64, durability: Durability) -> Self
+        requires whole { IsJournal (F.file file) len false }
+        ensures value { result ≡ journal_in (F.file file) (is_synced durability) false }
+    {
+        FileJournal {
+            file,
+            len,
+            durability,
+            is_broken: false,
+            last_error: None,
+        }
+    }
+
+    /// Returns the file.
+    pub fn file(&self) -> &F
+        ensures value { self.now ≡ journal_in (F.file result.now) self.now.syncs self.now.is_broken }
+    {
+        &self.file
+    }
+
+    /// Returns the error of the file because of which an append failed, the most recent one.
+    pub fn last_error(&self) -> Option<&io::Error> {
+        self.last_error.as_ref()
+    }
+}
+
+impl<F: JournalFile> Journal for FileJournal<F> {
+    ghost journal = { λ j. j };
+
+    fn append(&mut self, lines: &[u8]) -> Result<(), AppendFault> {
+        if self.is_broken {
+            return Err(AppendFault::Broken);
+        }
+        let Some(len) = self.len.checked_add(lines.len() as u64) else {
+            return Err(AppendFault::Refused);
+        };
+        match put_lines(lines, self.len, self.durability, &mut self.file) {
+            Ok(()) => {
+                self.len = len;
+                Ok(())
+            }
+            Err(failed) => {
+                let is_final = failed.fault.is_final();
+                self.is_broken = is_final;
+                self.last_error = Some(failed.error);
+                Err(failed.fault)
+            }
+        }
+    }
+}

@@ -1,0 +1,25 @@
+ghost use Rattle.mg_journal.specs.JournalFile.{FileState, ReadsAt, WritesSome, Cuts, Syncs, unknown};
+
+use std::io;
+
+/// What a journal needs from its file.
+pub trait JournalFile {
+    /// What is known about the file.
+    ghost file: { Self → FileState } = { λ _. unknown };
+
+    /// Reads bytes at an offset. Returns how many bytes were read, and 0 if the file ends there.
+    fn read(&mut self, at: u64, buffer: &mut [u8]) -> io::Result<usize>
+        ensures value { ReadsAt at buffer.new (file self.old) (file self.new) result };
+
+    /// Writes bytes at the end of the file. Returns how many bytes were written.
+    fn write(&mut self, bytes: &[u8]) -> io::Result<usize>
+        ensures value { WritesSome bytes.now (file self.old) (file self.new) result };
+
+    /// Cuts the file to a length, if it is longer.
+    fn cut(&mut self, len: u64) -> io::Result<()>
+        ensures value { Cuts len (file self.old) (file self.new) result };
+
+    /// Waits until all of the file is on the disk.
+    fn sync(&mut self) -> io::Result<()>
+        ensures value { Syncs (file self.old) (file self.new) result };
+}

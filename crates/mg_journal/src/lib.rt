@@ -1,0 +1,50 @@
+//! Journals: files of lines to which lines are appended, whole or not at all.
+//!
+//! A program that appends a line before it acts on it can repeat its actions after a crash:
+//!
+//! ```rust
+//! let mut opening = open_journal(&rt, "journal.txt")?;
+//! run_script(&mut opening)?;
+//! let mut journal = opening.accept(Durability::Synced)?;
+//! match journal.append(b"tick\n") {
+//!     Ok(()) => run_tick(),
+//!     Err(AppendFault::Refused) => {}
+//!     Err(AppendFault::Broken) => return Err(journal_failed()),
+//! }
+//! ```
+//!
+//! An [`Opening`] is a reader of the file's whole lines. It leaves the file unchanged until the caller accepts them; then
+//! it cuts off a partial last line, which a crash may have left.
+//!
+//! `specs/Text.antt` defines whole lines, and `specs/Journal.antt` what [`Journal::append`] does. A [`FileJournal`] is
+//! proved over what `specs/JournalFile.antt` says about a [`JournalFile`]. A [`MemoryFile`] is proved to meet that. A
+//! [`DiskFile`] claims nothing, because no contract says what the system does with a file.
+#![tactic(auto)]
+
+mod append_fault;
+mod call_counts;
+mod disk_file;
+mod durability;
+mod extent;
+mod failed_append;
+mod fault_effect;
+mod file_call;
+mod file_journal;
+mod injected_fault;
+mod journal;
+mod journal_file;
+mod memory_file;
+mod opening;
+mod writing;
+
+pub use crate::append_fault::AppendFault;
+pub use crate::disk_file::{DiskFile, open_journal};
+pub use crate::durability::Durability;
+pub use crate::fault_effect::FaultEffect;
+pub use crate::file_call::FileCall;
+pub use crate::file_journal::FileJournal;
+pub use crate::injected_fault::InjectedFault;
+pub use crate::journal::Journal;
+pub use crate::journal_file::JournalFile;
+pub use crate::memory_file::MemoryFile;
+pub use crate::opening::Opening;

@@ -1,0 +1,155 @@
+ghost use Rattle.std.specs.Prelude.{◌≡◌, ◌+◌, ◌<◌, ◌≤◌, false, length, IfOk, IfSome, OnOk};
+ghost use Rattle.mg_journal.specs.Text.{whole_lines};
+ghost use Rattle.mg_journal.specs.Opening.{IsSound, left_to_read, text_in};
+ghost use Rattle.mg_journal.specs.aids.Appending.{IsJournal, is_synced};
+ghost use Rattle.mg_journal.specs.aids.Opening.{HasExtent, Measures};
+
+use crate::durability::Durability;
+use crate::extent::Extent;
+use crate::file_journal::FileJournal;
+use crate::journal_file::JournalFile;
+use std::io::{self, ErrorKind, Read};
+use std::marker::Model;
+
+/// The maximum number of bytes that are read from a file at once.
+const CHUNK: usize = 64 * 1024;
+
+/// The file of a journal that is read before lines are appended to it.
+///
+/// Reading gives the whole lines of the file. If the caller accepts them, [`accept`](Opening::accept) cuts off a partial
+/// last line and returns the journal. Until then the file isn't changed.
+#[derive(Drop)]
+pub struct Opening<F: JournalFile> {
+    file: F,
+    extent: Extent,
+    /// How many bytes of the whole lines were read.
+    read: u64,
+}
+
+impl<F: JournalFile> Model for Opening<F> {
+    ghost use Rattle.std.specs.Prelude.{◌≤◌};
+    ghost use Rattle.mg_journal.specs.Opening.{OpeningState, IsSound};
+    ghost use Rattle.mg_journal.specs.aids.Opening.{HasExtent};
+
+    ghost Value = { OpeningState };
+
+    ghost view = { λ o. record { file = F.file o.file; read = o.read } };
+
+    ghost invariant = { λ o. HasExtent (F.file o.file) o.extent × IsSound (F.file o.file) × (o.read ≤ o.extent.whole) };
+}
+
+/// Reads the next bytes of a file and measures them too. Returns `None` if the file ends there.
+fn measure_part<F: JournalFile>(
+    extent: Extent,
+    buffer: &mut [u8],
+    file: &mut F,
+) -> io::Result<Option<Extent>>
+    requires room { 0 < length buffer.old }
+    ensures same { F.file file.new ≡ F.file file.old }
+    ensures value { Measures (F.file file.old) extent result }
+{
+    let n = match file.read(extent.all, buffer) {
+        Ok(0) => return Ok(None),
+        Ok(n) => n,
+        Err(error) if error.kind() == ErrorKind::Interrupted => return Ok(Some(extent)),
+        Err(error) => return Err(error),
+    };
+    match extent.after(&buffer[..n]) {
+        Some(longer) => Ok(Some(longer)),
+        None => Err(io::Error::from(ErrorKind::FileTooLarge)),
+    }
+}
+
+/// Measures a file.
+fn measure<F: JournalFile>(file: &mut F) -> io::Result<Extent>
+    ensures same { F.file file.new ≡ F.file file.old }
+    ensures extent { IfOk result (λ extent. HasExtent (F.file file.old) extent) }
+{
+    let mut buffer = [0; CHUNK];
+    let mut extent = Extent::new();
+    for _ in 0..u64::MAX {
+        match measure_part(extent, &mut buffer, file) {
+            Ok(Some(longer)) => extent = longer,
+            Ok(None) => return Ok(extent),
+            Err(error) => return Err(error),
+        }
+    }
+    Err(io::Error::from(ErrorKind::TimedOut))
+}
+
+/// Cuts off a partial last line.
+fn cut_partial<F: JournalFile>(extent: Extent, file: &mut F) -> io::Result<()>
+    ensures journal { HasExtent (F.file file.old) extent → IsSound (F.file file.old) →
+        OnOk result (IsJournal (F.file file.new) extent.whole false) }
+    ensures text { HasExtent (F.file file.old) extent →
+        OnOk result (text_in (F.file file.new) ≡ text_in (F.file file.old)) }
+{
+    if extent.whole == extent.all {
+        return Ok(());
+    }
+    file.cut(extent.whole)
+}
+
+impl<F: JournalFile> Opening<F> {
+    /// Finds the whole lines of a file. Reads all of the file, and doesn't change it.
+    pub fn new(mut file: F) -> io::Result<Self>
+    where
+        F: Drop,
+        requires sound { IsSound (F.file file) }
+        ensures file { IfOk result (λ o. o.file ≡ F.file file) }
+        ensures start { IfOk result (λ o. o.read ≡ 0) }
+    {
+        match measure(&mut file) {
+            Ok(extent) => Ok(Opening {
+                file,
+                extent,
+                read: 0,
+            }),
+            Err(error) => Err(error),
+        }
+    }
+
+    /// Returns the length of the partial last line, in bytes, which isn't read. It is 0 if the file ends in a line feed.
+    pub fn partial(&self) -> u64
+        ensures value { IfSome self.now.file.bytes (λ bytes. length (whole_lines bytes) + result ≡ length bytes) }
+    {
+        self.extent.all.saturating_sub(self.extent.whole)
+    }
+
+    /// Cuts off a partial last line. Returns the journal, to which lines can be appended.
+    pub fn accept(self, durability: Durability) -> io::Result<FileJournal<F>>
+    where
+        F: Drop,
+        ensures text { IfOk result (λ j. j.text ≡ text_in self.file) }
+        ensures syncs { IfOk result (λ j. j.syncs ≡ is_synced durability) }
+        ensures works { IfOk result (λ j. j.is_broken ≡ false) }
+    {
+        let mut file = self.file;
+        let extent = self.extent;
+        match cut_partial(extent, &mut file) {
+            Ok(()) => Ok(FileJournal::new(file, extent.whole, durability)),
+            Err(error) => Err(error),
+        }
+    }
+}
+
+impl<F: JournalFile> Read for Opening<F> {
+    ghost remaining = { left_to_read };
+
+    fn read(&mut self, buffer: &mut [u8]) -> io::Result<usize> {
+        let left = self.extent.whole - self.read;
+        let most = left.min(buffer.len() as u64) as usize;
+        if most == 0 {
+            return Ok(0);
+        }
+        match self.file.read(self.read, &mut buffer[..most]) {
+            // The file became shorter since it was measured.
+            Ok(0) => Err(io::Error::from(ErrorKind::UnexpectedEof)),
+            Ok(n) => {
+                self.read += n as u64;
+                Ok(n)
+            }
+            Err(error) => Err(error),
+        }
+    }
+}

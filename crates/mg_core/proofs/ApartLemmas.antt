@@ -192,7 +192,7 @@ abbrev OneReading : Type 0
 OneReading = (bytes : List ℕ) (a b : MessageReading) → IsMessageReading bytes a → IsMessageReading bytes b → a ≡ b
 
 -- the same event, whatever it is, keeps agreement
-abbrev SameEventKeepsAgreement : Type 0
+abbrev pub SameEventKeepsAgreement : Type 0
 SameEventKeepsAgreement = (some : List ℕ) (a b x y : World) (event : Event) (s t : List Sent) →
     AgreeOutside some a b → Step a event s x → Step b event t y → AgreeOutside some x y
 

@@ -48,7 +48,7 @@ asked_tally : (b : Bool) (head : List ℕ) (p : List ℕ × World) → (if_asked
 asked_tally true head p = refl
 asked_tally false head p = refl
 
-answer_tally : (source : List ℕ) (reading : MessageReading) (w : World) → (answered source reading w).1.tally ≡ w.tally
+pub answer_tally : (source : List ℕ) (reading : MessageReading) (w : World) → (answered source reading w).1.tally ≡ w.tally
 answer_tally source (Read m) w =
     let p = replied_to source (text_of source m.sender) [] (items_of m.body) w in
     asked_tally (has_requests (items_of m.body)) (answer_head w) p ∙

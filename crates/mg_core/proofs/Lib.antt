@@ -16,7 +16,10 @@ pub mod ConsistentLemmas
 pub mod InterleavingLemmas
 pub mod ApartLemmas
 pub mod CountingLemmas
+pub mod DepthLemmas
+pub mod ReceivedLemmas
 pub mod CounterLemmas
 pub mod RetransmissionLemmas
 pub mod ReadBackLemmas
 pub mod RecordingLemmas
+pub mod SkipLemmas

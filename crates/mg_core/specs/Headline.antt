@@ -1,6 +1,7 @@
 -- The headline theorem: the flows, totals and packets of a gateway after any sequence of events,
 -- and what follows for those who must not be heard.
 use Rattle.std.specs.Prelude.{◌≡◌, ℕ, ◌<◌, ◌^◌, ℤ, Bool, true, false, List, [], ◌∷◌, ◌++◌, Option}
+use Rattle.std.specs.Prelude.{replicate}
 use Rattle.std.specs.List.{list_all}
 use Rattle.mg_rooms.specs.Consistent.{IsConsistent}
 use Rattle.mg_engine.specs.declared.config.Config.{Config}
@@ -9,7 +10,7 @@ use Rattle.mg_engine.specs.declared.datagram.Datagram.{Datagram}
 use Rattle.mg_engine.specs.Flow.{flow}
 use Rattle.mg_engine.specs.Mix.{total_at}
 use Rattle.mg_core.specs.declared.event.Event.{Event}
-use Rattle.mg_core.specs.declared.event.Event.TheVariants.{Control}
+use Rattle.mg_core.specs.declared.event.Event.TheVariants.{Control, Tick}
 use Rattle.mg_core.specs.declared.state.CoreState.{CoreState}
 use Rattle.mg_core.specs.World.{World, StandsFor, packets_of, start_of}
 use Rattle.mg_core.specs.Step.{Sent, Run}
@@ -31,6 +32,12 @@ ExtendsHistory old new event sent =
     (config : Config) (events : List Event) (before : List Sent) (w : World)
     → HasHistory config events before w old
     → (next : World) × HasHistory config (events ++ event ∷ []) (before ++ sent) next new
+
+-- this many ticks passed, whatever happened before, and the datagrams of each are those of a tick
+abbrev pub ExtendsByTicks : CoreState → CoreState → ℕ → Type 0
+ExtendsByTicks old new count = (config : Config) (events : List Event) (before : List Sent)
+    (w : World) → HasHistory config events before w old → (sent : List Sent) × (next : World)
+    × HasHistory config (events ++ replicate count Tick) (before ++ sent) next new
 
 -- After any sequence of events, the flow that is returned equals the one recomputed from the
 -- context, the modes, and all edits of contexts.

@@ -2,6 +2,7 @@ pub mod Peer
 pub mod CoreView
 pub mod World
 pub mod Answer
+pub mod Parsed
 pub mod Step
 pub mod Work
 pub mod Script
@@ -11,6 +12,7 @@ pub mod Recording
 pub mod Headline
 pub mod Interleaving
 pub mod Apart
+pub mod ExceptReceived
 pub mod Counting
 pub mod Retransmissions
 pub mod aids

@@ -1,6 +1,7 @@
 -- A gateway as seen from outside, and which worlds the state of a core represents.
 use Rattle.std.specs.Prelude.{◌≡◌, ℕ, ◌+◌, ◌-◌, ◌^◌, min, List, [], map, replicate, take, drop}
 use Rattle.std.specs.Prelude.{slice_index, slice_set}
+use Rattle.std.specs.Fn.{iterate}
 use Rattle.mg_kept.specs.KeptReplies.{KeptReply}
 use Rattle.mg_playout.specs.declared.placed.Placed.TheVariants as placed
 use Rattle.mg_engine.specs.declared.config.Config.{Config}
@@ -104,6 +105,10 @@ world_after_tick w =
       gateway = after_tick w.gateway;
       tally = with_tick (concealed_in_tick w.gateway) w.tally;
     }
+
+-- the world after this many ticks
+abbrev pub world_after_ticks : ℕ → World → World
+world_after_ticks count w = iterate world_after_tick count w
 
 abbrev pub packets_of : World → List Datagram
 packets_of w = sent_in_tick w.gateway

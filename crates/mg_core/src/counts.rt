@@ -46,8 +46,8 @@ impl Default for Counts {
 }
 
 impl Counts {
-    ghost use Rattle.std.specs.Prelude.{◌≡◌, ◌+◌};
-    ghost use Rattle.mg_core.specs.World.{Tally, counts_of, no_events, with_taken, with_tick};
+    ghost use Rattle.std.specs.Prelude.{◌≡◌, ◌+◌, ℕ};
+    ghost use Rattle.mg_core.specs.World.{Tally, capped, counts_of, no_events, with_taken, with_tick};
 
     /// Returns counters that are all zero.
     pub fn new() -> Counts
@@ -97,6 +97,15 @@ impl Counts {
     {
         self.ticks = self.ticks.saturating_add(1);
         self.concealed = self.concealed.saturating_add(concealed as u64);
+    }
+
+    /// Counts several ticks and the frames concealed in them.
+    pub fn count_ticks(&mut self, count: u64, concealed: u64)
+        ensures counted { (t : Tally) (frames : ℕ) → self.old ≡ counts_of t → concealed ≡ capped frames →
+            self.new ≡ counts_of (record t { ticks = t.ticks + count; concealed = t.concealed + frames }) }
+    {
+        self.ticks = self.ticks.saturating_add(count);
+        self.concealed = self.concealed.saturating_add(concealed);
     }
 }
 

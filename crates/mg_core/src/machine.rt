@@ -14,16 +14,18 @@ ghost use Rattle.mg_text.specs.Message.{IsMessage, items_of};
 ghost use Rattle.mg_text.specs.Proper.{are_proper};
 ghost use Rattle.mg_core.specs.declared.event.Event.TheVariants as events;
 ghost use Rattle.mg_core.specs.Answer.{to_message, refused};
-ghost use Rattle.mg_core.specs.Headline.{HasHistory, ExtendsHistory, FlowIsRecomputed, TotalIsRecomputed, PacketsAreRecomputed};
+ghost use Rattle.mg_core.specs.Parsed.{IsReadingOf};
+ghost use Rattle.mg_core.specs.Headline.{HasHistory, ExtendsHistory, ExtendsByTicks, FlowIsRecomputed, TotalIsRecomputed, PacketsAreRecomputed};
 ghost use Rattle.mg_core.specs.Step.{Step, Packet, answer_to, reported};
 ghost use Rattle.mg_words.specs.Leads.{Leads};
 ghost use Rattle.mg_core.specs.Work.{CausesEdits, edits_by_items};
-ghost use Rattle.mg_core.specs.World.{World, StandsFor, TakesMedia, counts_of, packets_of, start_of, world_after_tick, with_control};
+ghost use Rattle.mg_core.specs.World.{World, StandsFor, TakesMedia, counts_of, packets_of, start_of, world_after_tick, world_after_ticks, with_control};
 
 use crate::answer::Answer;
 use crate::answering::{REPLY_ROOM, has_requests, items_of, put_error, put_replies, refusal_of};
 use crate::counts::Counts;
 use crate::fault::NoMemory;
+use crate::parsed::Parsed;
 use crate::state::CoreState;
 use mg_commands::Kept;
 use mg_engine::{Config, Datagram, Engine, Outbox, Peer, Record, Rooms, StartFault, Stats, Taken};
@@ -112,21 +114,56 @@ impl Core {
         ensures outbox { self.new.outbox ≡ self.old.outbox }
         ensures short { length self.new.answer ≤ ANSWER_LIMIT }
     {
-        let _ = source;
-        self.answer.clear();
-        match read(alloc, bytes) {
-            Ok(message) => {
-                self.state.count_control();
-                Ok(self.reply_to(bytes, &message))
+        match Core::read(alloc, bytes) {
+            Ok(parsed) => Ok(self.run(source, bytes, &parsed)),
+            Err(fault) => {
+                self.answer.clear();
+                Err(fault)
             }
+        }
+    }
+
+    /// Reads a control datagram for [`Core::run`]. It changes no core, and is the only part that allocates.
+    ///
+    /// Fails only if memory runs out. Reading the same datagram later may succeed.
+    pub fn read(alloc: Global, bytes: &[u8]) -> Result<Parsed, NoMemory>
+        ensures reading { IfOk result (λ parsed. IsReadingOf bytes.now parsed) }
+    {
+        match read(alloc, bytes) {
+            Ok(message) => Ok(Parsed::Message(message)),
             Err(fault) => match refusal_of(fault) {
-                Some(number) => {
-                    self.state.count_control();
-                    self.refuse(number);
-                    Ok(Answer::Send)
-                }
+                Some(number) => Ok(Parsed::Refused(number)),
                 None => Err(NoMemory),
             },
+        }
+    }
+
+    /// Runs a control datagram that [`Core::read`] has read; [`Core::answer`] returns its answer.
+    ///
+    /// It allocates nothing and cannot fail, so a datagram may be written to a journal after it is read and before it
+    /// is run.
+    pub fn run(&mut self, source: Peer, bytes: &[u8], parsed: &Parsed) -> Answer
+        requires reading { IsReadingOf bytes.now parsed.now }
+        ensures answered { Leads StandsFor self.old.state self.new.state (λ w next.
+            Step w (events.Control source bytes.now) (answer_to source (reported result self.new.answer)) next) }
+        ensures headline { ExtendsHistory self.old.state self.new.state
+            (events.Control source bytes.now) (answer_to source (reported result self.new.answer)) }
+        ensures work { (w : World) → StandsFor self.old.state w → (edits : ℕ)
+            × CausesEdits bytes.now (with_control w) edits
+            × RisesAtMost (4 * edits) self.old.state.engine.sums.work self.new.state.engine.sums.work }
+        ensures silent { result ≡ Answer.Silent → self.new.answer ≡ [] }
+        ensures outbox { self.new.outbox ≡ self.old.outbox }
+        ensures short { length self.new.answer ≤ ANSWER_LIMIT }
+    {
+        let _ = source;
+        self.answer.clear();
+        self.state.count_control();
+        match parsed {
+            Parsed::Message(message) => self.reply_to(bytes, message),
+            Parsed::Refused(number) => {
+                self.refuse(*number);
+                Answer::Send
+            }
         }
     }
 
@@ -216,7 +253,22 @@ impl Core {
         self.state.count_tick(concealed);
     }
 
-    /// Returns the packets of the last tick, in order of their terminations' numbers.
+    /// Advances by `count` ticks at once, without packets; [`Core::outbox`] is then empty.
+    ///
+    /// The world is then as after `count` calls of [`Core::tick`]. No rows are mixed for packets. Once no frame is left to
+    /// play, the remaining ticks are one step.
+    pub fn skip(&mut self, count: u64)
+        ensures next { (w : World) → StandsFor self.old.state w → StandsFor self.new.state (world_after_ticks count w) }
+        ensures headline { ExtendsByTicks self.old.state self.new.state count }
+        ensures answer { self.new.answer ≡ self.old.answer }
+        ensures outbox { self.new.outbox ≡ [] }
+    {
+        let concealed = self.state.engine.skip(count);
+        self.state.count_ticks(count, concealed);
+        self.outbox.clear();
+    }
+
+    /// Returns the packets of the last tick, in order of their terminations' numbers. There are none after a skip.
     pub fn outbox(&self) -> &[Datagram]
         ensures value { result.now ≡ self.now.outbox }
         ensures few { length result.now ≤ TERMINATIONS }

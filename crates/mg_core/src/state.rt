@@ -1,5 +1,5 @@
-ghost use Rattle.std.specs.Prelude.{◌≡◌, ◌+◌};
-ghost use Rattle.mg_core.specs.World.{World, StandsFor, with_control, with_taken, with_tick};
+ghost use Rattle.std.specs.Prelude.{◌≡◌, ◌+◌, ℕ};
+ghost use Rattle.mg_core.specs.World.{World, StandsFor, capped, with_control, with_taken, with_tick};
 
 use crate::counts::Counts;
 use mg_commands::Kept;
@@ -42,5 +42,17 @@ impl CoreState {
             StandsFor self.new (record w { tally = with_tick concealed w.tally }) }
     {
         self.counts.count_tick(concealed);
+    }
+
+    /// Counts several ticks and the frames concealed in them.
+    pub fn count_ticks(&mut self, count: u64, concealed: u64)
+        ensures engine { self.new.engine ≡ self.old.engine }
+        ensures kept { self.new.kept ≡ self.old.kept }
+        ensures counted { (w : World) (frames : ℕ) → StandsFor self.old w → concealed ≡ capped frames →
+            StandsFor self.new (record w {
+              tally = record w.tally { ticks = w.tally.ticks + count; concealed = w.tally.concealed + frames };
+            }) }
+    {
+        self.counts.count_ticks(count, concealed);
     }
 }

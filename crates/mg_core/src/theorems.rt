@@ -5,9 +5,11 @@ ghost use Rattle.mg_core.specs.declared.event.Event.{Event};
 ghost use Rattle.mg_commands.specs.Theorems.{RefusedNamesChangeNothing, RefusedCommandsChangeNothing, RefusedActionsChangeNothing, RefusedTopologiesChangeNothing, OthersAreTried, RefusedRequestsChangeNothing};
 ghost use Rattle.mg_core.specs.Apart.{UnheardChangesNothing, UnheardInHistories, UnheardInScripts};
 ghost use Rattle.mg_core.specs.Counting.{EventsAreCounted};
+ghost use Rattle.mg_core.specs.ExceptReceived.{RtpChangesSpeechOnly, RtpChangesSpeechOnlyInHistories};
 ghost use Rattle.mg_core.specs.Headline.{EventsDetermineOutcome, GatewayDeterminesFuture, WorldsAreConsistent};
 ghost use Rattle.mg_engine.specs.Isolation.{NoneHearsItself, OwnSpeechChangesNoPacket, IsolatedAreNotHeard, UnheardChangesNoPacket, PayloadsAreMixes};
 ghost use Rattle.mg_core.specs.Interleaving.{PortOrderIsIrrelevant, PortOrderInHistories, PortOrderInScripts};
+ghost use Rattle.mg_core.specs.Parsed.{ReadingsAreUnique};
 ghost use Rattle.mg_core.specs.Recording.{RecordingsAreRead, CutRecordingsAreRead};
 ghost use Rattle.mg_core.specs.Retransmissions.{KeptRepliesAreSent, RetransmissionsAreAnsweredAlike, OthersAreRun, RepliesPersist, NewReplyIsNewest, AcknowledgedAreDropped, EvictedAreDropped, DroppedRequestsAreRerun, RepliesAreKept};
 ghost use Rattle.mg_core.specs.Flows.{OnlyChangesAreReported, ReportDeterminesOutcome};
@@ -16,6 +18,14 @@ ghost use Rattle.mg_core.specs.Step.{Sent, Step, Run};
 ghost use Rattle.mg_core.specs.World.{World};
 
 use crate::event::Event;
+
+/// A control datagram has at most one reading. So [`Core::run`](crate::Core::run) requires exactly what
+/// [`Core::read`](crate::Core::read) returns.
+pub fn readings_are_unique()
+    ensures theorem { ReadingsAreUnique }
+{
+    mg_text::theorems::one_reading(b"");
+}
 
 /// Every event has an outcome in every world: the datagrams that are sent, and the next world.
 pub fn each_event_has_an_outcome(event: &Event)
@@ -119,6 +129,22 @@ pub fn unheard_changes_nothing()
     mg_engine::theorems::agreement_lasts();
     mg_engine::theorems::packets_depend_on_heard();
     mg_commands::theorems::requests_keep_agreement();
+}
+
+/// RTP datagrams change only speech.
+///
+/// Suppose two gateways receive the same control datagrams and ticks, but only one of them receives RTP datagrams. Then
+/// both have the same terminations, contexts and topology, and keep replies to the same requests. They differ only in
+/// play lists, current frames, and counters of received packets; and their play lists have the same depths.
+pub fn rtp_changes_speech_only()
+    ensures worlds { RtpChangesSpeechOnly }
+    ensures histories { RtpChangesSpeechOnlyInHistories }
+{
+    mg_text::theorems::one_reading(b"");
+    mg_engine::theorems::agreement_lasts();
+    mg_engine::theorems::worlds_are_consistent();
+    mg_commands::theorems::requests_keep_agreement();
+    mg_commands::theorems::requests_are_consistent();
 }
 
 /// The lines that report an event's changes determine the event's outcome. If nothing changed, there are no such lines.

@@ -20,6 +20,7 @@ pub mod OutboxLemmas
 pub mod FlowLemmas
 pub mod SentLemmas
 pub mod TickLemmas
+pub mod SkipLemmas
 pub mod ConcealLemmas
 pub mod TotalLemmas
 pub mod EditLemmas

@@ -33,7 +33,7 @@ with_frames k kept frames = record k { media = kept; sums = frames }
 
 -- ## The frames are played
 
-played_is : (config : Config) (m : media.SlotMedia) (row : List ℤ) (s : TerminationMedia) → IsMediaOf config m row s →
+pub played_is : (config : Config) (m : media.SlotMedia) (row : List ℤ) (s : TerminationMedia) → IsMediaOf config m row s →
     IsMediaOf config (media_steps.slot_played m) (media_steps.frame_played m) (played s)
 played_is config m row s h = record {
   play = ap (λ (p : PlayList). (play_lists.ticked p).0) h.play;
@@ -44,7 +44,7 @@ played_is config m row s h = record {
   is_sending = h.is_sending;
 }
 
-from_mapped : (f : TerminationMedia → TerminationMedia) (P : TerminationMedia → Type 0) (o : Option TerminationMedia)
+pub from_mapped : (f : TerminationMedia → TerminationMedia) (P : TerminationMedia → Type 0) (o : Option TerminationMedia)
     (s : TerminationMedia) → option_map f o ≡ Some s → ((t : TerminationMedia) → o ≡ Some t → P (f t)) → P s
 from_mapped f P (Some t) s e h = subst P (same_Some (f t) s e) (h t refl)
 from_mapped f P None s e h = absurd (cc e)
@@ -72,7 +72,7 @@ played_stands k w new kept all h = record {
 
 -- ## Packets are sent
 
-ended_is : (config : Config) (b : Bool) (m : media.SlotMedia) (row : List ℤ) (s : TerminationMedia) →
+pub ended_is : (config : Config) (b : Bool) (m : media.SlotMedia) (row : List ℤ) (s : TerminationMedia) →
     IsMediaOf config m row s → IsMediaOf config (media_steps.slot_ended b m) row (sent b s)
 ended_is config true m row s h = record {
   play = h.play;
@@ -91,7 +91,7 @@ ended_is config false m row s h = record {
   is_sending = refl;
 }
 
-sent_number : (b : Bool) (s : TerminationMedia) → (sent b s).number ≡ s.number
+pub sent_number : (b : Bool) (s : TerminationMedia) → (sent b s).number ≡ s.number
 sent_number true s = refl
 sent_number false s = refl
 
@@ -99,7 +99,7 @@ abbrev sent_at : rooms.Registry → TerminationMedia → TerminationMedia
 sent_at w s = sent (sends_at w s.number) s
 
 -- whether a termination sends, by its slot and by its number
-same_sender : (w : rooms.Registry) (n : ℕ) (r : Record) → record_at w n ≡ Some r → holder_of w r.slot ≡ Some r →
+pub same_sender : (w : rooms.Registry) (n : ℕ) (r : Record) → record_at w n ≡ Some r → holder_of w r.slot ≡ Some r →
     slot_sends w r.slot ≡ sends_at w n
 same_sender w n r by_number by_slot = ap has_destination (by_slot ∙ sym by_number)
 
@@ -114,7 +114,7 @@ found_number : (n : ℕ) (ss : List TerminationMedia) (s : TerminationMedia) →
     s.number ≡ n
 found_number n ss s e = found_key (λ x. x.number) n ss s e
 
-numbers_kept : (w : rooms.Registry) (ss : List TerminationMedia) →
+pub numbers_kept : (w : rooms.Registry) (ss : List TerminationMedia) →
     map (λ s. (sent_at w s).number) ss ≡ map (λ s. s.number) ss
 numbers_kept w [] = refl
 numbers_kept w (s ∷ ss) = ap (λ (n : ℕ). n ∷ map (λ s. (sent_at w s).number) ss) (sent_number (sends_at w s.number) s)

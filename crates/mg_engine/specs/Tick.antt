@@ -1,7 +1,9 @@
 -- What a tick of 20 ms does, and the packets that it sends (RFC 3550, section 5.1; RFC 3551,
 -- sections 4.1 and 6).
-use Rattle.std.specs.Prelude.{ℕ, ◌+◌, ◌-◌, ◌*◌, ◌%◌, ◌^◌, Bool, true, false, not, List, ◌++◌, map}
+use Rattle.std.specs.Prelude.{ℕ, zero, suc, ◌+◌, ◌-◌, ◌*◌, ◌%◌, ◌^◌, Bool, true, false, not, List}
+use Rattle.std.specs.Prelude.{◌++◌, map}
 use Rattle.std.specs.Prelude.{count_by, filter_map, Option, None, is_some, if◌then◌else◌}
+use Rattle.std.specs.Fn.{iterate}
 use Rattle.std.specs.Option.{option_map, option_map_or}
 use Rattle.mg_words.specs.OptionSteps.{◌>>=◌}
 use Rattle.mg_g711.specs.declared.law.Law.{Law}
@@ -108,3 +110,14 @@ after_tick w = all_ended (all_played w)
 
 abbrev pub sent_in_tick : Gateway → List Datagram
 sent_in_tick w = packets (all_played w)
+
+-- ## Ticks, one after another
+
+abbrev pub after_ticks : ℕ → Gateway → Gateway
+after_ticks count w = iterate after_tick count w
+
+-- how many frames they conceal
+abbrev pub concealed_in_ticks : ℕ → Gateway → ℕ
+concealed_in_ticks zero w = 0
+concealed_in_ticks (suc count) w =
+    concealed_in_tick w + concealed_in_ticks count (after_tick w)

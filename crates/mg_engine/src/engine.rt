@@ -1,4 +1,4 @@
-ghost use Rattle.std.specs.Prelude.{All, ◌≡◌, ◌≢◌, ℕ, List, [], ◌∷◌, ◌<◌, ◌≤◌, ◌+◌, ◌++◌, ◌↔◌, ◌==◌, not, Err, Some, IfOk, IfSome, IsSome, OnOk, OnErr, MatchResult, Ok, EachIndex, length, map, filter, replicate, slice_set, option_map, option_to_list, slice_index_or, IsTrue, false, None, ◌*◌, sum_by, count_by};
+ghost use Rattle.std.specs.Prelude.{All, ◌≡◌, ◌≢◌, ℕ, List, [], ◌∷◌, ◌<◌, ◌≤◌, ◌+◌, ◌++◌, ◌↔◌, ◌==◌, not, Err, Some, IfOk, IfSome, IsSome, OnOk, OnErr, MatchResult, Ok, EachIndex, length, map, filter, replicate, slice_set, option_map, option_to_list, slice_index_or, IsTrue, false, None, ◌*◌, sum_by, count_by, min, ◌-◌, ◌^◌};
 ghost use Rattle.mg_rooms.specs.declared.record.Record.{Record};
 ghost use Rattle.mg_words.specs.declared.limits.TheConstants.{TERMINATIONS};
 ghost use Rattle.std.specs.List.{range_with_len, slice_get};
@@ -11,7 +11,7 @@ ghost use Rattle.mg_engine.specs.Outcome.{outcome, add, modify, move_to, subtrac
 ghost use Rattle.mg_engine.specs.aids.Triples.{IsRoomOf};
 ghost use Rattle.mg_rooms.specs.Consistent.{IsConsistent};
 ghost use Rattle.mg_rooms.specs.aids.Sound.{IsSound};
-ghost use Rattle.mg_engine.specs.aids.Playing.{AreApart, HaveTicked, IsPlayed};
+ghost use Rattle.mg_engine.specs.aids.Playing.{AreApart, HaveTicked, IsIdleEngine, IsPlayed};
 ghost use Rattle.mg_engine.specs.aids.Sending.{heard_now, mixed_now, silenced_now, mix_work_now, sending_work_now, packet_now, packets_now, slot_sends, with_mixes, IsEnded, PlacedAt};
 ghost use Rattle.mg_engine.specs.aids.Shares.{AreShared, IsPut, payload_of};
 ghost use Rattle.mg_engine.specs.Masks.{RepresentsFlows};
@@ -19,7 +19,7 @@ ghost use Rattle.mg_engine.specs.Totals.{RepresentsTotals};
 ghost use Rattle.mg_engine.specs.Work.{RisesAtMost, sending_work, tick_work};
 ghost use Rattle.mg_engine.specs.declared.datagram.Datagram.{Datagram};
 ghost use Rattle.mg_engine.specs.Place.{IsOnPlace, IsOnSeat};
-ghost use Rattle.mg_engine.specs.Tick.{sends, sent_to, packets, all_played, all_ended, sent_in_tick, after_tick, conceals, concealed_in_tick};
+ghost use Rattle.mg_engine.specs.Tick.{sends, sent_to, packets, all_played, all_ended, sent_in_tick, after_tick, after_ticks, conceals, concealed_in_tick, concealed_in_ticks};
 ghost use Rattle.mg_g711.specs.Law.{byte_of};
 ghost use Rattle.mg_words.specs.Mode.{listens};
 ghost use Rattle.mg_flow.specs.Table as table;
@@ -49,9 +49,10 @@ use crate::mixing::{own_row, rows_on};
 use crate::ports::PortPool;
 use crate::seated_member::{SeatedMember, seated_members};
 use crate::seating::Seating;
-use crate::sending::{is_loopback, payload_type, sent_to};
+use crate::sending::{is_loopback, payload_type, sends_in, sent_to};
 use crate::share::Share;
 use crate::shares::Shares;
+use crate::skipping::{are_idle, pass_slots};
 use crate::taken::{DropCause, Taken};
 use crate::topology_triple::TopologyTriples;
 use crate::triples::{TopologyRoom, triples_of};
@@ -527,6 +528,46 @@ impl Engine {
         concealed
     }
 
+    /// Advances by `count` ticks at once, without packets. Returns how many frames conceal a missing one, at most
+    /// `u64::MAX`.
+    ///
+    /// The gateway is then as after `count` calls of [`Engine::tick`]. Ticks are played one by one until all play lists
+    /// are idle; the rest is one step. No rows are mixed for packets.
+    pub fn skip(&mut self, count: u64) -> u64
+        ensures concealed { (w : Gateway) → StandsFor self.old w →
+            result ≡ min (concealed_in_ticks count w) (2 ^ 64 - 1) }
+        ensures after { (w : Gateway) → StandsFor self.old w → StandsFor self.new (after_ticks count w) }
+    {
+        skip(self, count)
+    }
+
+    /// Advances by 20 ms as [`Engine::tick`] does, but without packets. Returns how many frames conceal a missing one.
+    fn tick_without_packets(&mut self) -> usize
+        ensures concealed { (w : Gateway) → StandsFor self.old w → result ≡ concealed_in_tick w }
+        ensures after { (w : Gateway) → StandsFor self.old w → StandsFor self.new (after_tick w) }
+    {
+        let concealed = self.play_all();
+        self.end_all();
+        concealed
+    }
+
+    /// Returns whether all play lists are idle and all frames silent.
+    fn is_idle(&self) -> bool
+        ensures value { IsTrue result → IsIdleEngine self.now }
+    {
+        are_idle(self.held.as_slice(), self.media.as_slice(), &self.sums)
+    }
+
+    /// Advances by several ticks in one step. All play lists must be idle.
+    fn pass(&mut self, count: u64)
+        requires idle { IsIdleEngine self.old }
+        requires some { 0 < count }
+        ensures none { (w : Gateway) → StandsFor self.old w → concealed_in_ticks count w ≡ 0 }
+        ensures after { (w : Gateway) → StandsFor self.old w → StandsFor self.new (after_ticks count w) }
+    {
+        pass_slots(&self.rooms, self.held.as_slice(), &mut self.media, count);
+    }
+
     /// Advances all play lists. Returns how many frames conceal a missing one.
     fn play_all(&mut self) -> usize
         ensures concealed { (w : Gateway) → StandsFor self.old w → result ≡ concealed_in_tick w }
@@ -704,6 +745,22 @@ fn fill(engine: &mut Engine, count: usize, outbox: &mut Outbox)
     }
 }
 
+/// Advances an engine by `count` ticks without packets. Returns how many frames conceal a missing one.
+fn skip(engine: &mut Engine, count: u64) -> u64
+    ensures concealed { (w : Gateway) → StandsFor engine.old w → result ≡ min (concealed_in_ticks count w) (2 ^ 64 - 1) }
+    ensures after { (w : Gateway) → StandsFor engine.old w → StandsFor engine.new (after_ticks count w) }
+{
+    let mut concealed: u64 = 0;
+    for done in 0..count {
+        if engine.is_idle() {
+            engine.pass(count - done);
+            return concealed;
+        }
+        concealed = concealed.saturating_add(engine.tick_without_packets() as u64);
+    }
+    concealed
+}
+
 /// Advances the play list of a slot, and stores its frame in the slot's row.
 ///
 /// Returns whether the frame conceals a missing one.
@@ -743,16 +800,6 @@ fn play_slots(held: &[u8], media: &mut Vec<HeldMedia>, sums: &mut Sums) -> usize
         concealed += usize::from(play(media, sums, *slot));
     }
     concealed
-}
-
-/// Returns whether the termination in a slot sends.
-fn sends_in(rooms: &Rooms, slot: u8) -> bool
-    ensures value { result ≡ slot_sends rooms.now slot }
-{
-    match rooms.held(slot) {
-        Some(record) => sent_to(&record).is_some(),
-        None => false,
-    }
 }
 
 /// Ends a tick for the termination in a slot. If it sends, its packet is already in the outbox.

@@ -37,7 +37,8 @@ impl Model for HeldMedia {
 
 impl HeldMedia {
     ghost use Rattle.mg_engine.specs.Media.{idle};
-    ghost use Rattle.mg_engine.specs.aids.MediaSteps.{initial_media_at, slot_tuned, slot_placed, slot_played, frame_played, is_concealing, header, slot_ended};
+    ghost use Rattle.mg_engine.specs.aids.MediaSteps.{initial_media_at, slot_tuned, slot_placed, slot_played, frame_played, is_concealing, header, slot_ended, slot_passed};
+    ghost use Rattle.mg_playout.specs.Playout.{is_idle};
     ghost use Rattle.mg_playout.specs.Played.{is_concealed, sound_of};
     ghost use Rattle.mg_sums.specs.Samples.{frame_or_silence};
 
@@ -129,6 +130,29 @@ impl HeldMedia {
             self.stats.ps = self.stats.ps.saturating_add(1);
             self.stats.os = self.stats.os.saturating_add(PAYLOAD_LEN as u64);
             self.sequence = self.sequence.wrapping_add(1);
+        }
+        self.is_sending = is_sent;
+    }
+
+    /// Returns whether the play list is idle: ticks then play silence until a frame starts it.
+    pub fn is_idle(&self) -> bool
+        ensures value { result ≡ is_idle self.now.play.phase }
+    {
+        self.play.is_idle()
+    }
+
+    /// Counts several ticks, given whether a packet was sent in each. The play list is unchanged.
+    pub fn pass(&mut self, count: u64, is_sent: bool)
+        ensures value { self.new ≡ slot_passed is_sent count self.old }
+    {
+        let ticks = (count % (1 << 32)) as u32;
+        let samples = ticks.wrapping_mul(SAMPLES as u32);
+        self.timestamp = self.timestamp.wrapping_add(samples);
+        if is_sent {
+            let octets = count.saturating_mul(PAYLOAD_LEN as u64);
+            self.stats.ps = self.stats.ps.saturating_add(count);
+            self.stats.os = self.stats.os.saturating_add(octets);
+            self.sequence = self.sequence.wrapping_add((count % (1 << 16)) as u16);
         }
         self.is_sending = is_sent;
     }

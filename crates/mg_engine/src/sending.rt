@@ -3,9 +3,10 @@
 ghost use Rattle.std.specs.Prelude.{◌≡◌, ◌<◌};
 ghost use Rattle.mg_engine.specs.Mix.{is_loopback};
 ghost use Rattle.mg_engine.specs.Tick.{sends, sent_to, type_of};
+ghost use Rattle.mg_engine.specs.aids.Sending.{slot_sends};
 
 use mg_g711::Law;
-use mg_rooms::{Mode, Record};
+use mg_rooms::{Mode, Record, Rooms};
 use mg_sdp::Chosen;
 
 /// Returns whether a termination in this mode sends to its peer.
@@ -33,6 +34,16 @@ pub fn sent_to(sender: &Record) -> Option<Chosen>
         sender.remote
     } else {
         None
+    }
+}
+
+/// Returns whether the termination in a slot sends.
+pub fn sends_in(rooms: &Rooms, slot: u8) -> bool
+    ensures value { result ≡ slot_sends rooms.now slot }
+{
+    match rooms.held(slot) {
+        Some(record) => sent_to(&record).is_some(),
+        None => false,
     }
 }
 

@@ -37,7 +37,7 @@ impl Model for Playout {
 }
 
 impl Playout {
-    ghost use Rattle.mg_playout.specs.Playout.{first_list, placed, ticked, with_depth, started, shifted};
+    ghost use Rattle.mg_playout.specs.Playout.{first_list, is_idle, placed, ticked, with_depth, started, shifted};
     ghost use Rattle.mg_playout.specs.aids.Turns.{turn_of, turn_at};
     ghost use Rattle.mg_playout.specs.Places.{frame_at};
     ghost use Rattle.mg_playout.specs.Played.{given, is_concealed, sound_of};
@@ -110,6 +110,13 @@ impl Playout {
         ensures value { result ≡ is_concealed ((ticked self.now).1) }
     {
         self.phase == Phase::Run && !self.places.is_empty() && self.places.conceals()
+    }
+
+    /// Returns whether the list is idle. An idle list plays silence and stays idle until a frame starts it.
+    pub fn is_idle(&self) -> bool
+        ensures value { result ≡ is_idle self.now.phase }
+    {
+        self.phase == Phase::Idle
     }
 
     /// Sets the depth, in places of 20 ms. Frames at places that no longer exist are dropped.

@@ -48,16 +48,21 @@ const REMOTES: [&[u8]; 4] = [
     b"v=0\nc=IN IP4 127.0.0.1\nm=audio 40006 RTP/AVP 0\n",
 ];
 
-/// Returns a packet of 160 equal bytes in mu-law, from one source.
-fn packet(byte: u8) -> [u8; 172] {
+/// Returns a packet of 160 equal bytes in mu-law, from one source, with this sequence number.
+fn numbered_packet(sequence: u16, byte: u8) -> [u8; 172] {
     let header = Header {
         marker: false,
         payload_type: 0,
-        sequence: 1,
+        sequence,
         timestamp: 0,
         ssrc: 99,
     };
     write(header, &[byte; 160])
+}
+
+/// Returns the first packet of 160 equal bytes in mu-law, from one source.
+fn packet(byte: u8) -> [u8; 172] {
+    numbered_packet(1, byte)
 }
 
 /// Adds a caller to a context.
@@ -285,7 +290,7 @@ fn leads_one_way(rt: HostRuntime) -> Result<(), Fail> {
     lead_one_way(&rt, rt.alloc(), &mut engine)
 }
 
-/// Adds a termination for each of these modes to one new conference. All terminations have the same Remote.
+/// Adds one termination per mode to a new conference. They all have the same Remote.
 fn add_crowd(engine: &mut Engine, modes: &[Mode]) -> Result<(), Fail> {
     let mut target = Target::New;
     for mode in modes {
@@ -295,7 +300,7 @@ fn add_crowd(engine: &mut Engine, modes: &[Mode]) -> Result<(), Fail> {
     Ok(())
 }
 
-/// Starts an engine with a conference that has a termination for each of these modes.
+/// Starts an engine with one conference, which has one termination per mode.
 fn crowd(alloc: Global, modes: &[Mode]) -> Result<Engine, Fail> {
     let mut engine = Engine::new(alloc, Config::default()).map_err(|_| "sound")?;
     add_crowd(&mut engine, modes)?;
@@ -446,4 +451,119 @@ fn share_a_payload(
 fn listeners_who_hear_the_same_share_a_payload(rt: HostRuntime) -> Result<(), Fail> {
     let mut engine = crowd(rt.alloc(), &lecture())?;
     share_a_payload(&rt, rt.alloc(), &mut engine, &mut Outbox::new())
+}
+
+const EACH_MODE: [Mode; 5] = [
+    Mode::SendReceive,
+    Mode::SendOnly,
+    Mode::ReceiveOnly,
+    Mode::Inactive,
+    Mode::Loopback,
+];
+
+/// Starts an engine with a termination in each mode. The numbers of packets are about to wrap.
+fn engine_about_to_wrap(alloc: Global) -> Result<Engine, Fail> {
+    let config = Config {
+        sequence: 65530,
+        timestamp: 4294966000,
+        ..Config::default()
+    };
+    let mut engine = Engine::new(alloc, config).map_err(|_| "sound")?;
+    add_crowd(&mut engine, &EACH_MODE)?;
+    Ok(engine)
+}
+
+/// Starts an engine whose first and last termination have frames to play. The first lacks its third frame.
+fn engine_with_frames(alloc: Global) -> Result<Engine, Fail> {
+    let mut engine = engine_about_to_wrap(alloc)?;
+    for sequence in [1, 2, 4] {
+        engine.media(30000, CALLER, &numbered_packet(sequence, 0x80));
+    }
+    engine.media(30008, CALLER, &packet(0x00));
+    Ok(engine)
+}
+
+/// Runs this many ticks. Returns how many frames were concealed.
+fn tick_each(engine: &mut Engine, count: u64) -> u64 {
+    let mut outbox = Outbox::new();
+    let mut concealed: u64 = 0;
+    for _ in 0..count {
+        concealed = concealed.saturating_add(engine.tick(&mut outbox) as u64);
+    }
+    concealed
+}
+
+/// Returns whether two engines have the same counters, and send the same packets in each of the next ticks.
+fn go_on_alike(one: &mut Engine, other: &mut Engine) -> bool {
+    let mut sent = Outbox::new();
+    let mut wanted = Outbox::new();
+    for _ in 0..4 {
+        one.tick(&mut sent);
+        other.tick(&mut wanted);
+        if sent.as_slice() != wanted.as_slice() {
+            return false;
+        }
+    }
+    [1, 2, 3, 4, 5]
+        .iter()
+        .all(|number| one.stats(*number) == other.stats(*number))
+}
+
+/// From now on, each termination sends.
+fn let_all_send(engine: &mut Engine) -> Result<(), Fail> {
+    set_mode(engine, 3, Mode::SendReceive)?;
+    set_mode(engine, 4, Mode::SendReceive)
+}
+
+/// A skip of some ticks leaves what the ticks leave.
+fn skip_and_tick(rt: &impl Abort, alloc: Global, count: u64) -> Result<(), Fail> {
+    let mut skipped = engine_with_frames(alloc)?;
+    let mut ticked = engine_with_frames(alloc)?;
+    let concealed = skipped.skip(count);
+    assert_eq!(rt; concealed, tick_each(&mut ticked, count));
+    assert_eq!(rt; concealed, u64::from(count > 4));
+    let_all_send(&mut skipped)?;
+    let_all_send(&mut ticked)?;
+    assert!(rt; go_on_alike(&mut skipped, &mut ticked));
+    Ok(())
+}
+
+#[test]
+fn a_skip_leaves_what_ticks_leave(rt: HostRuntime) -> Result<(), Fail> {
+    for count in [0, 1, 2, 3, 4, 5, 6, 7, 8, 300] {
+        skip_and_tick(&rt, rt.alloc(), count)?;
+    }
+    Ok(())
+}
+
+/// Returns the first bytes of the first packet of the next tick: its flags, sequence number and timestamp.
+fn next_numbers(engine: &mut Engine) -> Option<[u8; 8]> {
+    let mut outbox = Outbox::new();
+    engine.tick(&mut outbox);
+    outbox.first()?.bytes.first_chunk().copied()
+}
+
+/// Returns the numbers of packets and octets that a termination has sent.
+fn sent_by(engine: &Engine, number: u32) -> Option<(u64, u64)> {
+    let stats = engine.stats(number)?;
+    Some((stats.ps, stats.os))
+}
+
+/// 2^32 ticks take the numbers of packets back to where they were. Counters stop at their maximum.
+fn skip_for_years(rt: &impl Abort, engine: &mut Engine) {
+    let at_first = [128, 0, 255, 250, 255, 255, 250, 240];
+    engine.skip(1 << 32);
+    assert_eq!(rt; sent_by(engine, 1), Some((1 << 32, 160 << 32)));
+    assert_eq!(rt; next_numbers(engine), Some(at_first));
+    engine.skip(u64::MAX);
+    assert_eq!(rt; sent_by(engine, 1), Some((u64::MAX, u64::MAX)));
+    assert_eq!(rt; sent_by(engine, 3), Some((0, 0)));
+    assert_eq!(rt; next_numbers(engine), Some(at_first));
+}
+
+#[test]
+fn skips_for_years(rt: HostRuntime) -> Result<(), Fail> {
+    let mut engine = engine_with_frames(rt.alloc())?;
+    skip_for_years(&rt, &mut engine);
+    Ok(())
 }

@@ -1,11 +1,14 @@
 //! The core as a state machine: what no script can show.
 
+ghost use Rattle.mg_core.specs.Parsed.{IsReadingOf};
+
 use crate::failing_reader::FailingReader;
 use crate::failing_writer::FailingWriter;
 use crate::scripts::run_script;
 use mg_core::{
-    Answer, Config, Core, Counts, NoMemory, Peer, RunFault, Shown, StartFault, TERMINATIONS,
+    Answer, Config, Core, Counts, NoMemory, Parsed, Peer, RunFault, Shown, StartFault, TERMINATIONS,
 };
+use mg_words::ErrorNumber;
 use std::alloc::Global;
 use std::io::Cursor;
 use std::process::Abort;
@@ -82,6 +85,70 @@ fn answers_messages(rt: HostRuntime) -> Result<(), Fail> {
     };
     let mut core = Core::new(rt.alloc(), one_slot)?;
     answer_in_turn(&rt, rt.alloc(), &mut core)
+}
+
+/// Returns whether a core answers a datagram that was read before with this text.
+fn runs(core: &mut Core, bytes: &[u8], parsed: &Parsed, text: &[u8]) -> bool
+    requires reading { IsReadingOf bytes.now parsed.now }
+{
+    core.run(CONTROLLER, bytes, parsed) == Answer::Send && core.answer() == text
+}
+
+/// A datagram is run when it is passed to `run`, in the world of that time, and not when it is read.
+#[test]
+fn runs_what_was_read(rt: HostRuntime) -> Result<(), Fail> {
+    let one_slot = Config {
+        slots: 1,
+        ..Config::default()
+    };
+    let mut core = Core::new(rt.alloc(), one_slot)?;
+    let full = Core::read(rt.alloc(), FULL)?;
+    let add = Core::read(rt.alloc(), ADD)?;
+    assert!(rt; runs(&mut core, ADD, &add, ADDED));
+    assert!(rt; runs(&mut core, FULL, &full, FULL_REPLY));
+    assert!(rt; runs(&mut core, ADD, &add, ADDED));
+    assert!(rt; has_one(&core));
+    assert_eq!(rt; core.counts().control, 3);
+    Ok(())
+}
+
+/// Returns the error with which a datagram is rejected, if it is.
+fn refusal(alloc: Global, bytes: &[u8]) -> Result<Option<ErrorNumber>, NoMemory> {
+    Ok(match Core::read(alloc, bytes)? {
+        Parsed::Message(_) => None,
+        Parsed::Refused(number) => Some(number),
+    })
+}
+
+#[test]
+fn reads_messages_and_refusals(rt: HostRuntime) -> Result<(), Fail> {
+    for (bytes, number) in [
+        (HEARTBEAT, None),
+        (b"MEGACO/1 mg K{7}".as_slice(), None),
+        (b"MEGACO/1 mg K{7", Some(ErrorNumber::Syntax)),
+        (b"MEGACO/2 mg K{7}", Some(ErrorNumber::Version)),
+        ([b' '; 8193].as_slice(), Some(ErrorNumber::NotServed)),
+    ] {
+        assert_eq!(rt; refusal(rt.alloc(), bytes)?, number);
+    }
+    Ok(())
+}
+
+/// A datagram that is not a message is answered with its error, and counted.
+#[test]
+fn runs_a_refusal(rt: HostRuntime) -> Result<(), Fail> {
+    let mut core = Core::new(rt.alloc(), Config::default())?;
+    let parsed = Core::read(rt.alloc(), b"MEGACO/1 mg K{7")?;
+    assert!(rt;
+        runs(
+            &mut core,
+            b"MEGACO/1 mg K{7",
+            &parsed,
+            b"MEGACO/1 [127.0.0.1]:2944\nError=400{\"syntax\"}"
+        )
+    );
+    assert_eq!(rt; core.counts().control, 1);
+    Ok(())
 }
 
 /// Returns why a gateway does not start with a configuration.
@@ -505,4 +572,21 @@ fn numbers_of_packets_wrap(rt: HostRuntime) -> Result<(), Fail> {
     let second = [128, 0, 0, 0, 0, 0, 0, 64, 0, 0, 0, 0];
     assert_eq!(rt; first_headers(rt.alloc(), config)?, Some((first, second)));
     Ok(())
+}
+
+/// A skip counts its ticks and makes no packets. The last answer stays.
+fn skip_in_a_core(rt: &impl Abort, alloc: Global, core: &mut Core) -> Result<(), Fail> {
+    assert!(rt; hand(alloc, core, CALLER)? == Answer::Send && sent_header(core).is_some());
+    core.skip(1_000_000_000_000);
+    assert!(rt; core.outbox().is_empty() && !core.answer().is_empty());
+    assert_eq!(rt; core.counts().ticks, 1_000_000_000_001);
+    core.skip(u64::MAX);
+    assert_eq!(rt; core.counts().ticks, u64::MAX);
+    Ok(())
+}
+
+#[test]
+fn a_skip_counts_ticks(rt: HostRuntime) -> Result<(), Fail> {
+    let mut core = Core::new(rt.alloc(), Config::default())?;
+    skip_in_a_core(&rt, rt.alloc(), &mut core)
 }

@@ -1,5 +1,5 @@
 -- Single steps of the media of one slot (RFC 3550, section 5.1).
-use Rattle.std.specs.Prelude.{ℕ, ℤ, ◌+◌, ◌%◌, ◌^◌, Bool, true, false, not, List, Option}
+use Rattle.std.specs.Prelude.{ℕ, ℤ, ◌+◌, ◌*◌, ◌%◌, ◌^◌, Bool, true, false, not, List, Option}
 use Rattle.mg_rtp.specs.declared.header.Header.{Header}
 use Rattle.mg_playout.specs.declared.placed.Placed.{Placed}
 use Rattle.mg_playout.specs.Played.{is_concealed, sound_of}
@@ -8,7 +8,8 @@ use Rattle.mg_playout.specs.Playout.{first_list}
 use Rattle.mg_engine.specs.declared.config.Config.{Config}
 use Rattle.mg_words.specs.Stats.{no_packets}
 use Rattle.mg_engine.specs.Media.{SlotMedia, timestamp_before}
-use Rattle.mg_engine.specs.Steps.{play_after, received, transmitted}
+use Rattle.mg_words.specs.declared.stats.Stats.{Stats}
+use Rattle.mg_engine.specs.Steps.{counted_up, play_after, received, transmitted}
 use Rattle.mg_sums.specs.Samples.{frame_or_silence}
 
 -- the timestamp of the next tick: 160 samples later
@@ -76,3 +77,26 @@ slot_ended true m =
       is_sending = true;
     }
 slot_ended false m = record m { is_sending = false }
+
+-- ## Ticks, one after another
+
+-- a tick in which a packet was sent or none
+abbrev pub slot_ticked : Bool → SlotMedia → SlotMedia
+slot_ticked is_sent m = slot_ended is_sent (slot_played m)
+
+-- this many packets were sent
+abbrev pub transmitted_by : ℕ → Stats → Stats
+transmitted_by count s =
+    record s { ps = counted_up count s.ps; os = counted_up (160 * count) s.os }
+
+-- the media after this many ticks, at least one, if the play list is idle
+abbrev pub slot_passed : Bool → ℕ → SlotMedia → SlotMedia
+slot_passed true count m =
+    record m {
+      stats = transmitted_by count m.stats;
+      timestamp = (m.timestamp + 160 * count) % 2 ^ 32;
+      sequence = (m.sequence + count) % 2 ^ 16;
+      is_sending = true;
+    }
+slot_passed false count m =
+    record m { timestamp = (m.timestamp + 160 * count) % 2 ^ 32; is_sending = false }

@@ -1,0 +1,336 @@
+-- Ticks at once are ticks one after another, while no play list has a frame.
+use Rattle.std.proofs.Common.{◌≡◌, ℕ, zero, suc, ◌+◌, ◌*◌, ◌%◌, ◌^◌, ◌<◌, Bool, true, false, cond, List, ℤ, [], ◌∷◌, map, get_or, Option, Some, None, refl, sym, ap, subst, ◌∙◌, arith}
+use Rattle.std.specs.Prelude.{IsTrue, count_by}
+use Rattle.std.specs.Fn.{iterate}
+use Rattle.std.specs.Option.{option_map, option_map_or}
+use Rattle.std.proofs.lemmas.List.Sums.{sum_by-cons}
+use Rattle.std.proofs.lemmas.Simd.{map-map}
+use Rattle.mg_playout.specs.declared.phase.Phase.{Phase}
+use Rattle.mg_playout.specs.declared.phase.Phase.TheVariants.{Idle, Wait, Run}
+use Rattle.mg_playout.specs.declared.played.Played.{Played}
+use Rattle.mg_playout.specs.declared.played.Played.TheVariants.{Silence}
+use Rattle.mg_playout.specs.Played.{is_concealed, sound_of}
+use Rattle.mg_playout.specs.Playout as play_lists
+use Rattle.mg_playout.specs.Playout.{PlayList, is_idle}
+use Rattle.mg_rooms.specs.declared.record.Record.{Record}
+use Rattle.mg_rooms.specs.Registry as rooms
+use Rattle.mg_rooms.specs.Registry.{record_at}
+use Rattle.mg_sums.specs.Samples.{silence, frame_or_silence}
+use Rattle.mg_engine.specs.declared.config.Config.{Config}
+use Rattle.mg_engine.specs.Gateway.{Gateway, ContextEdit, TerminationMedia, media_of, numbers_of}
+use Rattle.mg_engine.specs.Flow.{may_hear}
+use Rattle.mg_engine.specs.Media.{SlotMedia}
+use Rattle.mg_engine.specs.Steps.{counted_up}
+use Rattle.mg_engine.specs.aids.MediaSteps as media_steps
+use Rattle.mg_engine.specs.aids.MediaSteps.{slot_ended, slot_played, slot_ticked, slot_passed}
+use Rattle.mg_engine.specs.aids.Playing.{HasPassed, IsIdleEngine}
+use Rattle.mg_engine.specs.aids.Sending.{slot_sends}
+use Rattle.mg_engine.specs.Stands.{EngineState, StandsFor, IsMediaOf, media_at}
+use Rattle.mg_engine.specs.Tick.{played, sent, sends_at, after_tick, after_ticks, conceals, concealed_in_tick, concealed_in_ticks}
+use Rattle.mg_engine.proofs.GatewayLemmas.{found_in_map, found_key, found_too}
+use Rattle.mg_engine.proofs.TickLemmas.{BySlot, ended_is, from_mapped, numbers_kept, played_is, same_sender, sent_number, with_media}
+
+-- ## Repeated steps
+
+module _ {A : Type 0} (h : A → A) where
+  last_step : (n : ℕ) (x : A) → iterate h (suc n) x ≡ h (iterate h n x)
+  last_step zero x = refl
+  last_step (suc n) x = last_step n (h x)
+
+  pub iterate_last : (n : ℕ) (x : A) → iterate h (n + 1) x ≡ h (iterate h n x)
+  iterate_last n x = ap (λ (k : ℕ). iterate h k x) one ∙ last_step n x
+    where
+      one : n + 1 ≡ suc n
+      one = omega arith
+
+  pub iterate_both : (n m : ℕ) (x : A) → iterate h (n + m) x ≡ iterate h m (iterate h n x)
+  iterate_both zero m x = ap (λ (k : ℕ). iterate h k x) none
+    where
+      none : 0 + m ≡ m
+      none = omega arith
+  iterate_both (suc n) m x = ap (λ (k : ℕ). iterate h k x) one ∙ iterate_both n m (h x)
+    where
+      one : suc n + m ≡ suc (n + m)
+      one = omega arith
+
+  iterate_keeps : (P : A → Type 0) → ((x : A) → P x → P (h x)) → (n : ℕ) (x : A) → P x → P (iterate h n x)
+  iterate_keeps P keeps zero x p = p
+  iterate_keeps P keeps (suc n) x p = iterate_keeps P keeps n (h x) (keeps x p)
+
+-- ## An idle play list
+
+in_idle : (phase : Phase) (list : PlayList) → IsTrue (is_idle phase) →
+    play_lists.ticked_in phase list ≡ (list, Silence)
+in_idle Idle list idle = refl
+in_idle (Wait ticks) list idle = absurd (cc idle)
+in_idle Run list idle = absurd (cc idle)
+
+pub idle_ticks : (list : PlayList) → IsTrue (is_idle list.phase) → play_lists.ticked list ≡ (list, Silence)
+idle_ticks list idle = in_idle list.phase list idle
+
+-- ## The media of a slot
+
+abbrev IsIdleMedia : SlotMedia → Type 0
+IsIdleMedia m = IsTrue (is_idle m.play.phase)
+
+-- the media a tick later, if the play list is idle
+abbrev later : SlotMedia → SlotMedia
+later m = record m { timestamp = (m.timestamp + 160) % 2 ^ 32 }
+
+idle_played : (m : SlotMedia) → IsIdleMedia m → slot_played m ≡ later m
+idle_played m idle = ap (λ (p : PlayList × Played). record m { play = p.0; timestamp = (m.timestamp + 160) % 2 ^ 32 })
+    (idle_ticks m.play idle)
+
+idle_frame : (m : SlotMedia) → IsIdleMedia m → media_steps.frame_played m ≡ silence
+idle_frame m idle = ap (λ (p : PlayList × Played). frame_or_silence (sound_of p.1)) (idle_ticks m.play idle)
+
+idle_ended : (b : Bool) (m : SlotMedia) → (slot_ended b m).play ≡ m.play
+idle_ended true m = refl
+idle_ended false m = refl
+
+idle_kept : (b : Bool) (m : SlotMedia) → IsIdleMedia m → IsIdleMedia (slot_ticked b m)
+idle_kept b m idle = subst (λ (p : PlayList). IsTrue (is_idle p.phase))
+    (sym (idle_ended b (slot_played m) ∙ ap (λ (x : SlotMedia). x.play) (idle_played m idle))) idle
+
+one_passed : (b : Bool) (m : SlotMedia) → slot_ended b (later m) ≡ slot_passed b 1 m
+one_passed true m = refl
+one_passed false m = refl
+
+idle_passed : (b : Bool) (n : ℕ) (m : SlotMedia) → (slot_passed b n m).play ≡ m.play
+idle_passed true n m = refl
+idle_passed false n m = refl
+
+more_passed : (b : Bool) (n : ℕ) (m : SlotMedia) →
+    slot_passed b (suc n) (slot_passed b 1 m) ≡ slot_passed b (suc (suc n)) m
+more_passed true n m =
+    let ps : counted_up (suc n) (counted_up 1 m.stats.ps) ≡ counted_up (suc (suc n)) m.stats.ps = omega arith in
+    let os : counted_up (160 * suc n) (counted_up (160 * 1) m.stats.os) ≡ counted_up (160 * suc (suc n)) m.stats.os =
+    omega arith in
+    let timestamp : ((m.timestamp + 160 * 1) % 2 ^ 32 + 160 * suc n) % 2 ^ 32 ≡
+    (m.timestamp + 160 * suc (suc n)) % 2 ^ 32 = omega arith in
+    let sequence : ((m.sequence + 1) % 2 ^ 16 + suc n) % 2 ^ 16 ≡ (m.sequence + suc (suc n)) % 2 ^ 16 = omega arith in
+    λ i. record {
+      play = m.play;
+      stats = record { pr = m.stats.pr; or_ = m.stats.or_; ps = ps i; os = os i };
+      timestamp = timestamp i;
+      sequence = sequence i;
+      is_sending = true;
+    }
+more_passed false n m =
+    let timestamp : ((m.timestamp + 160 * 1) % 2 ^ 32 + 160 * suc n) % 2 ^ 32 ≡
+    (m.timestamp + 160 * suc (suc n)) % 2 ^ 32 = omega arith in
+    λ i. record {
+      play = m.play;
+      stats = m.stats;
+      timestamp = timestamp i;
+      sequence = m.sequence;
+      is_sending = false;
+    }
+
+ticked_once : (b : Bool) (m : SlotMedia) → IsIdleMedia m → slot_ticked b m ≡ slot_passed b 1 m
+ticked_once b m idle = ap (slot_ended b) (idle_played m idle) ∙ one_passed b m
+
+-- ticks at once, at least one, of a slot whose play list is idle
+pub passed_is : (b : Bool) (n : ℕ) (m : SlotMedia) → IsTrue (is_idle m.play.phase) →
+    iterate (slot_ticked b) (suc n) m ≡ slot_passed b (suc n) m
+passed_is b zero m idle = ticked_once b m idle
+passed_is b (suc n) m idle =
+    ap (iterate (slot_ticked b) (suc n)) (ticked_once b m idle)
+    ∙ passed_is b n (slot_passed b 1 m)
+    (subst (λ (p : PlayList). IsTrue (is_idle p.phase)) (sym (idle_passed b 1 m)) idle)
+    ∙ more_passed b n m
+
+pub passed_by : (b : Bool) (n : ℕ) (m : SlotMedia) → 0 < n → IsTrue (is_idle m.play.phase) →
+    slot_passed b n m ≡ iterate (slot_ticked b) n m
+passed_by b zero m some idle = absurd (omega (arith, some))
+passed_by b (suc n) m some idle = sym (passed_is b n m idle)
+
+-- ## The gateway after ticks
+
+-- the media of a termination after a tick
+abbrev ticked_media : rooms.Registry → TerminationMedia → TerminationMedia
+ticked_media w s = sent (sends_at w s.number) (played s)
+
+config_kept : (n : ℕ) (w : Gateway) → (after_ticks n w).config ≡ w.config
+config_kept zero w = refl
+config_kept (suc n) w = config_kept n (after_tick w)
+
+rooms_kept : (n : ℕ) (w : Gateway) → (after_ticks n w).rooms ≡ w.rooms
+rooms_kept zero w = refl
+rooms_kept (suc n) w = rooms_kept n (after_tick w)
+
+edits_kept : (n : ℕ) (w : Gateway) → (after_ticks n w).edits ≡ w.edits
+edits_kept zero w = refl
+edits_kept (suc n) w = edits_kept n (after_tick w)
+
+one_tick_numbers : (w : Gateway) → map (λ s. s.number) (after_tick w).media ≡ map (λ s. s.number) w.media
+one_tick_numbers w =
+    map-map (λ (s : TerminationMedia). s.number) (λ s. sent (sends_at w.rooms s.number) s) (map played w.media)
+    ∙ numbers_kept w.rooms (map played w.media)
+    ∙ map-map (λ (s : TerminationMedia). s.number) played w.media
+
+numbers_stay : (n : ℕ) (w : Gateway) → map (λ s. s.number) (after_ticks n w).media ≡ map (λ s. s.number) w.media
+numbers_stay zero w = refl
+numbers_stay (suc n) w = numbers_stay n (after_tick w) ∙ one_tick_numbers w
+
+tick_found : (w : Gateway) (k : ℕ) → media_of (after_tick w) k ≡ option_map (ticked_media w.rooms) (media_of w k)
+tick_found w k =
+    found_in_map (λ s. s.number) (λ s. sent (sends_at w.rooms s.number) s) k (map played w.media)
+    (λ s. sent_number (sends_at w.rooms s.number) s)
+    ∙ ap (option_map (λ s. sent (sends_at w.rooms s.number) s))
+    (found_in_map (λ s. s.number) played k w.media (λ s. refl))
+    ∙ twice (media_of w k)
+  where
+    twice : (o : Option TerminationMedia) →
+        option_map (λ s. sent (sends_at w.rooms s.number) s) (option_map played o) ≡ option_map (ticked_media w.rooms) o
+    twice None = refl
+    twice (Some s) = refl
+
+ticks_found : (n : ℕ) (w : Gateway) (k : ℕ) →
+    media_of (after_ticks n w) k ≡ option_map (iterate (ticked_media w.rooms) n) (media_of w k)
+ticks_found zero w k = same (media_of w k)
+  where
+    same : (o : Option TerminationMedia) → o ≡ option_map (iterate (ticked_media w.rooms) 0) o
+    same None = refl
+    same (Some s) = refl
+ticks_found (suc n) w k =
+    ticks_found n (after_tick w) k
+    ∙ ap (option_map (iterate (ticked_media w.rooms) n)) (tick_found w k)
+    ∙ twice (media_of w k)
+  where
+    twice : (o : Option TerminationMedia) →
+        option_map (iterate (ticked_media w.rooms) n) (option_map (ticked_media w.rooms) o) ≡
+        option_map (iterate (ticked_media w.rooms) (suc n)) o
+    twice None = refl
+    twice (Some s) = refl
+
+-- ## What is stored after ticks at once
+
+module _ (config : Config) (w : rooms.Registry) (b : Bool) (row : List ℤ) (silent : row ≡ silence) where
+  one_stands : (m : SlotMedia) (s : TerminationMedia) → IsIdleMedia m → sends_at w s.number ≡ b →
+      IsMediaOf config m row s → IsMediaOf config (slot_ticked b m) row (ticked_media w s)
+  one_stands m s idle sends h =
+      let frame = idle_frame m idle ∙ sym silent in
+      subst (λ (x : Bool). IsMediaOf config (slot_ticked b m) row (sent x (played s))) (sym sends)
+      (ended_is config b (slot_played m) row (played s)
+      (subst (λ (x : List ℤ). IsMediaOf config (slot_played m) x (played s)) frame (played_is config m row s h)))
+
+  many_stand : (n : ℕ) (m : SlotMedia) (s : TerminationMedia) → IsIdleMedia m → sends_at w s.number ≡ b →
+      IsMediaOf config m row s → IsMediaOf config (iterate (slot_ticked b) n m) row (iterate (ticked_media w) n s)
+  many_stand zero m s idle sends h = h
+  many_stand (suc n) m s idle sends h =
+      many_stand n (slot_ticked b m) (ticked_media w s) (idle_kept b m idle)
+      (ap (sends_at w) (sent_number (sends_at w s.number) (played s)) ∙ sends) (one_stands m s idle sends h)
+
+-- ticks were counted for the slot of each termination
+abbrev pub HavePassed : rooms.Registry → ℕ → List SlotMedia → List SlotMedia → Type 0
+HavePassed w count old new = (n : ℕ) (r : Record) → record_at w n ≡ Some r → HasPassed w count old new r.slot
+
+pub passed_stands : (k : EngineState) (w : Gateway) (count : ℕ) (new : List SlotMedia) → BySlot k.rooms →
+    0 < count → IsIdleEngine k → HavePassed k.rooms count k.media new → StandsFor k w →
+    StandsFor (with_media k new) (after_ticks count w)
+passed_stands k w count new by_slot some idle passed h = record {
+  config = config_kept count w ∙ h.config;
+  rooms = rooms_kept count w ∙ h.rooms;
+  numbers = numbers_stay count w ∙ h.numbers;
+  media = λ n r s found there.
+      let row = get_or k.sums.frames r.slot [] in
+      let b = slot_sends k.rooms r.slot in
+      from_mapped (iterate (ticked_media w.rooms) count) (λ t. IsMediaOf k.config (media_at new r.slot) row t)
+      (media_of w n) s (sym (ticks_found count w n) ∙ there)
+      (λ t was.
+      let sends : sends_at w.rooms t.number ≡ b = sym (same_sender k.rooms n r found (by_slot n r found) ∙
+      ap (λ (x : rooms.Registry). sends_at x n) (sym h.rooms) ∙
+      ap (sends_at w.rooms) (sym (found_key (λ x. x.number) n w.media t was))) in
+      subst (λ (x : SlotMedia). IsMediaOf k.config x row (iterate (ticked_media w.rooms) count t))
+      (sym (passed n r found ∙ passed_by b count (media_at k.media r.slot) some (idle n r found).idle))
+      (many_stand k.config w.rooms b row (idle n r found).silent count (media_at k.media r.slot) t (idle n r found).idle
+      sends (h.media n r t found was)));
+  hears = λ talker listener t l p q share. h.hears talker listener t l p q share ∙
+      ap (λ (es : List ContextEdit). may_hear es talker listener) (sym (edits_kept count w));
+}
+
+-- ## Nothing is concealed
+
+-- the play list of each termination is idle
+abbrev IsIdleGateway : Gateway → Type 0
+IsIdleGateway w = (n : ℕ) (s : TerminationMedia) → media_of w n ≡ Some s → IsTrue (is_idle s.play.phase)
+
+idle_termination : (b : Bool) (s : TerminationMedia) → IsTrue (is_idle s.play.phase) →
+    IsTrue (is_idle (sent b (played s)).play.phase)
+idle_termination true s idle = subst (λ (p : PlayList × Played). IsTrue (is_idle p.0.phase))
+    (sym (idle_ticks s.play idle)) idle
+idle_termination false s idle = subst (λ (p : PlayList × Played). IsTrue (is_idle p.0.phase))
+    (sym (idle_ticks s.play idle)) idle
+
+idle_after : (w : Gateway) → IsIdleGateway w → IsIdleGateway (after_tick w)
+idle_after w idle n s there =
+    from_mapped (ticked_media w.rooms) (λ t. IsTrue (is_idle t.play.phase)) (media_of w n) s
+    (sym (tick_found w n) ∙ there) (λ t was. idle_termination (sends_at w.rooms t.number) t (idle n t was))
+
+idle_conceals : (o : Option TerminationMedia) →
+    ((s : TerminationMedia) → o ≡ Some s → IsTrue (is_idle s.play.phase)) →
+    option_map_or (λ s. is_concealed ((play_lists.ticked s.play).1)) o false ≡ false
+idle_conceals None idle = refl
+idle_conceals (Some s) idle = ap (λ (p : PlayList × Played). is_concealed p.1) (idle_ticks s.play (idle s refl))
+
+abbrev one : Bool → ℕ
+one b = cond b 1 0
+
+none_counted : (p : ℕ → Bool) (ns : List ℕ) → ((n : ℕ) → p n ≡ false) → count_by p ns ≡ 0
+none_counted p [] none = refl
+none_counted p (n ∷ ns) none =
+    omega (
+      arith,
+      sum_by-cons (λ x. one (p x)) n ns,
+      ap one (none n),
+      none_counted p ns none,
+    )
+
+none_concealed : (n : ℕ) (w : Gateway) → IsIdleGateway w → concealed_in_ticks n w ≡ 0
+none_concealed zero w idle = refl
+none_concealed (suc n) w idle =
+    omega (
+      arith,
+      none_counted (conceals w) (numbers_of w) (λ k. idle_conceals (media_of w k) (λ s there. idle k s there)),
+      none_concealed n (after_tick w) (idle_after w idle),
+    )
+
+pub idle_gateway : (k : EngineState) (w : Gateway) → IsIdleEngine k → StandsFor k w → IsIdleGateway w
+idle_gateway k w idle h n s there =
+    let (r, found) = found_too (λ s. s.number) (λ r. r.number) n w.media k.rooms.terminations h.numbers s there in
+    subst (λ (p : PlayList). IsTrue (is_idle p.phase)) (h.media n r s found there).play (idle n r found).idle
+
+pub passed_conceals : (k : EngineState) (w : Gateway) (count : ℕ) → IsIdleEngine k → StandsFor k w →
+    concealed_in_ticks count w ≡ 0
+passed_conceals k w count idle h = none_concealed count w (idle_gateway k w idle h)
+
+-- ## One tick more
+
+pub concealed_last : (n : ℕ) (w : Gateway) →
+    concealed_in_ticks (n + 1) w ≡ concealed_in_ticks n w + concealed_in_tick (after_ticks n w)
+concealed_last n w = ap (λ (k : ℕ). concealed_in_ticks k w) one ∙ last_concealed n w
+  where
+    one : n + 1 ≡ suc n
+    one = omega arith
+
+    last_concealed : (n : ℕ) (w : Gateway) →
+        concealed_in_ticks (suc n) w ≡ concealed_in_ticks n w + concealed_in_tick (after_ticks n w)
+    last_concealed zero w = omega arith
+    last_concealed (suc n) w = omega (arith, last_concealed n (after_tick w))
+
+pub concealed_both : (n m : ℕ) (w : Gateway) →
+    concealed_in_ticks (n + m) w ≡ concealed_in_ticks n w + concealed_in_ticks m (after_ticks n w)
+concealed_both zero m w = ap (λ (k : ℕ). concealed_in_ticks k w) none ∙ zero_more (concealed_in_ticks m w)
+  where
+    none : 0 + m ≡ m
+    none = omega arith
+
+    zero_more : (n : ℕ) → n ≡ 0 + n
+    zero_more n = omega arith
+concealed_both (suc n) m w =
+    ap (λ (k : ℕ). concealed_in_ticks k w) one
+    ∙ omega (arith, concealed_both n m (after_tick w))
+  where
+    one : suc n + m ≡ suc (n + m)
+    one = omega arith

@@ -1,0 +1,43 @@
+use Rattle.std.proofs.Common.{ℕ, List, length, ap, subst, ◌∙◌, arith}
+use Rattle.mg_rooms.specs.declared.limits.Limits.{Limits}
+use Rattle.mg_engine.specs.Media.{SlotMedia}
+use Rattle.mg_engine.specs.Stands.{EngineState}
+use Rattle.mg_engine.specs.aids.Playing.{IsIdleEngine, IsIdleSlot}
+use Rattle.mg_engine.proofs.HeldLemmas.{held_below, held_at}
+use Rattle.mg_engine.proofs.engine.Engine.is_idle.Goals as goal
+
+pub are_idle-requires : goal.are_idle-requires
+are_idle-requires c =
+    let w = c.self.inside.rooms in
+    let slots = c.as_slice.result.now in
+    let sound = c.self.invariant.sound in
+    let held = c.as_slice.ensures.value ∙ c.self.invariant.held in
+    let limit = ap (λ (l : Limits). l.slots) c.self.invariant.limits in
+    let long = ap (λ (ms : List SlotMedia). length ms) c.as_slice-2.ensures.value in
+    record {
+      slots = held_below w slots held (length c.as_slice-2.result.now) sound.by_number
+          (λ n r found. let (number, is) = sound.termination n r found in
+          omega (arith, is.slot, limit, c.self.invariant.media, long));
+      few = omega (arith, limit, c.self.invariant.media, long, sound.consistent.limits.0.few_slots);
+    }
+
+pub returns : goal.returns
+returns c = record {
+  value = λ yes.
+      let k : EngineState = record {
+        config = c.self.inside.config;
+        rooms = c.self.inside.rooms;
+        media = c.self.inside.media.items;
+        flows = c.self.inside.flows;
+        sums = c.self.inside.sums;
+        shares = c.self.inside.shares;
+      } in
+      let slots = c.as_slice.result.now in
+      let held = c.as_slice.ensures.value ∙ c.self.invariant.held in
+      let all : IsIdleEngine k = λ n r found.
+      let at = held_at k.rooms slots held n r found in
+      subst (λ (ms : List SlotMedia). IsIdleSlot ms k.sums.frames r.slot) c.as_slice-2.ensures.value
+      (subst (λ (s : ℕ). IsIdleSlot c.as_slice-2.result.now k.sums.frames s) at.is
+      (c.are_idle.ensures.value yes at.at at.within)) in
+      subst IsIdleEngine c.self.view_is all;
+}

@@ -1,0 +1,45 @@
+use Rattle.std.proofs.Common.{ℕ, length, sym, ap, subst, ◌∙◌, arith}
+use Rattle.mg_rooms.specs.declared.limits.Limits.{Limits}
+use Rattle.mg_engine.specs.Stands.{EngineState, StandsFor}
+use Rattle.mg_engine.specs.aids.Playing.{HasPassed, IsIdleEngine}
+use Rattle.mg_engine.proofs.HeldLemmas.{held_below, held_apart, held_at}
+use Rattle.mg_engine.proofs.SkipLemmas.{HavePassed, passed_conceals, passed_stands}
+use Rattle.mg_engine.proofs.engine.Engine.pass.Goals as goal
+
+pub pass_slots-requires : goal.pass_slots-requires
+pass_slots-requires c =
+    let w = c.self.inside.rooms in
+    let slots = c.as_slice.result.now in
+    let sound = c.self.invariant.sound in
+    let held = c.as_slice.ensures.value ∙ c.self.invariant.held in
+    let limit = ap (λ (l : Limits). l.slots) c.self.invariant.limits in
+    record {
+      slots = held_below w slots held (length c.self.inside.media.items) sound.by_number
+          (λ n r found. let (number, is) = sound.termination n r found in
+          omega (arith, is.slot, limit, c.self.invariant.media));
+      apart = held_apart w slots held sound.by_number sound.one_slot sound.consistent.terminations.one_number;
+    }
+
+pub returns-clause-none : goal.returns-clause-none
+returns-clause-none c w h = passed_conceals c.args.self.now w c.args.count c.requires.idle h
+
+pub returns-clause-after : goal.returns-clause-after
+returns-clause-after c w h =
+    let k : EngineState = record {
+      config = c.self.inside.config;
+      rooms = c.self.inside.rooms;
+      media = c.self.inside.media.items;
+      flows = c.self.inside.flows;
+      sums = c.self.inside.sums;
+      shares = c.self.inside.shares;
+    } in
+    let sound = c.self.invariant.sound in
+    let slots = c.as_slice.result.now in
+    let held = c.as_slice.ensures.value ∙ c.self.invariant.held in
+    let stands = subst (λ (x : EngineState). StandsFor x w) (sym c.self.view_is) h in
+    let idle = subst IsIdleEngine (sym c.self.view_is) c.requires.idle in
+    let all : HavePassed k.rooms c.args.count k.media c.pass_slots.new.media.items = λ n r found.
+    let at = held_at k.rooms slots held n r found in
+    subst (λ (s : ℕ). HasPassed k.rooms c.args.count k.media c.pass_slots.new.media.items s) at.is
+    (c.pass_slots.ensures.each at.at at.within) in
+    passed_stands k w c.args.count c.pass_slots.new.media.items sound.holder c.requires.some idle all stands

@@ -1,0 +1,12 @@
+use Rattle.std.proofs.Common.{◌≡◌, ℕ, ◌<◌, ◌≤◌, get_or, length}
+use Rattle.mg_engine.specs.Stands.{media_at}
+use Rattle.mg_engine.specs.aids.Playing.{HasPassed}
+use Rattle.mg_engine.proofs.skipping.pass_slots.Given as goal
+
+abbrev pub invariant-loop-slot : goal.invariant-loop-slot
+invariant-loop-slot l = record {
+  long : length l.media.items ≡ length l.fn.media.items;
+  done : (j : ℕ) → j < l.slot-index → HasPassed l.rooms l.count l.fn.media.items l.media.items (get_or l.held j 0);
+  rest : (j : ℕ) → l.slot-index ≤ j → j < length l.held →
+      media_at l.media.items (get_or l.held j 0) ≡ media_at l.fn.media.items (get_or l.held j 0);
+}

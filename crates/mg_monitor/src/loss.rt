@@ -15,7 +15,7 @@ pub struct Loss {
     newest: u16,
     /// Which of the last 64 sequence numbers arrived. Bit 0 is the newest one.
     arrived: u64,
-    /// How many of these sequence numbers belong to the stream: 0 before its first packet.
+    /// How many of the last 64 sequence numbers belong to the stream. It is 0 before the first packet.
     known: u16,
     lost: u64,
 }

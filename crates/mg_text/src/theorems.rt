@@ -30,8 +30,8 @@ fn bytes_are_tokens(source: &[u8])
     }
 }
 
-/// Every datagram is exactly one of these: a message with its tree, a datagram that exceeds a limit, a message of
-/// another version, or something that is not a message.
+/// Each datagram reads in one way, and only in one: as a message with its tree, as a message of another version, as one
+/// that exceeds a limit, or as no message.
 pub fn one_reading(source: &[u8])
     ensures some { (reading : MessageReading) × IsMessageReading source.now reading }
     ensures at_most_one { (bytes : List ℕ) (a b : MessageReading) →

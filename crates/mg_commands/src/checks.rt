@@ -76,7 +76,7 @@ pub fn check_command(source: &[u8], command: &Command) -> Result<CommandParamete
     check_descriptors(source, command.descriptors.as_slice())
 }
 
-/// Checks that an Add asks for a new termination, and does not name one.
+/// Checks that an Add requests a new termination instead of naming one.
 pub fn check_new_name(engine: &Engine, name: Name) -> Result<(), ErrorNumber>
     ensures value { (w : Gateway) → StandsFor engine.now w → result ≡ check_new_name w name }
 {

@@ -40,7 +40,7 @@ fn audit_pair(engine: &Engine, first: &NamedMember, second: &NamedMember) -> Ite
     pair_item(second_hears, first_hears, first, second)
 }
 
-/// Reports each pair that consists of this member and one that entered later.
+/// Reports the pair of this member with each member that entered later.
 fn put_pairs_of(engine: &Engine, first: &NamedMember, later: &[NamedMember], reply: &mut Reply)
     requires first { IsOnSeat engine.now.rooms first.now }
     requires later { All (IsOnSeat engine.now.rooms) later.now }

@@ -85,7 +85,7 @@ fn apply_topology(
     engine.apply_triples(progress.target, &by_number)
 }
 
-/// Answers the audit of a context, if the action has one.
+/// Answers the action's ContextAudit, if it has one.
 fn answer_audit(engine: &Engine, properties: &[ContextProperty], context: u32, reply: &mut Reply)
     ensures value { (w : Gateway) → StandsFor engine.now w →
         reply.new ≡ after_all reply.old (audit_items properties.now w context) }

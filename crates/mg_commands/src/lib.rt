@@ -11,7 +11,7 @@
 //! assert!(rt; write_reply(&reply, &mut text).is_ok());
 //! ```
 //!
-//! Commands are tried in order, action by action, up to the first that fails. Commands that were not tried are not
+//! Commands are tried in order, action by action, up to the first one that fails. Commands that were not tried are not
 //! reported. A rejected command leaves the engine unchanged. The topology and the audit of an action's context are
 //! processed after the action's commands, unless a command failed and ended the action.
 //!

@@ -1,6 +1,6 @@
 //! Properties of every transaction.
 //!
-//! The functions have empty bodies: their contracts are the theorems.
+//! The functions do nothing: their contracts are the theorems.
 
 ghost use Rattle.mg_commands.specs.aids.Agreement.{RequestsKeepAgreement};
 ghost use Rattle.mg_commands.specs.Theorems.{RefusedNamesChangeNothing, RefusedCommandsChangeNothing, RefusedActionsChangeNothing, RefusedTopologiesChangeNothing, OthersAreTried, RefusedRequestsChangeNothing, RequestsAreConsistent};
@@ -23,7 +23,7 @@ pub fn refused_commands_change_nothing()
 
 /// Every request preserves the consistency of terminations and contexts.
 ///
-/// So they are consistent after any sequence of requests, and a proof can use this without an engine.
+/// So they are consistent after any sequence of requests. A proof can use this fact even if it has no engine.
 pub fn requests_are_consistent()
     ensures theorem { RequestsAreConsistent }
 {

@@ -84,7 +84,7 @@ pub struct Engine {
     seating: Seating,
     /// The current frame of each slot, and the total of each room.
     sums: Sums,
-    /// The packets of this tick that share their payloads.
+    /// The packets of this tick whose payloads can be shared.
     shares: Shares,
 }
 
@@ -107,7 +107,7 @@ impl Model for Engine {
         e.sums.rooms };
 }
 
-/// Makes idle media for `slots` slots. Fails only if the allocation does.
+/// Makes idle media for `slots` slots. Fails only if the allocation fails.
 fn idle_media(alloc: Global, slots: u16) -> Result<Vec<HeldMedia>, AllocError>
     ensures value { IfOk result (λ media. media.items ≡ replicate slots idle) }
 {
@@ -121,7 +121,7 @@ fn idle_media(alloc: Global, slots: u16) -> Result<Vec<HeldMedia>, AllocError>
 /// Makes the tables of a gateway without terminations.
 ///
 /// They hold the flows, the slots by place, the frames and totals, and the shared payloads. Fails only if the
-/// allocation does.
+/// allocation fails.
 fn empty_tables(alloc: Global) -> Result<(FlowTable, Seating, Sums, Shares), AllocError>
     ensures flows { IfOk result (λ (flows, seating, sums, shares). table.StandsFor flows []) }
     ensures seating { IfOk result (λ (flows, seating, sums, shares). seating ≡ replicate place_count 0) }
@@ -355,7 +355,7 @@ impl Engine {
     /// Returns the context to which the triples of an action would be applied, or the error if that context does not
     /// exist.
     ///
-    /// A topology without triples has the same result.
+    /// Applying a topology without triples has the same result.
     pub fn topology_context(&self, target: Target) -> Result<u32, ErrorNumber>
         ensures outcome { (w : Gateway) → StandsFor self.now w → IsOutcome self.now result (apply_triples w target []) }
     {
@@ -472,7 +472,7 @@ impl Engine {
         self.flows.hears(to, from)
     }
 
-    /// Returns the sum of sample `i` over all talkers of a context in this tick. The sum is not limited to 16 bits.
+    /// Returns the sum of sample `i` over all talkers of a context in this tick. The sum is not saturated to 16 bits.
     ///
     /// Returns `None` if the context does not exist, or if `i` is not below 160.
     pub fn total(&self, context: u32, i: usize) -> Option<i32>
@@ -514,7 +514,7 @@ impl Engine {
 
     /// Advances by 20 ms: advances each play list, and fills the outbox with a packet from each termination that sends.
     ///
-    /// Packets are in order of the terminations' numbers. Returns how many frames conceal a missing one.
+    /// Packets are in order of the terminations' numbers. Returns how many missing frames were concealed.
     pub fn tick(&mut self, outbox: &mut Outbox) -> usize
         ensures concealed { (w : Gateway) → StandsFor self.old w → result ≡ concealed_in_tick w }
         ensures sent { (w : Gateway) → StandsFor self.old w → outbox.new.items ≡ sent_in_tick w }
@@ -528,11 +528,11 @@ impl Engine {
         concealed
     }
 
-    /// Advances by `count` ticks at once, without packets. Returns how many frames conceal a missing one, at most
+    /// Advances by `count` ticks at once, without packets. Returns how many missing frames were concealed, at most
     /// `u64::MAX`.
     ///
-    /// The gateway is then as after `count` calls of [`Engine::tick`]. Ticks are played one by one until all play lists
-    /// are idle; the rest is one step. No rows are mixed for packets.
+    /// The gateway is then the same as after `count` calls of [`Engine::tick`]. Ticks are run one by one until all play
+    /// lists are idle; the rest take one step. No packets are mixed.
     pub fn skip(&mut self, count: u64) -> u64
         ensures concealed { (w : Gateway) → StandsFor self.old w →
             result ≡ min (concealed_in_ticks count w) (2 ^ 64 - 1) }
@@ -541,7 +541,7 @@ impl Engine {
         skip(self, count)
     }
 
-    /// Advances by 20 ms as [`Engine::tick`] does, but without packets. Returns how many frames conceal a missing one.
+    /// Advances by 20 ms as [`Engine::tick`] does, but without packets. Returns how many missing frames were concealed.
     fn tick_without_packets(&mut self) -> usize
         ensures concealed { (w : Gateway) → StandsFor self.old w → result ≡ concealed_in_tick w }
         ensures after { (w : Gateway) → StandsFor self.old w → StandsFor self.new (after_tick w) }
@@ -568,7 +568,7 @@ impl Engine {
         pass_slots(&self.rooms, self.held.as_slice(), &mut self.media, count);
     }
 
-    /// Advances all play lists. Returns how many frames conceal a missing one.
+    /// Advances all play lists. Returns how many missing frames were concealed.
     fn play_all(&mut self) -> usize
         ensures concealed { (w : Gateway) → StandsFor self.old w → result ≡ concealed_in_tick w }
         ensures after { (w : Gateway) → StandsFor self.old w → StandsFor self.new (all_played w) }
@@ -745,7 +745,7 @@ fn fill(engine: &mut Engine, count: usize, outbox: &mut Outbox)
     }
 }
 
-/// Advances an engine by `count` ticks without packets. Returns how many frames conceal a missing one.
+/// Advances an engine by `count` ticks without packets. Returns how many missing frames were concealed.
 fn skip(engine: &mut Engine, count: u64) -> u64
     ensures concealed { (w : Gateway) → StandsFor engine.old w → result ≡ min (concealed_in_ticks count w) (2 ^ 64 - 1) }
     ensures after { (w : Gateway) → StandsFor engine.old w → StandsFor engine.new (after_ticks count w) }
@@ -763,7 +763,7 @@ fn skip(engine: &mut Engine, count: u64) -> u64
 
 /// Advances the play list of a slot, and stores its frame in the slot's row.
 ///
-/// Returns whether the frame conceals a missing one.
+/// Returns whether a missing frame was concealed.
 fn play(media: &mut Vec<HeldMedia>, sums: &mut Sums, slot: u8) -> bool
     requires slot { (slot < length media.old.items) × (slot < termination_limit) }
     ensures long { length media.new.items ≡ length media.old.items }
@@ -783,7 +783,7 @@ fn play(media: &mut Vec<HeldMedia>, sums: &mut Sums, slot: u8) -> bool
     played.is_concealed()
 }
 
-/// Advances the play list of each held slot. Returns how many frames conceal a missing one.
+/// Advances the play list of each held slot. Returns how many missing frames were concealed.
 fn play_slots(held: &[u8], media: &mut Vec<HeldMedia>, sums: &mut Sums) -> usize
     requires slots { EachIndex held.now (λ i. slice_index_or held.now i 0 < length media.old.items) }
     requires few { length media.old.items ≤ TERMINATIONS }

@@ -11,7 +11,7 @@ use std::marker::Model;
 /// How many of a room's newest packets are searched.
 const NEWEST: usize = 8;
 
-/// In one room, the packets whose payloads other members can share: at most one packet for each member.
+/// The packets of one room whose payloads other members can share: at most one for each member.
 #[derive(Drop)]
 pub struct RoomShares {
     shares: ArrayVec<Share, MEMBERS>,

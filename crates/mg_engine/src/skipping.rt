@@ -1,4 +1,4 @@
-//! Many ticks in one step, while all play lists are idle.
+//! Runs many ticks in one step while all play lists are idle.
 
 ghost use Rattle.std.specs.Prelude.{◌≡◌, ◌<◌, ◌≤◌, IsTrue, EachIndex, length, slice_index_or, slice_set};
 ghost use Rattle.mg_words.specs.Limits.{termination_limit};
@@ -20,7 +20,7 @@ fn is_idle(media: &[HeldMedia], sums: &Sums, slot: u8) -> bool
     media[usize::from(slot)].is_idle() && sums.is_silent(Row::new(slot))
 }
 
-/// Returns whether each of these slots has an idle play list and a silent row.
+/// Returns whether every given slot has an idle play list and a silent row.
 pub fn are_idle(held: &[u8], media: &[HeldMedia], sums: &Sums) -> bool
     requires slots { EachIndex held.now (λ i. slice_index_or held.now i 0 < length media.now) }
     requires few { length media.now ≤ termination_limit }

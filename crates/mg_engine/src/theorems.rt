@@ -1,4 +1,4 @@
-//! Properties of all gateways and datagrams. The functions have empty bodies: their contracts are the theorems.
+//! Properties of all gateways and datagrams. The functions do nothing: their contracts are the theorems.
 
 ghost use Rattle.std.specs.Prelude.{◌≡◌, ◌≤◌, ℕ, List, Ok};
 ghost use Rattle.mg_words.specs.declared.limits.TheConstants.{LAST_TERMINATION};
@@ -52,7 +52,7 @@ pub fn isolated_are_not_heard()
 
 /// The payload of a packet is the encoding of what its listener is sent.
 ///
-/// Except in Loopback, that is the sum of all speech that flows to the listener, limited once.
+/// Except in Loopback, that is the sum of all speech that flows to the listener, saturated once.
 pub fn payloads_are_mixes()
     ensures theorem { PayloadsAreMixes }
 {}
@@ -64,7 +64,8 @@ pub fn triples_are_limited()
 
 /// The terminations and contexts of a new gateway are consistent, and each edit and RTP datagram preserves that.
 ///
-/// So they are consistent after any sequence of edits and datagrams, and a proof can use this without an engine.
+/// So they are consistent after any sequence of edits and datagrams. A proof can use this fact even if it has no
+/// engine.
 pub fn worlds_are_consistent()
     ensures start { (config : Config) → IsValidConfig config → config.first_termination ≤ LAST_TERMINATION →
         IsConsistent (start_of config).rooms }
@@ -100,7 +101,7 @@ pub fn port_order_is_irrelevant()
 /// concerns only the context of the termination with its port.
 ///
 /// The theorem uses the relations from two clauses: `outcome` of [`Engine::edit`](crate::Engine::edit) and `taken` of
-/// [`Engine::media`](crate::Engine::media). What an engine represents is consistent
+/// [`Engine::media`](crate::Engine::media). The gateways that an engine represents are consistent
 /// ([`Engine::terminations`](crate::Engine::terminations)).
 pub fn other_contexts_are_unaffected()
     ensures edits { EditsDoNotAffectOthers }

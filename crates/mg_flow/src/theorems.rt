@@ -1,6 +1,6 @@
 //! What the edits in all rooms determine, however they are stored.
 //!
-//! The functions have empty bodies: their contracts are the theorems. A proof that needs a theorem calls its function.
+//! The functions do nothing: their contracts are the theorems. A proof that needs a theorem calls its function.
 //! Lists of edits start with the newest.
 
 ghost use Rattle.std.specs.Prelude.{◌≡◌, ℕ, ◌∷◌, ◌==◌, ◌&&◌, ◌||◌, Bool, true, false, if◌then◌else◌, List, IsTrue, IsFalse};

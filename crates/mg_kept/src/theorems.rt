@@ -1,6 +1,6 @@
 //! Properties of kept replies.
 //!
-//! The functions have empty bodies: their contracts are the theorems, in terms of `specs/Theorems.antt`.
+//! The functions do nothing: their contracts are the theorems, in terms of `specs/Theorems.antt`.
 
 ghost use Rattle.mg_kept.specs.KeptReplies.{AreKept};
 ghost use Rattle.mg_kept.specs.Theorems.{KeptIsFound, CaseIsIgnored, OthersStay, OnlyOldestIsDropped, OldestIsDropped, AcknowledgedIsDropped, OtherSendersStay, OtherNumbersStay};

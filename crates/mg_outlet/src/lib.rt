@@ -1,7 +1,7 @@
 //! A writer that never waits for its reader.
 //!
-//! An [`Outlet`] keeps written text in a queue, and passes it on to another writer only while that one is [`Ready`]. So
-//! a slow reader of standard output can't delay the gateway's ticks:
+//! An [`Outlet`] keeps written text in a queue, and passes it on to another writer only while that writer is [`Ready`].
+//! So a slow reader of standard output can't delay the gateway's ticks:
 //!
 //! ```rust
 //! let mut output = Outlet::watching(&rt, rt.alloc(), rt.stdout(), 64 << 20, Overflow::End)?;
@@ -12,8 +12,8 @@
 //! If the reader is so slow that the queue is full, text is dropped; [`Overflow`] says which. The caller flushes often,
 //! such as after each tick, and calls [`Outlet::finish`] at the end.
 //!
-//! `specs/Outlet.antt` defines what an outlet does: bytes move from the front of the queue to the end of what the writer
-//! holds, and written text joins the queue unless it is dropped. [`theorems`] states the consequences.
+//! `specs/Outlet.antt` defines what an outlet does: bytes move from the front of the queue to the end of what the
+//! writer holds, and written text joins the queue unless it is dropped. [`theorems`] states the consequences.
 #![tactic(auto)]
 
 mod outlet;

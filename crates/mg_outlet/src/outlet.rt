@@ -20,9 +20,9 @@ const FLUSH_CHUNKS: u16 = 256;
 
 /// A writer that never waits for its reader.
 ///
-/// Written text joins a queue in memory, whole or not at all. [`flush`](Write::flush) passes on what it can without
-/// waiting, in order. So does [`write`](Write::write), if 4,096 bytes are queued already. A flush passes on at most 1
-/// MiB and a write at most 4,096 bytes, so that a reader that resumes doesn't cost much time at once either.
+/// Written text joins a queue in memory, either all of it or none. [`flush`](Write::flush) passes on what it can
+/// without waiting, in order. So does [`write`](Write::write), if 4,096 bytes are queued already. A flush passes on at
+/// most 1 MiB and a write at most 4,096 bytes, so that a reader that catches up doesn't cost much time at once, either.
 ///
 /// If the other writer fails, each later call returns its error, and nothing more is written. If it was interrupted or
 /// would have waited, the outlet tries again later.
@@ -38,7 +38,7 @@ pub struct Outlet<W, R> {
 }
 
 impl<W: Write + AsRawFd + Drop> Outlet<W, SystemReady> {
-    /// Makes an outlet in front of a descriptor, such as standard output. The system is asked whether a write waits.
+    /// Makes an outlet for a descriptor, such as standard output. It asks the system whether a write would wait.
     ///
     /// A regular file or `/dev/null` is always ready: a write to it goes to the page cache. A terminal may report that
     /// it is ready with less than 4,096 bytes free, so a write to it can wait.
@@ -109,14 +109,15 @@ impl<W: Write, R: Ready> Outlet<W, R> {
         self.dropped
     }
 
-    /// Returns whether the outlet drops all that is written from now on, because a text didn't fit.
+    /// Returns whether the outlet drops everything that is written from now on, because a text didn't fit.
     pub fn has_ended(&self) -> bool
         ensures value { result ≡ has_ended self.now }
     {
         self.overflow == Overflow::End && self.dropped > 0
     }
 
-    /// Passes on all that is queued. Unlike other calls it waits for the reader, so it is for the end of the program.
+    /// Passes on everything in the queue. Unlike the other calls, this one waits for the reader, so use it at the end
+    /// of the program.
     pub fn finish(&mut self) -> io::Result<()>
         ensures passed { Moves (length (queued self.old)) (queued self.old) (queued self.new)
             (W.contents (writer self.old)) (W.contents (writer self.new)) }
@@ -166,7 +167,7 @@ impl<W: Write, R: Ready> Outlet<W, R> {
         outcome
     }
 
-    /// Returns whether a text is dropped now.
+    /// Returns whether a text would be dropped now.
     fn drops(&self, text: &[u8]) -> bool
         ensures value { result ≡ drops self.now (queued self.now) text.now }
     {
@@ -175,7 +176,7 @@ impl<W: Write, R: Ready> Outlet<W, R> {
 }
 
 impl<W: Write, R: Ready> Write for Outlet<W, R> {
-    /// Accepts all of a text, or drops it, and returns its length in both cases.
+    /// Accepts or drops a whole text, and returns its length in both cases.
     fn write(&mut self, text: &[u8]) -> io::Result<usize>
         ensures bound { WritesAtMost result text.now }
         ensures bytes { WriteAppends None None result text.now }

@@ -3,6 +3,6 @@
 pub enum Overflow {
     /// Drops that text and all later text. The reader gets a prefix of everything that was written.
     End,
-    /// Drops that text only. The reader may miss whole writes, and never a part of one.
+    /// Drops that text only. The reader may miss whole writes, but never part of one.
     Skip,
 }

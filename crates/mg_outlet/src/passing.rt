@@ -42,7 +42,7 @@ fn is_later(error: &io::Error) -> bool {
     matches!(error.kind(), ErrorKind::Interrupted | ErrorKind::WouldBlock)
 }
 
-/// Passes on all of a queue. Waits for the writer if it must.
+/// Passes on a whole queue. Waits for the writer if necessary.
 pub(crate) fn pass_all<W: Write>(
     queue: &mut HeapCircularBuffer<u8>,
     writer: &mut W,
@@ -64,7 +64,7 @@ pub(crate) fn pass_all<W: Write>(
     Err(io::Error::from(ErrorKind::TimedOut))
 }
 
-/// Passes on the front of a queue, from one byte to 4,096. A writer that writes zero bytes counts as failed.
+/// Passes on the first 1 to 4,096 bytes of a queue. A writer that writes zero bytes counts as failed.
 fn pass_chunk<W: Write>(queue: &mut HeapCircularBuffer<u8>, writer: &mut W) -> io::Result<()>
     ensures moves { Moves 4096 queue.old.items queue.new.items (W.contents writer.old) (W.contents writer.new) }
     ensures limit { queue.new.capacity ≡ queue.old.capacity }

@@ -17,7 +17,7 @@ pub struct SystemReady {
     watched: Option<Watched>,
 }
 
-/// A descriptor that the system reports on.
+/// A descriptor whose readiness the system reports.
 #[derive(Drop)]
 struct Watched {
     descriptor: RawFd,
@@ -60,8 +60,8 @@ impl Watched {
     /// Returns whether the descriptor is writable now, or has failed, so that a write returns at once. If the system
     /// can't answer, a write may wait, so the descriptor counts as not writable.
     ///
-    /// The system reports a change of state once. It reports the state itself to a registration, so this registers the
-    /// descriptor again before it polls.
+    /// The system reports each change of state only once, but reports the current state after a registration. So this
+    /// call registers the descriptor again before it polls.
     fn is_writable(&mut self) -> bool {
         let registered = self.poll.registry().reregister(
             &mut SourceFd(&self.descriptor),

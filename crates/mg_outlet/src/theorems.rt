@@ -1,6 +1,6 @@
 //! What the reader of an outlet gets.
 //!
-//! The functions have empty bodies: their contracts are the theorems. The stream of an outlet is what the other writer
+//! The functions do nothing: their contracts are the theorems. The stream of an outlet is what the other writer
 //! holds, followed by the queue.
 
 ghost use Rattle.std.specs.Prelude.{◌≡◌, ℕ, List, [], ◌++◌, if◌then◌else◌};
@@ -28,8 +28,8 @@ pub fn a_write_appends_to_the_stream<W: Write, R: Ready>(
         (if drops before.now written.rest text then [] else text) }
 {}
 
-/// Until an outlet that ends drops a text, the reader gets everything that was written. After that, it gets the front of
-/// it: what is dropped is the end.
+/// Until an outlet with `Overflow::End` drops a text, the reader gets everything that was written. After that, the
+/// reader gets a prefix: only the end is dropped.
 pub fn the_reader_gets_a_prefix<W: Write, R: Ready>(before: &Outlet<W, R>, after: &Outlet<W, R>)
     ensures flush { (all : List ℕ) → IsFlushed W.contents R.answers before.now after.now →
         BeginsWithStream W.contents all before.now → BeginsWithStream W.contents all after.now }

@@ -1,4 +1,4 @@
-//! Properties of every run, whatever the clock reads. The functions have empty bodies: their contracts are the
+//! Properties of every run, whatever the clock reads. The functions do nothing: their contracts are the
 //! theorems.
 
 ghost use Rattle.mg_pace.specs.Theorems.{Accounted, Bounded, NeverEarly, PaceIsDeterministic};

@@ -45,7 +45,7 @@ impl Playout {
 
     /// Makes an idle play list without a source, with a depth of four places.
     ///
-    /// It allocates memory for the maximum depth. Fails only if the allocation does.
+    /// It allocates memory for the maximum depth. Fails only if the allocation fails.
     pub fn new(alloc: Global) -> Result<Self, AllocError>
         ensures first { IfOk result (λ playout. playout ≡ first_list) }
     {

@@ -1,6 +1,6 @@
 //! Properties of play lists.
 //!
-//! The functions have empty bodies: their contracts are the theorems, in terms of `specs/Order.antt`.
+//! The functions do nothing: their contracts are the theorems, in terms of `specs/Order.antt`.
 
 ghost use Rattle.std.specs.Prelude.{◌≡◌, ◌≢◌, ℕ, ◌+◌, ◌%◌, ◌<◌, ◌≤◌, ℤ, ◌+ℤ◌, pos, List, length, map, Option, Some, None, FitsSigned};
 ghost use Rattle.std.specs.Int.{w16, int_rem_euclid};

@@ -17,7 +17,7 @@ pub enum Item {
     /// The error with which an action is rejected or, if this is the only item, the whole request.
     Fault(ErrorNumber),
     /// The end of an action in this context. The action consists of the items since the end of the previous action.
-    /// They are written in the order topology, commands, errors, whatever order they were put in.
+    /// They are written in the order topology, commands, errors, regardless of the order in which they were added.
     Action(ContextId),
 }
 

@@ -1,6 +1,6 @@
 //! Properties of replies.
 //!
-//! The functions have empty bodies: their contracts are the theorems. A proof that needs a theorem calls its function.
+//! The functions do nothing: their contracts are the theorems. A proof that needs a theorem calls its function.
 
 ghost use Rattle.mg_reply.specs.Theorems.{NoProperPrefix};
 ghost use Rattle.mg_reply.specs.aids.Width.{TooLongByText, AllItemsAreKept};

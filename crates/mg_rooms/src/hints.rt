@@ -11,7 +11,7 @@ pub struct Hints {
 }
 
 impl Hints {
-    /// Returns hints without any place.
+    /// Returns an empty set of hints.
     pub(crate) fn new() -> Hints {
         Hints { places: [0; HINTS] }
     }

@@ -42,7 +42,7 @@ impl Rooms {
 
     /// Makes a gateway without terminations or contexts.
     ///
-    /// Fails only if the allocation does. No other call allocates.
+    /// Fails only if the allocation fails. No other call allocates.
     pub fn new(alloc: Global, limits: Limits) -> Result<Rooms, AllocError>
         requires valid { AreValidLimits limits }
         ensures start { IfOk result (λ rooms. rooms ≡ start_of limits) }

@@ -40,7 +40,7 @@ impl Model for Tables {
 }
 
 impl Tables {
-    /// Makes empty tables. Fails only if the allocation does.
+    /// Makes empty tables. Fails only if the allocation fails.
     pub(crate) fn new(alloc: Global, limits: Limits) -> Result<Tables, AllocError>
         requires valid { AreValidLimits limits }
         ensures value { IfOk result (λ tables. tables ≡ start_of limits) }

@@ -1,6 +1,6 @@
 //! When resources are free or exhausted, and the invariants of terminations and contexts.
 //!
-//! The functions have empty bodies: their contracts are the theorems.
+//! The functions do nothing: their contracts are the theorems.
 
 ghost use Rattle.std.specs.Prelude.{◌≡◌, ℕ, ◌<◌, ◌≤◌, ◌↔◌, ◌⊎◌, None, Ok, Err, IsSome, length};
 ghost use Rattle.mg_words.specs.declared.limits.TheConstants.{CONTEXTS, MEMBERS, LAST_TERMINATION, LAST_CONTEXT};
@@ -35,8 +35,8 @@ pub fn exhausted_resources_are_refused()
         ((CONTEXTS ≤ length w.contexts) ⊎ (LAST_CONTEXT < w.next_context)) }
 {}
 
-/// A new gateway is consistent, and every command preserves that. So it is consistent after any sequence of commands,
-/// and a proof can use this without tables.
+/// A new gateway is consistent, and every command preserves that. So it is consistent after any sequence of commands. A
+/// proof can use this fact even if it has no tables.
 pub fn outcomes_are_consistent()
     ensures start { (limits : Limits) → AreValidLimits limits → limits.first_termination ≤ LAST_TERMINATION →
         IsConsistent (start_of limits) }

@@ -1,4 +1,4 @@
-//! Properties of all datagrams. The functions have empty bodies: their contracts are the theorems.
+//! Properties of all datagrams. The functions do nothing: their contracts are the theorems.
 
 ghost use Rattle.std.specs.Prelude.{◌≡◌, ℕ, List};
 ghost use Rattle.mg_rtp.specs.declared.header.Header.{Header};

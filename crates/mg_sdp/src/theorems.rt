@@ -1,6 +1,6 @@
 //! Properties of session descriptions.
 //!
-//! The functions have empty bodies: their contracts are the theorems. A proof that needs a theorem for particular
+//! The functions do nothing: their contracts are the theorems. A proof that needs a theorem for particular
 //! values calls its function.
 
 ghost use Rattle.std.specs.Prelude.{◌≡◌, ◌≢◌, ℕ, List, [], ◌∷◌, Ok, Some};

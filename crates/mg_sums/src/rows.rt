@@ -106,7 +106,7 @@ impl FrameRow {
         &self.samples
     }
 
-    /// Writes the sums, each limited to 16 bits.
+    /// Writes the sums, each saturated to 16 bits.
     pub fn limit(&mut self, sums: &SumRow)
         ensures limits { (i : ℕ) → i < 160 →
             sample self.new i ≡ nearest_sample (sample sums.now i) }

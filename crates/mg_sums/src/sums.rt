@@ -50,7 +50,7 @@ impl Sums {
 
     /// Makes silent rows that are joined to no room.
     ///
-    /// Fails only if the allocation does. No other call allocates.
+    /// Fails only if the allocation fails. No other call allocates.
     pub fn new(alloc: Global) -> Result<Self, AllocError>
         ensures first { IfOk result (λ sums. sums ≡ first_sums) }
         ensures nowhere { IfOk result (λ sums. (row : ℕ) → room_of sums row ≡ None) }
@@ -113,7 +113,7 @@ impl Sums {
         self.frames[row.number()] = new;
     }
 
-    /// Returns the payload that a listener hears in a room: the total minus the base and the rows of `minus`, limited
+    /// Returns the payload that a listener hears in a room: the total minus the base and the rows of `minus`, saturated
     /// once.
     ///
     /// The base is the listener's own row, or `None` if the listener does not talk. `minus` lists the rows that are
@@ -136,7 +136,7 @@ impl Sums {
         encode_frame(law, self.mix.frame())
     }
 
-    /// Returns sample `i` of a room's total, which is not limited.
+    /// Returns sample `i` of a room's total, without saturation.
     ///
     /// Its magnitude is at most 32768 times the maximum number of terminations.
     pub fn total(&self, room: Room, i: usize) -> &i32

@@ -1,6 +1,6 @@
 //! Properties of totals and mixes, however they are stored.
 //!
-//! The functions have empty bodies: their contracts are the theorems.
+//! The functions do nothing: their contracts are the theorems.
 
 ghost use Rattle.std.specs.Prelude.{◌≡◌, ℕ, ◌++◌, List, Option, map};
 ghost use Rattle.std.specs.List.{range_with_len};
@@ -13,7 +13,7 @@ pub fn order_does_not_matter()
         total_of kept room i ≡ sum_of (sample_in kept.frames i) rows }
 {}
 
-/// If a room has the base row, the rows of `minus`, and others, then a mix is the sum of the others, limited once.
+/// If a room has the base row, the rows of `minus`, and others, then a mix is the sum of the others, saturated once.
 pub fn others_are_heard()
     ensures heard { (kept : SumsState) (room i : ℕ) (base : Option ℕ) (minus others : List ℕ) →
         AreAllOfRoom kept.rooms room (left_out_by base minus ++ others) →

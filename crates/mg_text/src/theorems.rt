@@ -1,6 +1,6 @@
 //! Properties of all datagrams.
 //!
-//! The functions have empty bodies: their contracts are the theorems.
+//! The functions do nothing: their contracts are the theorems.
 
 ghost use Rattle.std.specs.Prelude.{◌≡◌, ℕ, List, Option};
 ghost use Rattle.mg_scan.specs.declared.fault.ScanFault.{ScanFault};
@@ -30,8 +30,8 @@ fn bytes_are_tokens(source: &[u8])
     }
 }
 
-/// Each datagram reads in one way, and only in one: as a message with its tree, as a message of another version, as one
-/// that exceeds a limit, or as no message.
+/// Each datagram has exactly one reading: as a message with its tree, as a message of another version, as one that
+/// exceeds a limit, or as no message.
 pub fn one_reading(source: &[u8])
     ensures some { (reading : MessageReading) × IsMessageReading source.now reading }
     ensures at_most_one { (bytes : List ℕ) (a b : MessageReading) →

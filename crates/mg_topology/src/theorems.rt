@@ -1,6 +1,6 @@
 //! What the edits in a context determine, however they are stored.
 //!
-//! The functions have empty bodies: their contracts are the theorems. A proof that needs a theorem calls its function.
+//! The functions do nothing: their contracts are the theorems. A proof that needs a theorem calls its function.
 //! Lists of edits start with the newest.
 
 ghost use Rattle.std.specs.Prelude.{◌≡◌, ◌≢◌, ℕ, ◌<◌, ◌≤◌, ◌^◌, [], ◌∷◌, ◌++◌, ◌==◌, ◌||◌, ◌↔◌, Bool, List, Some, IsTrue, IsFalse, Any, Contains};

@@ -10,9 +10,9 @@ pub enum Mode {
     /// Neither sends nor receives.
     #[default]
     Inactive,
-    /// Sends and does not receive: it hears the context and is not heard.
+    /// Sends but does not receive: it hears the context but is not heard.
     SendOnly,
-    /// Receives and does not send: it is heard in the context and does not hear it.
+    /// Receives but does not send: it is heard in the context but does not hear it.
     ReceiveOnly,
     /// Sends and receives.
     SendReceive,

@@ -10,13 +10,13 @@ use Rattle.mg_journal.specs.declared.append_fault.AppendFault.TheVariants.{Refus
 use Rattle.mg_journal.specs.declared.durability.Durability.{Durability}
 use Rattle.mg_journal.specs.declared.durability.Durability.TheVariants.{Written, Synced}
 use Rattle.mg_journal.specs.Text.{whole_lines, IsWhole}
-use Rattle.mg_journal.specs.Journal.{JournalState, Appends, is_final}
+use Rattle.mg_journal.specs.Journal.{JournalState, Appends, is_final, is_synced}
 use Rattle.mg_journal.specs.JournalFile.{FileState, grown, cut_to, synced}
-use Rattle.mg_journal.specs.aids.Appending.{IsJournal, Leaves, is_synced, journal_in}
+use Rattle.mg_journal.specs.aids.Appending.{IsJournal, Leaves, journal_in}
 use Rattle.mg_journal.proofs.TextLemmas.{whole_after, whole_more}
 
-abbrev state : (text synced : Option (List ℕ)) (syncs is_broken : Bool) → JournalState
-state text synced syncs is_broken = record { text = text; synced = synced; syncs = syncs; is_broken = is_broken }
+abbrev state : (text synced : Option (List ℕ)) (is_broken : Bool) → JournalState
+state text synced is_broken = record { text = text; synced = synced; is_broken = is_broken }
 
 abbrev file_state : (bytes synced : Option (List ℕ)) → FileState
 file_state bytes synced = record { bytes = bytes; synced = synced }
@@ -82,13 +82,13 @@ within_whole (Some bytes) len on = omega (arith, on.1)
 pub put : (durability : Durability) (file new : FileState) (len : ℕ) (lines : List ℕ) → IsJournal file len false
     → IsWhole lines → new ≡ (if is_synced durability then synced (grown file lines) else grown file lines)
     → IsJournal new (len + length lines) false
-    × Appends lines (journal_in file (is_synced durability) false) (journal_in new (is_synced durability) false) (Ok tt)
+    × Appends lines durability (journal_in file false) (journal_in new false) (Ok tt)
 put Synced file new len lines on whole is =
     let text = text_grown file.bytes len lines on.0 whole in
     let fits = whole_grown file.bytes len lines on.0 whole in (
       subst (λ (f : FileState). IsJournal f (len + length lines) false) (sym is)
           (fits, within_whole (append_known file.bytes lines) (len + length lines) fits),
-      (refl, ap (λ (f : FileState). journal_in f true false) is ∙ ap (λ (known : Option (List ℕ)). state known known true false) text),
+      (refl, ap (λ (f : FileState). journal_in f false) is ∙ ap (λ (known : Option (List ℕ)). state known known false) text),
     )
 put Written file new len lines on whole is =
     let text = text_grown file.bytes len lines on.0 whole in (
@@ -96,8 +96,8 @@ put Written file new len lines on whole is =
           (whole_grown file.bytes len lines on.0 whole, within_grown file.synced len (length lines) on.1),
       (
         refl,
-        ap (λ (f : FileState). journal_in f false false) is
-            ∙ ap (λ (known : Option (List ℕ)). state known (text_in file.synced) false false) text,
+        ap (λ (f : FileState). journal_in f false) is
+            ∙ ap (λ (known : Option (List ℕ)). state known (text_in file.synced) false) text,
       ),
     )
 
@@ -118,21 +118,21 @@ cut_off file len more on =
     ∙ ap (λ (known : Option (List ℕ)). file_state file.bytes known) (cut_synced file.synced len on.1)
 
 -- the lines weren't appended, or the journal is broken
-pub left : (fault : AppendFault) (syncs : Bool) (file new : FileState) (len : ℕ) (lines : List ℕ) → IsJournal file len false
-    → Leaves lines len file new fault
+pub left : (fault : AppendFault) (durability : Durability) (file new : FileState) (len : ℕ) (lines : List ℕ)
+    → IsJournal file len false → Leaves lines len file new fault
     → IsJournal new len (is_final fault)
-    × Appends lines (journal_in file syncs false) (journal_in new syncs (is_final fault)) (Err fault)
-left Refused syncs file new len lines on is =
+    × Appends lines durability (journal_in file false) (journal_in new (is_final fault)) (Err fault)
+left Refused durability file new len lines on is =
     let same : new ≡ file = is.1 ∙ cut_off file len (take is.0 lines) on in (
       subst (λ (f : FileState). IsJournal f len false) (sym same) on,
-      (refl, ap (λ (f : FileState). journal_in f syncs false) same),
+      (refl, ap (λ (f : FileState). journal_in f false) same),
     )
-left Broken syncs file new len lines on is = (
+left Broken durability file new len lines on is = (
   tt,
   record {
     front = is.0;
-    state = ap (λ (f : FileState). journal_in f syncs true) is.1
-        ∙ ap (λ (known : Option (List ℕ)). state known (text_in file.synced) syncs true) (text_more file.bytes len (take is.0 lines) on.0);
+    state = ap (λ (f : FileState). journal_in f true) is.1
+        ∙ ap (λ (known : Option (List ℕ)). state known (text_in file.synced) true) (text_more file.bytes len (take is.0 lines) on.0);
     none = λ was. absurd cc;
   },
 )
@@ -143,25 +143,25 @@ pub put_as : (was : Bool) (durability : Durability) (file new : FileState) (len 
     → IsJournal file len was → IsWhole lines
     → new ≡ (if is_synced durability then synced (grown file lines) else grown file lines)
     → IsJournal new (len + length lines) was
-    × Appends lines (journal_in file (is_synced durability) was) (journal_in new (is_synced durability) was) (Ok tt)
+    × Appends lines durability (journal_in file was) (journal_in new was) (Ok tt)
 put_as true durability file new len lines works on whole is = absurd cc
 put_as false durability file new len lines works on whole is = put durability file new len lines on whole is
 
-pub left_as : (was : Bool) (fault : AppendFault) (syncs : Bool) (file new : FileState) (len : ℕ) (lines : List ℕ) → was ≡ false
-    → IsJournal file len was → Leaves lines len file new fault
+pub left_as : (was : Bool) (fault : AppendFault) (durability : Durability) (file new : FileState) (len : ℕ) (lines : List ℕ)
+    → was ≡ false → IsJournal file len was → Leaves lines len file new fault
     → IsJournal new len (is_final fault)
-    × Appends lines (journal_in file syncs was) (journal_in new syncs (is_final fault)) (Err fault)
-left_as true fault syncs file new len lines works on is = absurd cc
-left_as false fault syncs file new len lines works on is = left fault syncs file new len lines on is
+    × Appends lines durability (journal_in file was) (journal_in new (is_final fault)) (Err fault)
+left_as true fault durability file new len lines works on is = absurd cc
+left_as false fault durability file new len lines works on is = left fault durability file new len lines on is
 
 -- a broken journal was left alone
-pub still_broken : (was : Bool) (file : FileState) (syncs : Bool) (lines : List ℕ) → was ≡ true
-    → Appends lines (journal_in file syncs was) (journal_in file syncs was) (Err Broken)
+pub still_broken : (old : JournalState) (durability : Durability) (lines : List ℕ) → old.is_broken ≡ true
+    → Appends lines durability old old (Err Broken)
 unfolding whole_lines
-still_broken was file syncs lines broken = record {
+still_broken old durability lines broken = record {
   front = 0;
-  state = ap (λ (known : Option (List ℕ)). state known (text_in file.synced) syncs was) (sym (known_nil (text_in file.bytes)))
-      ∙ ap (λ (b : Bool). state (append_known (text_in file.bytes) []) (text_in file.synced) syncs b) broken;
+  state = ap (λ (known : Option (List ℕ)). state known old.synced old.is_broken) (sym (known_nil old.text))
+      ∙ ap (λ (b : Bool). state (append_known old.text []) old.synced b) broken;
   none = λ was. refl;
 }
 

@@ -1,5 +1,5 @@
 -- A file that is measured, read and cut before lines are appended to it.
-use Rattle.std.proofs.Common.{◌≡◌, ℕ, ◌+◌, ◌-◌, ◌≤◌, false, List, [], ◌++◌, length, take, drop, Option, Some, None, Result, Ok, Err, IfSome, OnOk, refl, ap, sym, ◌∙◌, subst, arith, append_assoc, append-nil, length-append}
+use Rattle.std.proofs.Common.{◌≡◌, ℕ, ◌+◌, ◌-◌, ◌<◌, ◌≤◌, false, IfOk, List, [], ◌++◌, length, take, drop, Option, Some, None, Result, Ok, Err, IfSome, OnOk, refl, ap, sym, ◌∙◌, subst, arith, append_assoc, append-nil, length-append}
 use Rattle.std.proofs.lemmas.List.{drop-append-le, drop_all, length-drop, length-take, length-take-le, take-append-drop, take-append-le, take_all, take_at}
 use Rattle.std.proofs.Math.Seq.{drop-append-add}
 use Rattle.std.specs.Option.{option_map}
@@ -7,7 +7,7 @@ use Rattle.std.specs.Io.KnownBytes.{Consumes}
 use Rattle.std.proofs.KnownBytes.{starts_with_rest}
 use Rattle.mg_journal.specs.declared.extent.Extent.{Extent}
 use Rattle.mg_journal.specs.Text.{whole_lines, IsWhole}
-use Rattle.mg_journal.specs.JournalFile.{FileState, Cuts, HasAt, cut_to}
+use Rattle.mg_journal.specs.JournalFile.{FileState, Cuts, HasAt, ReadsAt, cut_to}
 use Rattle.mg_journal.specs.Opening.{IsSound, IsWithin, text_in}
 use Rattle.mg_journal.specs.aids.Appending.{IsJournal}
 use Rattle.mg_journal.specs.aids.Opening.{IsExtent, HasExtent, HasFront}
@@ -98,6 +98,23 @@ pub consumes : (file : FileState) (extent : Extent) (at n : ℕ) (part : List �
     (option_map (λ bytes. drop (at + n) (whole_lines bytes)) file.bytes) part
 consumes file extent at n part is within size has =
     consumes_of file.bytes file.synced extent at n part is within size has
+
+-- the front of the whole lines was copied
+pub nothing_taken : (known : Option (List ℕ)) → Consumes known known []
+nothing_taken None = tt
+nothing_taken (Some text) = refl
+
+pub peeked : {E : Type 0} (result : Result ℕ E) (file new : FileState) (extent : Extent) (most : ℕ) (buffer rest : List ℕ)
+    → HasExtent file extent → most ≤ extent.whole → 0 < most → length buffer ≡ most → ReadsAt 0 buffer file new result
+    → IfOk result (λ n. (left : Option (List ℕ)) × Consumes (text_in file) left (take n (buffer ++ rest)))
+peeked (Ok n) file new extent most buffer rest is within some size reads = (
+  option_map (λ bytes. drop (0 + n) (whole_lines bytes)) file.bytes,
+  subst (λ (l : List ℕ). Consumes (text_in file) (option_map (λ bytes. drop (0 + n) (whole_lines bytes)) file.bytes) l)
+      (sym (take-append-le n buffer rest reads.0))
+      (consumes file extent 0 n (take n buffer) is (omega (arith, reads.0, size, within))
+      (length-take-le n buffer reads.0) (reads.1 (omega (arith, some, size)))),
+)
+peeked (Err error) file new extent most buffer rest is within some size reads = tt
 
 -- ## Cutting
 

@@ -1,30 +1,39 @@
 -- What appending does to a journal.
-use Rattle.std.specs.Prelude.{◌≡◌, ℕ, Bool, true, false, List, take, Option, Result, Ok, Err}
+use Rattle.std.specs.Prelude.{◌≡◌, ℕ, Bool, true, false, List, take, Option, None, Result, Ok, Err}
 use Rattle.std.specs.Prelude.{if◌then◌else◌}
 use Rattle.std.specs.Io.KnownBytes.{append_known}
 use Rattle.mg_journal.specs.declared.append_fault.AppendFault.{AppendFault}
 use Rattle.mg_journal.specs.declared.append_fault.AppendFault.TheVariants.{Refused, Broken}
+use Rattle.mg_journal.specs.declared.durability.Durability.{Durability}
+use Rattle.mg_journal.specs.declared.durability.Durability.TheVariants.{Written, Synced}
 use Rattle.mg_journal.specs.Text.{whole_lines}
 
 -- What is known about a journal: its text, which is the whole lines that a reader finds, oldest
--- first; the part of the text that a sync has put on the disk; whether each append syncs; and
--- whether the journal is broken. A text that is unknown stays unknown.
+-- first; the part of the text that a sync has put on the disk; and whether the journal is broken. A
+-- text that is unknown stays unknown.
 pub record JournalState : Type 0 where
   pub text : Option (List ℕ)
   pub synced : Option (List ℕ)
-  pub syncs : Bool
   pub is_broken : Bool
+
+-- the state of a journal that doesn't exist: each append fails
+abbrev pub no_journal : JournalState
+no_journal = record { text = None; synced = None; is_broken = true }
 
 -- whether a fault breaks the journal, so that each later append fails
 abbrev pub is_final : AppendFault → Bool
 is_final Refused = false
 is_final Broken = true
 
--- the text grew by these lines, and all of it is on the disk if appends sync
-abbrev pub appended : List ℕ → JournalState → JournalState
-appended lines old = record old {
+abbrev pub is_synced : Durability → Bool
+is_synced Written = false
+is_synced Synced = true
+
+-- the text grew by these lines, and all of it is on the disk if it was synced
+abbrev pub appended : List ℕ → Durability → JournalState → JournalState
+appended lines durability old = record old {
   text = append_known old.text lines;
-  synced = if old.syncs then append_known old.text lines else old.synced;
+  synced = if is_synced durability then append_known old.text lines else old.synced;
 }
 
 -- The journal is broken: nobody knows how many of the lines were written. If it was broken before,
@@ -38,7 +47,9 @@ pub record Breaks (lines : List ℕ) (old new : JournalState) : Type 0 where
   pub none : old.is_broken ≡ true → new ≡ old
 
 -- The lines were appended, or nothing changed, or the journal is broken. A broken journal stays so.
-abbrev pub Appends : List ℕ → JournalState → JournalState → Result (Unit {0}) AppendFault → Type 0
-Appends lines old new (Ok done) = (old.is_broken ≡ false) × (new ≡ appended lines old)
-Appends lines old new (Err Refused) = (old.is_broken ≡ false) × (new ≡ old)
-Appends lines old new (Err Broken) = Breaks lines old new
+abbrev pub Appends : List ℕ → Durability → JournalState → JournalState
+    → Result (Unit {0}) AppendFault → Type 0
+Appends lines durability old new (Ok done) =
+    (old.is_broken ≡ false) × (new ≡ appended lines durability old)
+Appends lines durability old new (Err Refused) = (old.is_broken ≡ false) × (new ≡ old)
+Appends lines durability old new (Err Broken) = Breaks lines old new

@@ -3,8 +3,8 @@ ghost use Rattle.mg_journal.specs.Journal.{is_final};
 
 /// Why lines weren't appended to a journal.
 ///
-/// The two faults call for different reactions. After `Refused`, the caller may go on. After `Broken`, it has to stop: it
-/// can't know whether a restarted program will read the lines.
+/// The two faults call for different reactions. After `Refused`, the caller may continue. After `Broken`, it must stop:
+/// it can't know whether a restarted program will read the lines.
 #[derive(Clone, Copy, Debug, PartialEq, Eq)]
 pub enum AppendFault {
     /// None of the lines was appended. The next append may succeed.

@@ -1,19 +1,23 @@
+ghost use Rattle.std.specs.Prelude.{◌≡◌, IfOk};
+
 use crate::journal_file::JournalFile;
 use crate::opening::Opening;
 use std::fs::{Files, OpenFile, OpenOptions};
 use std::io::{self, ErrorKind, Read, Seek, SeekFrom, Write};
 
-/// A file of the operating system. Nothing is known about it, so what it does is only tested.
+/// A file of the operating system. Contracts say nothing about it, so its behavior is only tested.
 #[derive(Drop)]
 pub struct DiskFile<T: Read + Write + Seek + OpenFile + Drop> {
     file: T,
 }
 
-/// Opens the file of a journal and finds its whole lines. Creates the file if it doesn't exist.
+/// Opens a journal's file and finds its complete lines. Creates the file if it doesn't exist.
 ///
-/// Nothing else may write to the file from now on; no lock prevents it. If the file is created, a crash of the machine may
-/// lose it even after a sync, until the system has written the directory.
-pub fn open_journal<R: Files>(files: &R, path: &str) -> io::Result<Opening<DiskFile<R::File>>> {
+/// Nothing else may write to the file from now on, but no lock enforces this. If the file is created, a crash of the
+/// machine may lose it even after a sync, until the system has written the directory.
+pub fn open_journal<R: Files>(files: &R, path: &str) -> io::Result<Opening<DiskFile<R::File>>>
+    ensures start { IfOk result (λ o. o.read ≡ 0) }
+{
     let file = OpenOptions::new()
         .read(true)
         .append(true)

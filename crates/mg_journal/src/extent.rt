@@ -2,7 +2,7 @@ ghost use Rattle.std.specs.Prelude.{◌≡◌, ℕ, ◌++◌, [], List, length, 
 ghost use Rattle.mg_journal.specs.Text.{whole_lines};
 ghost use Rattle.mg_journal.specs.aids.Opening.{IsExtent};
 
-/// How long a text and its whole lines are, in bytes.
+/// The lengths of a text and of its complete lines, in bytes.
 #[derive(Clone, Copy)]
 pub(crate) struct Extent {
     pub(crate) whole: u64,
@@ -10,7 +10,7 @@ pub(crate) struct Extent {
 }
 
 impl Extent {
-    /// The extent of no bytes.
+    /// Returns the extent of an empty text.
     pub(crate) fn new() -> Self
         ensures value { IsExtent result [] }
     {
@@ -32,7 +32,7 @@ impl Extent {
     }
 }
 
-/// Returns the length of the whole lines of a text: how far its last line feed is.
+/// Returns the length of a text's complete lines, which end with its last line feed.
 fn whole_len(text: &[u8]) -> usize
     ensures value { result ≡ length (whole_lines text.now) }
 {

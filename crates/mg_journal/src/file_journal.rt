@@ -1,5 +1,5 @@
 ghost use Rattle.std.specs.Prelude.{◌≡◌, false, IfSome};
-ghost use Rattle.mg_journal.specs.aids.Appending.{IsJournal, is_synced, journal_in};
+ghost use Rattle.mg_journal.specs.aids.Appending.{IsJournal, journal_in};
 
 use crate::append_fault::AppendFault;
 use crate::durability::Durability;
@@ -9,38 +9,36 @@ use crate::writing::put_lines;
 use std::io;
 use std::marker::Model;
 
-/// A journal in a file. If a write fails, the file is cut back to the lines that it had before.
+/// A journal in a file. If a write fails, the file is truncated to the lines that it had before.
 #[derive(Drop)]
 pub struct FileJournal<F: JournalFile> {
     file: F,
     /// The length of the file, in bytes, unless the journal is broken.
     len: u64,
-    durability: Durability,
     is_broken: bool,
     last_error: Option<io::Error>,
 }
 
 impl<F: JournalFile> Model for FileJournal<F> {
     ghost use Rattle.mg_journal.specs.Journal.{JournalState};
-    ghost use Rattle.mg_journal.specs.aids.Appending.{IsJournal, is_synced, journal_in};
+    ghost use Rattle.mg_journal.specs.aids.Appending.{IsJournal, journal_in};
 
     ghost Value = { JournalState };
 
-    ghost view = { λ j. journal_in (F.file j.file) (is_synced j.durability) j.is_broken };
+    ghost view = { λ j. journal_in (F.file j.file) j.is_broken };
 
     ghost invariant = { λ j. IsJournal (F.file j.file) j.len j.is_broken };
 }
 
 impl<F: JournalFile> FileJournal<F> {
-    /// Makes a journal that continues a file of whole lines.
-    pub(crate) fn new(file: F, len: u64, durability: Durability) -> Self
+    /// Makes a journal that continues a file of complete lines.
+    pub(crate) fn new(file: F, len: u64) -> Self
         requires whole { IsJournal (F.file file) len false }
-        ensures value { result ≡ journal_in (F.file file) (is_synced durability) false }
+        ensures value { result ≡ journal_in (F.file file) false }
     {
         FileJournal {
             file,
             len,
-            durability,
             is_broken: false,
             last_error: None,
         }
@@ -48,12 +46,12 @@ impl<F: JournalFile> FileJournal<F> {
 
     /// Returns the file.
     pub fn file(&self) -> &F
-        ensures value { self.now ≡ journal_in (F.file result.now) self.now.syncs self.now.is_broken }
+        ensures value { self.now ≡ journal_in (F.file result.now) self.now.is_broken }
     {
         &self.file
     }
 
-    /// Returns the error of the file because of which an append failed, the most recent one.
+    /// Returns the file's error that caused the most recent failed append.
     pub fn last_error(&self) -> Option<&io::Error> {
         self.last_error.as_ref()
     }
@@ -62,14 +60,14 @@ impl<F: JournalFile> FileJournal<F> {
 impl<F: JournalFile> Journal for FileJournal<F> {
     ghost journal = { λ j. j };
 
-    fn append(&mut self, lines: &[u8]) -> Result<(), AppendFault> {
+    fn append(&mut self, lines: &[u8], durability: Durability) -> Result<(), AppendFault> {
         if self.is_broken {
             return Err(AppendFault::Broken);
         }
         let Some(len) = self.len.checked_add(lines.len() as u64) else {
             return Err(AppendFault::Refused);
         };
-        match put_lines(lines, self.len, self.durability, &mut self.file) {
+        match put_lines(lines, self.len, durability, &mut self.file) {
             Ok(()) => {
                 self.len = len;
                 Ok(())

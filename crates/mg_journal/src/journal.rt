@@ -3,14 +3,16 @@ ghost use Rattle.mg_journal.specs.Text.{EndsInLineFeed};
 ghost use Rattle.mg_journal.specs.Journal.{JournalState, Appends};
 
 use crate::append_fault::AppendFault;
+use crate::durability::Durability;
 
-/// A text of whole lines to which lines are appended.
+/// A text that consists of complete lines, and to which lines are appended.
 pub trait Journal {
     /// What is known about the journal.
     ghost journal: { Self → JournalState };
 
-    /// Appends lines, the last of which ends in a line feed: all of them or, unless the journal breaks, none.
-    fn append(&mut self, lines: &[u8]) -> Result<(), AppendFault>
+    /// Appends all the lines or, unless the journal breaks, none of them. The last line must end in a line feed.
+    /// `durability` says when the call returns.
+    fn append(&mut self, lines: &[u8], durability: Durability) -> Result<(), AppendFault>
         requires line_feed { EndsInLineFeed lines.now }
-        ensures value { Appends lines.now (journal self.old) (journal self.new) result };
+        ensures value { Appends lines.now durability (journal self.old) (journal self.new) result };
 }

@@ -1,24 +1,25 @@
-//! Journals: files of lines to which lines are appended, whole or not at all.
+//! Journals: files to which lines are appended, all or none.
 //!
 //! A program that appends a line before it acts on it can repeat its actions after a crash:
 //!
 //! ```rust
 //! let mut opening = open_journal(&rt, "journal.txt")?;
 //! run_script(&mut opening)?;
-//! let mut journal = opening.accept(Durability::Synced)?;
-//! match journal.append(b"tick\n") {
+//! let mut journal = opening.accept()?;
+//! match journal.append(b"tick\n", Durability::Synced) {
 //!     Ok(()) => run_tick(),
 //!     Err(AppendFault::Refused) => {}
 //!     Err(AppendFault::Broken) => return Err(journal_failed()),
 //! }
 //! ```
 //!
-//! An [`Opening`] is a reader of the file's whole lines. It leaves the file unchanged until the caller accepts them; then
-//! it cuts off a partial last line, which a crash may have left.
+//! An [`Opening`] reads the file's complete lines. It leaves the file unchanged until the caller accepts these lines.
+//! Then it cuts off a partial last line, which a crash may have left.
 //!
-//! `specs/Text.antt` defines whole lines, and `specs/Journal.antt` what [`Journal::append`] does. A [`FileJournal`] is
-//! proved over what `specs/JournalFile.antt` says about a [`JournalFile`]. A [`MemoryFile`] is proved to meet that. A
-//! [`DiskFile`] claims nothing, because no contract says what the system does with a file.
+//! `specs/Text.antt` defines complete lines, and `specs/Journal.antt` what [`Journal::append`] does. The proof of a
+//! [`FileJournal`] relies only on what `specs/JournalFile.antt` says about a [`JournalFile`]. A [`MemoryFile`] is
+//! proved to satisfy that. Nothing is proved about a [`DiskFile`], because no contract says what the system does with a
+//! file.
 #![tactic(auto)]
 
 mod append_fault;
@@ -35,6 +36,7 @@ mod journal;
 mod journal_file;
 mod memory_file;
 mod opening;
+mod optional;
 mod writing;
 
 pub use crate::append_fault::AppendFault;

@@ -57,7 +57,7 @@ impl MemoryFile {
         &self.bytes.as_slice()[..self.synced]
     }
 
-    /// Begins a call. Returns at how many bytes it stops.
+    /// Begins a call. Returns the number of bytes after which it stops.
     fn begin(&mut self, call: FileCall) -> io::Result<usize>
         ensures bytes { self.new.bytes ≡ self.old.bytes }
         ensures synced { self.new.synced ≡ self.old.synced }

@@ -1,10 +1,10 @@
-ghost use Rattle.std.specs.Prelude.{◌≡◌, ◌+◌, ◌<◌, ◌≤◌, false, length, IfOk, IfSome, OnOk};
+ghost use Rattle.std.specs.Prelude.{◌≡◌, ℕ, ◌+◌, ◌<◌, ◌≤◌, false, length, take, List, Option, IfOk, IfSome, OnOk};
+ghost use Rattle.std.specs.Io.KnownBytes.{Consumes};
 ghost use Rattle.mg_journal.specs.Text.{whole_lines};
 ghost use Rattle.mg_journal.specs.Opening.{IsSound, left_to_read, text_in};
-ghost use Rattle.mg_journal.specs.aids.Appending.{IsJournal, is_synced};
+ghost use Rattle.mg_journal.specs.aids.Appending.{IsJournal};
 ghost use Rattle.mg_journal.specs.aids.Opening.{HasExtent, Measures};
 
-use crate::durability::Durability;
 use crate::extent::Extent;
 use crate::file_journal::FileJournal;
 use crate::journal_file::JournalFile;
@@ -14,15 +14,15 @@ use std::marker::Model;
 /// The maximum number of bytes that are read from a file at once.
 const CHUNK: usize = 64 * 1024;
 
-/// The file of a journal that is read before lines are appended to it.
+/// A journal's file, which is read before lines are appended to it.
 ///
-/// Reading gives the whole lines of the file. If the caller accepts them, [`accept`](Opening::accept) cuts off a partial
-/// last line and returns the journal. Until then the file isn't changed.
+/// Reads return the complete lines of the file. If the caller accepts them, [`accept`](Opening::accept) cuts off a
+/// partial last line and returns the journal. Until then the file isn't changed.
 #[derive(Drop)]
 pub struct Opening<F: JournalFile> {
     file: F,
     extent: Extent,
-    /// How many bytes of the whole lines were read.
+    /// How many bytes of the complete lines were read.
     read: u64,
 }
 
@@ -38,7 +38,7 @@ impl<F: JournalFile> Model for Opening<F> {
     ghost invariant = { λ o. HasExtent (F.file o.file) o.extent × IsSound (F.file o.file) × (o.read ≤ o.extent.whole) };
 }
 
-/// Reads the next bytes of a file and measures them too. Returns `None` if the file ends there.
+/// Reads the next bytes of a file, and adds them to the measured extent. Returns `None` if the file ends there.
 fn measure_part<F: JournalFile>(
     extent: Extent,
     buffer: &mut [u8],
@@ -91,7 +91,7 @@ fn cut_partial<F: JournalFile>(extent: Extent, file: &mut F) -> io::Result<()>
 }
 
 impl<F: JournalFile> Opening<F> {
-    /// Finds the whole lines of a file. Reads all of the file, and doesn't change it.
+    /// Finds the complete lines of a file. Reads all of the file, and doesn't change it.
     pub fn new(mut file: F) -> io::Result<Self>
     where
         F: Drop,
@@ -109,25 +109,40 @@ impl<F: JournalFile> Opening<F> {
         }
     }
 
-    /// Returns the length of the partial last line, in bytes, which isn't read. It is 0 if the file ends in a line feed.
+    /// Returns the length, in bytes, of the partial last line, which reads don't return. It is 0 if the file ends in a
+    /// line feed.
     pub fn partial(&self) -> u64
         ensures value { IfSome self.now.file.bytes (λ bytes. length (whole_lines bytes) + result ≡ length bytes) }
     {
         self.extent.all.saturating_sub(self.extent.whole)
     }
 
+    /// Copies the beginning of the file's complete lines into the buffer, and returns the number of bytes copied, or 0
+    /// if there are no complete lines. The next read is not affected.
+    pub fn peek(&mut self, buffer: &mut [u8]) -> io::Result<usize>
+        ensures same { self.new ≡ self.old }
+        ensures within { IfOk result (λ n. n ≤ length buffer.new) }
+        ensures front { IfOk result (λ n. (rest : Option (List ℕ))
+            × Consumes (text_in self.old.file) rest (take n buffer.new)) }
+    {
+        let most = self.extent.whole.min(buffer.len() as u64) as usize;
+        if most == 0 {
+            return Ok(0);
+        }
+        self.file.read(0, &mut buffer[..most])
+    }
+
     /// Cuts off a partial last line. Returns the journal, to which lines can be appended.
-    pub fn accept(self, durability: Durability) -> io::Result<FileJournal<F>>
+    pub fn accept(self) -> io::Result<FileJournal<F>>
     where
         F: Drop,
         ensures text { IfOk result (λ j. j.text ≡ text_in self.file) }
-        ensures syncs { IfOk result (λ j. j.syncs ≡ is_synced durability) }
         ensures works { IfOk result (λ j. j.is_broken ≡ false) }
     {
         let mut file = self.file;
         let extent = self.extent;
         match cut_partial(extent, &mut file) {
-            Ok(()) => Ok(FileJournal::new(file, extent.whole, durability)),
+            Ok(()) => Ok(FileJournal::new(file, extent.whole)),
             Err(error) => Err(error),
         }
     }

@@ -6,7 +6,7 @@ use crate::failed_append::FailedAppend;
 use crate::journal_file::JournalFile;
 use std::io::{self, ErrorKind};
 
-/// Writes all of `text`. If a write fails, the front of the text was written.
+/// Writes all of `text`. If a write fails, only a prefix of the text was written.
 fn write_whole<F: JournalFile>(text: &[u8], file: &mut F) -> io::Result<()>
     ensures value { Writes text.now (F.file file.old) (F.file file.new) result }
 {

@@ -1,4 +1,6 @@
 ghost use Rattle.std.specs.Prelude.{◌≡◌, ◌≤◌, length, IfOk, IfSome, OnErr};
+ghost use Rattle.std.specs.Option.{option_map_or};
+ghost use Rattle.mg_journal.specs.Journal.{no_journal};
 ghost use Rattle.mg_ports.specs.Calls.{IsCounted, receipt_of};
 
 use crate::arrival::Arrival;
@@ -10,10 +12,12 @@ use crate::port_fault::PortFault;
 use crate::ports::Ports;
 use crate::receipt::Receipt;
 use mg_clock::Timing;
+use mg_journal::{AppendFault, Durability, FileJournal, Journal, MemoryFile};
 use mg_words::Peer;
 use std::alloc::{AllocError, Global};
 
-/// In-memory ports for tests. Each call is logged, as long as there is memory for it.
+/// In-memory ports for tests. Each call is logged, as long as there is memory for it. They have no journal unless one
+/// is added. Lines are appended to it without comments.
 #[derive(Drop)]
 pub struct FakePorts {
     alloc: Global,
@@ -21,6 +25,7 @@ pub struct FakePorts {
     failing: Vec<u64>,
     made: u64,
     failures: u64,
+    journal: Option<FileJournal<MemoryFile>>,
     log: Log,
 }
 
@@ -41,8 +46,8 @@ fn receipt_of(
 }
 
 impl FakePorts {
-    /// Makes ports at which these datagrams are waiting, in this order at each socket. `failing` lists the calls that
-    /// fail, by number, counted from 0 over all sockets.
+    /// Makes ports at which these datagrams are waiting, in this order at each socket. `failing` lists the numbers of
+    /// the receives and sends that fail, counted from 0 across all sockets.
     pub fn new(alloc: Global, waiting: Vec<Arrival>, failing: Vec<u64>) -> Self {
         FakePorts {
             alloc,
@@ -50,7 +55,24 @@ impl FakePorts {
             failing,
             made: 0,
             failures: 0,
+            journal: None,
             log: Log::new(alloc),
+        }
+    }
+
+    /// Adds a journal to these ports.
+    pub fn with_journal(self, journal: FileJournal<MemoryFile>) -> Self {
+        FakePorts {
+            journal: Some(journal),
+            ..self
+        }
+    }
+
+    /// Returns the file of the journal, if there is a journal.
+    pub fn journal_file(&self) -> Option<&MemoryFile> {
+        match &self.journal {
+            Some(journal) => Some(journal.file()),
+            None => None,
         }
     }
 
@@ -59,9 +81,10 @@ impl FakePorts {
         self.log.calls()
     }
 
-    /// Begins a call. Fails if the call's number is in the list of calls that fail.
+    /// Begins a receive or a send. Fails if the call's number is in the list of calls that fail.
     fn begin(&mut self) -> Result<(), PortFault>
         ensures log { self.new.log ≡ self.old.log }
+        ensures journal { self.new.journal ≡ self.old.journal }
         ensures fault { OnErr result (IsCounted self.old.failures self.new.failures) }
     {
         let number = self.made;
@@ -80,6 +103,7 @@ impl FakePorts {
         buffer: &mut [u8],
     ) -> Result<Option<(usize, Peer)>, PortFault>
         ensures log { self.new.log ≡ self.old.log }
+        ensures journal { self.new.journal ≡ self.old.journal }
         ensures within { IfOk result (λ received. IfSome received (λ d. d.0 ≤ length buffer.new)) }
         ensures fault { OnErr result (IsCounted self.old.failures self.new.failures) }
     {
@@ -103,6 +127,8 @@ impl Ports for FakePorts {
     ghost calls = { λ p. p.log };
 
     ghost failed = { λ p. p.failures };
+
+    ghost journal = { λ p. option_map_or (λ j. j) p.journal no_journal };
 
     fn receive(
         &mut self,
@@ -130,6 +156,16 @@ impl Ports for FakePorts {
 
     fn begin_tick(&mut self, timing: Timing) {
         self.log.add_call(Some(Call::BeginTick(timing)));
+    }
+
+    fn append(&mut self, lines: &[u8], durability: Durability) -> Result<(), AppendFault> {
+        let answer = self.journal.append(lines, durability);
+        let call = match Payload::new(self.alloc, lines) {
+            Ok(lines) => Some(Call::Append(lines, durability, answer)),
+            Err(_) => None,
+        };
+        self.log.add_call(call);
+        answer
     }
 
     fn failures(&self) -> u64 {

@@ -1,10 +1,10 @@
-//! The UDP sockets of a gateway, by number.
+//! The UDP sockets of a gateway, by number, and its journal.
 //!
 //! Socket 0 is the control socket, and socket s + 1 is the media socket of slot s of the pool.
 //!
-//! [`Ports`] is what a gateway needs from its sockets: to receive a datagram without blocking, to send one, and to
-//! count the calls that failed. [`FakePorts`] provides in-memory ports for tests: it returns given datagrams, fails on
-//! chosen calls, and logs each call.
+//! [`Ports`] is what a gateway needs from its sockets and its journal: to receive a datagram without blocking, to send
+//! one, to append lines to the journal, and to count the receives and sends that failed. [`FakePorts`] provides
+//! in-memory ports for tests: it returns given datagrams, fails on chosen calls, and logs each call.
 //!
 //! ```rust
 //! let mut ports = FakePorts::new(alloc, waiting, failing);
@@ -14,8 +14,9 @@
 //! }
 //! ```
 //!
-//! Contracts describe ports by the calls on them (`specs/Calls.antt`). Ports may log each receive with its result, and
-//! each send with its arguments. The ports of an operating system log nothing.
+//! Contracts describe ports by the calls on them (`specs/Calls.antt`) and by what these do to the journal
+//! (`specs/Journaled.antt`). Ports may log each receive with its result, each send with its arguments, and each append
+//! with both, in one list, which shows their order. The ports of an operating system log nothing.
 #![tactic(auto)]
 
 mod arrival;
@@ -37,4 +38,5 @@ pub use crate::port_fault::PortFault;
 pub use crate::ports::Ports;
 pub use crate::receipt::Receipt;
 pub use mg_clock::Timing;
+pub use mg_journal::{AppendFault, Durability};
 pub use mg_words::Peer;

@@ -3,7 +3,7 @@ ghost use Rattle.std.specs.Prelude.{◌≡◌, IfOk};
 use std::alloc::{AllocError, Global};
 use std::marker::Model;
 
-/// The bytes of a UDP datagram. In contracts, they appear as a list.
+/// The bytes of a UDP datagram, or lines for a journal. In contracts, they appear as a list.
 #[derive(Drop)]
 pub struct Payload {
     bytes: Vec<u8>,

@@ -1,21 +1,28 @@
 ghost use Rattle.std.specs.Prelude.{◌≡◌, ℕ, ◌≤◌, [], ◌∷◌, length, List, Option, None, IfOk, IfSome, OnErr};
 ghost use Rattle.mg_ports.specs.declared.call.Call.{Call};
-ghost use Rattle.mg_ports.specs.declared.call.Call.TheVariants.{Receive, Send, BeginTick};
+ghost use Rattle.mg_ports.specs.declared.call.Call.TheVariants.{Receive, Send, BeginTick, Append};
+ghost use Rattle.mg_journal.specs.Text.{EndsInLineFeed};
+ghost use Rattle.mg_journal.specs.Journal.{JournalState, no_journal};
 ghost use Rattle.mg_ports.specs.Calls.{Logged, IsCounted, receipt_of};
+ghost use Rattle.mg_ports.specs.Journaled.{AppendsDated};
 
 use crate::failure_causes::FailureCauses;
 use crate::port_fault::PortFault;
 use mg_clock::Timing;
+use mg_journal::{AppendFault, Durability};
 use mg_words::Peer;
 
-/// The UDP sockets of a gateway, by number. Socket 0 is the control socket, and socket s + 1 is the media socket of
-/// slot s of the pool.
+/// The UDP sockets of a gateway, by number, and its journal. Socket 0 is the control socket, and socket s + 1 is the
+/// media socket of slot s of the pool.
 pub trait Ports {
     /// All calls so far, if they are known.
     ghost calls: { Self → Option (List Call) } = { λ _. None };
 
     /// How many receives and sends failed.
     ghost failed: { Self → ℕ };
+
+    /// What is known about the journal.
+    ghost journal: { Self → JournalState } = { λ _. no_journal };
 
     /// Receives a datagram if one is waiting.
     ///
@@ -28,17 +35,27 @@ pub trait Ports {
     ) -> Result<Option<(usize, Peer)>, PortFault>
         ensures within { IfOk result (λ received. IfSome received (λ d. d.0 ≤ length buffer.new)) }
         ensures logged { Logged (calls self.old) (calls self.new) (Receive socket (receipt_of result buffer.new) ∷ []) }
-        ensures fault { OnErr result (IsCounted (failed self.old) (failed self.new)) };
+        ensures fault { OnErr result (IsCounted (failed self.old) (failed self.new)) }
+        ensures journal { journal self.new ≡ journal self.old };
 
     /// Sends a datagram. It never blocks.
     fn send(&mut self, socket: usize, to: Peer, bytes: &[u8]) -> Result<(), PortFault>
         ensures logged { Logged (calls self.old) (calls self.new) (Send socket to bytes.now ∷ []) }
-        ensures fault { OnErr result (IsCounted (failed self.old) (failed self.new)) };
+        ensures fault { OnErr result (IsCounted (failed self.old) (failed self.new)) }
+        ensures journal { journal self.new ≡ journal self.old };
 
     /// Begins a tick, whose packets are sent next. If the tick is late, every send from a media socket fails until the
     /// next tick.
     fn begin_tick(&mut self, timing: Timing)
-        ensures logged { Logged (calls self.old) (calls self.new) (BeginTick timing ∷ []) };
+        ensures logged { Logged (calls self.old) (calls self.new) (BeginTick timing ∷ []) }
+        ensures journal { journal self.new ≡ journal self.old };
+
+    /// Appends all the lines to the journal or, unless the journal breaks, none of them. The last line must end in a
+    /// line feed. A comment with the time of day may precede the lines. Fails if there is no journal.
+    fn append(&mut self, lines: &[u8], durability: Durability) -> Result<(), AppendFault>
+        requires line_feed { EndsInLineFeed lines.now }
+        ensures logged { Logged (calls self.old) (calls self.new) (Append lines.now durability result ∷ []) }
+        ensures journal { AppendsDated lines.now durability (journal self.old) (journal self.new) result };
 
     /// Returns how many receives and sends failed. A count that reaches its maximum stays there.
     fn failures(&self) -> u64

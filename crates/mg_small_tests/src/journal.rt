@@ -31,7 +31,7 @@ fn opening(
 
 /// Makes a journal in a file that holds the line `tick`, with these faults.
 fn journal(alloc: Global, faults: &[InjectedFault]) -> io::Result<FileJournal<MemoryFile>> {
-    opening(alloc, b"tick\n", faults)?.accept(Durability::Synced)
+    opening(alloc, b"tick\n", faults)?.accept()
 }
 
 /// Returns the kind of the last error of a journal.
@@ -52,9 +52,9 @@ fn appends_and_syncs_lines(rt: HostRuntime) -> Result<(), Fail> {
         ),
     ];
     let mut journal = journal(rt.alloc(), &faults)?;
-    assert_eq!(rt; journal.append(b"one\ntwo\n"), Ok(()));
+    assert_eq!(rt; journal.append(b"one\ntwo\n", Durability::Synced), Ok(()));
     assert_eq!(rt; journal.file().bytes(), b"tick\none\ntwo\n".as_slice());
-    assert_eq!(rt; journal.append(b"three\n"), Ok(()));
+    assert_eq!(rt; journal.append(b"three\n", Durability::Synced), Ok(()));
     assert_eq!(rt;
         journal.file().bytes(),
         b"tick\none\ntwo\nthree\n".as_slice()
@@ -67,10 +67,14 @@ fn appends_and_syncs_lines(rt: HostRuntime) -> Result<(), Fail> {
 #[test]
 fn appends_without_a_sync(rt: HostRuntime) -> Result<(), Fail> {
     let faults = [fault(FileCall::Sync, 0, FULL)];
-    let mut journal = opening(rt.alloc(), b"", &faults)?.accept(Durability::Written)?;
-    assert_eq!(rt; journal.append(b"one\n"), Ok(()));
+    let mut journal = opening(rt.alloc(), b"", &faults)?.accept()?;
+    assert_eq!(rt; journal.append(b"one\n", Durability::Written), Ok(()));
     assert_eq!(rt; journal.file().bytes(), b"one\n".as_slice());
     assert_eq!(rt; journal.file().synced(), b"".as_slice());
+    assert_eq!(rt;
+        journal.append(b"two\n", Durability::Synced),
+        Err(AppendFault::Broken)
+    );
     Ok(())
 }
 
@@ -87,12 +91,15 @@ fn refuses_lines_that_cannot_be_written(rt: HostRuntime) -> Result<(), Fail> {
             fault(FileCall::Write, 2, effect),
         ];
         let mut journal = journal(rt.alloc(), &faults)?;
-        assert_eq!(rt; journal.append(b"one\n"), Ok(()));
-        assert_eq!(rt; journal.append(b"two\nthree\n"), Err(AppendFault::Refused));
+        assert_eq!(rt; journal.append(b"one\n", Durability::Synced), Ok(()));
+        assert_eq!(rt;
+            journal.append(b"two\nthree\n", Durability::Synced),
+            Err(AppendFault::Refused)
+        );
         assert_eq!(rt; last_kind(&journal), Some(kind));
         assert_eq!(rt; journal.file().bytes(), b"tick\none\n".as_slice());
         assert_eq!(rt; journal.file().synced(), b"tick\none\n".as_slice());
-        assert_eq!(rt; journal.append(b"four\n"), Ok(()));
+        assert_eq!(rt; journal.append(b"four\n", Durability::Synced), Ok(()));
         assert_eq!(rt; journal.file().bytes(), b"tick\none\nfour\n".as_slice());
     }
     Ok(())
@@ -107,9 +114,15 @@ fn breaks_if_a_line_cannot_be_cut_off(rt: HostRuntime) -> Result<(), Fail> {
         fault(FileCall::Cut, 0, FaultEffect::Fail(ErrorKind::Other)),
     ];
     let mut journal = journal(rt.alloc(), &faults)?;
-    assert_eq!(rt; journal.append(b"one\ntwo\n"), Err(AppendFault::Broken));
+    assert_eq!(rt;
+        journal.append(b"one\ntwo\n", Durability::Synced),
+        Err(AppendFault::Broken)
+    );
     assert_eq!(rt; last_kind(&journal), Some(ErrorKind::Other));
-    assert_eq!(rt; journal.append(b"three\n"), Err(AppendFault::Broken));
+    assert_eq!(rt;
+        journal.append(b"three\n", Durability::Synced),
+        Err(AppendFault::Broken)
+    );
     assert_eq!(rt; journal.file().bytes(), b"tick\none\ntw".as_slice());
     assert!(rt; AppendFault::Broken.is_final());
     assert!(rt; !AppendFault::Refused.is_final());
@@ -117,18 +130,38 @@ fn breaks_if_a_line_cannot_be_cut_off(rt: HostRuntime) -> Result<(), Fail> {
 }
 
 #[test]
+fn fails_without_a_journal(rt: HostRuntime) -> Result<(), Fail> {
+    let mut none: Option<FileJournal<MemoryFile>> = None;
+    assert_eq!(rt;
+        none.append(b"one\n", Durability::Synced),
+        Err(AppendFault::Broken)
+    );
+    let mut some = Some(journal(rt.alloc(), &[])?);
+    assert_eq!(rt; some.append(b"one\n", Durability::Synced), Ok(()));
+    let bytes = some.as_ref().map(|journal| journal.file().bytes());
+    assert_eq!(rt; bytes, Some(b"tick\none\n".as_slice()));
+    Ok(())
+}
+
+#[test]
 fn breaks_if_a_sync_fails(rt: HostRuntime) -> Result<(), Fail> {
     let faults = [fault(FileCall::Sync, 1, FULL)];
     let mut journal = journal(rt.alloc(), &faults)?;
-    assert_eq!(rt; journal.append(b"one\n"), Ok(()));
-    assert_eq!(rt; journal.append(b"two\n"), Err(AppendFault::Broken));
-    assert_eq!(rt; journal.append(b"three\n"), Err(AppendFault::Broken));
+    assert_eq!(rt; journal.append(b"one\n", Durability::Synced), Ok(()));
+    assert_eq!(rt;
+        journal.append(b"two\n", Durability::Synced),
+        Err(AppendFault::Broken)
+    );
+    assert_eq!(rt;
+        journal.append(b"three\n", Durability::Synced),
+        Err(AppendFault::Broken)
+    );
     assert_eq!(rt; journal.file().bytes(), b"tick\none\ntwo\n".as_slice());
     assert_eq!(rt; journal.file().synced(), b"tick\none\n".as_slice());
     Ok(())
 }
 
-/// Only the whole lines are read, and a partial last line is cut off once they are accepted.
+/// Only the complete lines are read, and a partial last line is cut off once they are accepted.
 #[test]
 fn opens_whole_lines(rt: HostRuntime) -> Result<(), Fail> {
     let texts: [(&[u8], &[u8]); 5] = [
@@ -150,12 +183,28 @@ fn opens_whole_lines(rt: HostRuntime) -> Result<(), Fail> {
         let mut read = Vec::new(rt.alloc());
         opening.read_to_end(&mut read)?;
         assert_eq!(rt; read.as_slice(), whole);
-        let mut journal = opening.accept(Durability::Synced)?;
+        let mut journal = opening.accept()?;
         assert_eq!(rt; journal.file().bytes(), whole);
-        assert_eq!(rt; journal.append(b"three\n"), Ok(()));
+        assert_eq!(rt; journal.append(b"three\n", Durability::Synced), Ok(()));
         read.extend_from_slice(b"three\n")?;
         assert_eq!(rt; journal.file().bytes(), read.as_slice());
     }
+    Ok(())
+}
+
+#[test]
+fn peeks_at_whole_lines(rt: HostRuntime) -> Result<(), Fail> {
+    let mut opening = opening(rt.alloc(), b"one\ntwo\nth", &[])?;
+    let mut front = [0; 5];
+    assert_eq!(rt; opening.peek(&mut front)?, 5);
+    assert_eq!(rt; front, *b"one\nt");
+    opening.read_exact(&mut front)?;
+    let mut all = [0; 16];
+    assert_eq!(rt; opening.peek(&mut all)?, 8);
+    assert_eq!(rt; &all[..8], b"one\ntwo\n".as_slice());
+    let mut rest = Vec::new(rt.alloc());
+    opening.read_to_end(&mut rest)?;
+    assert_eq!(rt; rest.as_slice(), b"wo\n".as_slice());
     Ok(())
 }
 
@@ -180,7 +229,7 @@ fn opens_long_files(rt: HostRuntime) -> Result<(), Fail> {
     let mut read = Vec::new(rt.alloc());
     opening.read_to_end(&mut read)?;
     assert!(rt; read.as_slice() == whole.as_slice());
-    let journal = opening.accept(Durability::Written)?;
+    let journal = opening.accept()?;
     assert!(rt; journal.file().bytes() == whole.as_slice());
     Ok(())
 }
@@ -194,13 +243,13 @@ fn reports_errors_at_opening(rt: HostRuntime) -> Result<(), Fail> {
         Some(ErrorKind::StorageFull)
     );
     let uncut = [fault(FileCall::Cut, 0, FULL)];
-    let accepted = opening(rt.alloc(), b"one\ntwo", &uncut)?.accept(Durability::Synced);
+    let accepted = opening(rt.alloc(), b"one\ntwo", &uncut)?.accept();
     assert_eq!(rt;
         accepted.err().map(|e| e.kind()),
         Some(ErrorKind::StorageFull)
     );
     // There is nothing to cut off.
-    let whole = opening(rt.alloc(), b"one\n", &uncut)?.accept(Durability::Synced)?;
+    let whole = opening(rt.alloc(), b"one\n", &uncut)?.accept()?;
     assert_eq!(rt; whole.file().bytes(), b"one\n".as_slice());
     Ok(())
 }
@@ -220,9 +269,9 @@ fn keeps_a_journal_on_disk(rt: HostRuntime) -> Result<(), Fail> {
         (Durability::Synced, b"one\n"),
         (Durability::Written, b"two\n"),
     ] {
-        let mut journal = open_journal(&rt, path.as_str())?.accept(durability)?;
-        assert_eq!(rt; journal.append(line), Ok(()));
-        assert_eq!(rt; journal.append(b"tick\n"), Ok(()));
+        let mut journal = open_journal(&rt, path.as_str())?.accept()?;
+        assert_eq!(rt; journal.append(line, durability), Ok(()));
+        assert_eq!(rt; journal.append(b"tick\n", durability), Ok(()));
     }
     let text = fs::read(&rt, path.as_str())?;
     assert_eq!(rt; text.as_slice(), b"one\ntick\ntwo\ntick\n".as_slice());
@@ -242,8 +291,8 @@ fn cuts_a_file_only_once_it_is_accepted(rt: HostRuntime) -> Result<(), Fail> {
     assert_eq!(rt; read.as_slice(), b"one\n".as_slice());
     let text = fs::read(&rt, path.as_str())?;
     assert_eq!(rt; text.as_slice(), b"one\ntw".as_slice());
-    let mut journal = open_journal(&rt, path.as_str())?.accept(Durability::Synced)?;
-    assert_eq!(rt; journal.append(b"three\n"), Ok(()));
+    let mut journal = open_journal(&rt, path.as_str())?.accept()?;
+    assert_eq!(rt; journal.append(b"three\n", Durability::Synced), Ok(()));
     let text = fs::read(&rt, path.as_str())?;
     assert_eq!(rt; text.as_slice(), b"one\nthree\n".as_slice());
     fs::remove_file(&rt, path.as_str())?;
@@ -263,7 +312,7 @@ fn never_extends_a_file(rt: HostRuntime) -> Result<(), Fail> {
         read.err().map(|e| e.kind()),
         Some(ErrorKind::UnexpectedEof)
     );
-    let accepted = opening.accept(Durability::Synced);
+    let accepted = opening.accept();
     assert_eq!(rt;
         accepted.err().map(|e| e.kind()),
         Some(ErrorKind::UnexpectedEof)

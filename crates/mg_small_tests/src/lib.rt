@@ -7,6 +7,8 @@
 #[cfg(test)]
 mod clock;
 #[cfg(test)]
+mod dates;
+#[cfg(test)]
 mod flow;
 #[cfg(test)]
 mod g711;

@@ -1,7 +1,12 @@
 //! In-memory ports.
 
-use mg_ports::{Arrival, Call, FakePorts, Payload, Peer, PortFault, Ports, Receipt, Timing};
+use mg_journal::{FaultEffect, FileCall, InjectedFault, MemoryFile, Opening};
+use mg_ports::{
+    AppendFault, Arrival, Call, Durability, FakePorts, Payload, Peer, PortFault, Ports, Receipt,
+    Timing,
+};
 use std::alloc::{AllocError, Global};
+use std::io::{self, ErrorKind};
 use std::test::Fail;
 
 const CALLER: Peer = Peer {
@@ -108,5 +113,112 @@ fn logs_its_calls(rt: HostRuntime) -> Result<(), Fail> {
         _ => false,
     };
     assert!(rt; is_told);
+    Ok(())
+}
+
+/// Returns ports without datagrams, whose journal is in a file with these faults.
+fn with_journal(alloc: Global, faults: &[InjectedFault]) -> io::Result<FakePorts> {
+    let file = MemoryFile::new(Vec::new(alloc), faults.to_vec(alloc)?);
+    let journal = Opening::new(file)?.accept()?;
+    Ok(FakePorts::new(alloc, Vec::new(alloc), Vec::new(alloc)).with_journal(journal))
+}
+
+/// Returns whether a call appends these lines, with this durability and outcome.
+fn is_append(
+    call: &Call,
+    text: &[u8],
+    durability: Durability,
+    outcome: Result<(), AppendFault>,
+) -> bool {
+    match call {
+        Call::Append(lines, how, answer) => {
+            lines.as_slice() == text && *how == durability && *answer == outcome
+        }
+        _ => false,
+    }
+}
+
+/// Sends and appends appear in one list, in their order.
+#[test]
+fn logs_appends_between_sends(rt: HostRuntime) -> Result<(), Fail> {
+    let mut ports = with_journal(rt.alloc(), &[])?;
+    assert_eq!(rt; ports.append(b"one\n", Durability::Written), Ok(()));
+    let _ = ports.send(0, CALLER, b"yes");
+    assert_eq!(rt; ports.append(b"two\nthree\n", Durability::Synced), Ok(()));
+    assert_eq!(rt; ports.append(b"four\n", Durability::Written), Ok(()));
+    let calls = ports.calls().unwrap_or(&[]);
+    let is_told = match calls {
+        [first, second, third, fourth] => {
+            is_append(first, b"one\n", Durability::Written, Ok(()))
+                && is_send(second, 0, b"yes")
+                && is_append(third, b"two\nthree\n", Durability::Synced, Ok(()))
+                && is_append(fourth, b"four\n", Durability::Written, Ok(()))
+        }
+        _ => false,
+    };
+    assert!(rt; is_told);
+    let file = ports.journal_file();
+    assert_eq!(rt;
+        file.map(|file| file.bytes()),
+        Some(b"one\ntwo\nthree\nfour\n".as_slice())
+    );
+    assert_eq!(rt;
+        file.map(|file| file.synced()),
+        Some(b"one\ntwo\nthree\n".as_slice())
+    );
+    Ok(())
+}
+
+/// A journal that can't be written refuses a line, and one whose sync fails is broken from then on. Neither is a
+/// failure of a socket.
+#[test]
+fn logs_appends_that_fail(rt: HostRuntime) -> Result<(), Fail> {
+    let full = FaultEffect::Fail(ErrorKind::StorageFull);
+    let faults = [
+        InjectedFault {
+            call: FileCall::Write,
+            number: 0,
+            effect: full,
+        },
+        InjectedFault {
+            call: FileCall::Sync,
+            number: 0,
+            effect: full,
+        },
+    ];
+    let mut ports = with_journal(rt.alloc(), &faults)?;
+    let refused = Err(AppendFault::Refused);
+    let broken = Err(AppendFault::Broken);
+    assert_eq!(rt; ports.append(b"one\n", Durability::Synced), refused);
+    assert_eq!(rt; ports.append(b"two\n", Durability::Synced), broken);
+    assert_eq!(rt; ports.append(b"three\n", Durability::Written), broken);
+    let calls = ports.calls().unwrap_or(&[]);
+    let is_told = match calls {
+        [first, second, third] => {
+            is_append(first, b"one\n", Durability::Synced, refused)
+                && is_append(second, b"two\n", Durability::Synced, broken)
+                && is_append(third, b"three\n", Durability::Written, broken)
+        }
+        _ => false,
+    };
+    assert!(rt; is_told);
+    let bytes = ports.journal_file().map(|file| file.bytes());
+    assert_eq!(rt; bytes, Some(b"two\n".as_slice()));
+    assert_eq!(rt; ports.failures(), 0);
+    Ok(())
+}
+
+#[test]
+fn appends_nothing_without_a_journal(rt: HostRuntime) -> Result<(), Fail> {
+    let mut ports = ports(rt.alloc(), &[])?;
+    let broken = Err(AppendFault::Broken);
+    assert_eq!(rt; ports.append(b"one\n", Durability::Written), broken);
+    let calls = ports.calls().unwrap_or(&[]);
+    let is_told = match calls {
+        [call] => is_append(call, b"one\n", Durability::Written, broken),
+        _ => false,
+    };
+    assert!(rt; is_told);
+    assert!(rt; ports.journal_file().is_none());
     Ok(())
 }

@@ -5,22 +5,16 @@ use Rattle.std.specs.Option.{option_map}
 use Rattle.mg_journal.specs.declared.append_fault.AppendFault.{AppendFault}
 use Rattle.mg_journal.specs.declared.append_fault.AppendFault.TheVariants.{Refused, Broken}
 use Rattle.mg_journal.specs.declared.durability.Durability.{Durability}
-use Rattle.mg_journal.specs.declared.durability.Durability.TheVariants.{Written, Synced}
 use Rattle.mg_journal.specs.declared.failed_append.FailedAppend.{FailedAppend}
 use Rattle.mg_journal.specs.Text.{IsWhole, whole_lines}
-use Rattle.mg_journal.specs.Journal.{JournalState}
+use Rattle.mg_journal.specs.Journal.{JournalState, is_synced}
 use Rattle.mg_journal.specs.JournalFile.{FileState, grown, cut_to, synced}
 
-abbrev pub is_synced : Durability → Bool
-is_synced Written = false
-is_synced Synced = true
-
 -- the journal that a file holds
-abbrev pub journal_in : FileState → (syncs is_broken : Bool) → JournalState
-journal_in file syncs is_broken = record {
+abbrev pub journal_in : FileState → (is_broken : Bool) → JournalState
+journal_in file is_broken = record {
   text = option_map whole_lines file.bytes;
   synced = option_map whole_lines file.synced;
-  syncs = syncs;
   is_broken = is_broken;
 }
 

@@ -1,0 +1,133 @@
+ghost use Rattle.std.specs.Prelude.{◌≡◌, IfOk};
+ghost use Rattle.mg_journal.specs.Text.{EndsInLineFeed};
+ghost use Rattle.mg_ports.specs.Journaled.{AppendsDated};
+
+use crate::date::Date;
+use crate::date_text::{DateText, TEXT_LIMIT};
+use mg_journal::{AppendFault, Durability, Journal};
+use mg_reply::Bytes;
+use std::alloc::{AllocError, Global};
+use std::marker::Model;
+use std::time::Clock;
+
+/// The maximum length of lines that can follow a date, in bytes: longer than the line of any message.
+const LINES_ROOM: usize = 140_000;
+
+/// The length of the comment mark and a line feed, in bytes.
+const MARKS: usize = 3;
+
+/// The capacity of the buffer, in bytes.
+const TEXT_ROOM: usize = LINES_ROOM + TEXT_LIMIT + MARKS;
+
+/// The time, in milliseconds, after which lines get a date even if they contain no message.
+const MAX_AGE: u64 = 60_000;
+
+/// A journal that adds dates to its lines: to the first lines, to the first message of each second, and to ticks if the
+/// last date is a minute old.
+///
+/// A line that begins with `control` is a message, and all others are ticks.
+#[derive(Drop)]
+pub struct DatedJournal<'a, J: Journal, C: Clock> {
+    journal: J,
+    clock: &'a C,
+    /// The lines being appended, with their date.
+    text: Bytes,
+    last: Option<Date>,
+}
+
+impl<'a, J: Journal, C: Clock> Model for DatedJournal<'a, J, C> {
+    ghost use Rattle.std.specs.Prelude.{◌≡◌, ◌+◌, length};
+    ghost use Rattle.mg_journal.specs.Journal.{JournalState};
+    ghost use Rattle.mg_dates.specs.declared.dated_journal.TheConstants.{TEXT_ROOM};
+
+    ghost Value = { JournalState };
+
+    ghost view = { λ d. J.journal d.journal };
+
+    ghost invariant = { λ d. d.text.room + length d.text.text ≡ TEXT_ROOM };
+}
+
+/// Returns whether lines begin with a message.
+fn is_message(lines: &[u8]) -> bool {
+    lines.starts_with(b"control")
+}
+
+/// Returns the time of the events in lines that are being appended. For ticks, this is when the first of them began:
+/// each line of 5 bytes stands for 20 ms.
+fn date_of(lines: &[u8], now: Date) -> Date {
+    if is_message(lines) {
+        return now;
+    }
+    now.before((lines.len() as u64).saturating_mul(4))
+}
+
+/// Returns whether lines need a date.
+fn needs_date(lines: &[u8], last: Option<Date>, now: Date) -> bool {
+    let Some(last) = last else {
+        return true;
+    };
+    if is_message(lines) {
+        return now.second() != last.second();
+    }
+    now < last || now.millis - last.millis >= MAX_AGE
+}
+
+impl<'a, J: Journal, C: Clock> DatedJournal<'a, J, C> {
+    /// Makes a journal that adds dates. No other call allocates.
+    pub fn new(alloc: Global, journal: J, clock: &'a C) -> Result<Self, AllocError>
+    where
+        J: Drop,
+        ensures value { IfOk result (λ d. d ≡ J.journal journal) }
+    {
+        Ok(DatedJournal {
+            journal,
+            clock,
+            text: Bytes::new(alloc, TEXT_ROOM)?,
+            last: None,
+        })
+    }
+
+    /// Returns the journal without dates.
+    pub fn journal(&self) -> &J
+        ensures value { self.now ≡ J.journal result.now }
+    {
+        &self.journal
+    }
+
+    /// Returns the date that these lines need.
+    fn next_date(&self, lines: &[u8]) -> Option<Date> {
+        let Ok(now) = Date::now(self.clock) else {
+            return None;
+        };
+        if needs_date(lines, self.last, now) {
+            return Some(date_of(lines, now));
+        }
+        None
+    }
+
+    /// Appends lines, after a date if they need one.
+    pub fn append(&mut self, lines: &[u8], durability: Durability) -> Result<(), AppendFault>
+        requires line_feed { EndsInLineFeed lines.now }
+        ensures value { AppendsDated lines.now durability self.old self.new result }
+    {
+        let Some(date) = self.next_date(lines) else {
+            return self.journal.append(lines, durability);
+        };
+        let Some(text) = DateText::of(date) else {
+            return self.journal.append(lines, durability);
+        };
+        if lines.len() > LINES_ROOM {
+            return self.journal.append(lines, durability);
+        }
+        self.text.clear();
+        self.text.push(b"# ");
+        self.text.push(text.as_slice());
+        self.text.push(b"\n");
+        self.text.push(lines);
+        let result = self.journal.append(self.text.as_slice(), durability);
+        if result.is_ok() {
+            self.last = Some(date);
+        }
+        result
+    }
+}

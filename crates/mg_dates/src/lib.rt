@@ -1,0 +1,23 @@
+//! Dates in a journal (comments with the time of day), and the number of ticks missed since its last line.
+//!
+//! A [`DatedJournal`] adds dates to the lines that it appends to a journal. [`Timeline`] reads the dates while a
+//! journal is run again, so that the gateway can skip the ticks that it missed:
+//!
+//! ```rust
+//! let mut timeline = Timeline::new();
+//! let mut core = resume(alloc, config, &mut opening, &mut timeline)?;
+//! core.skip(timeline.missed(Date::now(&rt)?));
+//! ```
+//!
+//! A date is a line such as `# time 2026-11-27T14:03:20.5Z` (RFC 3339). It says when the message or the ticks in the
+//! following lines happened.
+#![tactic(auto)]
+
+mod date;
+mod date_text;
+mod dated_journal;
+mod timeline;
+
+pub use crate::date::Date;
+pub use crate::dated_journal::DatedJournal;
+pub use crate::timeline::Timeline;

@@ -1,0 +1,85 @@
+ghost use Rattle.std.specs.Prelude.{◌≡◌};
+ghost use Rattle.mg_dates.specs.Dates.{missed_ticks};
+
+use crate::date::Date;
+use crate::date_text::date_in;
+use mg_core::Remarks;
+
+/// The number of ticks that a crash can lose even if the journal works: one second of ticks, which are appended
+/// together.
+const LOST: u64 = 50;
+
+/// The length of a tick, in milliseconds.
+const TICK: u64 = 20;
+
+/// The maximum difference, in milliseconds, between a date and the time computed from the ticks before it. If the
+/// difference is greater, the system's clock was changed, or the ticks were late.
+const TOLERANCE: u64 = 1000;
+
+/// When the ticks of a journal happened: a date, and how many ticks followed it.
+///
+/// Ticks are counted from the first date that the later dates agree with. So what one restart of the gateway loses to
+/// rounding, the next one makes up for.
+#[derive(Clone, Copy, Debug, PartialEq, Eq)]
+pub struct Timeline {
+    start: Option<Date>,
+    ticks: u64,
+}
+
+/// Returns how many ticks were missed between a date and now, if `ticks` ticks followed the date. If the clock was set
+/// back since then, returns the number of ticks that a crash can lose.
+fn missed_ticks(date: Date, ticks: u64, now: Date) -> u64
+    ensures value { result ≡ missed_ticks date.millis ticks now.millis }
+{
+    if now < date {
+        return LOST;
+    }
+    let passed = (now.millis - date.millis) / TICK;
+    if passed < ticks {
+        return LOST;
+    }
+    passed - ticks
+}
+
+impl Timeline {
+    /// Makes a timeline that has not read any line of a journal yet.
+    pub fn new() -> Self {
+        Timeline {
+            start: None,
+            ticks: 0,
+        }
+    }
+
+    /// Returns how many ticks were missed since the journal's last line. Returns 0 if there is no date.
+    pub fn missed(&self, now: Date) -> u64 {
+        match self.start {
+            Some(start) => missed_ticks(start, self.ticks, now),
+            None => 0,
+        }
+    }
+
+    /// Returns whether a date is about when the next tick should happen.
+    fn agrees(&self, date: Date) -> bool {
+        let Some(start) = self.start else {
+            return false;
+        };
+        let expected = start.millis.saturating_add(self.ticks.saturating_mul(TICK));
+        expected.abs_diff(date.millis) <= TOLERANCE
+    }
+}
+
+impl Remarks for Timeline {
+    fn comment(&mut self, line: &[u8]) {
+        let Some(date) = date_in(line) else {
+            return;
+        };
+        if !self.agrees(date) {
+            self.start = Some(date);
+            self.ticks = 0;
+        }
+    }
+
+    fn ticks(&mut self, count: u64) {
+        self.ticks = self.ticks.saturating_add(count);
+    }
+}

@@ -1,0 +1,18 @@
+ghost use Rattle.std.specs.Option.{option_map_or};
+ghost use Rattle.mg_journal.specs.Journal.{no_journal};
+
+use crate::append_fault::AppendFault;
+use crate::durability::Durability;
+use crate::journal::Journal;
+
+/// A journal that may be absent. If it is absent, each append fails with `Broken`.
+impl<J: Journal> Journal for Option<J> {
+    ghost journal = { λ j. option_map_or J.journal j no_journal };
+
+    fn append(&mut self, lines: &[u8], durability: Durability) -> Result<(), AppendFault> {
+        match self {
+            Some(journal) => journal.append(lines, durability),
+            None => Err(AppendFault::Broken),
+        }
+    }
+}

@@ -1,0 +1,36 @@
+-- What the calls on some ports do to their journal.
+use Rattle.std.specs.Prelude.{◌≡◌, ◌≢◌, ◌⊎◌, ℕ, ◌≤◌, All, List, [], ◌∷◌, ◌++◌, length, codes}
+use Rattle.std.specs.Prelude.{Option, Result}
+use Rattle.mg_journal.specs.declared.append_fault.AppendFault.{AppendFault}
+use Rattle.mg_journal.specs.declared.durability.Durability.{Durability}
+use Rattle.mg_journal.specs.Journal.{JournalState, Appends}
+use Rattle.mg_ports.specs.declared.call.Call.{Call}
+use Rattle.mg_ports.specs.declared.call.Call.TheVariants.{Append}
+
+-- what is known about ports: the calls so far, and the journal
+pub record PortsSeen : Type 0 where
+  pub calls : Option (List Call)
+  pub journal : JournalState
+
+abbrev pub ports_seen : Option (List Call) → JournalState → PortsSeen
+ports_seen calls journal = record { calls = calls; journal = journal }
+
+-- a comment of one line that is not too long
+abbrev pub IsComment : List ℕ → Type 0
+IsComment line =
+    (text : List ℕ) × (line ≡ codes "# " ++ (text ++ codes "\n")) × (length text ≤ 1000)
+    × All (λ b. b ≢ 10) text
+
+-- Lines were appended, perhaps after a comment.
+abbrev pub AppendsDated : List ℕ → Durability → JournalState → JournalState
+    → Result (Unit {0}) AppendFault → Type 0
+AppendsDated lines durability old new result =
+    (comment : List ℕ) × ((comment ≡ []) ⊎ IsComment comment)
+    × Appends (comment ++ lines) durability old new result
+
+-- the journal after some calls: each append did its part, and no other call touched it
+abbrev pub JournalAfter : List Call → JournalState → JournalState → Type 0
+JournalAfter [] old new = new ≡ old
+JournalAfter (Append lines durability result ∷ calls) old new =
+    (mid : JournalState) × AppendsDated lines durability old mid result × JournalAfter calls mid new
+JournalAfter (_ ∷ calls) old new = JournalAfter calls old new

@@ -9,7 +9,7 @@ use Rattle.mg_core.specs.Step.{Sent, Step, Run}
 use Rattle.mg_core.specs.World.{World, StandsFor, start_of}
 use Rattle.mg_core.proofs.RunLemmas.{run_both}
 
-one_event : (w v : World) (event : Event) (sent : List Sent) → Step w event sent v → Run w (event ∷ []) sent v
+pub one_event : (w v : World) (event : Event) (sent : List Sent) → Step w event sent v → Run w (event ∷ []) sent v
 one_event w v event sent step = (sent, [], v, step, (refl, refl), sym (append-nil sent))
 
 -- a step from each world is a step after any list of events

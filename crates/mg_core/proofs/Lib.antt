@@ -9,6 +9,7 @@ pub mod QuietLemmas
 pub mod ReportLineLemmas
 pub mod ReportLemmas
 pub mod LineLemmas
+pub mod SplitLemmas
 pub mod RunLemmas
 pub mod HeadlineLemmas
 pub mod ScriptLemmas
@@ -18,8 +19,11 @@ pub mod ApartLemmas
 pub mod CountingLemmas
 pub mod DepthLemmas
 pub mod ReceivedLemmas
+pub mod JournalLemmas
 pub mod CounterLemmas
 pub mod RetransmissionLemmas
 pub mod ReadBackLemmas
 pub mod RecordingLemmas
 pub mod SkipLemmas
+pub mod ResumeLemmas
+pub mod ReadingLemmas

@@ -269,7 +269,7 @@ line_result (Err fault) = Err (line_fault_of fault)
 abbrev pub an_event_or_none : Option Event → Option (Option Event)
 an_event_or_none e = Some e
 
-one_line : (line : List ℕ) (e : Option Event) → event_of line ≡ Some e → events_of (line ∷ []) ≡ Some (then_all e [])
+pub one_line : (line : List ℕ) (e : Option Event) → event_of line ≡ Some e → events_of (line ∷ []) ≡ Some (then_all e [])
 unfolding events_of
 one_line line e is = rw is refl
 

@@ -157,7 +157,7 @@ arrival_by : (o : Option Record) (source : List ℕ) (reading : Reading) (g : Ga
 arrival_by None source reading g = itself g
 arrival_by (Some r) source reading g = arrival r.number (arrived r source reading) g
 
-media_agrees : (a b x : World) (port : ℕ) (source : Peer) (bytes : List ℕ) (s : List Sent) → AgreeExceptReceived a b →
+pub media_agrees : (a b x : World) (port : ℕ) (source : Peer) (bytes : List ℕ) (s : List Sent) → AgreeExceptReceived a b →
     Step a (Media port source bytes) s x → AgreeExceptReceived x b
 media_agrees a b x port source bytes s h (taken, (g, (reading, reads, represents), is), sent) =
     let same = subst (λ (k : Gateway). SameButReceived k a.gateway) (ap (λ (p : Gateway × Taken). p.0) represents)
@@ -182,7 +182,7 @@ control_tally a x source bytes s (answer, (reading, reads, represents), sent) =
     ap (λ (p : Option (List ℕ) × World). p.1.tally) (sym represents) ∙ answer_tally bytes reading (with_control a)
 
 module _ (event : SameEventKeepsAgreement) where
-  control_agrees : (a b x y : World) (source : Peer) (bytes : List ℕ) (s t : List Sent) → AgreeExceptReceived a b →
+  pub control_agrees : (a b x y : World) (source : Peer) (bytes : List ℕ) (s t : List Sent) → AgreeExceptReceived a b →
       Step a (Control source bytes) s x → Step b (Control source bytes) t y → AgreeExceptReceived x y
   control_agrees a b x y source bytes s t h step too =
       let some = numbers a.gateway.media in
@@ -192,7 +192,7 @@ module _ (event : SameEventKeepsAgreement) where
       (ap (λ (t : Tally). t.control) first ∙ ap (λ n. n + 1) h.control ∙ sym (ap (λ (t : Tally). t.control) second))
       (ap (λ (t : Tally). t.ticks) first ∙ h.ticks ∙ sym (ap (λ (t : Tally). t.ticks) second))
 
-  tick_agrees : (a b x y : World) (s t : List Sent) → AgreeExceptReceived a b → Step a Tick s x → Step b Tick t y →
+  pub tick_agrees : (a b x y : World) (s t : List Sent) → AgreeExceptReceived a b → Step a Tick s x → Step b Tick t y →
       AgreeExceptReceived x y
   tick_agrees a b x y s t h step too =
       let some = numbers a.gateway.media in
@@ -218,20 +218,22 @@ module _ (event : SameEventKeepsAgreement) where
       rtp_changes_speech_only next also x y events others rest (tick_agrees a b next also first second h step too) run
       runs
 
+pub agrees_itself : (w : World) → AgreeExceptReceived w w
+agrees_itself w = record {
+  config = refl;
+  rooms = refl;
+  edits = refl;
+  media = refl;
+  replies = refl;
+  control = refl;
+  ticks = refl;
+}
+
 -- the depths of play lists are those in the records
 pub in_histories : RtpChangesSpeechOnly → ConsistentSteps → ((config : Config) → IsStart config →
     IsConsistent (rooms_at_start config)) → RtpChangesSpeechOnlyInHistories
 in_histories worlds consistent starts config events s t v w one other start (run, stands) (runs, too) =
-    let agree = worlds (start_of config) (start_of config) v w events s t
-    (record {
-      config = refl;
-      rooms = refl;
-      edits = refl;
-      media = refl;
-      replies = refl;
-      control = refl;
-      ticks = refl;
-    }) run runs in
+    let agree = worlds (start_of config) (start_of config) v w events s t (agrees_itself (start_of config)) run runs in
     let first = paired_after consistent (start_of config) v events s (starts config start) tt run in
     let second = paired_after consistent (start_of config) w (without_rtp events) t (starts config start) tt runs in (
       agree,

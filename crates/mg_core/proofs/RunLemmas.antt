@@ -1,9 +1,8 @@
 -- Lines one after another, and the bytes that they come in.
-use Rattle.std.proofs.Common.{◌≡◌, ◌≢◌, ℕ, ◌+◌, ◌-◌, ◌<◌, ◌≤◌, Bool, true, false, cond, eqb, List, [], ◌∷◌, ◌++◌, length, get_or, take, drop, Option, Some, None, Result, Ok, Err, refl, sym, ap, subst, ◌∙◌, append_assoc, length-append, length-take, arith}
+use Rattle.std.proofs.Common.{◌≡◌, ◌≢◌, ℕ, ◌+◌, ◌<◌, ◌≤◌, Bool, true, false, List, [], ◌∷◌, ◌++◌, length, get_or, take, drop, Option, Some, None, Result, Ok, Err, refl, sym, ap, subst, ◌∙◌, append_assoc, length-append, arith}
 use Rattle.std.proofs.lemmas.Grind.{flat_map-append}
-use Rattle.std.proofs.lemmas.List.{append-nil, take-append-drop, take_more, drop_more}
-use Rattle.std.proofs.lemmas.Bool.{ne_eqb, lt-ltb}
-use Rattle.std.specs.Prelude.{slice_index, OnOk}
+use Rattle.std.proofs.lemmas.List.{append-nil, take_more}
+use Rattle.std.specs.Prelude.{OnOk}
 use Rattle.mg_words.specs.OptionSteps.{◌>>=◌}
 use Rattle.std.proofs.KnownBytes.{Consumes-nil, Consumes-trans, Consumes-kept}
 use Rattle.std.specs.Io.KnownBytes.{Keeps, Consumes, IsAtEnd}
@@ -27,6 +26,7 @@ use Rattle.mg_core.specs.aids.Faults.{RanAllRead}
 use Rattle.mg_core.specs.aids.Steps.{Follows, LeadsOn, AllRan, LineRan, BytesRan, Finishes, RanCounted, after_sent, script_fault_of}
 use Rattle.mg_lines.proofs.WriterLemmas.{appends_then, appends_keeps}
 use Rattle.mg_core.proofs.LineLemmas.{no_text, same_appends, sent_both}
+use Rattle.mg_core.proofs.SplitLemmas.{one_byte, line_feed, regroup, at_feed, at_last_feed, long_line, bad_later, unfinished, last_line, no_line, around}
 
 -- ## Lines and events one after another
 
@@ -96,9 +96,14 @@ texts_both shows.SentAndFlows w v u es fs a b s t h k = tells_both w v u es fs s
 abbrev pub Followed : Shown → LineRunner → World → Type 0
 Followed shown r w = Follows shown r.core.state r.watched w
 
-on_ok : {E A B : Type 0} (r : Result (Unit {0}) E) → (A → B) → OnOk r A → OnOk r B
+pub on_ok : {E A B : Type 0} (r : Result (Unit {0}) E) → (A → B) → OnOk r A → OnOk r B
 on_ok (Ok done) f a = f a
 on_ok (Err e) f a = tt
+
+-- the result of a whole script, given that of its last line
+abbrev pub script_result : Result (Unit {0}) LineFault → Result (Unit {0}) ScriptFault
+script_result (Ok done) = Ok tt
+script_result (Err fault) = Err (script_fault_of fault)
 
 module _ (shown : Shown) where
   ran_both : (w v u : World) (xs ys : List (List ℕ)) (a b c : Option (List ℕ)) → Ran shown w xs v a b →
@@ -176,19 +181,6 @@ module _ (shown : Shown) where
       BytesRan shown n n partial [] partial w w s s a a (Ok tt)
   bytes_start n partial w s a = ([], λ ended more. refl, omega arith, counted_nothing w s s a refl)
 
-  one_byte : (ended : Bool) (x : ℕ) (partial bytes : List ℕ) → x ≢ 10 →
-      lines_after ended partial (x ∷ bytes) ≡ lines_after ended (partial ++ x ∷ []) bytes
-  unfolding lines_after
-  one_byte ended x partial bytes ne = rw (ne_eqb x 10 ne) refl
-
-  line_feed : (ended : Bool) (partial bytes : List ℕ) →
-      lines_after ended partial (10 ∷ bytes) ≡ without_return partial ∷ lines_after ended [] bytes
-  unfolding lines_after
-  line_feed ended partial bytes = refl
-
-  regroup : (front : List ℕ) (x : ℕ) (rest : List ℕ) → (front ++ x ∷ []) ++ rest ≡ front ++ (x ∷ rest)
-  regroup front x rest = append_assoc front (x ∷ []) rest
-
   -- a byte that ends no line
   pub bytes_plain : (n m : ℕ) (partial front left : List ℕ) (w v : World) (s t : ℕ) (a b : Option (List ℕ)) (x : ℕ) →
       x ≢ 10 → BytesRan shown n m partial front left w v s t a b (Ok tt) →
@@ -218,22 +210,6 @@ module _ (shown : Shown) where
         omega (arith, length-append h.0 (line ∷ []), h.2),
         counted_both w v u h.0 (line ∷ []) s t z a b c h.3 k,
       )
-
-  -- the lines after some bytes, where a line feed stands after the first of them
-  at_feed : (ended : Bool) (partial front left back more : List ℕ) (lines : List (List ℕ)) →
-      ((ended : Bool) (more : List ℕ) → lines_after ended partial (front ++ more) ≡ lines ++ lines_after ended left more)
-      → lines_after ended partial ((front ++ (10 ∷ back)) ++ more) ≡ lines ++ without_return left ∷
-      lines_after ended [] (back ++ more)
-  at_feed ended partial front left back more lines h =
-      ap (lines_after ended partial) (append_assoc front (10 ∷ back) more) ∙ h ended (10 ∷ (back ++ more)) ∙
-      ap (λ (l : List (List ℕ)). lines ++ l) (line_feed ended left (back ++ more))
-
-  -- the same where nothing stands after them
-  at_last_feed : (partial front left back : List ℕ) (lines : List (List ℕ)) →
-      ((ended : Bool) (more : List ℕ) → lines_after ended partial (front ++ more) ≡ lines ++ lines_after ended left more)
-      → lines_after false partial (front ++ (10 ∷ back)) ≡ lines ++ without_return left ∷ lines_after false [] back
-  at_last_feed partial front left back lines h =
-      h false (10 ∷ back) ∙ ap (λ (l : List (List ℕ)). lines ++ l) (line_feed false left back)
 
   -- a line that was not run
   pub bytes_stop : (n m p : ℕ) (partial front left back other : List ℕ) (w v u : World) (s t z : ℕ)
@@ -268,47 +244,6 @@ module _ (shown : Shown) where
     at_last_feed partial front left back h.0 h.1,
     ran_kept w v u h.0 a b c h.3.ran l.0 l.1,
   )
-
-  -- a line that is too long is bad, wherever it ends
-  long_bad : (line : List ℕ) → 140001 ≤ length line → event_of line ≡ None
-  unfolding event_of
-  long_bad line le = rw (lt-ltb 140000 (length line) (omega arith)) refl
-
-  return_long : (t : Bool) (line : List ℕ) (n : ℕ) → n + 1 ≤ length line →
-      n ≤ length (cond t (take (length line - 1) line) line)
-  return_long true line n le = omega (arith, length-take (length line - 1) line)
-  return_long false line n le = omega arith
-
-  long_step : (t : Bool) (partial : List ℕ) (x : ℕ) (bytes : List ℕ) → eqb x 10 ≡ t → 140002 ≤ length partial →
-      HasBadAfter [] (lines_after true (partial ++ x ∷ []) bytes) → HasBadAfter [] (lines_after true partial (x ∷ bytes))
-  unfolding lines_after
-  long_step true partial x bytes e le h =
-      rw e (record {
-        bad = without_return partial;
-        others = lines_after true [] bytes;
-        parts = refl;
-        is_bad =
-            long_bad (without_return partial) (return_long (eqb (slice_index partial (length partial - 1)) 13) partial 140001
-            (omega arith));
-      })
-  long_step false partial x bytes e le h = rw e h
-
-  long_line : (partial bytes : List ℕ) → 140002 ≤ length partial → HasBadAfter [] (lines_after true partial bytes)
-  unfolding lines_after
-  long_line partial [] le = rw (ne_eqb (length partial) 0 (λ e. absurd (omega arith)))
-      (record { bad = partial; others = []; parts = refl; is_bad = long_bad partial (omega arith) })
-  long_line partial (x ∷ bytes) le = long_step (eqb x 10) partial x bytes refl le
-      (long_line (partial ++ x ∷ []) bytes (omega (arith, length-append partial (x ∷ []))))
-
-  -- a bad line after some lines stands after those before them too
-  bad_later : (before lines others all : List (List ℕ)) → all ≡ before ++ others → HasBadAfter lines others →
-      HasBadAfter (before ++ lines) all
-  bad_later before lines others all is h = record {
-    bad = h.bad;
-    others = h.others;
-    parts = is ∙ ap (λ (l : List (List ℕ)). before ++ l) h.parts ∙ sym (append_assoc before lines (h.bad ∷ h.others));
-    is_bad = h.is_bad;
-  }
 
   -- a byte that makes a line too long
   pub bytes_long : (n m p : ℕ) (partial front left back other : List ℕ) (w v : World) (s t z : ℕ) (a b : Option (List ℕ))
@@ -369,11 +304,6 @@ module _ (shown : Shown) where
     counted = omega (arith, h.2, p.counted, length-append p.lines h.0);
     ran = counted_both (start_of config) v u p.lines h.0 0 s t a b c p.ran h.3;
   }
-
-  unfinished : (partial : List ℕ) → lines_after false partial [] ≡ []
-  unfolding lines_after
-  unfinished [] = refl
-  unfinished (b ∷ bs) = rw (ne_eqb (length (b ∷ bs)) 0 (λ e. absurd (omega (arith, e)))) refl
 
   -- what was read, where nothing follows it
   split_at_end : (config : Config) (i x : Option (List ℕ)) (partial : List ℕ) (n : ℕ) (v : World) (s : ℕ)
@@ -473,20 +403,6 @@ module _ (shown : Shown) where
         (sym (all_run config i x partial n v s a b p))
         p.ran.ran;
   }
-
-  -- the end of the script
-  last_line : (b : ℕ) (bs : List ℕ) → lines_after true (b ∷ bs) [] ≡ (b ∷ bs) ∷ []
-  unfolding lines_after
-  last_line b bs = rw (ne_eqb (length (b ∷ bs)) 0 (λ e. absurd (omega arith))) refl
-
-  no_line : lines_after true [] [] ≡ []
-  unfolding lines_after
-  no_line = refl
-
-  -- what a line came to, told of the script
-  abbrev pub script_result : Result (Unit {0}) LineFault → Result (Unit {0}) ScriptFault
-  script_result (Ok done) = Ok tt
-  script_result (Err fault) = Err (script_fault_of fault)
 
   abbrev AtEnd : Option (List ℕ) → Option (List ℕ) → Type 0
   AtEnd x y = Keeps x y × IsAtEnd y
@@ -604,8 +520,6 @@ module _ (shown : Shown) where
       line_end config i x y k ks n m state v u s t a b c r p end stands h.0 h.1
 
   -- the same steps by the index of a byte
-  around : (bytes : List ℕ) (i : ℕ) → i < length bytes → take i bytes ++ (get_or bytes i 0 ∷ drop (i + 1) bytes) ≡ bytes
-  around bytes i lt = ap (λ (l : List ℕ). take i bytes ++ l) (sym (drop_more bytes i 0 lt)) ∙ take-append-drop i bytes
 
   -- what a call leaves of a runner, by the worlds that it follows
   abbrev pub Leaves : LineRunner → LineRunner → Result (Unit {0}) LineFault → (World → World → Type 0) → Type 0

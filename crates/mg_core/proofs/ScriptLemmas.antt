@@ -154,7 +154,7 @@ script_fault config shown input rest state count n a b faults.Write h = at_cut_l
 script_fault config shown input rest state count n a b faults.NoMemory h = at_unrun_line config shown input rest a b h
 
 -- a fault of a script is no fault of the configuration
-pub not_bad : (r : Result Counts RunFault) (e : RunFault) (fault : ScriptFault) → r ≡ Err e → e ≡ run_fault_of fault →
+pub not_bad : {A : Type 0} (r : Result A RunFault) (e : RunFault) (fault : ScriptFault) → r ≡ Err e → e ≡ run_fault_of fault →
     r ≡ Err ends.BadConfig → ⊥
 not_bad r e (faults.Bad n) is from bad = cc (is, from, bad)
 not_bad r e faults.Read is from bad = cc (is, from, bad)

@@ -9,10 +9,12 @@ pub mod Script
 pub mod Flows
 pub mod Run
 pub mod Recording
+pub mod Resume
 pub mod Headline
 pub mod Interleaving
 pub mod Apart
 pub mod ExceptReceived
+pub mod Journal
 pub mod Counting
 pub mod Retransmissions
 pub mod aids

@@ -116,8 +116,8 @@ fn run_request(
     state.kept.keep(sender, request.number, text);
 }
 
-/// Writes the reply to a sender's request: the kept reply if the request is a retransmission; otherwise the reply from
-/// running it.
+/// Writes the reply to a sender's request: the kept reply if the request is a retransmission; otherwise the reply that
+/// running it produces.
 fn put_request(
     state: &mut CoreState,
     source: &[u8],

@@ -249,7 +249,7 @@ fn push_old(ticks: u64, after: &[KeptListener], old: &KeptListener, out: &mut By
     }
 }
 
-/// Writes what is new about a termination.
+/// Writes what changed in a termination, or everything about it if it is new.
 #[tactic(auto, using(crate::proofs::ChangeLemmas::steps))]
 fn push_listener(ticks: u64, before: &[KeptListener], new: &KeptListener, out: &mut Bytes)
     requires room { NEW_LIMIT ≤ out.old.room }
@@ -274,7 +274,7 @@ fn push_all_old(ticks: u64, before: &[KeptListener], after: &[KeptListener], out
     }
 }
 
-/// Writes what is new about all terminations.
+/// Writes what changed in each termination, and everything about the new ones.
 #[tactic(auto, using(crate::proofs::ChangeLemmas::steps))]
 fn push_all_new(ticks: u64, before: &[KeptListener], after: &[KeptListener], out: &mut Bytes)
     requires room { NEW_LIMIT * length after.now ≤ out.old.room }

@@ -57,7 +57,7 @@ fn push_datagram(source: Peer, bytes: &[u8], digits: &mut [u8], out: &mut Bytes)
 }
 
 impl EventLine {
-    /// Makes an empty line. Fails only if the allocation does. No other call allocates.
+    /// Makes an empty line. Fails only if the allocation fails. No other call allocates.
     pub fn new(alloc: Global) -> Result<Self, AllocError>
         ensures value { IfOk result (λ line. line ≡ []) }
     {

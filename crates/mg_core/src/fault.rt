@@ -86,6 +86,17 @@ impl From<EventFault> for LineFault {
     }
 }
 
+impl From<NoMemory> for LineFault {
+    ghost use Rattle.std.specs.Prelude.{◌≡◌};
+    ghost use Rattle.mg_core.specs.declared.fault.LineFault.TheVariants as faults;
+
+    ghost from_gives = { λ _ e. e ≡ faults.NoMemory };
+
+    fn from(_failed: NoMemory) -> Self {
+        LineFault::NoMemory
+    }
+}
+
 impl From<LineFault> for ScriptFault {
     ghost use Rattle.std.specs.Prelude.{◌≡◌};
     ghost use Rattle.mg_core.specs.aids.Steps.{script_fault_of};

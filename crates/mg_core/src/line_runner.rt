@@ -41,7 +41,7 @@ fn watched_for(alloc: Global, shown: Shown) -> Result<Option<Watched>, AllocErro
 
 /// Makes the buffers of a runner: one for the longest line, and one for the terminations.
 ///
-/// Fails only if the allocation does.
+/// Fails only if the allocation fails.
 fn outputs(alloc: Global, shown: Shown) -> Result<(Bytes, Option<Watched>), AllocError>
     ensures output { IfOk result (λ (output, watched). output ≡ record { text = []; room = OUTPUT_LIMIT }) }
     ensures watched { (config : Config) →

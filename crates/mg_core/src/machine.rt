@@ -63,7 +63,7 @@ impl Model for Core {
 
 /// Makes the store of kept replies, the reply under construction, and the buffer for answers.
 ///
-/// Fails only if the allocation does.
+/// Fails only if the allocation fails.
 fn no_replies(alloc: Global) -> Result<(Kept, Reply, Bytes), AllocError>
     ensures kept { IfOk result (λ (kept, reply, answer). kept ≡ []) }
     ensures answer { IfOk result (λ (kept, reply, answer). answer ≡ record { text = []; room = ANSWER_LIMIT }) }
@@ -123,7 +123,7 @@ impl Core {
         }
     }
 
-    /// Reads a control datagram for [`Core::run`]. It changes no core, and is the only part that allocates.
+    /// Reads a control datagram for [`Core::run`]. This touches no core, and is the only step that allocates.
     ///
     /// Fails only if memory runs out. Reading the same datagram later may succeed.
     pub fn read(alloc: Global, bytes: &[u8]) -> Result<Parsed, NoMemory>
@@ -140,8 +140,8 @@ impl Core {
 
     /// Runs a control datagram that [`Core::read`] has read; [`Core::answer`] returns its answer.
     ///
-    /// It allocates nothing and cannot fail, so a datagram may be written to a journal after it is read and before it
-    /// is run.
+    /// This allocates nothing and cannot fail, so a datagram can be written to a journal between reading and running
+    /// it.
     pub fn run(&mut self, source: Peer, bytes: &[u8], parsed: &Parsed) -> Answer
         requires reading { IsReadingOf bytes.now parsed.now }
         ensures answered { Leads StandsFor self.old.state self.new.state (λ w next.
@@ -255,8 +255,8 @@ impl Core {
 
     /// Advances by `count` ticks at once, without packets; [`Core::outbox`] is then empty.
     ///
-    /// The world is then as after `count` calls of [`Core::tick`]. No rows are mixed for packets. Once no frame is left to
-    /// play, the remaining ticks are one step.
+    /// The resulting world is the same as after `count` calls of [`Core::tick`]. No packets are mixed. Once no frame is
+    /// left to play, the remaining ticks take one step.
     pub fn skip(&mut self, count: u64)
         ensures next { (w : World) → StandsFor self.old.state w → StandsFor self.new.state (world_after_ticks count w) }
         ensures headline { ExtendsByTicks self.old.state self.new.state count }
@@ -284,7 +284,7 @@ impl Core {
         self.state.engine.flow(talker, listener)
     }
 
-    /// Returns the sum of sample `i` over all talkers of a context in this tick. The sum is not limited to 16 bits.
+    /// Returns the sum of sample `i` over all talkers of a context in this tick. The sum is not saturated to 16 bits.
     ///
     /// Returns `None` if the context does not exist, or if `i` is not below 160.
     pub fn total(&self, context: u32, i: usize) -> Option<i32>

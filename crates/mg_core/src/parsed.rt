@@ -1,6 +1,6 @@
 use mg_text::{ErrorNumber, Message};
 
-/// How a control datagram reads.
+/// The result of reading a control datagram.
 #[derive(Drop)]
 pub enum Parsed {
     /// The datagram is this message.

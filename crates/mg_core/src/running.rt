@@ -20,8 +20,8 @@ use std::io::{Read, Write};
 /// that exactly the datagrams sent in response to its events were written. The script's lines, events and datagrams are
 /// counted.
 ///
-/// A fault says how far the script was run, within the text that was read. The lines before the named line were run,
-/// and their output was written completely before any more input was read:
+/// A fault says how much of the text read so far was run. The lines before the named line were run, and their output
+/// was written completely before any more input was read:
 /// - `Script`: the first bad line has this number, and the lines before it were run.
 /// - `Read`: the lines whose ends had been read were run, and no others. A run also ends with `Read` after
 ///   4,294,967,295 reads.

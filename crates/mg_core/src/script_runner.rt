@@ -19,7 +19,7 @@ use std::alloc::Global;
 use std::io::{Read, Write};
 
 /// The maximum length of a partial line, in bytes: the longest line and a carriage return.
-const PARTIAL_LIMIT: usize = LINE_LIMIT + 1;
+pub const PARTIAL_LIMIT: usize = LINE_LIMIT + 1;
 
 /// Runs a script on a gateway. The script may arrive in pieces of any size.
 #[derive(Drop)]

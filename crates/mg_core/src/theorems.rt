@@ -1,4 +1,4 @@
-//! Properties of all events. The functions have empty bodies: their contracts are the theorems.
+//! Properties of all events. The functions do nothing: their contracts are the theorems.
 
 ghost use Rattle.std.specs.Prelude.{◌≡◌, List};
 ghost use Rattle.mg_core.specs.declared.event.Event.{Event};
@@ -7,9 +7,11 @@ ghost use Rattle.mg_core.specs.Apart.{UnheardChangesNothing, UnheardInHistories,
 ghost use Rattle.mg_core.specs.Counting.{EventsAreCounted};
 ghost use Rattle.mg_core.specs.ExceptReceived.{RtpChangesSpeechOnly, RtpChangesSpeechOnlyInHistories};
 ghost use Rattle.mg_core.specs.Headline.{EventsDetermineOutcome, GatewayDeterminesFuture, WorldsAreConsistent};
+ghost use Rattle.mg_core.specs.Journal.{AgreementHasSameFlows, AgreementHasSameReports, HistoriesHaveSameFlows, HistoriesHaveSameReports};
 ghost use Rattle.mg_engine.specs.Isolation.{NoneHearsItself, OwnSpeechChangesNoPacket, IsolatedAreNotHeard, UnheardChangesNoPacket, PayloadsAreMixes};
 ghost use Rattle.mg_core.specs.Interleaving.{PortOrderIsIrrelevant, PortOrderInHistories, PortOrderInScripts};
-ghost use Rattle.mg_core.specs.Parsed.{ReadingsAreUnique};
+ghost use Rattle.mg_core.specs.Parsed.{IsReadingOf, ReadingsAreUnique};
+ghost use Rattle.mg_core.specs.declared.parsed.Parsed.{Parsed};
 ghost use Rattle.mg_core.specs.Recording.{RecordingsAreRead, CutRecordingsAreRead};
 ghost use Rattle.mg_core.specs.Retransmissions.{KeptRepliesAreSent, RetransmissionsAreAnsweredAlike, OthersAreRun, RepliesPersist, NewReplyIsNewest, AcknowledgedAreDropped, EvictedAreDropped, DroppedRequestsAreRerun, RepliesAreKept};
 ghost use Rattle.mg_core.specs.Flows.{OnlyChangesAreReported, ReportDeterminesOutcome};
@@ -25,6 +27,13 @@ pub fn readings_are_unique()
     ensures theorem { ReadingsAreUnique }
 {
     mg_text::theorems::one_reading(b"");
+}
+
+/// Every control datagram has a reading. If memory suffices, [`Core::read`](crate::Core::read) returns it.
+pub fn readings_exist(bytes: &[u8])
+    ensures theorem { (parsed : Parsed) × IsReadingOf bytes.now parsed }
+{
+    mg_text::theorems::one_reading(bytes);
 }
 
 /// Every event has an outcome in every world: the datagrams that are sent, and the next world.
@@ -140,6 +149,24 @@ pub fn rtp_changes_speech_only()
     ensures worlds { RtpChangesSpeechOnly }
     ensures histories { RtpChangesSpeechOnlyInHistories }
 {
+    mg_text::theorems::one_reading(b"");
+    mg_engine::theorems::agreement_lasts();
+    mg_engine::theorems::worlds_are_consistent();
+    mg_commands::theorems::requests_keep_agreement();
+    mg_commands::theorems::requests_are_consistent();
+}
+
+/// RTP datagrams change no flow. So control datagrams and ticks alone determine who could hear whom, and when.
+///
+/// Suppose two gateways receive the same control datagrams and ticks, but only one of them receives RTP datagrams. Then
+/// the same speech flows in both, and the reports of their changes are equal. So a journal doesn't need RTP datagrams.
+pub fn rtp_changes_no_flow()
+    ensures flows { AgreementHasSameFlows }
+    ensures flows_in_histories { HistoriesHaveSameFlows }
+    ensures reports { AgreementHasSameReports }
+    ensures reports_in_histories { HistoriesHaveSameReports }
+{
+    rtp_changes_speech_only();
     mg_text::theorems::one_reading(b"");
     mg_engine::theorems::agreement_lasts();
     mg_engine::theorems::worlds_are_consistent();

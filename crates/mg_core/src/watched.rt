@@ -39,7 +39,7 @@ impl Model for Watched {
 }
 
 impl Watched {
-    /// Makes the store for a gateway without terminations. Fails only if the allocation does. No other call allocates.
+    /// Makes the store for a gateway without terminations. Fails only if the allocation fails. No other call allocates.
     pub fn new(alloc: Global) -> Result<Self, AllocError>
         ensures value { IfOk result (λ x. x ≡ []) }
     {

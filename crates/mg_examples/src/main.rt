@@ -9,13 +9,14 @@ use std::io::Cursor;
 use std::rt::Files;
 
 /// The file names of each script and its output, without extensions.
-const SCRIPTS: [&str; 56] = [
+const SCRIPTS: [&str; 57] = [
     "conference",
     "speech",
     "coaching",
     "lost_packets",
     "repeats",
     "recording",
+    "journal",
     "rules/a_context_is_made_with_what_is_done",
     "rules/a_full_context",
     "rules/a_full_gateway",
@@ -69,7 +70,7 @@ const SCRIPTS: [&str; 56] = [
 ];
 
 /// The scripts that also have a stored output with the changes after each event.
-const WITH_FLOWS: [&str; 2] = ["coaching", "recording"];
+const WITH_FLOWS: [&str; 3] = ["coaching", "recording", "journal"];
 
 /// Returns the output of a script on a gateway with the standard configuration.
 fn written(alloc: Global, shown: Shown, script: &[u8]) -> Result<Vec<u8>> {

@@ -1,0 +1,35 @@
+-- A gateway that is resumed from a script.
+use Rattle.std.specs.Prelude.{◌≡◌, ℕ, ◌+◌, Bool, true, List, [], ◌++◌, length, Option, Some}
+use Rattle.mg_engine.specs.declared.config.Config.{Config}
+use Rattle.mg_lines.specs.Lines.{lines_of}
+use Rattle.mg_core.specs.declared.event.Event.{Event}
+use Rattle.mg_core.specs.declared.state.CoreState.{CoreState}
+use Rattle.mg_core.specs.Headline.{HasHistory}
+use Rattle.mg_core.specs.Run.{HasRead, HasBadAfter}
+use Rattle.mg_core.specs.Script.{events_of}
+use Rattle.mg_core.specs.Step.{Sent}
+use Rattle.mg_core.specs.World.{World}
+
+-- The input was read to its end. Its text is a script of some events, and the state is that of a
+-- gateway that was started with this configuration, and at which these events arrived.
+pub record IsResumed (config : Config) (input rest : Option (List ℕ)) (state : CoreState) : Type 0 where
+  pub script : List ℕ
+  pub read : HasRead input rest script true
+  pub events : List Event
+  pub are : events_of (lines_of true script) ≡ Some events
+  pub sent : List Sent
+  pub world : World
+  pub history : HasHistory config events sent world state
+
+-- The line with this number is the first bad line of the text that was read, whatever text may
+-- follow; nothing follows the end.
+pub record FindsBadLine (input rest : Option (List ℕ)) (number : ℕ) : Type 0 where
+  pub text : List ℕ
+  pub ended : Bool
+  pub read : HasRead input rest text ended
+  pub lines : List (List ℕ)
+  pub events : List Event
+  pub are : events_of lines ≡ Some events
+  pub number_is : number ≡ length lines + 1
+  pub bad : (more : List ℕ) → (ended ≡ true → more ≡ [])
+      → HasBadAfter lines (lines_of true (text ++ more))

@@ -21,7 +21,7 @@ pub fn sending(core: &Core, ports: &[PortTotals], ticks: u64) -> usize {
     sending
 }
 
-/// Returns how many contexts there are: each has a first member.
+/// Returns the number of contexts, by counting the first member of each.
 fn contexts(core: &Core) -> usize {
     let mut contexts: usize = 0;
     for place in 0..core.terminations() {
@@ -106,6 +106,21 @@ pub fn put_datagrams<W: Write>(report: &TickReport<'_>, page: &mut Page<'_, W>) 
     page.counter("receives_failed_total", help, receives)
 }
 
+/// Writes the state of the journal.
+pub fn put_journal<W: Write>(report: &TickReport<'_>, page: &mut Page<'_, W>) -> io::Result<()> {
+    let journal = report.journal;
+    let help = "Ticks that have passed and are not in the journal yet";
+    page.gauge("journal_lacking_ticks", help, &journal.lacking)?;
+    let help = "Appends to the journal that failed";
+    page.counter("journal_appends_failed_total", help, journal.failed)?;
+    let help = "Messages dropped because an append to the journal failed";
+    page.counter(
+        "control_messages_unjournaled_total",
+        help,
+        journal.unjournaled,
+    )
+}
+
 /// Returns a port's number and totals, if a termination has the port or datagrams have arrived at it.
 fn seen_port(report: &TickReport<'_>, ports: &[PortTotals], slot: u8) -> Option<(u16, PortTotals)> {
     if u16::from(slot) >= report.config.slots {
@@ -142,7 +157,7 @@ fn put_terminations<W: Write>(
     page.begin(
         name,
         "gauge",
-        "The n of the termination RTP/n that has the port",
+        "The number n of the termination RTP/n that has the port",
     )?;
     for slot in 0..=u8::MAX {
         let held = report.core.rooms().held(slot);

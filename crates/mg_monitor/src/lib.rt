@@ -2,7 +2,7 @@
 //!
 //! Both are [`Monitor`](mg_serve::Monitor)s of a server, so they can't change what the gateway does. [`Reports`] prints
 //! the totals since the start and a line for each media port that has had trouble. [`Metrics`] passes text in
-//! Prometheus' format to a [`Sink`] every five seconds. [`Both`] makes one monitor of two.
+//! Prometheus' format to a [`Sink`] every five seconds. [`Both`] combines two monitors into one.
 //!
 //! ```rust
 //! let mut monitor = Reports::new(alloc, 60, &mut errors)?;
@@ -15,6 +15,7 @@
 mod both;
 mod delays;
 mod families;
+mod journal_watch;
 mod loss;
 mod metrics;
 mod page;

@@ -7,8 +7,8 @@ const WINDOW: u16 = 64;
 /// Counts the packets of RTP streams that never arrived, by their sequence numbers (RFC 3550, A.3).
 ///
 /// A packet is lost once a packet with a sequence number at least 64 higher has arrived, or once another stream begins:
-/// a packet with another SSRC, [`MAX_DROPOUT`] or more ahead, or more than [`MAX_MISORDER`] behind. So reordered packets
-/// aren't lost, and the count never falls.
+/// a packet with another SSRC, [`MAX_DROPOUT`] or more ahead, or more than [`MAX_MISORDER`] behind. So reordered
+/// packets aren't lost, and the count never falls.
 #[derive(Clone, Copy, Debug, PartialEq, Eq)]
 pub struct Loss {
     ssrc: u32,

@@ -1,5 +1,5 @@
 use crate::delays::Delays;
-use crate::families::{put_datagrams, put_ports, put_timing, put_use, sending};
+use crate::families::{put_datagrams, put_journal, put_ports, put_timing, put_use, sending};
 use crate::page::Page;
 use crate::port_totals::PortTotals;
 use crate::sink::Sink;
@@ -21,7 +21,7 @@ const TICK_MICROS: u64 = 20_000;
 /// The number of ticks between two texts: five seconds.
 const EVERY: u64 = 5 * TICKS;
 
-/// The initial room for the text, in bytes. It suffices for 256 ports.
+/// The initial capacity for the text, in bytes: enough for 256 ports.
 const TEXT_ROOM: usize = 128 * 1024;
 
 /// Measures a server, and passes all metrics to a sink every five seconds, as text in Prometheus' format.
@@ -30,9 +30,9 @@ pub struct Metrics<'a, C: Clock, S: Sink + Drop> {
     clock: &'a C,
     sink: S,
     version: &'a str,
-    /// The clock's reading when the first tick was 20 ms away, if it could be read.
+    /// The clock's reading 20 ms before the first tick, if the clock could be read.
     start: Option<Duration>,
-    /// The clock's reading when the current poll began, if it could be read.
+    /// The clock's reading when the current poll began, if the clock could be read.
     began: Option<Duration>,
     /// How many ticks have passed.
     ticks: u64,
@@ -105,6 +105,7 @@ impl<'a, C: Clock, S: Sink + Drop> Metrics<'a, C, S> {
         ];
         let help = "Datagrams dropped because of their source";
         page.counters("strangers_total", help, "socket", &strangers)?;
+        put_journal(report, &mut page)?;
         let help = "Missing frames that were replaced by the previous one";
         page.counter("frames_concealed_total", help, report.counts.concealed)?;
         put_ports(report, self.ports.as_slice(), &mut page)

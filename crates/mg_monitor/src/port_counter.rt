@@ -22,7 +22,7 @@ impl PortCounter {
     pub fn help(self) -> &'static str {
         match self {
             PortCounter::Packets => "RTP datagrams received",
-            PortCounter::Lost => "Packets missing by their sequence numbers",
+            PortCounter::Lost => "Packets that never arrived, judging by sequence numbers",
             PortCounter::Concealed => "Missing frames that were replaced by the previous one",
         }
     }

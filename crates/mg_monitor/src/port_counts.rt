@@ -14,8 +14,8 @@ pub struct PortCounts {
     lost_before: u64,
     /// The termination that had the port at the last report, if its caller was expected to send.
     expected: Option<u32>,
-    /// The tick of the last packet that a play list accepted or, if that is later, of the report since which the caller
-    /// has been expected to send.
+    /// The tick of the last packet that a play list accepted, or of the report since which the caller has been expected
+    /// to send, whichever is later.
     heard: u64,
 }
 
@@ -57,8 +57,8 @@ impl PortCounts {
 
     /// Returns for how many ticks an expected caller has been silent.
     ///
-    /// `expected` is the termination whose caller should send now. The silence starts at the last accepted packet or,
-    /// if that is later, at the report since which that caller has been expected to send.
+    /// `expected` is the termination whose caller should send now. The silence starts at the last accepted packet, or
+    /// at the report since which that caller has been expected to send, whichever is later.
     pub fn silent_ticks(&mut self, expected: Option<u32>, ticks: u64) -> u64 {
         if self.expected != expected {
             self.expected = expected;
@@ -70,7 +70,7 @@ impl PortCounts {
         }
     }
 
-    /// Returns whether the caller would sound bad (packets were lost, dropped, late, too early or duplicates, frames
+    /// Returns whether the caller would sound bad (packets were lost, dropped, late, too early or duplicated, frames
     /// were concealed, or the play list restarted), or whether somebody else sent packets to the port.
     pub fn has_trouble(&self) -> bool {
         let [started, _, pushed, again, late] = self.counts.placed;

@@ -1,8 +1,9 @@
+use crate::journal_watch::JournalWatch;
 use crate::port_counts::PortCounts;
 use arrayvec::ArrayVec;
 use mg_clock::Timing;
 use mg_core::{Core, Counts, Record, TERMINATIONS, Taken};
-use mg_serve::{Monitor, TickReport};
+use mg_serve::{JournalReport, Monitor, TickReport};
 use mg_words::mode_talks;
 use std::alloc::{AllocError, Global};
 use std::io::Write;
@@ -16,8 +17,8 @@ type Text = ArrayVec<u8, 512>;
 /// Prints reports for an operator.
 ///
 /// Every `every` ticks it prints the totals since the start, and a line for each media port that has had trouble since
-/// the last report. After a stall it prints how many packets were too late to be sent. What can't be printed is
-/// skipped.
+/// the last report. After a stall it prints how many packets were too late to be sent. If the journal can't be written,
+/// or can be written again, it prints that at once. It skips what it can't print.
 #[derive(Drop)]
 pub struct Reports<'a, E: Write> {
     every: u64,
@@ -27,6 +28,7 @@ pub struct Reports<'a, E: Write> {
     late: u64,
     /// Datagrams that were dropped because of their sender.
     strangers: u64,
+    journal: JournalWatch,
     ports: Vec<PortCounts>,
     writer: &'a mut E,
 }
@@ -39,6 +41,7 @@ impl<'a, E: Write> Reports<'a, E> {
             ticks: 0,
             late: 0,
             strangers: 0,
+            journal: JournalWatch::new(),
             ports: vec![in alloc; PortCounts::new(); TERMINATIONS]?,
             writer,
         })
@@ -61,6 +64,17 @@ impl<'a, E: Write> Reports<'a, E> {
             let _ = self.writer.flush();
             self.late = 0;
         }
+    }
+
+    /// Prints a line if the journal began to fail or works again.
+    fn watch_journal(&mut self, report: &JournalReport) {
+        let Some(text) = self.journal.take(report) else {
+            return;
+        };
+        let mut line = Text::new();
+        let _ = writeln!(line, "{text}");
+        write_line(&line, self.writer);
+        let _ = self.writer.flush();
     }
 
     /// Returns whether a report is due.
@@ -133,6 +147,7 @@ impl<'a, E: Write> Monitor for Reports<'a, E> {
     fn end_tick(&mut self, report: &TickReport<'_>) {
         self.ticks = report.counts.ticks;
         self.count_late(report.timing, report.core.outbox().len() as u64);
+        self.watch_journal(&report.journal);
         if self.is_due() {
             self.print(report);
         }

@@ -1,6 +1,6 @@
 -- What is recorded of a session is a script of its events.
-use Rattle.std.proofs.Common.{◌≡◌, ◌≢◌, ℕ, ◌+◌, ◌<◌, inl, inr, Bool, true, false, zero, suc, List, [], ◌∷◌, ◌++◌, length, not, Option, Some, refl, sym, ap, subst, ◌∙◌, arith, codes, true≢false, ◌==◌, All}
-use Rattle.std.proofs.lemmas.List.Elements.{All-nil, All-cons, All-append, All-same, All-take, All-weaker, filter_passes}
+use Rattle.std.proofs.Common.{◌≡◌, ◌≢◌, ℕ, ◌+◌, ◌<◌, inl, inr, Bool, true, false, zero, suc, List, [], ◌∷◌, ◌++◌, length, not, Option, Some, refl, sym, ap, subst, ◌∙◌, arith, codes, true≢false, ◌==◌, All, Err}
+use Rattle.std.proofs.lemmas.List.Elements.{All-nil, All-cons, All-head, All-tail, All-append, All-same, All-take, All-weaker, filter_passes}
 use Rattle.std.proofs.lemmas.Bool.{eq-eqb}
 use Rattle.std.specs.Io.KnownBytes.{Appends}
 use Rattle.std.specs.List.{filter, range_with_len}
@@ -16,14 +16,15 @@ use Rattle.mg_core.specs.Script as script
 use Rattle.mg_core.specs.Step.{Sent, Run}
 use Rattle.mg_core.specs.World.{World, start_of}
 use Rattle.mg_lines.specs.Lines.{lines_of}
-use Rattle.mg_ports.specs.declared.call.Call.TheVariants.{Receive, BeginTick}
+use Rattle.mg_ports.specs.declared.call.Call.{Call}
+use Rattle.mg_ports.specs.declared.call.Call.TheVariants.{Receive, BeginTick, Append}
 use Rattle.mg_ports.specs.declared.receipt.Receipt.TheVariants.{Delivered, Nothing, Failed}
 use Rattle.mg_serve.specs.declared.command.Command.{Command}
 use Rattle.mg_serve.specs.declared.command.Command.TheVariants.{Poll, Tick, Stats, Quit, Unknown}
 use Rattle.mg_serve.specs.declared.form.Form.TheVariants.{Recording}
 use Rattle.mg_serve.specs.Theorems.{CutSessionsAreReadBack, ReplaysAreTheSession, SessionsAreReadBack, recorded}
 use Rattle.mg_serve.specs.Serve.{opening}
-use Rattle.mg_serve.specs.Session.{Each, Becomes, ReceivesDatagram, Performs, EndsTurn, HandlesEvent, Session, SocketTurn, event_at, sends_of}
+use Rattle.mg_serve.specs.Session.{Each, Becomes, ReceivesDatagram, Performs, EndsTurn, HandlesDatagram, HandlesEvent, IsAppended, MayAppend, Session, SocketTurn, event_at, sends_of}
 use Rattle.mg_serve.specs.Trace.{TraceEntry, Called, Happened, Printed, Noted, events_of_trace, one_line, output_of}
 use Rattle.mg_serve.proofs.OneLine.{short}
 use Rattle.mg_serve.proofs.Runs.{session_run}
@@ -128,14 +129,43 @@ datagram_read : (setup : Setup) (socket : ℕ) (source : Peer) (bytes : List ℕ
 datagram_read setup zero source bytes valid lt fits = fits
 datagram_read setup (suc s) source bytes valid lt fits = (omega (arith, lt, valid.limits.0.last), fits)
 
+-- calls alone
+called_read : (call : Call) → AreRead (Called call ∷ [])
+called_read call = All-nil IsRecorded
+
+appended_read : (p : List TraceEntry) → All IsAppended p → AreRead p
+appended_read [] all = All-nil IsRecorded
+appended_read (Called call ∷ p) all = appended_read p (All-tail IsAppended (Called call) p all)
+appended_read (Happened event ∷ p) all = absurd (All-head IsAppended (Happened event) p all)
+appended_read (Printed text ∷ p) all = absurd (All-head IsAppended (Printed text) p all)
+appended_read (Noted text ∷ p) all = absurd (All-head IsAppended (Noted text) p all)
+
+may_read : (p : List TraceEntry) → MayAppend p → AreRead p
+may_read p (inl none) = read_as p [] none (All-nil IsRecorded)
+may_read p (inr (lines, durability, result, is)) =
+    let append = Append lines durability result in read_as p (Called append ∷ []) is (called_read append)
+
+handled_read : (setup : Setup) (socket : ℕ) (event : Event) (w next : World) (p : List TraceEntry) →
+    IsRecorded (entry.Happened event) → HandlesDatagram setup socket event w p next → AreRead p
+handled_read setup zero event w next p fits (appended, others, is, all, inl h) =
+    read_as p (appended ++ others) is
+    (read_both appended others (appended_read appended all) (event_read setup event w next others fits h))
+handled_read setup zero event w next p fits (appended, others, is, all, inr (lines, durability, fault, last, same, before)) =
+    let append = Append lines durability (Err fault) in
+    let text = codes "no journal for a control datagram" in
+    read_as p (appended ++ others) is
+    (read_both appended others (appended_read appended all)
+    (read_as others (Called append ∷ Noted text ∷ []) last (noted_read text)))
+handled_read setup (suc s) event w next p fits h = event_read setup event w next p fits h
+
 become_read : (admitted : Bool) (setup : Setup) (socket : ℕ) → IsValidConfig setup.config →
     socket < setup.config.slots + 1 → (datagram : Peer × List ℕ) (w next : World) (p : List TraceEntry) →
     IsDatagram datagram.0 datagram.1 → Becomes admitted setup socket datagram w p next → AreRead p
 become_read true setup socket valid lt datagram w next p fits (inl h) =
-    event_read setup (event_at setup socket datagram.0 datagram.1) w next p
+    handled_read setup socket (event_at setup socket datagram.0 datagram.1) w next p
     (datagram_read setup socket datagram.0 datagram.1 valid lt fits) h
 become_read true setup socket valid lt datagram w next p fits (inr h) =
-    read_as p (Noted (codes "no memory for a control datagram") ∷ []) h.1
+    read_as p (Noted (codes "no memory for a control datagram") ∷ []) h.1.0
     (noted_read (codes "no memory for a control datagram"))
 become_read false setup socket valid lt datagram w next p fits h = read_as p [] h.0 (All-nil IsRecorded)
 
@@ -162,8 +192,9 @@ does_read : (setup : Setup) → IsValidConfig setup.config → (command : Comman
 does_read setup valid Poll w next p h =
     sockets_read (SocketTurn setup) 0 (setup.config.slots + 1)
     (λ socket v last q lt. turn_read setup valid socket v last q (omega (arith, lt))) w next p h
-does_read setup valid (Tick timing) w next p (others, is, h) =
-    read_as p (Called (BeginTick timing) ∷ others) is (event_read setup events.Tick w next others tt h)
+does_read setup valid (Tick timing) w next p (happening, appends, is, h, may) =
+    read_as p (Called (BeginTick timing) ∷ (happening ++ appends)) is
+    (read_both happening appends (event_read setup events.Tick w next happening tt h) (may_read appends may))
 does_read setup valid Stats w next p (text, is, same) = read_as p (Printed text ∷ []) is (printed_read text)
 does_read setup valid Quit w next p h = read_as p [] h.0 (All-nil IsRecorded)
 does_read setup valid Unknown w next p h =

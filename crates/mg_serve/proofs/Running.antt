@@ -6,18 +6,16 @@ use Rattle.std.proofs.lemmas.Bool.{ne_eqb}
 use Rattle.std.specs.Io.KnownBytes.{Appends, Keeps, Consumes, IsAtEnd}
 use Rattle.mg_clock.specs.Ticks.{ClockSeen}
 use Rattle.mg_serve.specs.Setup.{Setup}
-use Rattle.mg_engine.specs.declared.fault.StartFault.{StartFault}
-use Rattle.mg_engine.specs.declared.fault.StartFault.TheVariants as starts
 use Rattle.mg_core.specs.declared.counts.Counts.{Counts}
 use Rattle.mg_core.specs.declared.fault.RunFault.{RunFault}
 use Rattle.mg_core.specs.declared.fault.RunFault.TheVariants as faults
 use Rattle.mg_core.specs.declared.state.CoreState.{CoreState}
-use Rattle.mg_core.specs.aids.Steps.{run_fault_at_start}
-use Rattle.mg_core.specs.World.{World, StandsFor, counts_of, start_of}
+use Rattle.mg_core.specs.World.{World, StandsFor, counts_of}
 use Rattle.mg_lines.specs.declared.write_failed.WriteFailed.{WriteFailed}
 use Rattle.mg_lines.specs.Lines.{without_return, lines_after}
 use Rattle.mg_lines.specs.Streams.{WritesFront}
-use Rattle.mg_ports.specs.declared.call.Call.{Call}
+use Rattle.mg_ports.specs.Journaled.{PortsSeen}
+use Rattle.mg_serve.specs.Journaled.{IsJournaled}
 use Rattle.mg_serve.specs.declared.command.Command.{Command}
 use Rattle.mg_serve.specs.declared.form.Form.{Form}
 use Rattle.mg_serve.specs.Lines.{LastPrints, line_command, is_quit, prints, before_quit}
@@ -27,7 +25,8 @@ use Rattle.mg_serve.specs.Serve.{Served, ServedByClock, ServedSession, form_of, 
 use Rattle.mg_serve.specs.Trace.{TraceEntry, output_of}
 use Rattle.mg_serve.specs.aids.Driving.{BytesTaken, EndsBy, EndsByFault, Finished, RanBy, RanByClock, RanLines}
 use Rattle.mg_serve.specs.aids.Printing.{PrinterView, Prints, Puts}
-use Rattle.mg_serve.specs.aids.Outside.{Outside, LeadsByTrace, LogsTrace}
+use Rattle.mg_serve.specs.aids.Outside.{JournalView, Outside, LeadsByTrace, LogsTrace}
+use Rattle.mg_serve.proofs.JournalLemmas.{nothing_journaled}
 use Rattle.mg_serve.proofs.Printing.{prints_both}
 use Rattle.mg_serve.proofs.Steps.{finished_prints, prints_some, some_printed}
 use Rattle.mg_serve.proofs.Taking.{tells_both, told_none, takes_none, takes_as, takes_joined, takes_seen, takes_then}
@@ -448,58 +447,38 @@ no_ticks form allowed clock fails fault exits =
     }
 
 -- nothing was done
-serves_nothing : (setup : Setup) (title : Option (List ℕ)) (Gave : List Command → Type 0) (x : Option (List Call))
+serves_nothing : (setup : Setup) (w : World) (title : Option (List ℕ)) (Gave : List Command → Type 0) (x : PortsSeen)
     (held : Option (List ℕ)) (fault : RunFault) → Opens title (ended_by fault) [] →
-    IsOutput (ended_by fault) [] held held → Gave [] → Served setup title Gave x x held held (ended_by fault)
-serves_nothing setup title Gave x held fault opens printed gave = record {
+    IsOutput (ended_by fault) [] held held → Gave [] → Served setup w title Gave x x held held (ended_by fault)
+serves_nothing setup w title Gave x held fault opens printed gave = record {
   first = [];
   commands = [];
   trace = [];
-  last = start_of setup.config;
+  last = w;
+  lacking = 0;
   opens = opens;
   gave = gave;
   session = (refl, refl);
-  logs = told_none x;
+  logs = told_none x.calls;
+  lacks = nothing_journaled setup.journal 0;
+  journaled = refl;
   printed = printed;
   counts = tt;
 }
 
-pub no_memory : (setup : Setup) (title i : Option (List ℕ)) (x : Option (List Call)) (held : Option (List ℕ)) →
-    ServedSession setup title i i x x held held (ended_by faults.NoMemory)
-no_memory setup title i x held =
-    serves_nothing setup title (ReadCommands (form_of title) i i (ended_by faults.NoMemory)) x held faults.NoMemory refl
+pub no_memory : (setup : Setup) (w : World) (title i : Option (List ℕ)) (x : PortsSeen) (held : Option (List ℕ)) →
+    ServedSession setup w title i i x x held held (ended_by faults.NoMemory)
+no_memory setup w title i x held =
+    serves_nothing setup w title (ReadCommands (form_of title) i i (ended_by faults.NoMemory)) x held faults.NoMemory refl
     (Appends-nil held) (no_lines (form_of title) i faults.NoMemory (refl, refl))
 
-pub no_memory_by_clock : (setup : Setup) (title : Option (List ℕ)) (allowed : ℕ) (clock : ClockSeen) (fails : Type 0)
-    (x : Option (List Call)) (held : Option (List ℕ)) →
-    ServedByClock setup title allowed clock clock fails x x held held faults.NoMemory
-no_memory_by_clock setup title allowed clock fails x held =
-    serves_nothing setup title (ClockCommands (form_of title) allowed clock clock fails faults.NoMemory) x held
+pub no_memory_by_clock : (setup : Setup) (w : World) (title : Option (List ℕ)) (allowed : ℕ) (clock : ClockSeen)
+    (fails : Type 0) (x : PortsSeen) (held : Option (List ℕ)) →
+    ServedByClock setup w title allowed clock clock fails x x held held faults.NoMemory
+no_memory_by_clock setup w title allowed clock fails x held =
+    serves_nothing setup w title (ClockCommands (form_of title) allowed clock clock fails faults.NoMemory) x held
     faults.NoMemory refl (Appends-nil held)
     (no_ticks (form_of title) allowed clock fails faults.NoMemory (refl, refl, refl))
-
-pub not_started : (setup : Setup) (title i : Option (List ℕ)) (x : Option (List Call)) (held : Option (List ℕ))
-    (start : StartFault) (fault : RunFault) → fault ≡ run_fault_at_start start →
-    ServedSession setup title i i x x held held (ended_by fault)
-not_started setup title i x held starts.BadConfig fault is =
-    subst (λ (f : RunFault). ServedSession setup title i i x x held held (ended_by f)) (sym is)
-    (serves_nothing setup title (ReadCommands (form_of title) i i (ended_by faults.BadConfig)) x held faults.BadConfig
-    refl (Appends-nil held) (no_lines (form_of title) i faults.BadConfig (refl, refl)))
-not_started setup title i x held starts.NoMemory fault is =
-    subst (λ (f : RunFault). ServedSession setup title i i x x held held (ended_by f)) (sym is)
-    (no_memory setup title i x held)
-
-pub not_started_by_clock : (setup : Setup) (title : Option (List ℕ)) (allowed : ℕ) (clock : ClockSeen)
-    (fails : Type 0) (x : Option (List Call)) (held : Option (List ℕ)) (start : StartFault) (fault : RunFault) →
-    fault ≡ run_fault_at_start start → ServedByClock setup title allowed clock clock fails x x held held fault
-not_started_by_clock setup title allowed clock fails x held starts.BadConfig fault is =
-    subst (λ (f : RunFault). ServedByClock setup title allowed clock clock fails x x held held f) (sym is)
-    (serves_nothing setup title (ClockCommands (form_of title) allowed clock clock fails faults.BadConfig) x held
-    faults.BadConfig refl (Appends-nil held)
-    (no_ticks (form_of title) allowed clock fails faults.BadConfig (refl, refl, refl)))
-not_started_by_clock setup title allowed clock fails x held starts.NoMemory fault is =
-    subst (λ (f : RunFault). ServedByClock setup title allowed clock clock fails x x held held f) (sym is)
-    (no_memory_by_clock setup title allowed clock fails x held)
 
 -- what was printed, by whether a print failed
 all_put : (a b : Bool) (text : List ℕ) (x y : Option (List ℕ)) → a ≡ false → b ≡ false → Puts a b text x y →
@@ -523,10 +502,10 @@ abbrev pub Opened : Option (List ℕ) → PrinterView → PrinterView → Option
 Opened title a b held now = (a ≡ new_printer (form_of title)) × Prints a b held now (opening title)
 
 -- the start couldn't be printed
-opens_not : (setup : Setup) (title : Option (List ℕ)) (Gave : List Command → Type 0) (x : Option (List Call))
+opens_not : (setup : Setup) (w : World) (title : Option (List ℕ)) (Gave : List Command → Type 0) (x : PortsSeen)
     (a b : PrinterView) (held now : Option (List ℕ)) → Opened title a b held now → b.has_failed ≡ true → Gave [] →
-    Served setup title Gave x x held now (ended_by faults.Write)
-opens_not setup title Gave x a b held now opened failed gave =
+    Served setup w title Gave x x held now (ended_by faults.Write)
+opens_not setup w title Gave x a b held now opened failed gave =
     let h = opened.1 in
     let view = opened.0 in
     let put = subst (λ (f : Form). Puts a.has_failed b.has_failed (output_of f (opening title)) held now)
@@ -535,11 +514,14 @@ opens_not setup title Gave x a b held now opened failed gave =
       first = opening title;
       commands = [];
       trace = [];
-      last = start_of setup.config;
+      last = w;
+      lacking = 0;
       opens = refl;
       gave = gave;
       session = (refl, refl);
-      logs = told_none x;
+      logs = told_none x.calls;
+      lacks = nothing_journaled setup.journal 0;
+      journaled = refl;
       printed = front_put a.has_failed b.has_failed (output_of (form_of title) (opening title ++ [])) held now
           (ap (λ (v : PrinterView). v.has_failed) view) failed
           (subst (λ (l : List TraceEntry). Puts a.has_failed b.has_failed (output_of (form_of title) l) held now)
@@ -547,18 +529,18 @@ opens_not setup title Gave x a b held now opened failed gave =
       counts = tt;
     }
 
-pub not_opened : (setup : Setup) (title i : Option (List ℕ)) (x : Option (List Call)) (a b : PrinterView)
+pub not_opened : (setup : Setup) (w : World) (title i : Option (List ℕ)) (x : PortsSeen) (a b : PrinterView)
     (held now : Option (List ℕ)) → Opened title a b held now → b.has_failed ≡ true →
-    ServedSession setup title i i x x held now (ended_by faults.Write)
-not_opened setup title i x a b held now opened failed =
-    opens_not setup title (ReadCommands (form_of title) i i (ended_by faults.Write)) x a b held now opened failed
+    ServedSession setup w title i i x x held now (ended_by faults.Write)
+not_opened setup w title i x a b held now opened failed =
+    opens_not setup w title (ReadCommands (form_of title) i i (ended_by faults.Write)) x a b held now opened failed
     (no_lines (form_of title) i faults.Write (inl (refl, refl)))
 
-pub not_opened_by_clock : (setup : Setup) (title : Option (List ℕ)) (allowed : ℕ) (clock : ClockSeen) (fails : Type 0)
-    (x : Option (List Call)) (a b : PrinterView) (held now : Option (List ℕ)) → Opened title a b held now →
-    b.has_failed ≡ true → ServedByClock setup title allowed clock clock fails x x held now faults.Write
-not_opened_by_clock setup title allowed clock fails x a b held now opened failed =
-    opens_not setup title (ClockCommands (form_of title) allowed clock clock fails faults.Write) x a b held now opened
+pub not_opened_by_clock : (setup : Setup) (w : World) (title : Option (List ℕ)) (allowed : ℕ) (clock : ClockSeen)
+    (fails : Type 0) (x : PortsSeen) (a b : PrinterView) (held now : Option (List ℕ)) → Opened title a b held now →
+    b.has_failed ≡ true → ServedByClock setup w title allowed clock clock fails x x held now faults.Write
+not_opened_by_clock setup w title allowed clock fails x a b held now opened failed =
+    opens_not setup w title (ClockCommands (form_of title) allowed clock clock fails faults.Write) x a b held now opened
     failed (no_ticks (form_of title) allowed clock fails faults.Write (refl, inl (refl, refl)))
 
 -- what was printed in all
@@ -574,27 +556,34 @@ opened_form : (title : Option (List ℕ)) (a b : PrinterView) (held now : Option
     b.form ≡ form_of title
 opened_form title a b held now opened = opened.1.form ∙ ap (λ (v : PrinterView). v.form) opened.0
 
+-- a journal that lacks no tick
+abbrev pub new_journal : Setup → JournalView
+new_journal setup = record { durability = setup.journal; lacking = 0 }
+
 -- a run whose commands were done
-served_by : (setup : Setup) (title : Option (List ℕ)) (Gave : Form → List Command → Type 0)
+served_by : (setup : Setup) (w : World) (title : Option (List ℕ)) (Gave : Form → List Command → Type 0)
     (result : Result Counts RunFault) (old core : CoreState) (a : PrinterView) (held : Option (List ℕ))
-    (x z : Outside) → StandsFor old (start_of setup.config) → Opened title a x.printer held x.written →
+    (x z : Outside) → StandsFor old w → x.journal ≡ new_journal setup → Opened title a x.printer held x.written →
     Opens title result (opening title) →
     ((text : List ℕ) → Puts false z.printer.has_failed text held z.written → IsOutput result text held z.written) →
     ((w : World) → StandsFor core w → AreCounted result w) →
     LeadsByTrace old core x z (RanBy setup (Gave x.printer.form)) →
-    Served setup title (Gave (form_of title)) x.calls z.calls held z.written result
-served_by setup title Gave result old core a held x z stands opened opens output counted h =
-    let (p, next, logged, ran, after) = h (start_of setup.config) stands in
+    Served setup w title (Gave (form_of title)) x.ports z.ports held z.written result
+served_by setup w title Gave result old core a held x z stands journal opened opens output counted h =
+    let (p, next, logged, ran, after) = h w stands in
     let form = opened_form title a x.printer held x.written opened in
     record {
       first = opening title;
       commands = ran.0;
       trace = p;
       last = next;
+      lacking = z.journal.lacking;
       opens = opens;
       gave = subst (λ (f : Form). Gave f ran.0) form ran.1;
       session = ran.2;
       logs = logged.logged;
+      lacks = subst (λ (v : JournalView). IsJournaled v.durability v.lacking p z.journal.lacking) journal logged.lacks;
+      journaled = logged.journaled;
       printed = output (output_of (form_of title) (opening title ++ p)) (all_printed title a held x z p opened logged);
       counts = counted next after;
     }
@@ -634,14 +623,15 @@ gave_as : (setup : Setup) (G H : List Command → Type 0) (old core : CoreState)
 gave_as setup G H old core x z map h =
     takes_as old core x z (RanBy setup G) (RanBy setup H) h (λ w next p ran. (ran.0, map ran.0 ran.1, ran.2))
 
-pub served_ok : (counts : Counts) (setup : Setup) (title i k : Option (List ℕ)) (old core : CoreState)
-    (a : PrinterView) (held : Option (List ℕ)) (x z : Outside) → StandsFor old (start_of setup.config) →
+pub served_ok : (counts : Counts) (setup : Setup) (w : World) (title i k : Option (List ℕ)) (old core : CoreState)
+    (a : PrinterView) (held : Option (List ℕ)) (x z : Outside) → StandsFor old w → x.journal ≡ new_journal setup →
     Opened title a x.printer held x.written → EndsBy done z.printer.has_failed →
     LeadsByTrace old core x z (RanLines x.printer.form setup i k done) →
     ((w : World) → StandsFor core w → record counts { lines = 0; sent = 0; failed = 0 } ≡ counts_of w.tally) →
-    ServedSession setup title i k x.calls z.calls held z.written (Ok counts)
-served_ok counts setup title i k old core a held x z stands opened ends h counted =
-    served_by setup title (λ form. ReadCommands form i k (Ok counts)) (Ok counts) old core a held x z stands opened refl
+    ServedSession setup w title i k x.ports z.ports held z.written (Ok counts)
+served_ok counts setup w title i k old core a held x z stands journal opened ends h counted =
+    served_by setup w title (λ form. ReadCommands form i k (Ok counts)) (Ok counts) old core a held x z stands journal
+    opened refl
     (λ text. all_put false z.printer.has_failed text held z.written refl ends) counted
     (gave_as setup (ReadCommands x.printer.form i k done) (ReadCommands x.printer.form i k (Ok counts)) old core x z
     (read_ok counts x.printer.form i k) h)
@@ -672,27 +662,27 @@ exits_by faults.NoMemory failed form k ends text ended lines others e = absurd e
 exits_by faults.BadConfig failed form k ends text ended lines others e = absurd ends
 exits_by (faults.Script number) failed form k ends text ended lines others e = absurd ends
 
-pub served_err : (fault : RunFault) (setup : Setup) (title i k : Option (List ℕ)) (old core : CoreState)
-    (a : PrinterView) (held : Option (List ℕ)) (x z : Outside) → StandsFor old (start_of setup.config) →
+pub served_err : (fault : RunFault) (setup : Setup) (w : World) (title i k : Option (List ℕ)) (old core : CoreState)
+    (a : PrinterView) (held : Option (List ℕ)) (x z : Outside) → StandsFor old w → x.journal ≡ new_journal setup →
     Opened title a x.printer held x.written → EndsBy (failed_by fault) z.printer.has_failed →
     LeadsByTrace old core x z (RanLines x.printer.form setup i k (failed_by fault)) →
-    ServedSession setup title i k x.calls z.calls held z.written (ended_by fault)
-served_err fault setup title i k old core a held x z stands opened ends h =
-    served_by setup title (λ form. ReadCommands form i k (ended_by fault)) (ended_by fault) old core a held x z stands
-    opened (opens_by fault z.printer.has_failed title ends)
-    (λ text. output_by fault z.printer.has_failed text held z.written ends) (λ w stands. tt)
+    ServedSession setup w title i k x.ports z.ports held z.written (ended_by fault)
+served_err fault setup w title i k old core a held x z stands journal opened ends h =
+    served_by setup w title (λ form. ReadCommands form i k (ended_by fault)) (ended_by fault) old core a held x z stands
+    journal opened (opens_by fault z.printer.has_failed title ends)
+    (λ text. output_by fault z.printer.has_failed text held z.written ends) (λ v after. tt)
     (gave_as setup (ReadCommands x.printer.form i k (failed_by fault))
     (ReadCommands x.printer.form i k (ended_by fault)) old core x z
     (λ commands. read_err x.printer.form fault i k commands
     (exits_by fault z.printer.has_failed x.printer.form k ends)) h)
 
-pub served_by_clock : (fault : RunFault) (setup : Setup) (title : Option (List ℕ)) (allowed : ℕ) (c d : ClockSeen)
+pub served_by_clock : (fault : RunFault) (setup : Setup) (w : World) (title : Option (List ℕ)) (allowed : ℕ) (c d : ClockSeen)
     (fails : Type 0) (old core : CoreState) (a : PrinterView) (held : Option (List ℕ)) (x z : Outside) →
-    StandsFor old (start_of setup.config) → Opened title a x.printer held x.written →
+    StandsFor old w → x.journal ≡ new_journal setup → Opened title a x.printer held x.written →
     EndsByFault fault z.printer.has_failed →
     LeadsByTrace old core x z (RanByClock x.printer.form setup allowed c d fails fault) →
-    ServedByClock setup title allowed c d fails x.calls z.calls held z.written fault
-served_by_clock fault setup title allowed c d fails old core a held x z stands opened ends h =
-    served_by setup title (λ form. ClockCommands form allowed c d fails fault) (ended_by fault) old core a held x z
-    stands opened (opens_by fault z.printer.has_failed title ends)
-    (λ text. output_by fault z.printer.has_failed text held z.written ends) (λ w stands. tt) h
+    ServedByClock setup w title allowed c d fails x.ports z.ports held z.written fault
+served_by_clock fault setup w title allowed c d fails old core a held x z stands journal opened ends h =
+    served_by setup w title (λ form. ClockCommands form allowed c d fails fault) (ended_by fault) old core a held x z
+    stands journal opened (opens_by fault z.printer.has_failed title ends)
+    (λ text. output_by fault z.printer.has_failed text held z.written ends) (λ v after. tt) h

@@ -1,7 +1,7 @@
 -- A session is a run of the gateway.
-use Rattle.std.proofs.Common.{◌≡◌, ℕ, ◌+◌, inl, inr, Bool, true, false, List, [], ◌∷◌, ◌++◌, length, map, refl, sym, ap, subst, ◌∙◌, append_assoc, codes}
+use Rattle.std.proofs.Common.{◌≡◌, ℕ, ◌+◌, inl, inr, Bool, true, false, List, [], ◌∷◌, ◌++◌, length, map, zero, suc, All, Err, refl, sym, ap, subst, ◌∙◌, append_assoc, codes}
 use Rattle.std.proofs.lemmas.List.{append-nil, map-append}
-use Rattle.std.proofs.lemmas.List.Elements.{filter-append}
+use Rattle.std.proofs.lemmas.List.Elements.{All-head, All-tail, filter-append}
 use Rattle.std.specs.List.{filter, range_with_len}
 use Rattle.mg_serve.specs.Setup.{Setup, is_admitted}
 use Rattle.mg_words.specs.declared.peer.Peer.{Peer}
@@ -10,12 +10,12 @@ use Rattle.mg_core.specs.declared.event.Event.TheVariants as events
 use Rattle.mg_core.specs.World.{World}
 use Rattle.mg_core.specs.Step.{Sent, Reply, Packet, Run}
 use Rattle.mg_ports.specs.declared.call.Call.{Call}
-use Rattle.mg_ports.specs.declared.call.Call.TheVariants.{Receive, BeginTick}
+use Rattle.mg_ports.specs.declared.call.Call.TheVariants.{Receive, Send, BeginTick, Append}
 use Rattle.mg_ports.specs.declared.receipt.Receipt.TheVariants.{Delivered, Nothing, Failed}
 use Rattle.mg_serve.specs.declared.command.Command.{Command}
 use Rattle.mg_serve.specs.declared.command.Command.TheVariants.{Poll, Tick, Stats, Quit, Unknown}
 use Rattle.mg_serve.specs.Theorems.{SendsAreARun, is_send}
-use Rattle.mg_serve.specs.Session.{Each, Becomes, ReceivesDatagram, Performs, EndsTurn, HandlesEvent, Session, SocketTurn, event_at, send_of, sends_of}
+use Rattle.mg_serve.specs.Session.{Each, Becomes, ReceivesDatagram, Performs, EndsTurn, HandlesDatagram, HandlesEvent, IsAppended, MayAppend, Session, SocketTurn, event_at, send_of, sends_of}
 use Rattle.mg_serve.specs.Trace.{TraceEntry, Called, Happened, Printed, Noted, calls_of, events_of_trace}
 use Rattle.mg_serve.proofs.Printing.{calls_both}
 
@@ -98,14 +98,44 @@ event_ran setup event w next p (sent, step, is) = ran_as setup w next p (Happene
 
 -- ## A poll
 
+appended_ran : (setup : Setup) (w : World) (p : List TraceEntry) → All IsAppended p → SendsAreARun setup w p w
+appended_ran setup w [] all = no_run setup w w [] refl refl refl
+appended_ran setup w (Called (Append lines durability result) ∷ p) all =
+    let append = Called (Append lines durability result) in
+    ran_both setup w w w (append ∷ []) p (no_run setup w w (append ∷ []) refl refl refl)
+    (appended_ran setup w p (All-tail IsAppended append p all))
+appended_ran setup w (Called (Receive socket receipt) ∷ p) all =
+    absurd (All-head IsAppended (Called (Receive socket receipt)) p all)
+appended_ran setup w (Called (Send socket to bytes) ∷ p) all =
+    absurd (All-head IsAppended (Called (Send socket to bytes)) p all)
+appended_ran setup w (Called (BeginTick timing) ∷ p) all =
+    absurd (All-head IsAppended (Called (BeginTick timing)) p all)
+appended_ran setup w (Happened event ∷ p) all = absurd (All-head IsAppended (Happened event) p all)
+appended_ran setup w (Printed text ∷ p) all = absurd (All-head IsAppended (Printed text) p all)
+appended_ran setup w (Noted text ∷ p) all = absurd (All-head IsAppended (Noted text) p all)
+
+datagram_ran : (setup : Setup) (socket : ℕ) (event : Event) (w next : World) (p : List TraceEntry) →
+    HandlesDatagram setup socket event w p next → SendsAreARun setup w p next
+datagram_ran setup zero event w next p (appended, others, is, all, inl h) =
+    ran_as setup w next p (appended ++ others) is
+    (ran_both setup w w next appended others (appended_ran setup w appended all)
+    (event_ran setup event w next others h))
+datagram_ran setup zero event w next p (appended, others, is, all, inr (lines, durability, fault, last, same, before)) =
+    let refused = Called (Append lines durability (Err fault)) ∷ Noted (codes "no journal for a control datagram") ∷ []
+    in
+    ran_as setup w next p (appended ++ others) is
+    (ran_both setup w w next appended others (appended_ran setup w appended all)
+    (ran_as setup w next others refused last (no_run setup w next refused refl refl same)))
+datagram_ran setup (suc s) event w next p h = event_ran setup event w next p h
+
 -- a datagram that came, by whether its sender is admitted
 become_ran : (admitted : Bool) (setup : Setup) (socket : ℕ) (datagram : Peer × List ℕ) (w next : World) (p : List TraceEntry) →
     Becomes admitted setup socket datagram w p next → SendsAreARun setup w p next
 become_ran true setup socket datagram w next p (inl h) =
-    event_ran setup (event_at setup socket datagram.0 datagram.1) w next p h
+    datagram_ran setup socket (event_at setup socket datagram.0 datagram.1) w next p h
 become_ran true setup socket datagram w next p (inr h) =
     let noted = Noted (codes "no memory for a control datagram") in
-    ran_as setup w next p (noted ∷ []) h.1 (no_run setup w next (noted ∷ []) refl refl h.2)
+    ran_as setup w next p (noted ∷ []) h.1.0 (no_run setup w next (noted ∷ []) refl refl h.1.1)
 become_ran false setup socket datagram w next p h = ran_as setup w next p [] h.0 (no_run setup w next [] refl refl h.1)
 
 comes_ran : (setup : Setup) (socket : ℕ) (datagram : Peer × List ℕ) (w next : World) (p : List TraceEntry) →
@@ -134,15 +164,22 @@ turn_ran setup socket w next p h = ran_as setup w next p (h.received ++ h.last) 
 
 -- ## Commands
 
+may_run : (setup : Setup) (w : World) (p : List TraceEntry) → MayAppend p → SendsAreARun setup w p w
+may_run setup w p (inl none) = ran_as setup w w p [] none (no_run setup w w [] refl refl refl)
+may_run setup w p (inr (lines, durability, result, is)) =
+    let append = Called (Append lines durability result) in
+    ran_as setup w w p (append ∷ []) is (no_run setup w w (append ∷ []) refl refl refl)
+
 does_ran : (setup : Setup) (command : Command) (w next : World) (p : List TraceEntry) → Performs setup command w p next →
     SendsAreARun setup w p next
 does_ran setup Poll w next p h =
     each_ran setup (SocketTurn setup) (turn_ran setup) (range_with_len 0 (setup.config.slots + 1)) w next p h
-does_ran setup (Tick timing) w next p (others, is, h) =
+does_ran setup (Tick timing) w next p (happening, appends, is, h, may) =
     let begin = Called (BeginTick timing) in
-    ran_as setup w next p (begin ∷ others) is
-    (ran_both setup w w next (begin ∷ []) others (no_run setup w w (begin ∷ []) refl refl refl)
-    (event_ran setup events.Tick w next others h))
+    ran_as setup w next p (begin ∷ (happening ++ appends)) is
+    (ran_both setup w w next (begin ∷ []) (happening ++ appends) (no_run setup w w (begin ∷ []) refl refl refl)
+    (ran_both setup w next next happening appends (event_ran setup events.Tick w next happening h)
+    (may_run setup next appends may)))
 does_ran setup Stats w next p (text, is, same) =
     ran_as setup w next p (Printed text ∷ []) is (no_run setup w next (Printed text ∷ []) refl refl same)
 does_ran setup Quit w next p h = ran_as setup w next p [] h.0 (no_run setup w next [] refl refl h.1)

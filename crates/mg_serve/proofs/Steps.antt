@@ -1,7 +1,8 @@
 -- The steps of a server.
-use Rattle.std.proofs.Common.{◌≡◌, ◌≢◌, ℕ, zero, suc, ◌+◌, ◌-◌, ◌*◌, ◌<◌, ◌≤◌, inl, inr, Bool, true, false, List, [], ◌∷◌, ◌++◌, length, map, Option, refl, sym, ap, subst, ◌∙◌, arith, codes}
+use Rattle.std.proofs.Common.{◌≡◌, ◌≢◌, ℕ, zero, suc, ◌+◌, ◌-◌, ◌*◌, ◌<◌, ◌≤◌, inl, inr, Bool, true, false, List, [], ◌∷◌, ◌++◌, length, map, All, Option, Ok, Err, refl, sym, ap, subst, ◌∙◌, append_assoc, arith, codes}
 use Rattle.std.proofs.lemmas.List.{append-nil, length_push}
-use Rattle.std.specs.List.{range_with_len}
+use Rattle.std.proofs.lemmas.List.Elements.{All-nil}
+use Rattle.std.specs.List.{list_any, range_with_len}
 use Rattle.mg_clock.specs.declared.timing.Timing.{Timing}
 use Rattle.mg_serve.specs.Setup.{Setup, is_admitted}
 use Rattle.mg_words.specs.declared.peer.Peer.{Peer}
@@ -15,44 +16,103 @@ use Rattle.mg_core.specs.World.{World, StandsFor, TakesMedia, packets_of, world_
 use Rattle.mg_core.specs.Step.{Sent, Packet, Step}
 use Rattle.mg_words.specs.Leads.{Leads}
 use Rattle.mg_ports.specs.declared.call.Call.{Call}
-use Rattle.mg_ports.specs.declared.call.Call.TheVariants.{Receive, BeginTick}
+use Rattle.mg_ports.specs.declared.call.Call.TheVariants.{Receive, BeginTick, Append}
+use Rattle.mg_ports.specs.Calls.{Logged}
+use Rattle.mg_ports.specs.Journaled.{PortsSeen}
+use Rattle.mg_journal.specs.declared.append_fault.AppendFault.{AppendFault}
 use Rattle.mg_ports.specs.declared.receipt.Receipt.TheVariants.{Delivered, Nothing, Failed}
 use Rattle.mg_serve.specs.declared.command.Command.{Command}
 use Rattle.mg_serve.specs.declared.command.Command.TheVariants.{Poll, Tick, Stats, Quit, Unknown}
 use Rattle.mg_serve.specs.declared.form.Form.{Form}
 use Rattle.mg_serve.specs.declared.form.Form.TheVariants.{Plain, Recording}
 use Rattle.mg_serve.specs.Lines.{line_command, prints}
-use Rattle.mg_serve.specs.Session.{Each, Becomes, ReceivesDatagram, Performs, EndsTurn, HandlesEvent, SocketTurn, event_at, send_of, sends_of}
+use Rattle.mg_serve.specs.Journaled.{is_append}
+use Rattle.mg_serve.specs.Session.{Each, Becomes, ReceivesDatagram, Performs, EndsTurn, HandlesDatagram, HandlesEvent, IsAppended, SocketTurn, event_at, send_of, sends_of}
 use Rattle.mg_serve.specs.Trace.{TraceEntry, Called, Happened, Noted, output_of}
 use Rattle.mg_serve.specs.aids.Driving.{Finished, Received}
-use Rattle.mg_serve.specs.aids.Printing.{Puts}
-use Rattle.mg_serve.specs.aids.Outside.{Outside, LeadsByTrace, LogsTrace}
+use Rattle.mg_serve.specs.aids.Printing.{PrinterView, Prints, Puts}
+use Rattle.mg_serve.specs.aids.Outside.{JournalView, Outside, LeadsByTrace, LogsTrace, outside}
+use Rattle.mg_serve.specs.aids.Journaling.{AppendsBefore, EndsTick, with_tick}
+use Rattle.mg_serve.proofs.JournalLemmas.{appended_prints, may_print, tick_journaled}
 use Rattle.mg_serve.proofs.Printing.{output_both}
-use Rattle.mg_serve.proofs.Taking.{called, tells_both, each_more, takes_after, takes_none}
+use Rattle.mg_serve.proofs.Taking.{called, tells_announced, tells_appends, tells_both, tells_called, tells_print, tells_print_then, tells_refused, each_more, takes_after, takes_none}
 
--- a control datagram, which was printed, and whose answer was sent, if there was one
+-- a control datagram that was announced and printed, and whose answer was sent, if there was one
 pub control_answered : (setup : Setup) (source : Peer) (bytes : List ℕ) (sent : List Sent) (old new : CoreState)
-    (x y z : Outside) → Leads StandsFor old new (λ w next. Step w (events.Control source bytes) sent next) →
-    LogsTrace x y (Happened (events.Control source bytes) ∷ []) → LogsTrace y z (sends_of setup sent) →
-    LeadsByTrace old new x z (Becomes true setup 0 (source, bytes))
-control_answered setup source bytes sent old new x y z h printed logged w stands =
+    (seen later : PortsSeen) (x y : Option (List ℕ)) (a b : PrinterView) (j k : JournalView) (z : Outside) →
+    AppendsBefore (Happened (events.Control source bytes) ∷ []) (Ok tt) seen later j k →
+    Leads StandsFor old new (λ w next. Step w (events.Control source bytes) sent next) →
+    Prints a b x y (Happened (events.Control source bytes) ∷ []) →
+    LogsTrace (outside later y b k) z (sends_of setup sent) →
+    LeadsByTrace old new (outside seen x a j) z (Becomes true setup 0 (source, bytes))
+control_answered setup source bytes sent old new seen later x y a b j k z appends h printed logged w stands =
     let event = events.Control source bytes in
     let (next, step, held) = h w stands in (
-      Happened event ∷ sends_of setup sent,
+      appends.trace ++ (Happened event ∷ sends_of setup sent),
       next,
-      tells_both x y z (Happened event ∷ []) (sends_of setup sent) printed logged,
-      inl (sent, step, refl),
+      subst (λ (l : List TraceEntry). LogsTrace (outside seen x a j) z l)
+          (append_assoc appends.trace (Happened event ∷ []) (sends_of setup sent))
+          (tells_both (outside seen x a j) (outside later y b k) z (appends.trace ++ Happened event ∷ [])
+          (sends_of setup sent) (tells_announced event seen later x y a b j k appends printed) logged),
+      inl (appends.trace, Happened event ∷ sends_of setup sent, refl, appends.are, inl (sent, step, refl)),
       held,
     )
 
+-- a control datagram that wasn't announced, since an append failed
+pub control_refused : (setup : Setup) (source : Peer) (bytes : List ℕ) (fault : AppendFault) (core : CoreState)
+    (seen later : PortsSeen) (x y : Option (List ℕ)) (a b : PrinterView) (j k : JournalView) →
+    AppendsBefore (Happened (events.Control source bytes) ∷ []) (Err fault) seen later j k →
+    Prints a b x y (Noted (codes "no journal for a control datagram") ∷ []) →
+    LeadsByTrace core core (outside seen x a j) (outside later y b k) (Becomes true setup 0 (source, bytes))
+control_refused setup source bytes fault core seen later x y a b j k h printed w stands =
+    let noted = Noted (codes "no journal for a control datagram") in
+    let (appended, lines, durability, is, all, before) = h.are in
+    let last = Called (Append lines durability (Err fault)) in (
+      h.trace ++ noted ∷ [],
+      w,
+      tells_refused (Happened (events.Control source bytes) ∷ []) fault (codes "no journal for a control datagram") seen
+          later x y a b j k h printed,
+      inl (
+        appended,
+        last ∷ noted ∷ [],
+        ap (λ (l : List TraceEntry). l ++ noted ∷ []) is ∙ append_assoc appended (last ∷ []) (noted ∷ []),
+        all,
+        inr (lines, durability, fault, refl, refl, before),
+      ),
+      stands,
+    )
+
+-- a control datagram for which there is no memory
+pub control_unread : (setup : Setup) (source : Peer) (bytes : List ℕ) (core : CoreState) (seen : PortsSeen)
+    (x y : Option (List ℕ)) (a b : PrinterView) (j : JournalView) →
+    Prints a b x y (Noted (codes "no memory for a control datagram") ∷ []) →
+    LeadsByTrace core core (outside seen x a j) (outside seen y b j) (Becomes true setup 0 (source, bytes))
+control_unread setup source bytes core seen x y a b j printed w stands =
+    let noted = Noted (codes "no memory for a control datagram") in
+    (noted ∷ [], w, tells_print seen x y a b j noted refl tt printed, inr (refl, (refl, refl)), stands)
+
+-- an event without appends before it
+handles : (setup : Setup) (socket : ℕ) (event : Event) (w next : World) (p : List TraceEntry) →
+    HandlesEvent setup event w p next → HandlesDatagram setup socket event w p next
+handles setup zero event w next p h = ([], p, refl, All-nil IsAppended, inl h)
+handles setup (suc s) event w next p h = h
+
 -- a media datagram, which has no call
 pub media_taken : (setup : Setup) (socket : ℕ) (source : Peer) (bytes : List ℕ) (old new : CoreState)
-    (x y : Outside) → Leads StandsFor old new (λ w next. Step w (event_at setup socket source bytes) [] next) →
-    LogsTrace x y (Happened (event_at setup socket source bytes) ∷ []) →
-    LeadsByTrace old new x y (Becomes true setup socket (source, bytes))
-media_taken setup socket source bytes old new x y h printed w stands =
-    let (next, step, held) = h w stands in
-    (Happened (event_at setup socket source bytes) ∷ [], next, printed, inl ([], step, refl), held)
+    (seen : PortsSeen) (x y : Option (List ℕ)) (a b : PrinterView) (j : JournalView) → 1 ≤ socket →
+    Leads StandsFor old new (λ w next. Step w (event_at setup socket source bytes) [] next) →
+    Prints a b x y (Happened (event_at setup socket source bytes) ∷ []) →
+    LeadsByTrace old new (outside seen x a j) (outside seen y b j) (Becomes true setup socket (source, bytes))
+media_taken setup zero source bytes old new seen x y a b j first h printed w stands = absurd (omega arith)
+media_taken setup (suc s) source bytes old new seen x y a b j first h printed w stands =
+    let event = event_at setup (suc s) source bytes in
+    let (next, step, held) = h w stands in (
+      Happened event ∷ [],
+      next,
+      tells_print seen x y a b j (Happened event) refl tt printed,
+      inl (handles setup (suc s) event w next (Happened event ∷ []) ([], step, refl)),
+      held,
+    )
 
 -- the same at a socket that is the control socket
 pub at_control : (setup : Setup) (socket : ℕ) (source : Peer) (bytes : List ℕ) (old new : CoreState)
@@ -141,30 +201,50 @@ same_sends setup [] = refl
 same_sends setup (packet ∷ packets) =
     ap (λ (l : List TraceEntry). Called (send_of setup (Packet packet)) ∷ l) (same_sends setup packets)
 
-pub tick_sent : (setup : Setup) (timing : Timing) (old new : CoreState) (outbox : List Datagram) (v x y z : Outside) →
+sends_quiet : (setup : Setup) (packets : List Datagram) → list_any is_append (packet_sends setup packets) ≡ false
+sends_quiet setup [] = refl
+sends_quiet setup (packet ∷ packets) = sends_quiet setup packets
+
+pub tick_sent : (setup : Setup) (timing : Timing) (old new : CoreState) (outbox : List Datagram)
+    (before begun sent after : PortsSeen) (x y : Option (List ℕ)) (a b : PrinterView) (j k : JournalView) →
     ((w : World) → StandsFor old w → outbox ≡ packets_of w) →
     ((w : World) → StandsFor old w → StandsFor new (world_after_tick w)) →
-    LogsTrace v x (Called (BeginTick timing) ∷ []) → LogsTrace x y (Happened events.Tick ∷ []) →
-    LogsTrace y z (called (map (λ (packet : Datagram). send_of setup (Packet packet)) outbox)) →
-    LeadsByTrace old new v z (Performs setup (Tick timing))
-tick_sent setup timing old new outbox v x y z sent after begins printed logged w stands =
-    let happens = Happened events.Tick ∷ called (packet_sends setup outbox) in (
-      Called (BeginTick timing) ∷ happens,
+    Logged before.calls begun.calls (BeginTick timing ∷ []) → begun.journal ≡ before.journal →
+    Prints a b x y (Happened events.Tick ∷ []) →
+    Logged begun.calls sent.calls (map (λ (packet : Datagram). send_of setup (Packet packet)) outbox) →
+    sent.journal ≡ begun.journal → EndsTick sent after j k →
+    LeadsByTrace old new (outside before x a j) (outside after y b k) (Performs setup (Tick timing))
+tick_sent setup timing old new outbox before begun sent after x y a b j k packets moved begins same printed logged
+    kept ended w stands =
+    let happens = Happened events.Tick ∷ called (packet_sends setup outbox) in
+    let i = with_tick j in
+    let begin = tells_called x a j before begun (BeginTick timing ∷ []) begins refl same in
+    let tick = tells_print_then begun x y a b j i (Happened events.Tick) refl printed refl
+    (tick_journaled j.durability j.lacking) in
+    let sends = tells_called y b i begun sent (packet_sends setup outbox) logged (sends_quiet setup outbox) kept in
+    let appends = tells_appends y b i k sent after ended.appends ended.logs (may_print b.form ended.appends ended.may)
+    ended.durability ended.lacks in (
+      Called (BeginTick timing) ∷ (happens ++ ended.appends),
       world_after_tick w,
-      tells_both v x z (Called (BeginTick timing) ∷ []) happens begins
-          (tells_both x y z (Happened events.Tick ∷ []) (called (packet_sends setup outbox)) printed logged),
+      tells_both (outside before x a j) (outside begun x a j) (outside after y b k) (Called (BeginTick timing) ∷ [])
+          (happens ++ ended.appends) begin
+          (tells_both (outside begun x a j) (outside sent y b i) (outside after y b k) happens ended.appends
+          (tells_both (outside begun x a j) (outside begun y b i) (outside sent y b i) (Happened events.Tick ∷ [])
+          (called (packet_sends setup outbox)) tick sends) appends),
       (
         happens,
+        ended.appends,
         refl,
         (
           map Packet (packets_of w),
           (refl, refl),
           ap (λ (l : List TraceEntry). Happened events.Tick ∷ l)
-              (ap (λ (l : List Datagram). called (packet_sends setup l)) (sent w stands) ∙
+              (ap (λ (l : List Datagram). called (packet_sends setup l)) (packets w stands) ∙
               sym (same_sends setup (packets_of w))),
         ),
+        ended.may,
       ),
-      after w stands,
+      moved w stands,
     )
 
 -- ## The last line
@@ -205,12 +285,25 @@ quiet_event : (setup : Setup) (event : Event) (w next : World) (p : List TraceEn
     IsQuiet p
 quiet_event setup event w next p h = quiet_as p (Happened event ∷ sends_of setup h.0) h.2 (quiet_sends setup h.0)
 
+quiet_appended : (p : List TraceEntry) → All IsAppended p → IsQuiet p
+quiet_appended p all = appended_prints Plain p all
+
+quiet_datagram : (setup : Setup) (socket : ℕ) (event : Event) (w next : World) (p : List TraceEntry) →
+    HandlesDatagram setup socket event w p next → IsQuiet p
+quiet_datagram setup zero event w next p (appended, others, is, all, inl h) = quiet_as p (appended ++ others) is
+    (quiet_both appended others (quiet_appended appended all) (quiet_event setup event w next others h))
+quiet_datagram setup zero event w next p (appended, others, is, all, inr (lines, durability, fault, last, same, before)) =
+    let noted = Noted (codes "no journal for a control datagram") in
+    quiet_as p (appended ++ others) is (quiet_both appended others (quiet_appended appended all)
+    (quiet_as others (Called (Append lines durability (Err fault)) ∷ noted ∷ []) last refl))
+quiet_datagram setup (suc s) event w next p h = quiet_event setup event w next p h
+
 quiet_becomes : (admitted : Bool) (setup : Setup) (socket : ℕ) (datagram : Peer × List ℕ) (w next : World)
     (p : List TraceEntry) → Becomes admitted setup socket datagram w p next → IsQuiet p
 quiet_becomes true setup socket datagram w next p (inl h) =
-    quiet_event setup (event_at setup socket datagram.0 datagram.1) w next p h
+    quiet_datagram setup socket (event_at setup socket datagram.0 datagram.1) w next p h
 quiet_becomes true setup socket datagram w next p (inr h) =
-    quiet_as p (Noted (codes "no memory for a control datagram") ∷ []) h.1 refl
+    quiet_as p (Noted (codes "no memory for a control datagram") ∷ []) h.1.0 refl
 quiet_becomes false setup socket datagram w next p h = quiet_as p [] h.0 refl
 
 quiet_comes : (setup : Setup) (socket : ℕ) (datagram : Peer × List ℕ) (w next : World) (p : List TraceEntry) →
@@ -235,8 +328,9 @@ pub prints_some : (form : Form) (setup : Setup) (command : Command) (w next : Wo
     Performs setup command w p next → output_of form p ≢ [] → prints form command ≡ true
 prints_some Plain setup Poll w next p h some = absurd
     (some (quiet_each (SocketTurn setup) (quiet_turn setup) (range_with_len 0 (setup.config.slots + 1)) w next p h))
-prints_some Plain setup (Tick timing) w next p (others, is, h) some = absurd
-    (some (quiet_as p (Called (BeginTick timing) ∷ others) is (quiet_event setup events.Tick w next others h)))
+prints_some Plain setup (Tick timing) w next p (happening, appends, is, h, may) some = absurd
+    (some (quiet_as p (Called (BeginTick timing) ∷ (happening ++ appends)) is
+    (quiet_both happening appends (quiet_event setup events.Tick w next happening h) (may_print Plain appends may))))
 prints_some Plain setup Stats w next p h some = refl
 prints_some Plain setup Quit w next p h some = absurd (some (ap (output_of Plain) h.0))
 prints_some Plain setup Unknown w next p h some = refl

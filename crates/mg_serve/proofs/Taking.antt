@@ -1,19 +1,26 @@
 -- Steps one after another: what is seen from outside, each of a list, and from a core to a core.
-use Rattle.std.proofs.Common.{◌≡◌, ℕ, ◌+◌, List, [], ◌∷◌, ◌++◌, map, Option, Some, None, refl, sym, ap, subst, ◌∙◌, append_assoc, arith}
+use Rattle.std.proofs.Common.{◌≡◌, ℕ, ◌+◌, false, List, [], ◌∷◌, ◌++◌, map, Option, Some, None, Ok, Err, refl, sym, ap, subst, ◌∙◌, append_assoc, arith}
 use Rattle.std.proofs.lemmas.List.{append-nil, map-id}
 use Rattle.std.proofs.lemmas.List.FromFn.{map-range_with_len_more}
-use Rattle.std.specs.List.{range_with_len}
+use Rattle.std.specs.List.{list_any, range_with_len}
 use Rattle.mg_serve.specs.Setup.{Setup}
+use Rattle.mg_core.specs.declared.event.Event.{Event}
 use Rattle.mg_core.specs.declared.state.CoreState.{CoreState}
 use Rattle.mg_core.specs.World.{World}
 use Rattle.mg_ports.specs.declared.call.Call.{Call}
 use Rattle.mg_ports.specs.Calls.{Logged}
+use Rattle.mg_ports.specs.Journaled.{PortsSeen, JournalAfter}
+use Rattle.mg_journal.specs.declared.append_fault.AppendFault.{AppendFault}
+use Rattle.mg_journal.specs.declared.durability.Durability.{Durability}
+use Rattle.mg_serve.specs.Journaled.{IsJournaled, is_append}
 use Rattle.mg_serve.specs.declared.form.Form.{Form}
 use Rattle.mg_serve.specs.declared.form.Form.TheVariants.{Plain, Recording}
 use Rattle.mg_serve.specs.Session.{Each, SocketTurn}
-use Rattle.mg_serve.specs.Trace.{TraceEntry, Called, calls_of, output_of}
+use Rattle.mg_serve.specs.Trace.{TraceEntry, Called, Happened, Noted, calls_of, output_of}
 use Rattle.mg_serve.specs.aids.Printing.{PrinterView, Prints}
-use Rattle.mg_serve.specs.aids.Outside.{Outside, LeadsByTrace, LogsTrace, outside}
+use Rattle.mg_serve.specs.aids.Outside.{JournalView, Outside, LeadsByTrace, LogsTrace, outside}
+use Rattle.mg_serve.specs.aids.Journaling.{AppendsBefore, LogsCalls}
+use Rattle.mg_serve.proofs.JournalLemmas.{IsIdle, after_both, after_quiet, appends_print, calls_journaled, idle_journaled, journaled_both, nothing_journaled}
 use Rattle.mg_serve.proofs.Printing.{calls_both, prints_both, prints_nothing}
 
 pub told_both : (a b c : Option (List Call)) (x y : List Call) → Logged a b x → Logged b c y → Logged a c (x ++ y)
@@ -30,21 +37,44 @@ told_none (Some a) = sym (append-nil a)
 
 pub tells_both : (a b c : Outside) (p q : List TraceEntry) → LogsTrace a b p → LogsTrace b c q → LogsTrace a c (p ++ q)
 tells_both a b c p q h k = record {
-  logged = subst (λ (l : List Call). Logged a.calls c.calls l) (sym (calls_both p q))
-      (told_both a.calls b.calls c.calls (calls_of p) (calls_of q) h.logged k.logged);
+  logged = subst (λ (l : List Call). Logged a.ports.calls c.ports.calls l) (sym (calls_both p q))
+      (told_both a.ports.calls b.ports.calls c.ports.calls (calls_of p) (calls_of q) h.logged k.logged);
+  journaled = subst (λ (l : List Call). JournalAfter l a.ports.journal c.ports.journal) (sym (calls_both p q))
+      (after_both (calls_of p) (calls_of q) a.ports.journal b.ports.journal c.ports.journal h.journaled k.journaled);
   prints = prints_both a.printer b.printer c.printer a.written b.written c.written p q h.prints k.prints;
+  durability = k.durability ∙ h.durability;
+  lacks = journaled_both a.journal.durability a.journal.lacking b.journal.lacking c.journal.lacking p q h.lacks
+      (subst (λ (d : Option Durability). IsJournaled d b.journal.lacking q c.journal.lacking) h.durability k.lacks);
 }
 
 pub tells_none : (a : Outside) → LogsTrace a a []
-tells_none a = record { logged = told_none a.calls; prints = prints_nothing a.printer a.written [] refl }
+tells_none a = record {
+  logged = told_none a.ports.calls;
+  journaled = refl;
+  prints = prints_nothing a.printer a.written [] refl;
+  durability = refl;
+  lacks = nothing_journaled a.journal.durability a.journal.lacking;
+}
+
+-- what is printed, and what the journal lacks then
+pub tells_print_then : (seen : PortsSeen) (x y : Option (List ℕ)) (a b : PrinterView) (j k : JournalView)
+    (did : TraceEntry) → calls_of (did ∷ []) ≡ [] → Prints a b x y (did ∷ []) → k.durability ≡ j.durability →
+    IsJournaled j.durability j.lacking (did ∷ []) k.lacking →
+    LogsTrace (outside seen x a j) (outside seen y b k) (did ∷ [])
+tells_print_then seen x y a b j k did none h same lacks = record {
+  logged = subst (λ (l : List Call). Logged seen.calls seen.calls l) (sym none) (told_none seen.calls);
+  journaled = subst (λ (l : List Call). JournalAfter l seen.journal seen.journal) (sym none) refl;
+  prints = h;
+  durability = same;
+  lacks = lacks;
+}
 
 -- what is printed alone
-pub tells_print : (calls : Option (List Call)) (x y : Option (List ℕ)) (a b : PrinterView) (did : TraceEntry) →
-    calls_of (did ∷ []) ≡ [] → Prints a b x y (did ∷ []) → LogsTrace (outside calls x a) (outside calls y b) (did ∷ [])
-tells_print calls x y a b did none h = record {
-  logged = subst (λ (l : List Call). Logged calls calls l) (sym none) (told_none calls);
-  prints = h;
-}
+pub tells_print : (seen : PortsSeen) (x y : Option (List ℕ)) (a b : PrinterView) (j : JournalView) (did : TraceEntry) →
+    calls_of (did ∷ []) ≡ [] → IsIdle did → Prints a b x y (did ∷ []) →
+    LogsTrace (outside seen x a j) (outside seen y b j) (did ∷ [])
+tells_print seen x y a b j did none idle h =
+    tells_print_then seen x y a b j j did none h refl (idle_journaled j.durability j.lacking did idle)
 
 -- calls alone
 abbrev pub called : List Call → List TraceEntry
@@ -59,12 +89,58 @@ output_of-called form [] = refl
 output_of-called Plain (call ∷ calls) = output_of-called Plain calls
 output_of-called Recording (call ∷ calls) = output_of-called Recording calls
 
-pub tells_called : (x : Option (List ℕ)) (a : PrinterView) (b c : Option (List Call)) (calls : List Call) →
-    Logged b c calls → LogsTrace (outside b x a) (outside c x a) (called calls)
-tells_called x a b c calls logged = record {
-  logged = subst (λ (l : List Call). Logged b c l) (sym (calls_of-called calls)) logged;
+pub tells_called : (x : Option (List ℕ)) (a : PrinterView) (j : JournalView) (b c : PortsSeen) (calls : List Call) →
+    Logged b.calls c.calls calls → list_any is_append calls ≡ false → c.journal ≡ b.journal →
+    LogsTrace (outside b x a j) (outside c x a j) (called calls)
+tells_called x a j b c calls logged quiet same = record {
+  logged = subst (λ (l : List Call). Logged b.calls c.calls l) (sym (calls_of-called calls)) logged;
+  journaled = subst (λ (l : List Call). JournalAfter l b.journal c.journal) (sym (calls_of-called calls))
+      (after_quiet calls b.journal c.journal quiet same);
   prints = prints_nothing a x (called calls) (output_of-called a.form calls);
+  durability = refl;
+  lacks = calls_journaled j.durability j.lacking calls quiet;
 }
+
+-- appends, after which the journal lacks something else
+pub tells_appends : (x : Option (List ℕ)) (a : PrinterView) (j k : JournalView) (b c : PortsSeen)
+    (trace : List TraceEntry) → LogsCalls b c (calls_of trace) → output_of a.form trace ≡ [] →
+    k.durability ≡ j.durability → IsJournaled j.durability j.lacking trace k.lacking →
+    LogsTrace (outside b x a j) (outside c x a k) trace
+tells_appends x a j k b c trace logs none same lacks = record {
+  logged = logs.logged;
+  journaled = logs.journaled;
+  prints = prints_nothing a x trace none;
+  durability = same;
+  lacks = lacks;
+}
+
+-- appends, and the event that they announce
+pub tells_announced : (event : Event) (seen later : PortsSeen) (x y : Option (List ℕ)) (a b : PrinterView)
+    (j k : JournalView) → (h : AppendsBefore (Happened event ∷ []) (Ok tt) seen later j k) →
+    Prints a b x y (Happened event ∷ []) →
+    LogsTrace (outside seen x a j) (outside later y b k) (h.trace ++ Happened event ∷ [])
+tells_announced event seen later x y a b j k h printed =
+    let calls : calls_of (h.trace ++ Happened event ∷ []) ≡ calls_of h.trace =
+    calls_both h.trace (Happened event ∷ []) ∙ append-nil (calls_of h.trace) in
+    record {
+      logged = subst (λ (l : List Call). Logged seen.calls later.calls l) (sym calls) h.logs.logged;
+      journaled = subst (λ (l : List Call). JournalAfter l seen.journal later.journal) (sym calls) h.logs.journaled;
+      prints = prints_both a a b x x y h.trace (Happened event ∷ [])
+          (prints_nothing a x h.trace (appends_print (Happened event ∷ []) (Ok tt) a.form h.trace h.are)) printed;
+      durability = h.durability;
+      lacks = h.lacks;
+    }
+
+-- appends, the last of which failed, and a note of that
+pub tells_refused : (followed : List TraceEntry) (fault : AppendFault) (text : List ℕ) (seen later : PortsSeen)
+    (x y : Option (List ℕ)) (a b : PrinterView) (j k : JournalView) →
+    (h : AppendsBefore followed (Err fault) seen later j k) → Prints a b x y (Noted text ∷ []) →
+    LogsTrace (outside seen x a j) (outside later y b k) (h.trace ++ Noted text ∷ [])
+tells_refused followed fault text seen later x y a b j k h printed =
+    tells_both (outside seen x a j) (outside later x a k) (outside later y b k) h.trace (Noted text ∷ [])
+    (tells_appends x a j k seen later h.trace h.logs (appends_print followed (Err fault) a.form h.trace h.are) h.durability
+    (subst (λ (l : List TraceEntry). IsJournaled j.durability j.lacking l k.lacking) (append-nil h.trace) h.lacks))
+    (tells_print later x y a b k (Noted text) refl tt printed)
 
 -- ## Each of a list
 

@@ -1,7 +1,9 @@
 pub mod Setup
 pub mod Trace
 pub mod Lines
+pub mod Journaled
 pub mod Session
 pub mod Serve
 pub mod Theorems
+pub mod JournalLaws
 pub mod aids

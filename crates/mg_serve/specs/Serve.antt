@@ -9,11 +9,12 @@ use Rattle.mg_clock.specs.Ticks.{ClockSeen, IsReadEarly, StepsBegin}
 use Rattle.mg_core.specs.declared.counts.Counts.{Counts}
 use Rattle.mg_core.specs.declared.fault.RunFault.{RunFault}
 use Rattle.mg_core.specs.declared.fault.RunFault.TheVariants as faults
-use Rattle.mg_core.specs.World.{World, counts_of, start_of}
+use Rattle.mg_core.specs.World.{World, counts_of}
 use Rattle.mg_lines.specs.Lines.{lines_of}
 use Rattle.mg_lines.specs.Streams.{WritesFront}
-use Rattle.mg_ports.specs.declared.call.Call.{Call}
 use Rattle.mg_ports.specs.Calls.{Logged}
+use Rattle.mg_ports.specs.Journaled.{PortsSeen, JournalAfter}
+use Rattle.mg_serve.specs.Journaled.{IsJournaled}
 use Rattle.mg_serve.specs.declared.form.Form.{Form}
 use Rattle.mg_serve.specs.declared.form.Form.TheVariants.{Plain, Recording}
 use Rattle.mg_serve.specs.declared.command.Command.{Command}
@@ -120,33 +121,35 @@ abbrev pub IsOutput : Result Counts RunFault → List ℕ → Option (List ℕ) 
 IsOutput (Err faults.Write) text old new = WritesFront text old new
 IsOutput _ text old new = Appends old new text
 
--- A run of a new gateway with commands from a source. They form a session; the ports logged its
--- calls, and its output was printed.
-pub record Served (setup : Setup) (title : Option (List ℕ)) (Gave : List Command → Type 0)
-    (before logged : Option (List Call)) (held written : Option (List ℕ))
+-- A run of a gateway in the world w, with commands from a source. They form a session; the ports
+-- logged its calls, its journal got its lines, and its output was printed.
+pub record Served (setup : Setup) (w : World) (title : Option (List ℕ))
+    (Gave : List Command → Type 0) (old new : PortsSeen) (held written : Option (List ℕ))
     (result : Result Counts RunFault) : Type 0 where
   pub first : List TraceEntry
   pub commands : List Command
   pub trace : List TraceEntry
   pub last : World
+  pub lacking : ℕ
   pub opens : Opens title result first
   pub gave : Gave commands
-  pub session : Session setup commands (start_of setup.config) trace last
-  pub logs : Logged before logged (calls_of trace)
+  pub session : Session setup commands w trace last
+  pub logs : Logged old.calls new.calls (calls_of trace)
+  pub lacks : IsJournaled setup.journal 0 trace lacking
+  pub journaled : JournalAfter (calls_of trace) old.journal new.journal
   pub printed : IsOutput result (output_of (form_of title) (first ++ trace)) held written
   pub counts : AreCounted result last
 
 -- a run driven by the lines of an input
-abbrev pub ServedSession : Setup → Option (List ℕ) → (old new : Option (List ℕ))
-    → (before logged : Option (List Call)) → (held written : Option (List ℕ))
-    → Result Counts RunFault → Type 0
-ServedSession setup title old new before logged held written result =
-    Served setup title (ReadCommands (form_of title) old new result) before logged held written result
+abbrev pub ServedSession : Setup → World → Option (List ℕ) → (input rest : Option (List ℕ))
+    → (old new : PortsSeen) → (held written : Option (List ℕ)) → Result Counts RunFault → Type 0
+ServedSession setup w title input rest old new held written result =
+    Served setup w title (ReadCommands (form_of title) input rest result) old new held written result
 
 -- a run driven by a clock, which ends only on a fault
-abbrev pub ServedByClock : Setup → Option (List ℕ) → (allowed : ℕ) → (old new : ClockSeen)
-    → (fails : Type 0) → (before logged : Option (List Call)) → (held written : Option (List ℕ))
-    → RunFault → Type 0
-ServedByClock setup title allowed old new fails before logged held written fault =
-    Served setup title (ClockCommands (form_of title) allowed old new fails fault) before logged held
+abbrev pub ServedByClock : Setup → World → Option (List ℕ) → (allowed : ℕ)
+    → (clock later : ClockSeen) → (fails : Type 0) → (old new : PortsSeen)
+    → (held written : Option (List ℕ)) → RunFault → Type 0
+ServedByClock setup w title allowed clock later fails old new held written fault =
+    Served setup w title (ClockCommands (form_of title) allowed clock later fails fault) old new held
     written (Err fault)

@@ -1,19 +1,22 @@
 -- A session: commands and their effects.
 use Rattle.std.specs.Prelude.{◌≡◌, ◌⊎◌, ℕ, zero, suc, ◌+◌, ◌-◌, ◌*◌, ◌/◌, ◌<◌, Bool, true, false}
-use Rattle.std.specs.Prelude.{List, [], ◌∷◌, ◌++◌, length, map, codes}
+use Rattle.std.specs.Prelude.{All, List, [], ◌∷◌, ◌++◌, length, map, codes, Result, Ok, Err}
 use Rattle.std.specs.List.{range_with_len}
 use Rattle.mg_clock.specs.declared.timing.Timing.{Timing}
 use Rattle.mg_words.specs.declared.peer.Peer.{Peer}
 use Rattle.mg_core.specs.declared.event.Event.{Event}
 use Rattle.mg_core.specs.declared.event.Event.TheVariants as events
-use Rattle.mg_core.specs.Recording.{IsDatagram}
+use Rattle.mg_core.specs.Recording.{IsDatagram, event_line}
 use Rattle.mg_core.specs.World.{World}
 use Rattle.mg_core.specs.Step.{Sent, Reply, Packet, Step}
 use Rattle.mg_ports.specs.declared.call.Call.{Call}
-use Rattle.mg_ports.specs.declared.call.Call.TheVariants.{Receive, Send, BeginTick}
+use Rattle.mg_ports.specs.declared.call.Call.TheVariants.{Receive, Send, BeginTick, Append}
+use Rattle.mg_journal.specs.declared.append_fault.AppendFault.{AppendFault}
+use Rattle.mg_journal.specs.declared.durability.Durability.{Durability}
 use Rattle.mg_ports.specs.declared.receipt.Receipt.TheVariants.{Delivered, Nothing, Failed}
 use Rattle.mg_serve.specs.declared.command.Command.{Command}
 use Rattle.mg_serve.specs.declared.command.Command.TheVariants.{Poll, Tick, Stats, Quit, Unknown}
+use Rattle.mg_serve.specs.Journaled.{tick_lines}
 use Rattle.mg_serve.specs.Setup.{Setup, is_admitted}
 use Rattle.mg_serve.specs.Trace.{TraceEntry, Called, Happened, Printed, Noted}
 
@@ -49,16 +52,42 @@ event_at setup zero source bytes = events.Control source bytes
 event_at setup (suc s) source bytes = events.Media (setup.config.base_port + 2 * s) source bytes
 
 -- If there is no memory to read a control datagram, it is not an event, and this is noted.
-abbrev pub LacksMemory : ℕ → World → List TraceEntry → World → Type 0
-LacksMemory socket w trace next =
-    (socket ≡ 0) × (trace ≡ Noted (codes "no memory for a control datagram") ∷ []) × (next ≡ w)
+abbrev pub LacksMemory : World → List TraceEntry → World → Type 0
+LacksMemory w trace next =
+    (trace ≡ Noted (codes "no memory for a control datagram") ∷ []) × (next ≡ w)
+
+-- an append that succeeded; `Advances` says of what
+abbrev pub IsAppended : TraceEntry → Type 0
+IsAppended (Called (Append lines durability (Ok done))) = Unit {0}
+IsAppended entry = ⊥
+
+-- what is appended before an event: lines for ticks that have passed, or the event's own line
+abbrev pub ArePreceding : Event → List ℕ → Type 0
+ArePreceding event lines =
+    ((ticks : ℕ) × (lines ≡ tick_lines ticks)) ⊎ (lines ≡ event_line event)
+
+-- If an append fails, the control datagram is not an event, and this is noted.
+abbrev pub LacksJournal : Event → World → List TraceEntry → World → Type 0
+LacksJournal event w trace next =
+    (lines : List ℕ) × (durability : Durability) × (fault : AppendFault)
+    × (trace ≡ Called (Append lines durability (Err fault))
+    ∷ Noted (codes "no journal for a control datagram") ∷ [])
+    × (next ≡ w) × ArePreceding event lines
+
+-- The event happens after some appends, or one of these fails. Only a control datagram is appended.
+abbrev pub HandlesDatagram : Setup → ℕ → Event → World → List TraceEntry → World → Type 0
+HandlesDatagram setup zero event w trace next =
+    (appended : List TraceEntry) × (others : List TraceEntry)
+    × (trace ≡ appended ++ others) × All IsAppended appended
+    × (HandlesEvent setup event w others next ⊎ LacksJournal event w others next)
+HandlesDatagram setup (suc s) event w trace next = HandlesEvent setup event w trace next
 
 -- What happens to a datagram: it is an event if its sender is admitted, and is ignored otherwise.
 abbrev pub Becomes : (admitted : Bool) → Setup → ℕ → Peer × List ℕ → World → List TraceEntry → World
     → Type 0
 Becomes true setup socket datagram w trace next =
-    HandlesEvent setup (event_at setup socket datagram.0 datagram.1) w trace next
-    ⊎ LacksMemory socket w trace next
+    HandlesDatagram setup socket (event_at setup socket datagram.0 datagram.1) w trace next
+    ⊎ ((socket ≡ 0) × LacksMemory w trace next)
 Becomes false setup socket datagram w trace next = (trace ≡ []) × (next ≡ w)
 
 -- the receive that returned a datagram, and what happens to it
@@ -93,11 +122,19 @@ pub record SocketTurn (setup : Setup) (socket : ℕ) (w : World) (trace : List T
 
 -- ## Commands
 
--- a tick begins, and then the event happens
+-- no append, or one, which may fail
+abbrev pub MayAppend : List TraceEntry → Type 0
+MayAppend trace =
+    (trace ≡ [])
+    ⊎ ((lines : List ℕ) × (durability : Durability) × (result : Result (Unit {0}) AppendFault)
+    × (trace ≡ Called (Append lines durability result) ∷ []))
+
+-- a tick begins, the event happens, and then lines for ticks may be appended to the journal
 abbrev pub Ticks : Setup → Timing → World → List TraceEntry → World → Type 0
 Ticks setup timing w trace next =
-    (others : List TraceEntry) × (trace ≡ Called (BeginTick timing) ∷ others)
-    × HandlesEvent setup events.Tick w others next
+    (happening : List TraceEntry) × (appends : List TraceEntry)
+    × (trace ≡ Called (BeginTick timing) ∷ (happening ++ appends))
+    × HandlesEvent setup events.Tick w happening next × MayAppend appends
 
 -- `poll` is a turn of the control socket and then of each media socket in ascending order. `tick`
 -- is one tick. `stats` prints text that is not specified here.

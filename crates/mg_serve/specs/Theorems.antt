@@ -12,7 +12,7 @@ use Rattle.mg_core.specs.Step.{Sent, Run}
 use Rattle.mg_core.specs.World.{World, start_of}
 use Rattle.mg_lines.specs.Lines.{lines_of}
 use Rattle.mg_ports.specs.declared.call.Call.{Call}
-use Rattle.mg_ports.specs.declared.call.Call.TheVariants.{Receive, Send, BeginTick}
+use Rattle.mg_ports.specs.declared.call.Call.TheVariants.{Receive, Send, BeginTick, Append}
 use Rattle.mg_serve.specs.declared.form.Form.TheVariants.{Recording}
 use Rattle.mg_serve.specs.Serve.{opening}
 use Rattle.mg_serve.specs.Session.{Session, send_of}
@@ -24,6 +24,7 @@ abbrev pub is_send : Call → Bool
 is_send (Receive socket receipt) = false
 is_send (Send socket to bytes) = true
 is_send (BeginTick timing) = false
+is_send (Append lines durability result) = false
 
 -- A session sends exactly the datagrams that a run over its events sends, in order.
 pub record SendsAreARun (setup : Setup) (w : World) (trace : List TraceEntry) (next : World)

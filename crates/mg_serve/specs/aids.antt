@@ -1,3 +1,4 @@
 pub mod Printing
 pub mod Outside
+pub mod Journaling
 pub mod Driving

@@ -1,7 +1,7 @@
-ghost use Rattle.std.specs.Prelude.{◌≡◌, ◌≢◌, ◌↔◌, ◌≤◌, ℕ, true, false, length, Err, IfOk, OnErr, OnOk};
+ghost use Rattle.std.specs.Prelude.{◌≡◌, ◌≢◌, ◌^◌, ◌<◌, ◌≤◌, ◌+◌, ℕ, true, false, length, IfOk, OnErr, OnOk};
 ghost use Rattle.mg_clock.specs.Ticks.{clock_seen};
 ghost use Rattle.mg_engine.specs.Config.{IsValidConfig};
-ghost use Rattle.mg_core.specs.World.{StandsFor, start_of};
+ghost use Rattle.mg_ports.specs.Journaled.{ports_seen};
 ghost use Rattle.mg_serve.specs.aids.Driving.{EndsByFault, RanByClock, StepTaken};
 ghost use Rattle.mg_serve.specs.aids.Outside.{LeadsByTrace, outside};
 
@@ -11,10 +11,11 @@ use crate::monitor::Monitor;
 use crate::server::Server;
 use crate::setup::Setup;
 use mg_clock::{Step, TickSchedule, Watch};
-use mg_core::{Config, DATAGRAM_LIMIT, RunFault, StartFault};
+use mg_core::{Core, DATAGRAM_LIMIT, RunFault};
+use mg_journal::Durability;
 use mg_lines::WriteFailed;
 use mg_ports::Ports;
-use std::alloc::Global;
+use std::alloc::{AllocError, Global};
 use std::io::Write;
 
 /// Drives a server with a clock: a poll and a tick every 20 ms, and a poll for each message in between.
@@ -25,24 +26,25 @@ pub struct ClockDriver<'a, M: Monitor> {
 }
 
 impl<'a, M: Monitor> ClockDriver<'a, M> {
-    /// Makes a driver for a new gateway, before the first tick. A tick may be at most `allowed` ticks late.
+    /// Makes a driver for a gateway, before the first tick. A tick may be at most `allowed` ticks late.
     pub fn new(
         alloc: Global,
-        config: Config,
+        core: Core,
         form: Form,
+        durability: Option<Durability>,
         allowed: u16,
         monitor: &'a mut M,
-    ) -> Result<Self, StartFault>
-        ensures bad { (result ≡ Err StartFault.BadConfig) ↔ ¬ IsValidConfig config }
-        ensures sound { OnOk result (IsValidConfig config) }
-        ensures start { IfOk result (λ driver. StandsFor driver.server.core.state (start_of config)) }
+    ) -> Result<Self, AllocError>
+        ensures core { IfOk result (λ driver. driver.server.core ≡ core) }
         ensures printer { IfOk result (λ driver.
             driver.server.printer ≡ record { form = form; has_failed = false }) }
+        ensures journal { IfOk result (λ driver.
+            driver.server.journal ≡ record { durability = durability; lacking = 0 }) }
         ensures schedule { IfOk result (λ driver.
             driver.schedule ≡ record { ticks = 0; allowed = allowed; messages = 0 }) }
     {
         Ok(ClockDriver {
-            server: Server::new(alloc, config, form, monitor)?,
+            server: Server::new(alloc, core, form, durability, monitor)?,
             schedule: TickSchedule::new(allowed),
         })
     }
@@ -60,13 +62,17 @@ impl<'a, M: Monitor> ClockDriver<'a, M> {
         requires sound { IsValidConfig setup.now.config }
         requires room { length buffer.old ≤ DATAGRAM_LIMIT }
         requires whole { self.old.server.printer.has_failed ≡ false }
+        requires few { self.old.server.journal.lacking + 1 < 2 ^ 64 }
         ensures schedule { self.new.schedule ≡ self.old.schedule }
         ensures whole { OnOk result (self.new.server.printer.has_failed ≡ false) }
         ensures failed { OnErr result (self.new.server.printer.has_failed ≡ true) }
         ensures value { LeadsByTrace self.old.server.core.state self.new.server.core.state
-            (outside (P.calls ports.old) (W.contents writer.old) self.old.server.printer)
-            (outside (P.calls ports.new) (W.contents writer.new) self.new.server.printer)
+            (outside (ports_seen (P.calls ports.old) (P.journal ports.old)) (W.contents writer.old)
+            self.old.server.printer self.old.server.journal)
+            (outside (ports_seen (P.calls ports.new) (P.journal ports.new)) (W.contents writer.new)
+            self.new.server.printer self.new.server.journal)
             (StepTaken self.old.server.printer.form setup.now step result) }
+        ensures few { self.new.server.journal.lacking ≤ self.old.server.journal.lacking + 1 }
     {
         self.server
             .take_command(alloc, setup, ports, buffer, Command::Poll, writer)?;
@@ -92,12 +98,15 @@ impl<'a, M: Monitor> ClockDriver<'a, M> {
         requires sound { IsValidConfig setup.now.config }
         requires room { length buffer.old ≤ DATAGRAM_LIMIT }
         requires whole { self.old.server.printer.has_failed ≡ false }
+        requires start { self.old.server.journal.lacking ≡ 0 }
         ensures ends { EndsByFault result self.new.server.printer.has_failed }
         ensures started { result ≢ RunFault.BadConfig }
         ensures value { (allowed : ℕ) → self.old.schedule ≡ record { ticks = 0; allowed = allowed; messages = 0 } →
             LeadsByTrace self.old.server.core.state self.new.server.core.state
-            (outside (P.calls ports.old) (W.contents writer.old) self.old.server.printer)
-            (outside (P.calls ports.new) (W.contents writer.new) self.new.server.printer)
+            (outside (ports_seen (P.calls ports.old) (P.journal ports.old)) (W.contents writer.old)
+            self.old.server.printer self.old.server.journal)
+            (outside (ports_seen (P.calls ports.new) (P.journal ports.new)) (W.contents writer.new)
+            self.new.server.printer self.new.server.journal)
             (RanByClock self.old.server.printer.form setup.now allowed
             (clock_seen (K.readings watch.old) (K.waits watch.old))
             (clock_seen (K.readings watch.new) (K.waits watch.new)) (K.Fails watch.new) result) }

@@ -4,18 +4,21 @@
 //! packets. `stats` prints the counts, and `quit` ends the run. Whoever writes the lines is the gateway's clock.
 //!
 //! ```rust
-//! let counts = serve(alloc, &setup, None, &mut ports, &mut input, &mut output, &mut monitor)?;
+//! let counts = serve(alloc, &setup, core, None, &mut ports, &mut input, &mut output, &mut monitor)?;
 //! ```
 //!
 //! [`serve`] is proved for any [`Ports`](mg_ports::Ports). On return, the complete lines that it read and their effects
 //! form a session (`specs/Session.antt`). So it drops no datagram that it received, reads the ports in order, and sends
-//! each answer and each packet once. [`theorems`] goes further: a session sends what a run over its events sends, and
-//! reading its recording back gives the same events.
+//! each answer and each packet once. [`theorems`] goes further: a session sends what a run of its events sends, and
+//! reading its recording back yields the same events.
 #![tactic(auto)]
 
 mod clock_driver;
 mod command;
 mod form;
+mod journal_report;
+pub mod journal_theorems;
+mod journaling;
 mod line;
 mod line_driver;
 mod monitor;
@@ -33,9 +36,11 @@ pub use crate::command::Command;
 // The same is true of the form in which a session is printed.
 #[doc(hidden)]
 pub use crate::form::Form;
+pub use crate::journal_report::JournalReport;
 pub use crate::monitor::Monitor;
 pub use crate::serving::{serve, serve_by_clock};
 pub use crate::setup::Setup;
 pub use crate::tick_report::TickReport;
 pub use mg_clock::Timing;
-pub use mg_core::{Config, Counts, RunFault};
+pub use mg_core::{Config, Core, Counts, RunFault};
+pub use mg_journal::Durability;

@@ -1,6 +1,6 @@
-ghost use Rattle.std.specs.Prelude.{◌≡◌, ◌≢◌, ◌↔◌, ◌≤◌, ℕ, List, [], true, false, length, take, Err, IfErr, IfOk, OnOk};
+ghost use Rattle.std.specs.Prelude.{◌≡◌, ◌≢◌, ◌^◌, ◌<◌, ◌≤◌, ◌+◌, ℕ, List, [], true, false, length, take, Err, IfErr, IfOk, OnOk};
 ghost use Rattle.mg_engine.specs.Config.{IsValidConfig};
-ghost use Rattle.mg_core.specs.World.{StandsFor, start_of};
+ghost use Rattle.mg_ports.specs.Journaled.{ports_seen};
 ghost use Rattle.mg_lines.specs.Lines.{without_return};
 ghost use Rattle.mg_serve.specs.Lines.{line_command, is_quit};
 ghost use Rattle.mg_serve.specs.Session.{Performs};
@@ -13,10 +13,11 @@ use crate::line::Line;
 use crate::monitor::Monitor;
 use crate::server::Server;
 use crate::setup::Setup;
-use mg_core::{Config, DATAGRAM_LIMIT, RunFault, StartFault};
+use mg_core::{Core, DATAGRAM_LIMIT, RunFault};
+use mg_journal::Durability;
 use mg_lines::{READ_SIZE, WriteFailed, read_some, without_return};
 use mg_ports::Ports;
-use std::alloc::Global;
+use std::alloc::{AllocError, Global};
 use std::io::{Read, Write};
 
 /// Drives a server with lines, which may arrive in pieces of any size.
@@ -27,22 +28,23 @@ pub struct LineDriver<'a, M: Monitor> {
 }
 
 impl<'a, M: Monitor> LineDriver<'a, M> {
-    /// Makes a driver for a new gateway, before the first line.
+    /// Makes a driver for a gateway, before the first line.
     pub fn new(
         alloc: Global,
-        config: Config,
+        core: Core,
         form: Form,
+        durability: Option<Durability>,
         monitor: &'a mut M,
-    ) -> Result<Self, StartFault>
-        ensures bad { (result ≡ Err StartFault.BadConfig) ↔ ¬ IsValidConfig config }
-        ensures sound { OnOk result (IsValidConfig config) }
-        ensures start { IfOk result (λ driver. StandsFor driver.server.core.state (start_of config)) }
+    ) -> Result<Self, AllocError>
+        ensures core { IfOk result (λ driver. driver.server.core ≡ core) }
         ensures printer { IfOk result (λ driver.
             driver.server.printer ≡ record { form = form; has_failed = false }) }
+        ensures journal { IfOk result (λ driver.
+            driver.server.journal ≡ record { durability = durability; lacking = 0 }) }
         ensures partial { IfOk result (λ driver. driver.partial ≡ []) }
     {
         Ok(LineDriver {
-            server: Server::new(alloc, config, form, monitor)?,
+            server: Server::new(alloc, core, form, durability, monitor)?,
             partial: Line::new(),
         })
     }
@@ -59,14 +61,18 @@ impl<'a, M: Monitor> LineDriver<'a, M> {
         requires sound { IsValidConfig setup.now.config }
         requires room { length buffer.old ≤ DATAGRAM_LIMIT }
         requires whole { self.old.server.printer.has_failed ≡ false }
+        requires few { self.old.server.journal.lacking + 1 < 2 ^ 64 }
         ensures partial { OnOk result (self.new.partial ≡ []) }
         ensures quit { IfOk result (λ quit. quit ≡ is_quit (line_command (without_return self.old.partial))) }
         ensures whole { OnOk result (self.new.server.printer.has_failed ≡ false) }
         ensures failed { IfErr result (λ failed. self.new.server.printer.has_failed ≡ true) }
         ensures value { LeadsByTrace self.old.server.core.state self.new.server.core.state
-            (outside (P.calls ports.old) (W.contents writer.old) self.old.server.printer)
-            (outside (P.calls ports.new) (W.contents writer.new) self.new.server.printer)
+            (outside (ports_seen (P.calls ports.old) (P.journal ports.old)) (W.contents writer.old)
+            self.old.server.printer self.old.server.journal)
+            (outside (ports_seen (P.calls ports.new) (P.journal ports.new)) (W.contents writer.new)
+            self.new.server.printer self.new.server.journal)
             (Performs setup.now (line_command (without_return self.old.partial))) }
+        ensures few { self.new.server.journal.lacking ≤ self.old.server.journal.lacking + 1 }
     {
         let command = Command::of_line(without_return(self.partial.as_slice()));
         let quit = self
@@ -89,13 +95,17 @@ impl<'a, M: Monitor> LineDriver<'a, M> {
         requires sound { IsValidConfig setup.now.config }
         requires room { length buffer.old ≤ DATAGRAM_LIMIT }
         requires whole { self.old.server.printer.has_failed ≡ false }
+        requires few { self.old.server.journal.lacking + length bytes.now < 2 ^ 64 }
         ensures whole { OnOk result (self.new.server.printer.has_failed ≡ false) }
         ensures failed { IfErr result (λ failed. self.new.server.printer.has_failed ≡ true) }
         ensures value { (partial : List ℕ) → self.old.partial ≡ take 8 partial
             → LeadsByTrace self.old.server.core.state self.new.server.core.state
-            (outside (P.calls ports.old) (W.contents writer.old) self.old.server.printer)
-            (outside (P.calls ports.new) (W.contents writer.new) self.new.server.printer)
+            (outside (ports_seen (P.calls ports.old) (P.journal ports.old)) (W.contents writer.old)
+            self.old.server.printer self.old.server.journal)
+            (outside (ports_seen (P.calls ports.new) (P.journal ports.new)) (W.contents writer.new)
+            self.new.server.printer self.new.server.journal)
             (BytesTaken self.old.server.printer.form setup.now partial bytes.now self.new.partial result) }
+        ensures few { self.new.server.journal.lacking ≤ self.old.server.journal.lacking + length bytes.now }
     {
         for b in bytes {
             if *b != b'\n' {
@@ -121,9 +131,12 @@ impl<'a, M: Monitor> LineDriver<'a, M> {
         requires sound { IsValidConfig setup.now.config }
         requires room { length buffer.old ≤ DATAGRAM_LIMIT }
         requires whole { self.old.server.printer.has_failed ≡ false }
+        requires few { self.old.server.journal.lacking + 1 < 2 ^ 64 }
         ensures value { LeadsByTrace self.old.server.core.state self.new.server.core.state
-            (outside (P.calls ports.old) (W.contents writer.old) self.old.server.printer)
-            (outside (P.calls ports.new) (W.contents writer.new) self.new.server.printer)
+            (outside (ports_seen (P.calls ports.old) (P.journal ports.old)) (W.contents writer.old)
+            self.old.server.printer self.old.server.journal)
+            (outside (ports_seen (P.calls ports.new) (P.journal ports.new)) (W.contents writer.new)
+            self.new.server.printer self.new.server.journal)
             (Finished setup.now self.old.partial) }
         ensures whole { OnOk result (self.new.server.printer.has_failed ≡ false) }
         ensures failed { IfErr result (λ failed. self.new.server.printer.has_failed ≡ true) }
@@ -152,11 +165,14 @@ impl<'a, M: Monitor> LineDriver<'a, M> {
         requires room { length buffer.old ≤ DATAGRAM_LIMIT }
         requires whole { self.old.server.printer.has_failed ≡ false }
         requires partial { self.old.partial ≡ [] }
+        requires start { self.old.server.journal.lacking ≡ 0 }
         ensures ends { EndsBy result self.new.server.printer.has_failed }
         ensures started { result ≢ Err RunFault.BadConfig }
         ensures value { LeadsByTrace self.old.server.core.state self.new.server.core.state
-            (outside (P.calls ports.old) (W.contents writer.old) self.old.server.printer)
-            (outside (P.calls ports.new) (W.contents writer.new) self.new.server.printer)
+            (outside (ports_seen (P.calls ports.old) (P.journal ports.old)) (W.contents writer.old)
+            self.old.server.printer self.old.server.journal)
+            (outside (ports_seen (P.calls ports.new) (P.journal ports.new)) (W.contents writer.new)
+            self.new.server.printer self.new.server.journal)
             (RanLines self.old.server.printer.form setup.now (R.remaining reader.old) (R.remaining reader.new) result) }
     {
         let mut bytes = [0; READ_SIZE];

@@ -1,18 +1,18 @@
-ghost use Rattle.std.specs.Prelude.{◌≡◌, ◌≤◌, ◌+◌, ◌*◌, ◌-◌, ◌⊎◌, ◌↔◌, [], ◌∷◌, map, length, true, false, Err, IfErr, IfOk, OnErr, OnOk};
+ghost use Rattle.std.specs.Prelude.{◌≡◌, ◌^◌, ◌<◌, ◌≤◌, ◌+◌, ◌*◌, ◌-◌, [], ◌∷◌, map, length, true, false, IfErr, IfOk, OnErr, OnOk};
 ghost use Rattle.mg_engine.specs.Config.{IsValidConfig};
-ghost use Rattle.mg_core.specs.declared.event.Event.TheVariants as events;
 ghost use Rattle.mg_core.specs.Step.{Packet, Step};
-ghost use Rattle.mg_core.specs.World.{World, StandsFor, counts_of, start_of};
+ghost use Rattle.mg_core.specs.World.{World, StandsFor, counts_of};
 ghost use Rattle.mg_words.specs.Leads.{Leads};
 ghost use Rattle.mg_ports.specs.declared.call.Call.TheVariants.{Send};
 ghost use Rattle.mg_ports.specs.Calls.{Logged};
+ghost use Rattle.mg_ports.specs.Journaled.{ports_seen};
 ghost use Rattle.mg_serve.specs.Lines.{is_quit};
 ghost use Rattle.mg_core.specs.Peer.{peer};
 ghost use Rattle.mg_core.specs.Recording.{IsDatagram};
 ghost use Rattle.mg_rooms.specs.Registry.{holder_of};
 ghost use Rattle.std.specs.Option.{option_and_then, option_map};
 ghost use Rattle.mg_serve.specs.Serve.{opening};
-ghost use Rattle.mg_serve.specs.Session.{Becomes, Performs, HandlesEvent, LacksMemory, SocketTurn, event_at, send_of};
+ghost use Rattle.mg_serve.specs.Session.{Becomes, Performs, SocketTurn, event_at, send_of};
 ghost use Rattle.mg_serve.specs.Setup.{is_admitted, is_remote};
 ghost use Rattle.mg_serve.specs.Trace.{Called, Happened};
 ghost use Rattle.mg_serve.specs.aids.Driving.{Received};
@@ -21,17 +21,19 @@ ghost use Rattle.mg_serve.specs.aids.Outside.{LeadsByTrace, outside};
 
 use crate::command::Command;
 use crate::form::Form;
+use crate::journaling::Journaling;
 use crate::monitor::Monitor;
 use crate::output::counts_text;
 use crate::printer::Printer;
 use crate::setup::Setup;
 use crate::tick_report::TickReport;
 use mg_clock::Timing;
-use mg_core::{Answer, Config, Core, Counts, DATAGRAM_LIMIT, Datagram, Peer, StartFault};
+use mg_core::{Answer, Core, Counts, DATAGRAM_LIMIT, Datagram, Peer};
+use mg_journal::Durability;
 use mg_lines::WriteFailed;
 use mg_ports::Ports;
 use mg_sdp::Chosen;
-use std::alloc::Global;
+use std::alloc::{AllocError, Global};
 use std::io::Write;
 
 /// The maximum number of datagrams from one socket in a poll.
@@ -42,6 +44,7 @@ const TURN: usize = 64;
 pub struct Server<'a, M: Monitor> {
     pub core: Core,
     pub printer: Printer,
+    pub journal: Journaling,
     monitor: &'a mut M,
     /// Lines that were executed.
     pub lines: u64,
@@ -49,11 +52,14 @@ pub struct Server<'a, M: Monitor> {
     pub sent: u64,
     /// Control datagrams that were dropped because memory ran out while they were read.
     pub unread: u64,
+    /// Control datagrams that were dropped because an append to the journal failed.
+    pub unjournaled: u64,
 }
 
 /// Sends a datagram, and counts it if the send succeeds.
 fn send<P: Ports>(ports: &mut P, socket: usize, to: Peer, bytes: &[u8], sent: &mut u64)
     ensures logged { Logged (P.calls ports.old) (P.calls ports.new) (Send socket to bytes.now ∷ []) }
+    ensures journal { P.journal ports.new ≡ P.journal ports.old }
 {
     if ports.send(socket, to, bytes).is_ok() {
         *sent = sent.saturating_add(1);
@@ -71,6 +77,7 @@ fn socket_of(setup: &Setup<'_>, packet: &Datagram) -> usize
 fn send_packets<P: Ports>(ports: &mut P, setup: &Setup<'_>, packets: &[Datagram], sent: &mut u64)
     ensures logged { Logged (P.calls ports.old) (P.calls ports.new)
         (map (λ packet. send_of setup.now (Packet packet)) packets.now) }
+    ensures journal { P.journal ports.new ≡ P.journal ports.old }
 {
     for packet in packets {
         send(
@@ -111,26 +118,27 @@ fn media_port(setup: &Setup<'_>, socket: u16) -> u16
 }
 
 impl<'a, M: Monitor> Server<'a, M> {
-    /// Makes a server with a new gateway, watched by a monitor.
+    /// Makes a server with a gateway, watched by a monitor. The journal, if there is one, lacks no tick.
     pub fn new(
         alloc: Global,
-        config: Config,
+        core: Core,
         form: Form,
+        durability: Option<Durability>,
         monitor: &'a mut M,
-    ) -> Result<Self, StartFault>
-        ensures bad { (result ≡ Err StartFault.BadConfig) ↔ ¬ IsValidConfig config }
-        ensures sound { OnOk result (IsValidConfig config) }
-        ensures start { IfOk result (λ server. StandsFor server.core.state (start_of config)) }
+    ) -> Result<Self, AllocError>
+        ensures core { IfOk result (λ server. server.core ≡ core) }
         ensures printer { IfOk result (λ server. server.printer ≡ record { form = form; has_failed = false }) }
+        ensures journal { IfOk result (λ server. server.journal ≡ record { durability = durability; lacking = 0 }) }
     {
-        let core = Core::new(alloc, config)?;
         Ok(Server {
             core,
             printer: Printer::new(alloc, form)?,
+            journal: Journaling::new(alloc, durability)?,
             monitor,
             lines: 0,
             sent: 0,
             unread: 0,
+            unjournaled: 0,
         })
     }
 
@@ -142,6 +150,7 @@ impl<'a, M: Monitor> Server<'a, M> {
     ) -> Result<(), WriteFailed>
         requires whole { self.old.printer.has_failed ≡ false }
         ensures core { self.new.core ≡ self.old.core }
+        ensures journal { self.new.journal ≡ self.old.journal }
         ensures whole { OnOk result (self.new.printer.has_failed ≡ false) }
         ensures failed { OnErr result (self.new.printer.has_failed ≡ true) }
         ensures printed { Prints self.old.printer self.new.printer (W.contents writer.old) (W.contents writer.new)
@@ -154,7 +163,7 @@ impl<'a, M: Monitor> Server<'a, M> {
         Ok(())
     }
 
-    /// Handles a control datagram, and sends its answer.
+    /// Appends a control datagram to the journal, if there is one. Then runs it, and sends its answer.
     fn take_control<P: Ports, W: Write>(
         &mut self,
         alloc: Global,
@@ -164,19 +173,28 @@ impl<'a, M: Monitor> Server<'a, M> {
         bytes: &[u8],
         writer: &mut W,
     )
-        requires short { length bytes.now ≤ DATAGRAM_LIMIT }
+        requires datagram { IsDatagram source bytes.now }
         ensures value { LeadsByTrace self.old.core.state self.new.core.state
-            (outside (P.calls ports.old) (W.contents writer.old) self.old.printer)
-            (outside (P.calls ports.new) (W.contents writer.new) self.new.printer)
-            (λ w trace next.
-            HandlesEvent setup.now (events.Control source bytes.now) w trace next ⊎ LacksMemory 0 w trace next) }
+            (outside (ports_seen (P.calls ports.old) (P.journal ports.old)) (W.contents writer.old)
+            self.old.printer self.old.journal)
+            (outside (ports_seen (P.calls ports.new) (P.journal ports.new)) (W.contents writer.new)
+            self.new.printer self.new.journal)
+            (Becomes true setup.now 0 (source, bytes.now)) }
+        ensures few { self.new.journal.lacking ≤ self.old.journal.lacking }
     {
-        let Ok(answer) = self.core.control(alloc, source, bytes) else {
+        let Ok(parsed) = Core::read(alloc, bytes) else {
             self.printer
                 .note(b"no memory for a control datagram", writer);
             self.unread = self.unread.saturating_add(1);
             return;
         };
+        let Ok(()) = self.journal.announce(ports, source, bytes) else {
+            self.printer
+                .note(b"no journal for a control datagram", writer);
+            self.unjournaled = self.unjournaled.saturating_add(1);
+            return;
+        };
+        let answer = self.core.run(source, bytes, &parsed);
         self.printer.control(source, bytes, writer);
         match answer {
             Answer::Send => send(ports, 0, source, self.core.answer(), &mut self.sent),
@@ -201,6 +219,7 @@ impl<'a, M: Monitor> Server<'a, M> {
             Step w (event_at setup.now socket source bytes.now) [] next) }
         ensures printed { Prints self.old.printer self.new.printer (W.contents writer.old) (W.contents writer.new)
             (Happened (event_at setup.now socket source bytes.now) ∷ []) }
+        ensures journal { self.new.journal ≡ self.old.journal }
     {
         let port = media_port(setup, socket);
         let taken = self.core.media(port, source, bytes);
@@ -242,11 +261,14 @@ impl<'a, M: Monitor> Server<'a, M> {
     )
         requires sound { IsValidConfig setup.now.config }
         requires last { socket ≤ setup.now.config.slots }
-        requires short { length bytes.now ≤ DATAGRAM_LIMIT }
+        requires datagram { IsDatagram source bytes.now }
         ensures value { LeadsByTrace self.old.core.state self.new.core.state
-            (outside (P.calls ports.old) (W.contents writer.old) self.old.printer)
-            (outside (P.calls ports.new) (W.contents writer.new) self.new.printer)
+            (outside (ports_seen (P.calls ports.old) (P.journal ports.old)) (W.contents writer.old)
+            self.old.printer self.old.journal)
+            (outside (ports_seen (P.calls ports.new) (P.journal ports.new)) (W.contents writer.new)
+            self.new.printer self.new.journal)
             (λ w. Becomes (is_admitted setup.now w socket source) setup.now socket (source, bytes.now) w) }
+        ensures few { self.new.journal.lacking ≤ self.old.journal.lacking }
     {
         if !self.admits(setup, socket, source) {
             self.monitor.count_stranger(socket);
@@ -271,9 +293,12 @@ impl<'a, M: Monitor> Server<'a, M> {
         requires last { socket ≤ setup.now.config.slots }
         requires room { length buffer.old ≤ DATAGRAM_LIMIT }
         ensures value { LeadsByTrace self.old.core.state self.new.core.state
-            (outside (P.calls ports.old) (W.contents writer.old) self.old.printer)
-            (outside (P.calls ports.new) (W.contents writer.new) self.new.printer)
+            (outside (ports_seen (P.calls ports.old) (P.journal ports.old)) (W.contents writer.old)
+            self.old.printer self.old.journal)
+            (outside (ports_seen (P.calls ports.new) (P.journal ports.new)) (W.contents writer.new)
+            self.new.printer self.new.journal)
             (Received setup.now socket result) }
+        ensures few { self.new.journal.lacking ≤ self.old.journal.lacking }
     {
         match ports.receive(usize::from(socket), buffer) {
             Ok(Some((n, source))) => {
@@ -301,9 +326,12 @@ impl<'a, M: Monitor> Server<'a, M> {
         requires last { socket ≤ setup.now.config.slots }
         requires room { length buffer.old ≤ DATAGRAM_LIMIT }
         ensures value { LeadsByTrace self.old.core.state self.new.core.state
-            (outside (P.calls ports.old) (W.contents writer.old) self.old.printer)
-            (outside (P.calls ports.new) (W.contents writer.new) self.new.printer)
+            (outside (ports_seen (P.calls ports.old) (P.journal ports.old)) (W.contents writer.old)
+            self.old.printer self.old.journal)
+            (outside (ports_seen (P.calls ports.new) (P.journal ports.new)) (W.contents writer.new)
+            self.new.printer self.new.journal)
             (SocketTurn setup.now socket) }
+        ensures few { self.new.journal.lacking ≤ self.old.journal.lacking }
     {
         for _ in 0..TURN {
             if !self.receive(alloc, setup, ports, socket, buffer, writer) {
@@ -324,9 +352,12 @@ impl<'a, M: Monitor> Server<'a, M> {
         requires sound { IsValidConfig setup.now.config }
         requires room { length buffer.old ≤ DATAGRAM_LIMIT }
         ensures value { LeadsByTrace self.old.core.state self.new.core.state
-            (outside (P.calls ports.old) (W.contents writer.old) self.old.printer)
-            (outside (P.calls ports.new) (W.contents writer.new) self.new.printer)
+            (outside (ports_seen (P.calls ports.old) (P.journal ports.old)) (W.contents writer.old)
+            self.old.printer self.old.journal)
+            (outside (ports_seen (P.calls ports.new) (P.journal ports.new)) (W.contents writer.new)
+            self.new.printer self.new.journal)
             (Performs setup.now Command.Poll) }
+        ensures few { self.new.journal.lacking ≤ self.old.journal.lacking }
     {
         self.monitor.begin_poll();
         for socket in 0..=setup.config().slots {
@@ -342,16 +373,21 @@ impl<'a, M: Monitor> Server<'a, M> {
         timing: Timing,
         writer: &mut W,
     )
+        requires few { self.old.journal.lacking + 1 < 2 ^ 64 }
         ensures value { LeadsByTrace self.old.core.state self.new.core.state
-            (outside (P.calls ports.old) (W.contents writer.old) self.old.printer)
-            (outside (P.calls ports.new) (W.contents writer.new) self.new.printer)
+            (outside (ports_seen (P.calls ports.old) (P.journal ports.old)) (W.contents writer.old)
+            self.old.printer self.old.journal)
+            (outside (ports_seen (P.calls ports.new) (P.journal ports.new)) (W.contents writer.new)
+            self.new.printer self.new.journal)
             (Performs setup.now (Command.Tick timing)) }
+        ensures few { self.new.journal.lacking ≤ self.old.journal.lacking + 1 }
     {
         ports.begin_tick(timing);
         self.monitor.begin_tick(&self.core);
         self.core.tick();
         self.printer.tick(writer);
         send_packets(ports, setup, self.core.outbox(), &mut self.sent);
+        self.journal.end_tick(ports);
         self.report(setup, ports, timing);
     }
 
@@ -359,6 +395,7 @@ impl<'a, M: Monitor> Server<'a, M> {
     fn report<P: Ports>(&mut self, setup: &Setup<'_>, ports: &P, timing: Timing)
         ensures core { self.new.core ≡ self.old.core }
         ensures printer { self.new.printer ≡ self.old.printer }
+        ensures journal { self.new.journal ≡ self.old.journal }
     {
         let counts = self.counts(ports);
         let report = TickReport {
@@ -367,6 +404,7 @@ impl<'a, M: Monitor> Server<'a, M> {
             counts,
             unread: self.unread,
             failures: ports.failure_causes(),
+            journal: self.journal.report(self.unjournaled),
             timing,
         };
         self.monitor.end_tick(&report);
@@ -397,10 +435,15 @@ impl<'a, M: Monitor> Server<'a, M> {
     )
         requires sound { IsValidConfig setup.now.config }
         requires room { length buffer.old ≤ DATAGRAM_LIMIT }
+        requires few { self.old.journal.lacking + 1 < 2 ^ 64 }
         ensures value { LeadsByTrace self.old.core.state self.new.core.state
-            (outside (P.calls ports.old) (W.contents writer.old) self.old.printer)
-            (outside (P.calls ports.new) (W.contents writer.new) self.new.printer)
+            (outside (ports_seen (P.calls ports.old) (P.journal ports.old)) (W.contents writer.old)
+            self.old.printer self.old.journal)
+            (outside (ports_seen (P.calls ports.new) (P.journal ports.new)) (W.contents writer.new)
+            self.new.printer self.new.journal)
             (Performs setup.now command) }
+        ensures few { self.new.journal.lacking ≤ self.old.journal.lacking + 1 }
+        ensures poll { command ≡ Command.Poll → self.new.journal.lacking ≤ self.old.journal.lacking }
     {
         match command {
             Command::Poll => self.poll(alloc, setup, ports, buffer, writer),
@@ -426,13 +469,18 @@ impl<'a, M: Monitor> Server<'a, M> {
     ) -> Result<bool, WriteFailed>
         requires sound { IsValidConfig setup.now.config }
         requires room { length buffer.old ≤ DATAGRAM_LIMIT }
+        requires few { self.old.journal.lacking + 1 < 2 ^ 64 }
         ensures quit { IfOk result (λ quit. quit ≡ is_quit command) }
         ensures whole { OnOk result (self.new.printer.has_failed ≡ false) }
         ensures failed { IfErr result (λ failed. self.new.printer.has_failed ≡ true) }
         ensures value { LeadsByTrace self.old.core.state self.new.core.state
-            (outside (P.calls ports.old) (W.contents writer.old) self.old.printer)
-            (outside (P.calls ports.new) (W.contents writer.new) self.new.printer)
+            (outside (ports_seen (P.calls ports.old) (P.journal ports.old)) (W.contents writer.old)
+            self.old.printer self.old.journal)
+            (outside (ports_seen (P.calls ports.new) (P.journal ports.new)) (W.contents writer.new)
+            self.new.printer self.new.journal)
             (Performs setup.now command) }
+        ensures few { self.new.journal.lacking ≤ self.old.journal.lacking + 1 }
+        ensures poll { command ≡ Command.Poll → self.new.journal.lacking ≤ self.old.journal.lacking }
     {
         self.lines = self.lines.saturating_add(1);
         self.execute(alloc, setup, ports, buffer, command, writer);

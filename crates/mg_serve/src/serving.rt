@@ -1,8 +1,9 @@
-ghost use Rattle.std.specs.Prelude.{◌≡◌, ◌≢◌, ◌↔◌, ℕ, [], false, length, Err, IfErr, IfOk, OnOk};
+ghost use Rattle.std.specs.Prelude.{◌≡◌, ◌≢◌, ℕ, [], false, length, Err, IfOk};
 ghost use Rattle.std.specs.Option.{option_map};
 ghost use Rattle.mg_clock.specs.Ticks.{clock_seen};
 ghost use Rattle.mg_engine.specs.Config.{IsValidConfig};
-ghost use Rattle.mg_core.specs.World.{StandsFor, start_of};
+ghost use Rattle.mg_core.specs.World.{StandsFor, World};
+ghost use Rattle.mg_ports.specs.Journaled.{ports_seen};
 ghost use Rattle.mg_serve.specs.Serve.{ServedByClock, ServedSession, form_of};
 
 use crate::clock_driver::ClockDriver;
@@ -11,12 +12,12 @@ use crate::line_driver::LineDriver;
 use crate::monitor::Monitor;
 use crate::setup::Setup;
 use mg_clock::Watch;
-use mg_core::{Counts, DATAGRAM_LIMIT, RunFault};
+use mg_core::{Core, Counts, DATAGRAM_LIMIT, RunFault};
 use mg_ports::Ports;
 use std::alloc::{AllocError, Global};
 use std::io::{Read, Write};
 
-/// Runs a new gateway on the given ports, driven by lines of text.
+/// Runs a gateway on the given ports, driven by lines of text. The gateway is new, or was resumed from a journal.
 ///
 /// It prints `ready`, and executes the lines of the input up to the first `quit` or the end of the input. Sockets that
 /// the configuration does not include are not used.
@@ -31,35 +32,44 @@ use std::io::{Read, Write};
 ///
 /// With a title, the output is a recording: a script with one line for each event (`control`, `rtp` or `tick`), in
 /// order. Its first line is the title, as a comment. Everything else that is printed is a comment too, including a
-/// control datagram for which there was no memory. `run` from `mg_core` runs such a script again. If printing fails,
-/// the current input line is still executed in full, and nothing more is printed.
+/// control datagram that was dropped because memory ran out or an append failed. `run` from `mg_core` runs such a
+/// script again. If printing fails, the current input line is still executed in full, and nothing more is printed.
 ///
-/// It tells the monitor about datagrams and ticks.
+/// With a journal, a control message is appended to it before it is handled, and is dropped if the append fails. Ticks
+/// are appended before the next message, and otherwise once a second. A tick's packets are sent whether appends work or
+/// not. The journal's text contains the session's events, except for RTP datagrams and for ticks that it still lacks.
 ///
-/// On return, with or without an error, the complete lines that it read and their effects form a session of a new
+/// It reports datagrams and ticks to the monitor.
+///
+/// On return, with or without an error, the complete lines that it read and their effects form a session of the
 /// gateway. `Read` and `Write` mean that the input or the output failed; it also returns `Read` after 4,294,967,295
-/// reads without an end of input. It returns `BadConfig` if and only if the configuration is invalid. It returns
-/// `NoMemory` only before it has read anything.
+/// reads without an end of input. It returns `NoMemory` only before it has read anything.
 pub fn serve<P: Ports, R: Read, W: Write, M: Monitor>(
     alloc: Global,
     setup: &Setup<'_>,
+    core: Core,
     title: Option<&[u8]>,
     ports: &mut P,
     reader: &mut R,
     writer: &mut W,
     monitor: &mut M,
 ) -> Result<Counts, RunFault>
-    ensures session { ServedSession setup.now (option_map (λ text. text.now) title.entry) (R.remaining reader.old)
-        (R.remaining reader.new) (P.calls ports.old) (P.calls ports.new) (W.contents writer.old)
-        (W.contents writer.new) result }
-    ensures bad { (result ≡ Err RunFault.BadConfig) ↔ ¬ IsValidConfig setup.now.config }
-    ensures sound { OnOk result (IsValidConfig setup.now.config) }
+    requires sound { IsValidConfig setup.now.config }
+    ensures session { (w : World) → StandsFor core.state w →
+        ServedSession setup.now w (option_map (λ text. text.now) title.entry)
+        (R.remaining reader.old) (R.remaining reader.new)
+        (ports_seen (P.calls ports.old) (P.journal ports.old)) (ports_seen (P.calls ports.new) (P.journal ports.new))
+        (W.contents writer.old) (W.contents writer.new) result }
+    ensures started { result ≢ Err RunFault.BadConfig }
 {
-    let mut driver = LineDriver::new(alloc, setup.config(), form_of(title), monitor)?;
+    let Ok(mut driver) = LineDriver::new(alloc, core, form_of(title), setup.journal(), monitor)
+    else {
+        return Err(RunFault::NoMemory);
+    };
     drive(&mut driver, alloc, setup, title, ports, reader, writer)
 }
 
-/// Drives a new gateway with the lines of the input, up to the first `quit` or the end.
+/// Drives a gateway with the lines of the input, up to the first `quit` or the end.
 fn drive<P: Ports, R: Read, W: Write, M: Monitor>(
     driver: &mut LineDriver<'_, M>,
     alloc: Global,
@@ -70,15 +80,16 @@ fn drive<P: Ports, R: Read, W: Write, M: Monitor>(
     writer: &mut W,
 ) -> Result<Counts, RunFault>
     requires sound { IsValidConfig setup.now.config }
-    requires start { StandsFor driver.old.server.core.state (start_of setup.now.config) }
     requires printer { driver.old.server.printer ≡
         record { form = form_of (option_map (λ text. text.now) title); has_failed = false } }
+    requires journal { driver.old.server.journal ≡ record { durability = setup.now.journal; lacking = 0 } }
     requires partial { driver.old.partial ≡ [] }
-    ensures session { ServedSession setup.now (option_map (λ text. text.now) title.entry) (R.remaining reader.old)
-        (R.remaining reader.new) (P.calls ports.old) (P.calls ports.new) (W.contents writer.old)
-        (W.contents writer.new) result }
+    ensures session { (w : World) → StandsFor driver.old.server.core.state w →
+        ServedSession setup.now w (option_map (λ text. text.now) title.entry)
+        (R.remaining reader.old) (R.remaining reader.new)
+        (ports_seen (P.calls ports.old) (P.journal ports.old)) (ports_seen (P.calls ports.new) (P.journal ports.new))
+        (W.contents writer.old) (W.contents writer.new) result }
     ensures started { result ≢ Err RunFault.BadConfig }
-    ensures sound { OnOk result (IsValidConfig setup.now.config) }
 {
     let Ok(mut buffer) = datagram_buffer(alloc) else {
         return Err(RunFault::NoMemory);
@@ -90,7 +101,7 @@ fn drive<P: Ports, R: Read, W: Write, M: Monitor>(
     Ok(driver.server.counts(ports))
 }
 
-/// Runs a new gateway on the given ports in real time.
+/// Runs a gateway on the given ports in real time. The gateway is new, or was resumed from a journal.
 ///
 /// It prints `ready`. Then, every 20 ms by the clock, it executes what [`serve`] executes for the lines `poll` and
 /// `tick`. If the clock sees a message in between, it also executes what [`serve`] executes for `poll`, up to 20 times
@@ -100,11 +111,12 @@ fn drive<P: Ports, R: Read, W: Write, M: Monitor>(
 /// After a delay, all missed ticks are executed in one go. If a tick is behind by more than `allowed` ticks, its
 /// packets are not sent.
 ///
-/// It ends only on a fault: `Read` if the clock can't be read, `Write` if printing failed, `NoMemory` or `BadConfig`
-/// before anything is executed.
+/// It ends only on a fault: `Read` if the clock can't be read, `Write` if printing failed, or `NoMemory` before
+/// anything is executed.
 pub fn serve_by_clock<P: Ports, K: Watch, W: Write, M: Monitor>(
     alloc: Global,
     setup: &Setup<'_>,
+    core: Core,
     title: Option<&[u8]>,
     ports: &mut P,
     watch: &mut K,
@@ -112,19 +124,29 @@ pub fn serve_by_clock<P: Ports, K: Watch, W: Write, M: Monitor>(
     writer: &mut W,
     monitor: &mut M,
 ) -> RunFault
-    ensures session { ServedByClock setup.now (option_map (λ text. text.now) title.entry) allowed
+    requires sound { IsValidConfig setup.now.config }
+    ensures session { (w : World) → StandsFor core.state w →
+        ServedByClock setup.now w (option_map (λ text. text.now) title.entry) allowed
         (clock_seen (K.readings watch.old) (K.waits watch.old)) (clock_seen (K.readings watch.new) (K.waits watch.new))
-        (K.Fails watch.new) (P.calls ports.old) (P.calls ports.new) (W.contents writer.old) (W.contents writer.new)
-        result }
-    ensures bad { (result ≡ RunFault.BadConfig) ↔ ¬ IsValidConfig setup.now.config }
+        (K.Fails watch.new)
+        (ports_seen (P.calls ports.old) (P.journal ports.old)) (ports_seen (P.calls ports.new) (P.journal ports.new))
+        (W.contents writer.old) (W.contents writer.new) result }
+    ensures started { result ≢ RunFault.BadConfig }
 {
-    match ClockDriver::new(alloc, setup.config(), form_of(title), allowed, monitor) {
-        Ok(mut driver) => drive_by_clock(&mut driver, alloc, setup, title, ports, watch, writer),
-        Err(fault) => RunFault::from(fault),
-    }
+    let Ok(mut driver) = ClockDriver::new(
+        alloc,
+        core,
+        form_of(title),
+        setup.journal(),
+        allowed,
+        monitor,
+    ) else {
+        return RunFault::NoMemory;
+    };
+    drive_by_clock(&mut driver, alloc, setup, title, ports, watch, writer)
 }
 
-/// Drives a new gateway with a clock.
+/// Drives a gateway with a clock.
 fn drive_by_clock<P: Ports, K: Watch, W: Write, M: Monitor>(
     driver: &mut ClockDriver<'_, M>,
     alloc: Global,
@@ -135,14 +157,16 @@ fn drive_by_clock<P: Ports, K: Watch, W: Write, M: Monitor>(
     writer: &mut W,
 ) -> RunFault
     requires sound { IsValidConfig setup.now.config }
-    requires start { StandsFor driver.old.server.core.state (start_of setup.now.config) }
     requires printer { driver.old.server.printer ≡
         record { form = form_of (option_map (λ text. text.now) title); has_failed = false } }
+    requires journal { driver.old.server.journal ≡ record { durability = setup.now.journal; lacking = 0 } }
     ensures session { (allowed : ℕ) → driver.old.schedule ≡ record { ticks = 0; allowed = allowed; messages = 0 } →
-        ServedByClock setup.now (option_map (λ text. text.now) title.entry) allowed
+        (w : World) → StandsFor driver.old.server.core.state w →
+        ServedByClock setup.now w (option_map (λ text. text.now) title.entry) allowed
         (clock_seen (K.readings watch.old) (K.waits watch.old)) (clock_seen (K.readings watch.new) (K.waits watch.new))
-        (K.Fails watch.new) (P.calls ports.old) (P.calls ports.new) (W.contents writer.old) (W.contents writer.new)
-        result }
+        (K.Fails watch.new)
+        (ports_seen (P.calls ports.old) (P.journal ports.old)) (ports_seen (P.calls ports.new) (P.journal ports.new))
+        (W.contents writer.old) (W.contents writer.new) result }
     ensures started { result ≢ RunFault.BadConfig }
 {
     let Ok(mut buffer) = datagram_buffer(alloc) else {

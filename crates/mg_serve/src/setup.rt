@@ -2,35 +2,48 @@ ghost use Rattle.std.specs.Prelude.{◌≡◌};
 ghost use Rattle.mg_serve.specs.Setup.{may_command};
 
 use mg_core::Config;
+use mg_journal::Durability;
 use std::marker::Model;
 
-/// The setup of a session: the configuration of its gateway, who may send it commands, and from whom it accepts RTP.
+/// The setup of a session: the configuration of its gateway, who may send it commands, from whom it accepts RTP, and
+/// whether it has a journal.
 #[derive(Drop)]
 pub struct Setup<'a> {
     config: Config,
     controllers: &'a [[u8; 4]],
     symmetric_rtp: bool,
+    journal: Option<Durability>,
 }
 
 impl<'a> Model for Setup<'a> {
     ghost Value = { Rattle.mg_serve.specs.Setup.Setup };
 
     ghost view = { λ s.
-        record { config = s.config; controllers = s.controllers.now; symmetric_rtp = s.symmetric_rtp } };
+        record { config = s.config; controllers = s.controllers.now; symmetric_rtp = s.symmetric_rtp; journal = s.journal } };
 }
 
 impl<'a> Setup<'a> {
     /// Makes the setup of a session with this configuration. Only these IPv4 addresses may send control messages; if
     /// there are none, any address may. With symmetric RTP (RFC 4961), a termination's packets are accepted only from
-    /// the address and port of its Remote.
-    pub fn new(config: Config, controllers: &'a [[u8; 4]], symmetric_rtp: bool) -> Self
-        ensures value { result ≡
-            record { config = config; controllers = controllers.now; symmetric_rtp = symmetric_rtp } }
+    /// the address and port of its Remote. With a journal, messages are appended to it with this durability.
+    pub fn new(
+        config: Config,
+        controllers: &'a [[u8; 4]],
+        symmetric_rtp: bool,
+        journal: Option<Durability>,
+    ) -> Self
+        ensures value { result ≡ record {
+          config = config;
+          controllers = controllers.now;
+          symmetric_rtp = symmetric_rtp;
+          journal = journal;
+        } }
     {
         Setup {
             config,
             controllers,
             symmetric_rtp,
+            journal,
         }
     }
 
@@ -46,6 +59,13 @@ impl<'a> Setup<'a> {
         ensures value { result ≡ self.now.symmetric_rtp }
     {
         self.symmetric_rtp
+    }
+
+    /// Returns how durably messages are appended to the journal, or `None` if there is no journal.
+    pub fn journal(&self) -> Option<Durability>
+        ensures value { result ≡ self.now.journal }
+    {
+        self.journal
     }
 
     /// Returns whether control messages from an address are accepted.

@@ -1,16 +1,16 @@
-//! Properties of every session. The functions have empty bodies: their contracts are the theorems.
+//! Properties of every session. The functions do nothing: their contracts are the theorems.
 
 ghost use Rattle.mg_serve.specs.Theorems.{SessionsAreRuns, SessionsAreReadBack, CutSessionsAreReadBack, ReplaysAreTheSession};
 
-/// A session sends exactly the datagrams that a run over its events sends, in order.
+/// A session sends exactly the datagrams that a run of its events sends, in order.
 pub fn sessions_are_runs()
     ensures { SessionsAreRuns }
 {}
 
 /// A recording of a session is a script of its events.
 ///
-/// A run over it writes the lines for the datagrams that the session sent, and ends in the session's world. If a
-/// recording is truncated, its complete lines are a script of the first events.
+/// Running it writes the lines for the datagrams that the session sent, and ends in the session's world. If a recording
+/// is truncated, its complete lines are a script of the first events.
 pub fn recordings_are_the_session()
     ensures read { SessionsAreReadBack }
     ensures cut { CutSessionsAreReadBack }

@@ -1,3 +1,4 @@
+use crate::journal_report::JournalReport;
 use mg_clock::Timing;
 use mg_core::{Config, Core, Counts};
 use mg_ports::FailureCauses;
@@ -13,6 +14,8 @@ pub struct TickReport<'a> {
     pub unread: u64,
     /// The failed receives and sends since the start, by cause.
     pub failures: FailureCauses,
+    /// The journal's state.
+    pub journal: JournalReport,
     /// Whether the tick was late, so that none of its packets was sent.
     pub timing: Timing,
 }

@@ -6,6 +6,8 @@
 #![tactic(auto)]
 
 #[cfg(test)]
+mod dates;
+#[cfg(test)]
 mod engine;
 #[cfg(test)]
 mod failing_reader;
@@ -13,6 +15,8 @@ mod failing_reader;
 mod failing_writer;
 #[cfg(test)]
 mod flows;
+#[cfg(test)]
+mod journaled;
 #[cfg(test)]
 mod loss;
 #[cfg(test)]
@@ -25,6 +29,8 @@ mod recorded;
 mod recording;
 #[cfg(test)]
 mod reply;
+#[cfg(test)]
+mod resume;
 #[cfg(test)]
 mod rooms;
 #[cfg(test)]

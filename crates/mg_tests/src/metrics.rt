@@ -1,6 +1,6 @@
 //! Metrics, and the lines about lost packets in reports.
 
-use crate::serve::{ADD, CALLER, config, poll_and_ticks, ports};
+use crate::serve::{ADD, CALLER, config, core, poll_and_ticks, ports};
 use mg_monitor::{Both, Metrics, Reports, Sink};
 use mg_ports::{Arrival, FakePorts, Payload, Peer};
 use mg_serve::{Setup, serve};
@@ -125,9 +125,12 @@ fn watch<C: Clock>(
             first: Reports::new(alloc, 1, &mut reports)?,
             second: Some(Metrics::start_now(alloc, clock, sink, "1.2.3")?),
         };
+        let config = config();
+        let core = core(alloc, config)?;
         let _ = serve(
             alloc,
-            &Setup::new(config(), &[[127, 0, 0, 1]], true),
+            &Setup::new(config, &[[127, 0, 0, 1]], true, None),
+            core,
             None,
             ports,
             &mut input,
@@ -170,7 +173,7 @@ fn writes_metrics_every_five_seconds(rt: HostRuntime) -> Result<(), Fail> {
         lines.as_str(),
     )?;
     assert_eq!(rt; seen.texts, 2);
-    let lines: [&[u8]; 28] = [
+    let lines: [&[u8]; 31] = [
         b"# TYPE lobbysorrel_ticks_total counter",
         b"# TYPE lobbysorrel_tick_delay_seconds histogram",
         b"# TYPE lobbysorrel_port_silence_seconds gauge",
@@ -191,6 +194,9 @@ fn writes_metrics_every_five_seconds(rt: HostRuntime) -> Result<(), Fail> {
         b"lobbysorrel_receives_failed_total{gateway=\"127.0.0.1:2944\"} 0",
         b"lobbysorrel_strangers_total{gateway=\"127.0.0.1:2944\",socket=\"control\"} 1",
         b"lobbysorrel_strangers_total{gateway=\"127.0.0.1:2944\",socket=\"media\"} 1",
+        b"lobbysorrel_journal_lacking_ticks{gateway=\"127.0.0.1:2944\"} 0",
+        b"lobbysorrel_journal_appends_failed_total{gateway=\"127.0.0.1:2944\"} 0",
+        b"lobbysorrel_control_messages_unjournaled_total{gateway=\"127.0.0.1:2944\"} 0",
         b"lobbysorrel_frames_concealed_total{gateway=\"127.0.0.1:2944\"} 1",
         b"lobbysorrel_port_termination{gateway=\"127.0.0.1:2944\",port=\"30000\"} 1",
         b"lobbysorrel_port_packets_total{gateway=\"127.0.0.1:2944\",port=\"30000\"} 3",

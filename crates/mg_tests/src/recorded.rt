@@ -1,7 +1,7 @@
 //! Recorded sessions over in-memory ports, and replays of their recordings.
 
 use crate::failing_writer::FailingWriter;
-use crate::serve::{HEARTBEAT, call_log, config, ports};
+use crate::serve::{HEARTBEAT, call_log, config, core, ports};
 use mg_core::{Shown, run};
 use mg_monitor::Reports;
 use mg_serve::{RunFault, Setup, serve};
@@ -29,9 +29,12 @@ fn record<W: Write>(
     let mut ports = ports(alloc, &[(0, HEARTBEAT), (2, STRAY)], &[])?;
     let mut input = lines;
     let mut reports = Vec::new(alloc);
+    let config = config();
+    let core = core(alloc, config)?;
     let result = serve(
         alloc,
-        &Setup::new(config(), &[], false),
+        &Setup::new(config, &[], false, None),
+        core,
         Some(title),
         &mut ports,
         &mut input,

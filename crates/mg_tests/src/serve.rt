@@ -1,11 +1,15 @@
 //! Sessions over in-memory ports.
 
+ghost use Rattle.std.specs.Prelude.{OnOk};
+ghost use Rattle.mg_engine.specs.Config.{IsValidConfig};
+
 use crate::failing_reader::FailingReader;
 use crate::failing_writer::FailingWriter;
 use mg_clock::{ClockFailed, Watch};
+use mg_journal::{AppendFault, Durability};
 use mg_monitor::Reports;
 use mg_ports::{Arrival, Call, FakePorts, Payload, Peer, Receipt};
-use mg_serve::{Config, Counts, RunFault, Setup, Timing, serve, serve_by_clock};
+use mg_serve::{Config, Core, Counts, RunFault, Setup, Timing, serve, serve_by_clock};
 use std::alloc::{AllocError, Global};
 use std::io::Cursor;
 use std::test::Fail;
@@ -32,6 +36,16 @@ pub fn config() -> Config {
     }
 }
 
+/// Makes a gateway with this configuration, which is valid.
+pub fn core(alloc: Global, config: Config) -> Result<Core, AllocError>
+    ensures sound { OnOk result (IsValidConfig config) }
+{
+    match Core::new(alloc, config) {
+        Ok(core) => Ok(core),
+        Err(_) => Err(AllocError),
+    }
+}
+
 /// Returns ports at which these datagrams are waiting, and at which the calls with these numbers fail.
 pub fn ports(
     alloc: Global,
@@ -51,7 +65,8 @@ pub fn ports(
 }
 
 /// Returns a letter and a socket for a receive or a send. At this socket a datagram `c`ame in, `n`one did, or the
-/// receive `f`ailed. An `a`nswer or a `p`acket was sent from it.
+/// receive `f`ailed. An `a`nswer or a `p`acket was sent from it. For an append to the journal, returns a letter and the
+/// number of lines, which were `w`ritten, `s`ynced or `r`efused, or `b`roke the journal.
 fn letter(call: &Call) -> Option<(char, usize)> {
     match call {
         Call::Receive(socket, Receipt::Delivered(_, _)) => Some(('c', *socket)),
@@ -60,10 +75,26 @@ fn letter(call: &Call) -> Option<(char, usize)> {
         Call::Send(0, _, _) => Some(('a', 0)),
         Call::Send(socket, _, _) => Some(('p', *socket)),
         Call::BeginTick(_) => None,
+        Call::Append(lines, durability, outcome) => {
+            let letter = match (outcome, durability) {
+                (Ok(()), Durability::Written) => 'w',
+                (Ok(()), Durability::Synced) => 's',
+                (Err(AppendFault::Refused), _) => 'r',
+                (Err(AppendFault::Broken), _) => 'b',
+            };
+            Some((
+                letter,
+                lines
+                    .as_slice()
+                    .split(|b| *b == b'\n')
+                    .count()
+                    .saturating_sub(1),
+            ))
+        }
     }
 }
 
-/// Returns the letter and the socket of each call.
+/// Returns the letter of each call, with the last digit of its socket or number of lines.
 pub fn call_log(alloc: Global, ports: &FakePorts) -> Result<String, AllocError> {
     let mut text = String::new(alloc);
     for call in ports.calls().unwrap_or(&[]) {
@@ -94,9 +125,12 @@ fn session(
     let mut input = lines;
     let mut printed = Vec::new(alloc);
     let mut reports = Vec::new(alloc);
+    let config = config();
+    let core = core(alloc, config)?;
     let result = serve(
         alloc,
-        &Setup::new(config(), &[], false),
+        &Setup::new(config, &[], false, None),
+        core,
         None,
         &mut ports,
         &mut input,
@@ -132,9 +166,12 @@ fn loses_the_packet_whose_send_fails(rt: HostRuntime) -> Result<(), Fail> {
     let mut input: &[u8] = b"poll\ntick\ntick\nstats\nquit\n";
     let mut printed = Vec::new(alloc);
     let mut reports = Vec::new(alloc);
+    let config = config();
+    let core = core(alloc, config)?;
     let result = serve(
         alloc,
-        &Setup::new(config(), &[], false),
+        &Setup::new(config, &[], false, None),
+        core,
         None,
         &mut ports,
         &mut input,
@@ -294,9 +331,12 @@ fn reported(alloc: Global, seconds: u16, ticks: u64) -> Result<Vec<u8>, AllocErr
     let mut input = lines.as_bytes();
     let mut printed = Vec::new(alloc);
     let mut reports = Vec::new(alloc);
+    let config = config();
+    let core = core(alloc, config)?;
     let _ = serve(
         alloc,
-        &Setup::new(config(), &[], false),
+        &Setup::new(config, &[], false, None),
+        core,
         None,
         &mut ports,
         &mut input,
@@ -329,32 +369,6 @@ fn reports_what_had_trouble(rt: HostRuntime) -> Result<(), Fail> {
 }
 
 #[test]
-fn refuses_a_bad_configuration(rt: HostRuntime) -> Result<(), Fail> {
-    let alloc = rt.alloc();
-    let config = Config {
-        slots: 0,
-        ..Config::default()
-    };
-    let mut ports = ports(alloc, &[], &[])?;
-    let mut input: &[u8] = b"poll\n";
-    let mut printed = Vec::new(alloc);
-    let mut reports = Vec::new(alloc);
-    let result = serve(
-        alloc,
-        &Setup::new(config, &[], false),
-        None,
-        &mut ports,
-        &mut input,
-        &mut printed,
-        &mut Reports::new(alloc, 0, &mut reports)?,
-    );
-    assert!(rt; matches!(result, Err(RunFault::BadConfig)));
-    assert!(rt; printed.is_empty());
-    assert_eq!(rt; call_log(alloc, &ports)?.as_str(), "");
-    Ok(())
-}
-
-#[test]
 fn ends_where_a_read_fails(rt: HostRuntime) -> Result<(), Fail> {
     let alloc = rt.alloc();
     let mut ports = ports(alloc, &[(1, b"x")], &[])?;
@@ -365,9 +379,12 @@ fn ends_where_a_read_fails(rt: HostRuntime) -> Result<(), Fail> {
     };
     let mut printed = Vec::new(alloc);
     let mut reports = Vec::new(alloc);
+    let config = config();
+    let core = core(alloc, config)?;
     let result = serve(
         alloc,
-        &Setup::new(config(), &[], false),
+        &Setup::new(config, &[], false, None),
+        core,
         None,
         &mut ports,
         &mut input,
@@ -385,9 +402,12 @@ fn call_log_with_writer(alloc: Global, calls: usize, lines: &[u8]) -> Result<Str
     let mut input = lines;
     let mut output = FailingWriter::new(alloc, 1000, calls);
     let mut reports = Vec::new(alloc);
+    let config = config();
+    let core = core(alloc, config)?;
     let result = serve(
         alloc,
-        &Setup::new(config(), &[], false),
+        &Setup::new(config, &[], false, None),
+        core,
         None,
         &mut ports,
         &mut input,
@@ -442,9 +462,12 @@ fn takes_messages_of_controllers_alone(rt: HostRuntime) -> Result<(), Fail> {
     let mut input = lines.as_bytes();
     let mut printed = Vec::new(alloc);
     let mut reports = Vec::new(alloc);
+    let config = config();
+    let core = core(alloc, config)?;
     let result = serve(
         alloc,
-        &Setup::new(config(), &controllers, false),
+        &Setup::new(config, &controllers, false, None),
+        core,
         None,
         &mut ports,
         &mut input,
@@ -481,9 +504,12 @@ fn reported_with(alloc: Global, symmetric_rtp: bool) -> Result<Vec<u8>, AllocErr
     let mut input = lines.as_bytes();
     let mut printed = Vec::new(alloc);
     let mut reports = Vec::new(alloc);
+    let config = config();
+    let core = core(alloc, config)?;
     let _ = serve(
         alloc,
-        &Setup::new(config(), &[], symmetric_rtp),
+        &Setup::new(config, &[], symmetric_rtp, None),
+        core,
         None,
         &mut ports,
         &mut input,
@@ -537,9 +563,12 @@ fn begins_ticks_by_the_clock_until_it_fails(rt: HostRuntime) -> Result<(), Fail>
     let mut watch = LateClock { readings: 0 };
     let mut printed = Vec::new(alloc);
     let mut reports = Vec::new(alloc);
+    let config = config();
+    let core = core(alloc, config)?;
     let fault = serve_by_clock(
         alloc,
-        &Setup::new(config(), &[], false),
+        &Setup::new(config, &[], false, None),
+        core,
         None,
         &mut ports,
         &mut watch,

@@ -1,27 +1,38 @@
 -- Steps of the code, in terms of the worlds that its state represents.
-use Rattle.std.specs.Prelude.{ℕ, List, Option}
+use Rattle.std.specs.Prelude.{◌≡◌, ℕ, List, Option}
 use Rattle.mg_core.specs.declared.state.CoreState.{CoreState}
 use Rattle.mg_core.specs.World.{World, StandsFor}
-use Rattle.mg_ports.specs.declared.call.Call.{Call}
+use Rattle.mg_journal.specs.declared.durability.Durability.{Durability}
 use Rattle.mg_ports.specs.Calls.{Logged}
+use Rattle.mg_ports.specs.Journaled.{PortsSeen, JournalAfter}
+use Rattle.mg_serve.specs.Journaled.{IsJournaled}
 use Rattle.mg_serve.specs.Trace.{TraceEntry, calls_of}
 use Rattle.mg_serve.specs.aids.Printing.{PrinterView, Prints}
 
--- a server as seen from outside: the calls that its ports logged, the content of its writer, and
--- its printer
+-- how durably messages are appended to the journal, if there is one, and how many ticks it lacks
+pub record JournalView : Type 0 where
+  pub durability : Option Durability
+  pub lacking : ℕ
+
+-- a server as seen from outside: its ports, the content of its writer, its printer, and how far its
+-- journal is
 pub record Outside : Type 0 where
-  pub calls : Option (List Call)
+  pub ports : PortsSeen
   pub written : Option (List ℕ)
   pub printer : PrinterView
+  pub journal : JournalView
 
-abbrev pub outside : Option (List Call) → Option (List ℕ) → PrinterView → Outside
-outside calls written printer =
-    record { calls = calls; written = written; printer = printer }
+abbrev pub outside : PortsSeen → Option (List ℕ) → PrinterView → JournalView → Outside
+outside ports written printer journal =
+    record { ports = ports; written = written; printer = printer; journal = journal }
 
 -- the effects of a trace, as seen from outside
 pub record LogsTrace (old new : Outside) (trace : List TraceEntry) : Type 0 where
-  pub logged : Logged old.calls new.calls (calls_of trace)
+  pub logged : Logged old.ports.calls new.ports.calls (calls_of trace)
+  pub journaled : JournalAfter (calls_of trace) old.ports.journal new.ports.journal
   pub prints : Prints old.printer new.printer old.written new.written trace
+  pub durability : new.journal.durability ≡ old.journal.durability
+  pub lacks : IsJournaled old.journal.durability old.journal.lacking trace new.journal.lacking
 
 -- Every world that the old core represents steps, with this trace, to a world that the new core
 -- represents.

@@ -1,4 +1,4 @@
-use Rattle.std.proofs.Common.{map, take}
+use Rattle.std.proofs.Common.{◌≡◌, map, take}
 use Rattle.mg_engine.specs.declared.datagram.Datagram.{Datagram}
 use Rattle.mg_core.specs.Step.{Packet}
 use Rattle.mg_ports.specs.Calls.{Logged}
@@ -6,5 +6,8 @@ use Rattle.mg_serve.specs.Session.{send_of}
 use Rattle.mg_serve.proofs.server.send_packets.Given as goal
 
 abbrev pub invariant-loop-packet : goal.invariant-loop-packet
-invariant-loop-packet g l = Logged (g.P.Ports.calls l.initial.ports) (g.P.Ports.calls l.ports)
-    (map (λ (packet : Datagram). send_of l.setup (Packet packet)) (take l.packet-index l.packets))
+invariant-loop-packet g l = record {
+  logged : Logged (g.P.Ports.calls l.initial.ports) (g.P.Ports.calls l.ports)
+      (map (λ (packet : Datagram). send_of l.setup (Packet packet)) (take l.packet-index l.packets));
+  journal : g.P.Ports.journal l.ports ≡ g.P.Ports.journal l.initial.ports;
+}

@@ -1,6 +1,7 @@
 use Rattle.std.proofs.Common.{◌≡◌, ◌⊎◌, ℕ, ◌-◌, ◌^◌, inl, inr, sym, subst, arith}
 use Rattle.mg_clock.specs.declared.tick_schedule.TickSchedule.{TickSchedule}
 use Rattle.mg_clock.specs.Ticks.{StepBegins, clock_seen}
+use Rattle.mg_ports.specs.Journaled.{ports_seen}
 use Rattle.mg_serve.specs.aids.Outside.{outside}
 use Rattle.mg_serve.proofs.Clocking.{clock_fails, no_steps, one_step_more, print_fails}
 use Rattle.mg_serve.proofs.clock_driver.ClockDriver.take_all.Goals as goal
@@ -8,11 +9,12 @@ use Rattle.mg_serve.proofs.clock_driver.ClockDriver.take_all.Goals as goal
 pub loop-init : goal.loop-init
 loop-init g c = record {
   whole = c.requires.whole;
+  few = omega (arith, c.requires.start);
   done = λ allowed is. rw is (no_steps c.args.setup.now (record { ticks = 0; allowed = allowed; messages = 0 })
       (clock_seen (g.K.Watch.readings c.args.watch.now) (g.K.Watch.waits c.args.watch.now))
       c.args.self.now.server.core.state
-      (outside (g.P.Ports.calls c.args.ports.now) (g.W.Write.contents c.args.writer.now)
-      c.args.self.now.server.printer));
+      (outside (ports_seen (g.P.Ports.calls c.args.ports.now) (g.P.Ports.journal c.args.ports.now))
+      (g.W.Write.contents c.args.writer.now) c.args.self.now.server.printer c.args.self.now.server.journal));
 }
 
 pub returns-in_default-clause-ends : goal.returns-in_default-clause-ends
@@ -26,8 +28,10 @@ returns-in_default-clause-value g c allowed is =
     clock_fails c.args.self.now.server.printer.form c.args.setup.now allowed c.loop.counter c.loop.self.schedule
     before now after (g.K.Watch.Fails c.next_step.new.watch)
     c.args.self.now.server.core.state c.loop.self.server.core.state
-    (outside (g.P.Ports.calls c.args.ports.now) (g.W.Write.contents c.args.writer.now) c.args.self.now.server.printer)
-    (outside (g.P.Ports.calls c.loop.ports) (g.W.Write.contents c.loop.writer) c.loop.self.server.printer)
+    (outside (ports_seen (g.P.Ports.calls c.args.ports.now) (g.P.Ports.journal c.args.ports.now))
+    (g.W.Write.contents c.args.writer.now) c.args.self.now.server.printer c.args.self.now.server.journal)
+    (outside (ports_seen (g.P.Ports.calls c.loop.ports) (g.P.Ports.journal c.loop.ports))
+    (g.W.Write.contents c.loop.writer) c.loop.self.server.printer c.loop.self.server.journal)
     (c.loop.invariant.done allowed is) (failed_or c.in_default.ensures.fails)
   where
     failed_or : {A B : Type 0} {n : ℕ} → (A ⊎ B) → (A ⊎ (n ≡ 2 ^ 64 - 1 ⊎ B))
@@ -36,6 +40,9 @@ returns-in_default-clause-value g c allowed is =
 
 pub take_step-requires-clause-whole : goal.take_step-requires-clause-whole
 take_step-requires-clause-whole g c = c.loop.invariant.whole
+
+pub take_step-requires-clause-few : goal.take_step-requires-clause-few
+take_step-requires-clause-few g c = omega (arith, c.loop.invariant.few, c.loop-test.true)
 
 pub returns-in_default-take_step-clause-value : goal.returns-in_default-take_step-clause-value
 returns-in_default-take_step-clause-value g c allowed is =
@@ -46,10 +53,12 @@ returns-in_default-take_step-clause-value g c allowed is =
     c.in_default-take_step.field-0
     before now after (g.K.Watch.Fails c.next_step.new.watch)
     c.args.self.now.server.core.state c.loop.self.server.core.state c.take_step.new.self.server.core.state
-    (outside (g.P.Ports.calls c.args.ports.now) (g.W.Write.contents c.args.writer.now) c.args.self.now.server.printer)
-    (outside (g.P.Ports.calls c.loop.ports) (g.W.Write.contents c.loop.writer) c.loop.self.server.printer)
-    (outside (g.P.Ports.calls c.take_step.new.ports) (g.W.Write.contents c.take_step.new.writer)
-    c.take_step.new.self.server.printer)
+    (outside (ports_seen (g.P.Ports.calls c.args.ports.now) (g.P.Ports.journal c.args.ports.now))
+    (g.W.Write.contents c.args.writer.now) c.args.self.now.server.printer c.args.self.now.server.journal)
+    (outside (ports_seen (g.P.Ports.calls c.loop.ports) (g.P.Ports.journal c.loop.ports))
+    (g.W.Write.contents c.loop.writer) c.loop.self.server.printer c.loop.self.server.journal)
+    (outside (ports_seen (g.P.Ports.calls c.take_step.new.ports) (g.P.Ports.journal c.take_step.new.ports))
+    (g.W.Write.contents c.take_step.new.writer) c.take_step.new.self.server.printer c.take_step.new.self.server.journal)
     (c.loop.invariant.done allowed is) c.in-Ok.ensures.begins (rw c.in_default-take_step.is at c.take_step.ensures.value)
 
 pub loop-preserved : goal.loop-preserved
@@ -61,16 +70,18 @@ loop-preserved g c =
     (sym c.take_step.ensures.schedule) c.in-Ok.ensures.begins in
     record {
       whole = c.in-Ok-take_step.ensures.whole;
+      few = omega (arith, c.loop.invariant.few, c.take_step.ensures.few);
       done = λ allowed is. one_step_more c.loop.self.server.printer.form c.args.setup.now
           (record { ticks = 0; allowed = allowed; messages = 0 })
           c.loop.self.schedule c.take_step.new.self.schedule c.loop.counter
           c.in-Ok.step before now after c.args.self.now.server.core.state c.loop.self.server.core.state
           c.take_step.new.self.server.core.state
-          (outside (g.P.Ports.calls c.args.ports.now) (g.W.Write.contents c.args.writer.now)
-          c.args.self.now.server.printer)
-          (outside (g.P.Ports.calls c.loop.ports) (g.W.Write.contents c.loop.writer) c.loop.self.server.printer)
-          (outside (g.P.Ports.calls c.take_step.new.ports) (g.W.Write.contents c.take_step.new.writer)
-          c.take_step.new.self.server.printer)
+          (outside (ports_seen (g.P.Ports.calls c.args.ports.now) (g.P.Ports.journal c.args.ports.now))
+          (g.W.Write.contents c.args.writer.now) c.args.self.now.server.printer c.args.self.now.server.journal)
+          (outside (ports_seen (g.P.Ports.calls c.loop.ports) (g.P.Ports.journal c.loop.ports))
+          (g.W.Write.contents c.loop.writer) c.loop.self.server.printer c.loop.self.server.journal)
+          (outside (ports_seen (g.P.Ports.calls c.take_step.new.ports) (g.P.Ports.journal c.take_step.new.ports))
+          (g.W.Write.contents c.take_step.new.writer) c.take_step.new.self.server.printer c.take_step.new.self.server.journal)
           (c.loop.invariant.done allowed is) begins (rw c.in-Ok-take_step.is at c.take_step.ensures.value);
     }
 
@@ -84,6 +95,8 @@ returns-clause-value g c allowed is =
     clock_fails c.args.self.now.server.printer.form c.args.setup.now allowed c.loop.counter c.loop.self.schedule
     before now now (g.K.Watch.Fails c.loop.watch)
     c.args.self.now.server.core.state c.loop.self.server.core.state
-    (outside (g.P.Ports.calls c.args.ports.now) (g.W.Write.contents c.args.writer.now) c.args.self.now.server.printer)
-    (outside (g.P.Ports.calls c.loop.ports) (g.W.Write.contents c.loop.writer) c.loop.self.server.printer)
+    (outside (ports_seen (g.P.Ports.calls c.args.ports.now) (g.P.Ports.journal c.args.ports.now))
+    (g.W.Write.contents c.args.writer.now) c.args.self.now.server.printer c.args.self.now.server.journal)
+    (outside (ports_seen (g.P.Ports.calls c.loop.ports) (g.P.Ports.journal c.loop.ports))
+    (g.W.Write.contents c.loop.writer) c.loop.self.server.printer c.loop.self.server.journal)
     (c.loop.invariant.done allowed is) (inr (inl (omega (arith, c.loop-test.false))))

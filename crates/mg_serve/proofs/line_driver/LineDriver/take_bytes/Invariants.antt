@@ -1,12 +1,18 @@
-use Rattle.std.proofs.Common.{◌≡◌, ℕ, List, take, Ok, false}
+use Rattle.std.proofs.Common.{◌≡◌, ◌≤◌, ◌+◌, ℕ, List, take, Ok, false}
+use Rattle.mg_ports.specs.Journaled.{ports_seen}
 use Rattle.mg_serve.specs.aids.Driving.{BytesTaken}
 use Rattle.mg_serve.specs.aids.Outside.{LeadsByTrace, outside}
 use Rattle.mg_serve.proofs.line_driver.LineDriver.take_bytes.Given as goal
 
 abbrev pub invariant-loop-b : goal.invariant-loop-b
-invariant-loop-b g l = (l.self.server.printer.has_failed ≡ false) × ((partial : List ℕ) →
-    l.initial.self.partial ≡ take 8 partial →
-    LeadsByTrace l.initial.self.server.core.state l.self.server.core.state
-    (outside (g.P.Ports.calls l.initial.ports) (g.W.Write.contents l.initial.writer) l.initial.self.server.printer)
-    (outside (g.P.Ports.calls l.ports) (g.W.Write.contents l.writer) l.self.server.printer)
-    (BytesTaken l.initial.self.server.printer.form l.setup partial (take l.b-index l.bytes) l.self.partial (Ok false)))
+invariant-loop-b g l = record {
+  whole : l.self.server.printer.has_failed ≡ false;
+  few : l.self.server.journal.lacking ≤ l.initial.self.server.journal.lacking + l.b-index;
+  taken : (partial : List ℕ) → l.initial.self.partial ≡ take 8 partial →
+      LeadsByTrace l.initial.self.server.core.state l.self.server.core.state
+      (outside (ports_seen (g.P.Ports.calls l.initial.ports) (g.P.Ports.journal l.initial.ports))
+      (g.W.Write.contents l.initial.writer) l.initial.self.server.printer l.initial.self.server.journal)
+      (outside (ports_seen (g.P.Ports.calls l.ports) (g.P.Ports.journal l.ports)) (g.W.Write.contents l.writer)
+      l.self.server.printer l.self.server.journal)
+      (BytesTaken l.initial.self.server.printer.form l.setup partial (take l.b-index l.bytes) l.self.partial (Ok false));
+}

@@ -1,43 +1,48 @@
 use Rattle.std.proofs.Common.{[], ◌∷◌, refl}
-use Rattle.mg_core.specs.declared.event.Event.TheVariants as events
 use Rattle.mg_ports.specs.declared.call.Call.TheVariants.{Send}
-use Rattle.mg_serve.specs.Trace.{Happened}
+use Rattle.mg_ports.specs.Journaled.{ports_seen}
 use Rattle.mg_serve.specs.aids.Outside.{outside}
-use Rattle.mg_serve.proofs.Taking.{tells_called, tells_none, tells_print}
-use Rattle.mg_serve.proofs.Steps.{control_answered}
+use Rattle.mg_serve.proofs.Taking.{tells_called, tells_none}
+use Rattle.mg_serve.proofs.Steps.{control_answered, control_refused, control_unread}
 use Rattle.mg_serve.proofs.server.Server.take_control.Goals as goal
 
-pub returns-in-Send : goal.returns-in-Send
-returns-in-Send g c =
-    let before = c.args.self.now.printer in
-    let after = c.control-2.new.self in
-    let calls = g.P.Ports.calls c.args.ports.now in
-    let old = g.W.Write.contents c.args.writer.now in
-    let written = g.W.Write.contents c.control-2.new.writer in
-    record {
-      value = control_answered c.args.setup.now c.args.source c.args.bytes.now _ c.args.self.now.core.state
-          c.control.new.self.state (outside calls old before) (outside calls written after)
-          (outside (g.P.Ports.calls c.send.new.ports) written after)
-          (rw c.in-Send.is at c.in-Ok.ensures.answered)
-          (tells_print calls old written before after (Happened (events.Control c.args.source c.args.bytes.now)) refl
-          c.control-2.ensures.value)
-          (tells_called written after calls (g.P.Ports.calls c.send.new.ports)
-          (Send 0 c.args.source c.control.new.self.answer ∷ [])
-          (rw c.answer.ensures.value at c.send.ensures.logged));
-    }
+pub returns-in_default-clause-value : goal.returns-in_default-clause-value
+returns-in_default-clause-value g c =
+    control_unread c.args.setup.now c.args.source c.args.bytes.now c.args.self.now.core.state
+    (ports_seen (g.P.Ports.calls c.args.ports.now) (g.P.Ports.journal c.args.ports.now))
+    (g.W.Write.contents c.args.writer.now) (g.W.Write.contents c.note.new.writer) c.args.self.now.printer
+    c.note.new.self c.args.self.now.journal c.note.ensures.value
 
-pub returns-in-Silent : goal.returns-in-Silent
-returns-in-Silent g c =
-    let before = c.args.self.now.printer in
-    let after = c.control-2.new.self in
-    let calls = g.P.Ports.calls c.args.ports.now in
-    let old = g.W.Write.contents c.args.writer.now in
-    let written = g.W.Write.contents c.control-2.new.writer in
-    record {
-      value = control_answered c.args.setup.now c.args.source c.args.bytes.now [] c.args.self.now.core.state
-          c.control.new.self.state (outside calls old before) (outside calls written after)
-          (outside calls written after) (rw c.in-Silent.is at c.in-Ok.ensures.answered)
-          (tells_print calls old written before after (Happened (events.Control c.args.source c.args.bytes.now)) refl
-          c.control-2.ensures.value)
-          (tells_none (outside calls written after));
-    }
+pub returns-in_default-announce-clause-value : goal.returns-in_default-announce-clause-value
+returns-in_default-announce-clause-value g c =
+    control_refused c.args.setup.now c.args.source c.args.bytes.now c.in_default-announce.field-0
+    c.args.self.now.core.state
+    (ports_seen (g.P.Ports.calls c.args.ports.now) (g.P.Ports.journal c.args.ports.now))
+    (ports_seen (g.P.Ports.calls c.announce.new.ports) (g.P.Ports.journal c.announce.new.ports))
+    (g.W.Write.contents c.args.writer.now) (g.W.Write.contents c.note-in_default-announce.new.writer)
+    c.args.self.now.printer c.note-in_default-announce.new.self c.args.self.now.journal c.announce.new.self
+    c.in_default-announce.ensures.value c.note-in_default-announce.ensures.value
+
+pub returns-in-Send-clause-value : goal.returns-in-Send-clause-value
+returns-in-Send-clause-value g c =
+    let later = ports_seen (g.P.Ports.calls c.announce.new.ports) (g.P.Ports.journal c.announce.new.ports) in
+    let last = ports_seen (g.P.Ports.calls c.send.new.ports) (g.P.Ports.journal c.send.new.ports) in
+    let written = g.W.Write.contents c.control.new.writer in
+    control_answered c.args.setup.now c.args.source c.args.bytes.now _ c.args.self.now.core.state c.run-answer.new.self.state
+    (ports_seen (g.P.Ports.calls c.args.ports.now) (g.P.Ports.journal c.args.ports.now)) later
+    (g.W.Write.contents c.args.writer.now) written c.args.self.now.printer c.control.new.self c.args.self.now.journal
+    c.announce.new.self (outside last written c.control.new.self c.announce.new.self)
+    c.in-Ok-announce.ensures.value (rw c.in-Send.is at c.run-answer.ensures.answered) c.control.ensures.value
+    (tells_called written c.control.new.self c.announce.new.self later last (Send 0 c.args.source c.run-answer.new.self.answer ∷ [])
+    (rw c.answer.ensures.value at c.send.ensures.logged) refl c.send.ensures.journal)
+
+pub returns-clause-value : goal.returns-clause-value
+returns-clause-value g c =
+    let later = ports_seen (g.P.Ports.calls c.announce.new.ports) (g.P.Ports.journal c.announce.new.ports) in
+    let written = g.W.Write.contents c.control.new.writer in
+    let z = outside later written c.control.new.self c.announce.new.self in
+    control_answered c.args.setup.now c.args.source c.args.bytes.now [] c.args.self.now.core.state c.run-answer.new.self.state
+    (ports_seen (g.P.Ports.calls c.args.ports.now) (g.P.Ports.journal c.args.ports.now)) later
+    (g.W.Write.contents c.args.writer.now) written c.args.self.now.printer c.control.new.self c.args.self.now.journal
+    c.announce.new.self z c.in-Ok-announce.ensures.value (rw c.in-Silent.is at c.run-answer.ensures.answered)
+    c.control.ensures.value (tells_none z)

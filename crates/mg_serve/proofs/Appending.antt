@@ -1,0 +1,258 @@
+-- What a session's journal does: ticks in batches, and then a message.
+use Rattle.std.proofs.Common.{◌≡◌, ℕ, zero, suc, ◌+◌, ◌-◌, ◌<◌, ◌≤◌, inl, inr, List, [], ◌∷◌, ◌++◌, IsSome, take, replicate, flat_map, Option, Some, None, Result, Ok, Err, refl, sym, ap, subst, ◌∙◌, append_assoc, arith, codes}
+use Rattle.std.proofs.lemmas.List.{append-nil}
+use Rattle.std.proofs.lemmas.List.Elements.{All-nil, All-cons, All-append}
+use Rattle.mg_journal.specs.declared.append_fault.AppendFault.{AppendFault}
+use Rattle.mg_journal.specs.declared.durability.Durability.{Durability}
+use Rattle.mg_journal.specs.declared.durability.Durability.TheVariants.{Written}
+use Rattle.mg_journal.specs.Text.{EndsInLineFeed}
+use Rattle.mg_journal.proofs.TextLemmas.{ends_line}
+use Rattle.mg_ports.specs.declared.call.Call.{Call}
+use Rattle.mg_ports.specs.declared.call.Call.TheVariants.{Append}
+use Rattle.mg_ports.specs.Calls.{Logged}
+use Rattle.mg_ports.specs.Journaled.{PortsSeen, AppendsDated, JournalAfter}
+use Rattle.mg_words.specs.declared.peer.Peer.{Peer}
+use Rattle.mg_core.specs.declared.event.Event.TheVariants as events
+use Rattle.mg_core.specs.Peer.{peer_text}
+use Rattle.mg_core.specs.Recording.{IsDatagram, event_line}
+use Rattle.mg_serve.specs.Journaled.{Lacks, Announces, IsJournaled, tick_lines}
+use Rattle.mg_serve.specs.Session.{IsAppended}
+use Rattle.mg_serve.specs.Trace.{TraceEntry, Called, Happened, calls_of}
+use Rattle.mg_serve.specs.aids.Journaling.{AreAppends, AppendsBatch, AppendsBefore, EndsTick, LogsCalls, lacking_after_tick}
+use Rattle.mg_serve.specs.aids.Outside.{JournalView}
+use Rattle.mg_serve.proofs.JournalLemmas.{after_both, journaled_both, nothing_journaled}
+use Rattle.mg_serve.proofs.Printing.{calls_both}
+use Rattle.mg_serve.proofs.Taking.{told_both, told_none}
+
+-- ## Texts
+
+-- the lines of a batch, cut from the lines of a larger one
+pub batch_lines : (n m : ℕ) → n ≤ m →
+    flat_map (λ (line : List ℕ). line) (take n (replicate m (codes "tick\n"))) ≡ tick_lines n
+batch_lines zero m few = refl
+batch_lines (suc n) zero few = absurd (omega (arith, few))
+batch_lines (suc n) (suc m) few =
+    ap (λ (l : List ℕ). codes "tick\n" ++ l) (batch_lines n m (omega (arith, few)))
+
+ticks_more : (n : ℕ) → tick_lines (suc n) ≡ tick_lines n ++ codes "tick\n"
+ticks_more zero = refl
+ticks_more (suc n) = ap (λ (l : List ℕ). codes "tick\n" ++ l) (ticks_more n)
+
+feed_after : (text front : List ℕ) → text ≡ front ++ 10 ∷ [] → EndsInLineFeed text
+feed_after text front is = subst EndsInLineFeed (sym is) (ends_line front)
+
+pub ticks_feed : (n : ℕ) → 0 < n → EndsInLineFeed (tick_lines n)
+ticks_feed zero some = absurd (omega arith)
+ticks_feed (suc n) some =
+    feed_after (tick_lines (suc n)) (tick_lines n ++ codes "tick")
+    (ticks_more n ∙ sym (append_assoc (tick_lines n) (codes "tick") (10 ∷ [])))
+
+last_feed : (a b c d : List ℕ) → EndsInLineFeed (a ++ (b ++ (c ++ (d ++ codes "\n"))))
+last_feed a b c d =
+    feed_after (a ++ (b ++ (c ++ (d ++ codes "\n")))) (a ++ (b ++ (c ++ d))) (simp append_assoc)
+
+pub message_feed : (source : Peer) (bytes : List ℕ) → EndsInLineFeed (event_line (events.Control source bytes))
+message_feed source bytes = last_feed (codes "control ") (peer_text source) (codes " ") _
+
+-- ## One append
+
+appends_one : (before after : PortsSeen) (call : Call) → Logged before.calls after.calls (call ∷ []) →
+    JournalAfter (call ∷ []) before.journal after.journal → LogsCalls before after (call ∷ [])
+appends_one before after call logged journaled = record { logged = logged; journaled = journaled }
+
+batch_refused : (fault : AppendFault) (d : Option Durability) (lacking ticks left : ℕ) → IsSome d →
+    lacking ≡ left + ticks →
+    IsJournaled d lacking (Called (Append (tick_lines ticks) Written (Err fault)) ∷ []) lacking
+batch_refused fault None lacking ticks left some parts = absurd cc
+batch_refused fault (Some durable) lacking ticks left some parts =
+    (Lacks lacking, inl (ticks, left, parts, refl, refl, refl), refl)
+
+batch_done : (d : Option Durability) (lacking ticks left : ℕ) → IsSome d → lacking ≡ left + ticks →
+    IsJournaled d lacking (Called (Append (tick_lines ticks) Written (Ok tt)) ∷ []) left
+batch_done None lacking ticks left some parts = absurd cc
+batch_done (Some durable) lacking ticks left some parts =
+    (Lacks left, inl (ticks, left, parts, refl, refl, refl), refl)
+
+pub batch_fails : (fault : AppendFault) (before after : PortsSeen) (j : JournalView) (ticks : ℕ) →
+    IsSome j.durability → ticks ≤ j.lacking →
+    Logged before.calls after.calls (Append (tick_lines ticks) Written (Err fault) ∷ []) →
+    AppendsDated (tick_lines ticks) Written before.journal after.journal (Err fault) →
+    AppendsBatch (Err fault) before after j j
+batch_fails fault before after j ticks some few logged dated = record {
+  ticks = ticks;
+  logs = record { logged = logged; journaled = (after.journal, dated, refl) };
+  durability = refl;
+  lacks = batch_refused fault j.durability j.lacking ticks (j.lacking - ticks) some (omega (arith, few));
+}
+
+pub batch_works : (before after : PortsSeen) (j k : JournalView) (ticks : ℕ) → IsSome j.durability →
+    ticks ≤ j.lacking → k ≡ record j { lacking = j.lacking - ticks } →
+    Logged before.calls after.calls (Append (tick_lines ticks) Written (Ok tt) ∷ []) →
+    AppendsDated (tick_lines ticks) Written before.journal after.journal (Ok tt) →
+    AppendsBatch (Ok tt) before after j k
+batch_works before after j k ticks some few is logged dated =
+    subst (λ (v : JournalView). AppendsBatch (Ok tt) before after j v) (sym is)
+    (record {
+      ticks = ticks;
+      logs = record { logged = logged; journaled = (after.journal, dated, refl) };
+      durability = refl;
+      lacks = batch_done j.durability j.lacking ticks (j.lacking - ticks) some (omega (arith, few));
+    })
+
+-- ## All ticks
+
+pub nothing_appended : (seen : PortsSeen) (j : JournalView) → AppendsBefore [] (Ok tt) seen seen j j
+nothing_appended seen j = record {
+  trace = [];
+  are = All-nil IsAppended;
+  logs = record { logged = told_none seen.calls; journaled = refl };
+  durability = refl;
+  lacks = nothing_journaled j.durability j.lacking;
+}
+
+logs_both : (a b c : PortsSeen) (p q : List TraceEntry) → LogsCalls a b (calls_of p) → LogsCalls b c (calls_of q) →
+    LogsCalls a c (calls_of (p ++ q))
+logs_both a b c p q h k = subst (λ (l : List Call). LogsCalls a c l) (sym (calls_both p q)) (record {
+  logged = told_both a.calls b.calls c.calls (calls_of p) (calls_of q) h.logged k.logged;
+  journaled = after_both (calls_of p) (calls_of q) a.journal b.journal c.journal h.journaled k.journaled;
+})
+
+-- what the journal lacked after all of some ticks, by the trace alone
+lacked : (a b : PortsSeen) (j k : JournalView) → (h : AppendsBefore [] (Ok tt) a b j k) →
+    IsJournaled j.durability j.lacking h.trace k.lacking
+lacked a b j k h =
+    subst (λ (l : List TraceEntry). IsJournaled j.durability j.lacking l k.lacking) (append-nil h.trace) h.lacks
+
+then_journaled : (a b : PortsSeen) (j k : JournalView) (n : ℕ) (q : List TraceEntry) →
+    (h : AppendsBefore [] (Ok tt) a b j k) → IsJournaled k.durability k.lacking q n →
+    IsJournaled j.durability j.lacking (h.trace ++ q) n
+then_journaled a b j k n q h more =
+    journaled_both j.durability j.lacking k.lacking n h.trace q (lacked a b j k h)
+    (subst (λ (d : Option Durability). IsJournaled d k.lacking q n) h.durability more)
+
+pub batch_more : (result : Result (Unit {0}) AppendFault) (a b c : PortsSeen) (j k m : JournalView) →
+    AppendsBefore [] (Ok tt) a b j k → AppendsBatch result b c k m → AppendsBefore [] result a c j m
+batch_more (Ok done) a b c j k m h more =
+    let last = Called (Append (tick_lines more.ticks) Written (Ok tt)) ∷ [] in
+    record {
+      trace = h.trace ++ last;
+      are = All-append IsAppended h.trace last h.are
+          (All-cons IsAppended (Called (Append (tick_lines more.ticks) Written (Ok tt))) [] tt (All-nil IsAppended));
+      logs = logs_both a b c h.trace last h.logs more.logs;
+      durability = more.durability ∙ h.durability;
+      lacks = subst (λ (l : List TraceEntry). IsJournaled j.durability j.lacking l m.lacking)
+          (sym (append-nil (h.trace ++ last))) (then_journaled a b j k m.lacking last h more.lacks);
+    }
+batch_more (Err fault) a b c j k m h more =
+    let last = Called (Append (tick_lines more.ticks) Written (Err fault)) ∷ [] in
+    record {
+      trace = h.trace ++ last;
+      are = (h.trace, tick_lines more.ticks, Written, refl, h.are, inl (more.ticks, refl));
+      logs = logs_both a b c h.trace last h.logs more.logs;
+      durability = more.durability ∙ h.durability;
+      lacks = subst (λ (l : List TraceEntry). IsJournaled j.durability j.lacking l m.lacking)
+          (sym (append-nil (h.trace ++ last))) (then_journaled a b j k m.lacking last h more.lacks);
+    }
+
+-- ## A message
+
+message_done : (d : Option Durability) (durable : Durability) (n : ℕ) (source : Peer) (bytes : List ℕ) →
+    d ≡ Some durable → n ≡ 0 → IsDatagram source bytes →
+    IsJournaled d n
+    (Called (Append (event_line (events.Control source bytes)) durable (Ok tt))
+    ∷ Happened (events.Control source bytes) ∷ []) n
+message_done None durable n source bytes is none fits = absurd cc
+message_done (Some wanted) durable n source bytes is none fits = (
+  Announces source bytes,
+  inr (source, bytes, none, refl, cc, refl, fits),
+  (Lacks 0, (refl, refl), ap Lacks none),
+)
+
+message_refused : (fault : AppendFault) (d : Option Durability) (durable : Durability) (n : ℕ) (source : Peer)
+    (bytes : List ℕ) → d ≡ Some durable → n ≡ 0 → IsDatagram source bytes →
+    IsJournaled d n (Called (Append (event_line (events.Control source bytes)) durable (Err fault)) ∷ []) n
+message_refused fault None durable n source bytes is none fits = absurd cc
+message_refused fault (Some wanted) durable n source bytes is none fits =
+    (Lacks 0, inr (source, bytes, none, refl, cc, refl, fits), ap Lacks none)
+
+pub announces : (result : Result (Unit {0}) AppendFault) (durable : Durability) (source : Peer) (bytes : List ℕ)
+    (a b c : PortsSeen) (j k : JournalView) → AppendsBefore [] (Ok tt) a b j k → j.durability ≡ Some durable →
+    k.lacking ≡ 0 → IsDatagram source bytes →
+    Logged b.calls c.calls (Append (event_line (events.Control source bytes)) durable result ∷ []) →
+    AppendsDated (event_line (events.Control source bytes)) durable b.journal c.journal result →
+    AppendsBefore (Happened (events.Control source bytes) ∷ []) result a c j k
+announces (Ok done) durable source bytes a b c j k h is none fits logged dated =
+    let append = Append (event_line (events.Control source bytes)) durable (Ok tt) in
+    let happened = Happened (events.Control source bytes) ∷ [] in
+    record {
+      trace = h.trace ++ Called append ∷ [];
+      are = All-append IsAppended h.trace (Called append ∷ []) h.are
+          (All-cons IsAppended (Called append) [] tt (All-nil IsAppended));
+      logs = logs_both a b c h.trace (Called append ∷ []) h.logs
+          (record { logged = logged; journaled = (c.journal, dated, refl) });
+      durability = h.durability;
+      lacks = subst (λ (l : List TraceEntry). IsJournaled j.durability j.lacking l k.lacking)
+          (sym (append_assoc h.trace (Called append ∷ []) happened))
+          (then_journaled a b j k k.lacking (Called append ∷ happened) h
+          (message_done k.durability durable k.lacking source bytes (h.durability ∙ is) none fits));
+    }
+announces (Err fault) durable source bytes a b c j k h is none fits logged dated =
+    let append = Append (event_line (events.Control source bytes)) durable (Err fault) in
+    record {
+      trace = h.trace ++ Called append ∷ [];
+      are = (h.trace, event_line (events.Control source bytes), durable, refl, h.are, inr refl);
+      logs = logs_both a b c h.trace (Called append ∷ []) h.logs
+          (record { logged = logged; journaled = (c.journal, dated, refl) });
+      durability = h.durability;
+      lacks = subst (λ (l : List TraceEntry). IsJournaled j.durability j.lacking l k.lacking)
+          (sym (append-nil (h.trace ++ Called append ∷ [])))
+          (then_journaled a b j k k.lacking (Called append ∷ []) h
+          (message_refused fault k.durability durable k.lacking source bytes (h.durability ∙ is) none fits));
+    }
+
+refused_before : (followed : List TraceEntry) (fault : AppendFault) (p : List TraceEntry) → AreAppends [] (Err fault) p →
+    AreAppends followed (Err fault) p
+refused_before followed fault p (appended, lines, durability, is, all, inl ticks) =
+    (appended, lines, durability, is, all, inl ticks)
+refused_before followed fault p (appended, lines, durability, is, all, inr none) = absurd none
+
+-- ticks that failed, so that no message follows
+pub not_announced : (followed : List TraceEntry) (fault : AppendFault) (a b : PortsSeen) (j k : JournalView) →
+    AppendsBefore [] (Err fault) a b j k → AppendsBefore followed (Err fault) a b j k
+not_announced followed fault a b j k h = record {
+  trace = h.trace;
+  are = refused_before followed fault h.trace h.are;
+  logs = h.logs;
+  durability = h.durability;
+  lacks = h.lacks;
+}
+
+-- without a journal
+pub nothing_announced : (source : Peer) (bytes : List ℕ) (seen : PortsSeen) (j : JournalView) → j.durability ≡ None →
+    AppendsBefore (Happened (events.Control source bytes) ∷ []) (Ok tt) seen seen j j
+nothing_announced source bytes seen j none = record {
+  trace = [];
+  are = All-nil IsAppended;
+  logs = record { logged = told_none seen.calls; journaled = refl };
+  durability = refl;
+  lacks = subst (λ (d : Option Durability).
+      IsJournaled d j.lacking (Happened (events.Control source bytes) ∷ []) j.lacking) (sym none) (refl, refl);
+}
+
+-- ## A tick
+
+pub tick_then_batch : (result : Result (Unit {0}) AppendFault) (before after : PortsSeen) (j i k : JournalView) →
+    i ≡ record j { lacking = lacking_after_tick j.durability j.lacking } → AppendsBatch result before after i k →
+    EndsTick before after j k
+tick_then_batch result before after j i k is h = record {
+  appends = Called (Append (tick_lines h.ticks) Written result) ∷ [];
+  may = inr (tick_lines h.ticks, Written, result, refl);
+  logs = h.logs;
+  durability = h.durability ∙ ap (λ (v : JournalView). v.durability) is;
+  lacks = subst (λ (v : JournalView).
+      IsJournaled v.durability v.lacking (Called (Append (tick_lines h.ticks) Written result) ∷ []) k.lacking) is h.lacks;
+}
+
+pub counted : (d : Option Durability) (lacking : ℕ) → IsSome d → lacking_after_tick d lacking ≡ lacking + 1
+counted None lacking some = absurd cc
+counted (Some durable) lacking some = refl

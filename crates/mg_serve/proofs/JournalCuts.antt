@@ -1,0 +1,211 @@
+-- A cut journal tells what happened up to some moment.
+use Rattle.std.proofs.Common.{◌≡◌, ◌⊎◌, inl, inr, ℕ, List, [], ◌∷◌, ◌++◌, replicate, Option, IfSome, refl, sym, ap, subst, ◌∙◌, append_assoc, append-nil, arith}
+use Rattle.mg_journal.specs.declared.durability.Durability.{Durability}
+use Rattle.mg_journal.specs.Journal.{JournalState}
+use Rattle.mg_words.specs.declared.peer.Peer.{Peer}
+use Rattle.mg_core.specs.declared.event.Event.{Event}
+use Rattle.mg_core.specs.declared.event.Event.TheVariants.{Control, Media, Tick}
+use Rattle.mg_core.specs.ExceptReceived.{AgreeExceptReceived, RtpChangesSpeechOnly, without_rtp}
+use Rattle.mg_core.specs.Recording.{RecordingsAreRead, CutRecordingsAreRead}
+use Rattle.mg_core.specs.Step.{Sent, Run}
+use Rattle.mg_core.specs.World.{World, start_of}
+use Rattle.mg_serve.specs.JournalLaws.{AnyCutIsAMoment, CutsResumeAMoment, IsMoment, IsScriptOf, LosesTicks, ResumesAt, WereTold}
+use Rattle.mg_serve.specs.Setup.{Setup}
+use Rattle.mg_serve.specs.Theorems.{SessionsAreRuns}
+use Rattle.mg_serve.specs.Trace.{TraceEntry, Called, Happened, Printed, Noted, events_of_trace}
+use Rattle.mg_serve.proofs.JournalCrashes.{front_run, moment_told, resumed_as, split_run}
+use Rattle.mg_serve.proofs.ReadBack.{OneOutcome}
+use Rattle.mg_serve.proofs.Runs.{events_both}
+use Rattle.mg_serve.proofs.JournalSteps.{one_front}
+use Rattle.mg_serve.proofs.JournalText.{cut_script}
+
+-- ## Lists in two parts
+
+abbrev pub Apart : (a b c d : List Event) → Type 0
+Apart a b c d =
+    ((x : List Event) × (a ≡ c ++ x) × (d ≡ x ++ b)) ⊎ ((y : List Event) × (c ≡ a ++ y) × (b ≡ y ++ d))
+
+apart_more : (e f : Event) (a b c d : List Event) → e ≡ f → Apart a b c d → Apart (e ∷ a) b (f ∷ c) d
+apart_more e f a b c d same (inl (x, is, left)) =
+    inl (x, ap (λ (l : List Event). e ∷ l) is ∙ ap (λ (g : Event). g ∷ (c ++ x)) same, left)
+apart_more e f a b c d same (inr (y, is, left)) =
+    inr (y, ap (λ (l : List Event). f ∷ l) is ∙ ap (λ (g : Event). g ∷ (a ++ y)) (sym same), left)
+
+-- the end of one front is in the other
+pub apart : (a b c d : List Event) → a ++ b ≡ c ++ d → Apart a b c d
+apart [] b c d is = inr (c, refl, is)
+apart (e ∷ a) b [] d is = inl (e ∷ a, refl, sym is)
+apart (e ∷ a) b (f ∷ c) d is =
+    let same : e ≡ f = cc in
+    let left : a ++ b ≡ c ++ d = cc in
+    apart_more e f a b c d same (apart a b c d left)
+
+-- ## Moments
+
+abbrev IsPast : List TraceEntry → List Event → Type 0
+IsPast front events =
+    (past : List TraceEntry) × (later : List TraceEntry) × (front ≡ past ++ later)
+    × (without_rtp (events_of_trace past) ≡ events)
+
+after_quiet : (one : TraceEntry) (front : List TraceEntry) (events : List Event)
+    → ((past : List TraceEntry) → without_rtp (events_of_trace (one ∷ past)) ≡ without_rtp (events_of_trace past))
+    → IsPast front events → IsPast (one ∷ front) events
+after_quiet one front events quiet (past, later, parts, are) =
+    (one ∷ past, later, ap (λ (l : List TraceEntry). one ∷ l) parts, quiet past ∙ are)
+
+after_event : (event first : Event) (front : List TraceEntry) (events : List Event)
+    → ((past : List TraceEntry) → without_rtp (events_of_trace (Happened event ∷ past)) ≡ event ∷ without_rtp (events_of_trace past))
+    → event ≡ first → IsPast front events → IsPast (Happened event ∷ front) (first ∷ events)
+after_event event first front events loud same (past, later, parts, are) = (
+  Happened event ∷ past,
+  later,
+  ap (λ (l : List TraceEntry). Happened event ∷ l) parts,
+  loud past ∙ (ap (λ (l : List Event). event ∷ l) are ∙ ap (λ (e : Event). e ∷ events) same),
+)
+
+-- the moment up to which these events happened
+past_of : (front : List TraceEntry) (events rest : List Event) → without_rtp (events_of_trace front) ≡ events ++ rest
+    → IsPast front events
+past_of front [] rest is = ([], front, refl, refl)
+past_of [] (e ∷ events) rest is =
+    let none : List Event = [] in
+    let wrong : none ≡ e ∷ (events ++ rest) = is in
+    absurd cc
+past_of (Called call ∷ front) (e ∷ events) rest is =
+    after_quiet (Called call) front (e ∷ events) (λ past. refl) (past_of front (e ∷ events) rest is)
+past_of (Happened (Control source bytes) ∷ front) (e ∷ events) rest is =
+    let same : Control source bytes ≡ e = cc in
+    let left : without_rtp (events_of_trace front) ≡ events ++ rest = cc in
+    after_event (Control source bytes) e front events (λ past. refl) same (past_of front events rest left)
+past_of (Happened (Media port source bytes) ∷ front) (e ∷ events) rest is =
+    after_quiet (Happened (Media port source bytes)) front (e ∷ events) (λ past. refl) (past_of front (e ∷ events) rest is)
+past_of (Happened Tick ∷ front) (e ∷ events) rest is =
+    let same : Tick ≡ e = cc in
+    let left : without_rtp (events_of_trace front) ≡ events ++ rest = cc in
+    after_event Tick e front events (λ past. refl) same (past_of front events rest left)
+past_of (Printed text ∷ front) (e ∷ events) rest is =
+    after_quiet (Printed text) front (e ∷ events) (λ past. refl) (past_of front (e ∷ events) rest is)
+past_of (Noted text ∷ front) (e ∷ events) rest is =
+    after_quiet (Noted text) front (e ∷ events) (λ past. refl) (past_of front (e ∷ events) rest is)
+
+-- ## The law
+
+-- the first of what was kept
+first_kept : (told : List Event) (front : List TraceEntry) (first more kept rest : List Event) (ticks : ℕ)
+    → first ≡ told ++ more → kept ≡ more ++ rest
+    → without_rtp (events_of_trace front) ≡ kept ++ replicate ticks Tick → WereTold told front first
+first_kept told front first more kept rest ticks is parts lost =
+    let (past, later, here, are) =
+    past_of front more (rest ++ replicate ticks Tick)
+    (lost ∙ (ap (λ (l : List Event). l ++ replicate ticks Tick) parts ∙ append_assoc more rest (replicate ticks Tick))) in
+    inr (past, later, here, inl (is ∙ ap (λ (l : List Event). told ++ l) (sym are)))
+
+-- all of it, and a message that was announced then
+with_message : (told : List Event) (front : List TraceEntry) (first more kept : List Event) (ticks : ℕ) (source : Peer)
+    (bytes : List ℕ) → first ≡ told ++ more → more ≡ kept ++ Control source bytes ∷ []
+    → without_rtp (events_of_trace front) ≡ kept ++ replicate ticks Tick → WereTold told front first
+with_message told front first more kept ticks source bytes is announced lost =
+    let message = Control source bytes ∷ [] in
+    let (past, later, here, are) = past_of front kept (replicate ticks Tick) lost in
+    inr (
+      past,
+      later,
+      here,
+      inr (
+        source,
+        bytes,
+        is ∙ (ap (λ (l : List Event). told ++ l) announced ∙ (sym (append_assoc told kept message)
+            ∙ ap (λ (l : List Event). (told ++ l) ++ message) (sym are))),
+      ),
+    )
+
+message_cut : (told : List Event) (front : List TraceEntry) (first more others kept : List Event) (ticks : ℕ) (source : Peer)
+    (bytes : List ℕ) → first ≡ told ++ more → without_rtp (events_of_trace front) ≡ kept ++ replicate ticks Tick
+    → Apart kept (Control source bytes ∷ []) more others → WereTold told front first
+message_cut told front first more others kept ticks source bytes is lost (inl (rest, parts, left)) =
+    first_kept told front first more kept rest ticks is parts lost
+message_cut told front first more others kept ticks source bytes is lost (inr (end, parts, left)) =
+    ended (one_front (Control source bytes) end others left)
+  where
+    ended : (end ≡ []) ⊎ (end ≡ Control source bytes ∷ []) → WereTold told front first
+    ended (inl none) =
+        first_kept told front first more kept [] ticks is
+        (sym (append-nil kept) ∙ (ap (λ (l : List Event). kept ++ l) (sym none) ∙ (sym parts ∙ sym (append-nil more)))) lost
+    ended (inr one) =
+        with_message told front first more kept ticks source bytes is (parts ∙ ap (λ (l : List Event). kept ++ l) one) lost
+
+more_cut : (told : List Event) (front : List TraceEntry) (first more others written : List Event) (lacking : ℕ)
+    → first ≡ told ++ more → written ≡ more ++ others
+    → (loses : LosesTicks lacking (without_rtp (events_of_trace front)) written)
+    → (written ≡ loses.kept)
+    ⊎ ((source : Peer) × (bytes : List ℕ) × (written ≡ loses.kept ++ Control source bytes ∷ []))
+    → WereTold told front first
+more_cut told front first more others written lacking is parts loses (inl same) =
+    first_kept told front first more loses.kept others loses.ticks is (sym same ∙ parts) loses.lost
+more_cut told front first more others written lacking is parts loses (inr (source, bytes, same)) =
+    message_cut told front first more others loses.kept loses.ticks source bytes is loses.lost
+    (apart loses.kept (Control source bytes ∷ []) more others (sym same ∙ parts))
+
+were_told : (told : List Event) (front : List TraceEntry) (first others written : List Event) (lacking : ℕ)
+    → LosesTicks lacking (without_rtp (events_of_trace front)) written → Apart told written first others
+    → WereTold told front first
+were_told told front first others written lacking loses (inl (rest, parts, left)) = inl (rest, parts)
+were_told told front first others written lacking loses (inr (more, is, parts)) =
+    more_cut told front first more others written lacking is parts loses loses.wrote
+
+pub any_cut : RecordingsAreRead → CutRecordingsAreRead → AnyCutIsAMoment
+any_cut read cut_law setup durability w told front rest journal text cut lost moment known parts =
+    let (progress, js, (written, tells, loses)) = moment_told read cut_law setup durability w told front rest journal moment in
+    let script : IsScriptOf text (told ++ written) =
+    subst (λ (o : Option (List ℕ)). IfSome o (λ t. IsScriptOf t (told ++ written))) known tells in
+    let (first, others, apart_is, front_script) = cut_script text cut lost (told ++ written) parts script in (
+      first,
+      others,
+      subst (λ (l : List Event). IsScriptOf text l) apart_is script,
+      front_script,
+      were_told told front first others written _ loses (apart told written first others apart_is),
+    )
+
+-- ## Resuming
+
+module _ (runs : SessionsAreRuns) (one : OneOutcome) (law : RtpChangesSpeechOnly) where
+  resumes_at : (setup : Setup) (durability : Durability) (w v : World) (told : List Event) (others : List Sent)
+      (front rest : List TraceEntry) (journal : JournalState) (first : List Event)
+      → IsMoment setup durability w told front rest journal → Run (start_of setup.config) told others v
+      → AgreeExceptReceived w v → (past later : List TraceEntry) → front ≡ past ++ later → (written : List Event)
+      → first ≡ told ++ written → LosesTicks 0 (without_rtp (events_of_trace past)) written
+      → ResumesAt setup.config w front first
+  resumes_at setup durability w v told others front rest journal first moment before agree past later parts written is loses =
+      let (a, now, whole) =
+      front_run setup w moment.last front rest (runs setup moment.commands w moment.last (front ++ rest) moment.session) in
+      let (sent, tail, then_world, run, more) =
+      split_run w now (events_of_trace past) (events_of_trace later) a
+      (subst (λ (l : List Event). Run w l a now) (ap events_of_trace parts ∙ events_both past later) whole) in
+      record {
+        past = past;
+        later = later;
+        parts = parts;
+        then = then_world;
+        sent = sent;
+        run = run;
+        resumes = λ resumed all ran.
+            let (s, t, mid, start, rest_run) =
+            split_run (start_of setup.config) resumed told written all
+            (subst (λ (l : List Event). Run (start_of setup.config) l all resumed) is ran) in
+            let same : mid ≡ v = (one (start_of setup.config) told s others mid v start before).1 in
+            resumed_as law w v then_world resumed (events_of_trace past) written 0 sent t agree run
+            (subst (λ (x : World). Run x written t resumed) same rest_run) loses loses.wrote;
+      }
+
+  pub cuts_resume : CutsResumeAMoment
+  cuts_resume setup durability w v told others front rest journal first moment before agree (inl earlier) = inl earlier
+  cuts_resume setup durability w v told others front rest journal first moment before agree (inr (past, later, parts, inl is)) =
+      let events = without_rtp (events_of_trace past) in
+      inr (resumes_at setup durability w v told others front rest journal first moment before agree past later parts events is
+      (record { kept = events; ticks = 0; few = omega arith; lost = sym (append-nil events); wrote = inl refl }))
+  cuts_resume setup durability w v told others front rest journal first moment before agree (inr (past, later, parts, inr (source, bytes, is))) =
+      let events = without_rtp (events_of_trace past) in
+      let message = Control source bytes ∷ [] in
+      inr (resumes_at setup durability w v told others front rest journal first moment before agree past later parts
+      (events ++ message) (is ∙ append_assoc told events message)
+      (record { kept = events; ticks = 0; few = omega arith; lost = sym (append-nil events); wrote = inr (source, bytes, refl) }))

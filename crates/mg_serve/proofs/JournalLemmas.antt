@@ -1,0 +1,143 @@
+-- Appends one after another, and what a journal lacks.
+use Rattle.std.proofs.Common.{◌≡◌, ℕ, ◌+◌, inl, inr, false, List, [], ◌∷◌, ◌++◌, All, map, Option, Some, None, Result, Ok, Err, refl, ap, subst, ◌∙◌}
+use Rattle.std.proofs.lemmas.List.Elements.{All-head, All-tail}
+use Rattle.std.proofs.lemmas.List.Folds.{list_any-append}
+use Rattle.std.specs.List.{list_any}
+use Rattle.mg_journal.specs.declared.append_fault.AppendFault.{AppendFault}
+use Rattle.mg_journal.specs.declared.durability.Durability.{Durability}
+use Rattle.mg_journal.specs.Journal.{JournalState}
+use Rattle.mg_ports.specs.declared.call.Call.{Call}
+use Rattle.mg_ports.specs.declared.call.Call.TheVariants.{Receive, Send, BeginTick, Append}
+use Rattle.mg_ports.specs.Journaled.{JournalAfter}
+use Rattle.mg_core.specs.declared.event.Event.TheVariants as events
+use Rattle.mg_serve.specs.declared.form.Form.{Form}
+use Rattle.mg_serve.specs.declared.form.Form.TheVariants.{Plain, Recording}
+use Rattle.mg_serve.specs.Journaled.{Progress, Lacks, Advances, IsJournaled, Journals, is_append}
+use Rattle.mg_serve.specs.Session.{IsAppended, MayAppend}
+use Rattle.mg_serve.specs.Trace.{TraceEntry, Called, Happened, Printed, Noted, calls_of, output_of}
+use Rattle.mg_serve.specs.aids.Journaling.{AreAppends, lacking_after_tick}
+use Rattle.mg_serve.proofs.Printing.{calls_both, output_both}
+
+-- ## The journal of the ports
+
+pub after_both : (p q : List Call) (a b c : JournalState) → JournalAfter p a b → JournalAfter q b c →
+    JournalAfter (p ++ q) a c
+after_both [] q a b c h k = subst (λ (j : JournalState). JournalAfter q j c) h k
+after_both (Receive socket receipt ∷ p) q a b c h k = after_both p q a b c h k
+after_both (Send socket to bytes ∷ p) q a b c h k = after_both p q a b c h k
+after_both (BeginTick timing ∷ p) q a b c h k = after_both p q a b c h k
+after_both (Append lines durability result ∷ p) q a b c h k = (h.0, h.1, after_both p q h.0 b c h.2 k)
+
+-- calls without an append
+pub after_quiet : (calls : List Call) (a b : JournalState) → list_any is_append calls ≡ false → b ≡ a →
+    JournalAfter calls a b
+after_quiet [] a b quiet same = same
+after_quiet (Receive socket receipt ∷ calls) a b quiet same = after_quiet calls a b quiet same
+after_quiet (Send socket to bytes ∷ calls) a b quiet same = after_quiet calls a b quiet same
+after_quiet (BeginTick timing ∷ calls) a b quiet same = after_quiet calls a b quiet same
+after_quiet (Append lines durability result ∷ calls) a b quiet same = absurd cc
+
+-- ## What the journal lacks
+
+journals_both : (durable : Durability) (a b c : Progress) (p q : List TraceEntry) → Journals durable a p b →
+    Journals durable b q c → Journals durable a (p ++ q) c
+journals_both durable a b c [] q h k = subst (λ (s : Progress). Journals durable s q c) h k
+journals_both durable a b c (entry ∷ p) q h k = (h.0, h.1, journals_both durable h.0 b c p q h.2 k)
+
+pub journaled_both : (d : Option Durability) (a b c : ℕ) (p q : List TraceEntry) → IsJournaled d a p b →
+    IsJournaled d b q c → IsJournaled d a (p ++ q) c
+journaled_both None a b c p q h k = (
+  ap (list_any is_append) (calls_both p q) ∙ list_any-append is_append (calls_of p) (calls_of q) ∙ cc,
+  k.1 ∙ h.1,
+)
+journaled_both (Some durable) a b c p q h k = journals_both durable (Lacks a) (Lacks b) (Lacks c) p q h k
+
+-- an entry that changes nothing for the journal
+abbrev pub IsIdle : TraceEntry → Type 0
+IsIdle (Called call) = is_append call ≡ false
+IsIdle (Happened (events.Control source bytes)) = ⊥
+IsIdle (Happened (events.Media port source bytes)) = Unit {0}
+IsIdle (Happened events.Tick) = ⊥
+IsIdle (Printed text) = Unit {0}
+IsIdle (Noted text) = Unit {0}
+
+advances_idle : (durable : Durability) (n : ℕ) (entry : TraceEntry) → IsIdle entry →
+    Advances durable (Lacks n) entry (Lacks n)
+advances_idle durable n (Called (Receive socket receipt)) idle = refl
+advances_idle durable n (Called (Send socket to bytes)) idle = refl
+advances_idle durable n (Called (BeginTick timing)) idle = refl
+advances_idle durable n (Called (Append lines durability result)) idle = absurd cc
+advances_idle durable n (Happened (events.Control source bytes)) idle = absurd idle
+advances_idle durable n (Happened (events.Media port source bytes)) idle = refl
+advances_idle durable n (Happened events.Tick) idle = absurd idle
+advances_idle durable n (Printed text) idle = refl
+advances_idle durable n (Noted text) idle = refl
+
+appends_none : (entry : TraceEntry) → IsIdle entry → list_any is_append (calls_of (entry ∷ [])) ≡ false
+appends_none (Called (Receive socket receipt)) idle = refl
+appends_none (Called (Send socket to bytes)) idle = refl
+appends_none (Called (BeginTick timing)) idle = refl
+appends_none (Called (Append lines durability result)) idle = absurd cc
+appends_none (Happened event) idle = refl
+appends_none (Printed text) idle = refl
+appends_none (Noted text) idle = refl
+
+pub nothing_journaled : (d : Option Durability) (n : ℕ) → IsJournaled d n [] n
+nothing_journaled None n = (refl, refl)
+nothing_journaled (Some durable) n = refl
+
+pub idle_journaled : (d : Option Durability) (n : ℕ) (entry : TraceEntry) → IsIdle entry →
+    IsJournaled d n (entry ∷ []) n
+idle_journaled None n entry idle = (appends_none entry idle, refl)
+idle_journaled (Some durable) n entry idle = (Lacks n, advances_idle durable n entry idle, refl)
+
+-- calls without an append
+pub calls_journaled : (d : Option Durability) (n : ℕ) (calls : List Call) → list_any is_append calls ≡ false →
+    IsJournaled d n (map (λ (call : Call). Called call) calls) n
+calls_journaled d n [] quiet = nothing_journaled d n
+calls_journaled d n (Receive socket receipt ∷ calls) quiet =
+    journaled_both d n n n (Called (Receive socket receipt) ∷ []) (map (λ (call : Call). Called call) calls)
+    (idle_journaled d n (Called (Receive socket receipt)) refl) (calls_journaled d n calls quiet)
+calls_journaled d n (Send socket to bytes ∷ calls) quiet =
+    journaled_both d n n n (Called (Send socket to bytes) ∷ []) (map (λ (call : Call). Called call) calls)
+    (idle_journaled d n (Called (Send socket to bytes)) refl) (calls_journaled d n calls quiet)
+calls_journaled d n (BeginTick timing ∷ calls) quiet =
+    journaled_both d n n n (Called (BeginTick timing) ∷ []) (map (λ (call : Call). Called call) calls)
+    (idle_journaled d n (Called (BeginTick timing)) refl) (calls_journaled d n calls quiet)
+calls_journaled d n (Append lines durability result ∷ calls) quiet = absurd cc
+
+-- one more tick
+pub tick_journaled : (d : Option Durability) (n : ℕ) →
+    IsJournaled d n (Happened events.Tick ∷ []) (lacking_after_tick d n)
+tick_journaled None n = (refl, refl)
+tick_journaled (Some durable) n = (Lacks (n + 1), refl, refl)
+
+-- ## Appends
+
+pub appended_prints : (form : Form) (p : List TraceEntry) → All IsAppended p → output_of form p ≡ []
+appended_prints form [] all = refl
+appended_prints Plain (Called call ∷ p) all =
+    appended_prints Plain p (All-tail IsAppended (Called call) p all)
+appended_prints Recording (Called call ∷ p) all =
+    appended_prints Recording p (All-tail IsAppended (Called call) p all)
+appended_prints form (Happened event ∷ p) all = absurd (All-head IsAppended (Happened event) p all)
+appended_prints form (Printed text ∷ p) all = absurd (All-head IsAppended (Printed text) p all)
+appended_prints form (Noted text ∷ p) all = absurd (All-head IsAppended (Noted text) p all)
+
+append_prints : (form : Form) (call : Call) → output_of form (Called call ∷ []) ≡ []
+append_prints Plain call = refl
+append_prints Recording call = refl
+
+pub appends_print : (followed : List TraceEntry) (result : Result (Unit {0}) AppendFault) (form : Form)
+    (p : List TraceEntry) → AreAppends followed result p → output_of form p ≡ []
+appends_print followed (Ok done) form p are = appended_prints form p are
+appends_print followed (Err fault) form p (appended, lines, durability, is, all, before) =
+    let last = Append lines durability (Err fault) in
+    ap (output_of form) is ∙ output_both form appended (Called last ∷ []) ∙
+    ap (λ (l : List ℕ). l ++ output_of form (Called last ∷ [])) (appended_prints form appended all) ∙
+    append_prints form last
+
+pub may_print : (form : Form) (p : List TraceEntry) → MayAppend p → output_of form p ≡ []
+may_print form p (inl none) = ap (output_of form) none
+may_print form p (inr (lines, durability, result, is)) =
+    ap (output_of form) is ∙ append_prints form (Append lines durability result)

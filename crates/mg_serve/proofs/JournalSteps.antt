@@ -1,0 +1,362 @@
+-- What a journal tells after each entry of a trace.
+use Rattle.std.proofs.Common.{◌≡◌, ◌⊎◌, inl, inr, ℕ, zero, suc, ◌+◌, ◌-◌, ◌≤◌, Bool, true, false, List, [], ◌∷◌, ◌++◌, length, take, replicate, IfSome, Result, Ok, Err, refl, sym, ap, subst, ◌∙◌, append_assoc, append-nil, arith}
+use Rattle.std.specs.Prelude.{if◌then◌else◌, flat_map}
+use Rattle.std.proofs.lemmas.List.{replicate-append-replicate, replicate_more}
+use Rattle.std.proofs.lemmas.List.Elements.{All-nil, All-cons}
+use Rattle.std.specs.Io.KnownBytes.{append_known}
+use Rattle.mg_journal.specs.declared.append_fault.AppendFault.{AppendFault}
+use Rattle.mg_journal.specs.declared.append_fault.AppendFault.TheVariants.{Refused, Broken}
+use Rattle.mg_journal.specs.declared.durability.Durability.{Durability}
+use Rattle.mg_journal.specs.declared.durability.Durability.TheVariants.{Synced}
+use Rattle.mg_journal.specs.Text.{whole_lines}
+use Rattle.mg_journal.specs.Journal.{JournalState, Breaks, appended, is_synced}
+use Rattle.mg_words.specs.declared.peer.Peer.{Peer}
+use Rattle.mg_core.specs.declared.event.Event.{Event}
+use Rattle.mg_core.specs.declared.event.Event.TheVariants.{Control, Media, Tick}
+use Rattle.mg_core.specs.ExceptReceived.{without_rtp}
+use Rattle.mg_core.specs.Recording.{Entry, IsDatagram, IsRecorded, RecordingsAreRead, CutRecordingsAreRead, event_line}
+use Rattle.mg_core.specs.Recording as entry
+use Rattle.mg_ports.specs.declared.call.Call.{Call}
+use Rattle.mg_ports.specs.declared.call.Call.TheVariants.{Receive, Send, BeginTick, Append}
+use Rattle.mg_ports.specs.Journaled.{AppendsDated, JournalAfter}
+use Rattle.mg_serve.specs.Journaled.{Progress, Lacks, Announces, Advances, AppendsLines, Journals}
+use Rattle.mg_serve.specs.JournalLaws.{IsScriptOf, LosesTicks, TellsEvents}
+use Rattle.mg_serve.specs.Trace.{TraceEntry, Called, Happened, Printed, Noted, calls_of, events_of_trace}
+use Rattle.mg_serve.proofs.Printing.{calls_both}
+use Rattle.mg_serve.proofs.JournalText.{Fit, IsWritten, known_more, written, written_front, written_script}
+
+abbrev pub ticks : ℕ → List Event
+ticks n = replicate n Tick
+
+-- What a journal tells of what happened, if it lacks this many ticks. Unless it is broken, that is everything else.
+abbrev pub Standing : Bool → ℕ → List Event → List Event → Type 0
+Standing false lacking happened told = happened ≡ told ++ ticks lacking
+Standing true lacking happened told = LosesTicks lacking happened told
+
+-- What a journal tells, whatever it told at the start.
+abbrev pub Holds : Durability → List Event → List Event → Progress → JournalState → Type 0
+Holds durability told happened (Lacks lacking) journal =
+    (events : List Event) × TellsEvents journal (told ++ events) × Standing journal.is_broken lacking happened events
+Holds durability told happened (Announces source bytes) journal =
+    TellsEvents journal (told ++ (happened ++ Control source bytes ∷ [])) × (journal.is_broken ≡ false)
+    × (durability ≡ Synced → journal.synced ≡ journal.text)
+
+-- ## Ticks
+
+ticks_apart : (left n : ℕ) → ticks (left + n) ≡ ticks n ++ ticks left
+ticks_apart left n =
+    let swapped : left + n ≡ n + left = omega arith in
+    ap ticks swapped ∙ sym (replicate-append-replicate n left Tick)
+
+fit_ticks : (n : ℕ) → Fit (ticks n)
+fit_ticks zero = All-nil IsRecorded
+fit_ticks (suc n) = All-cons IsRecorded (entry.Happened Tick) _ tt (fit_ticks n)
+
+fit_message : (source : Peer) (bytes : List ℕ) → IsDatagram source bytes → Fit (Control source bytes ∷ [])
+fit_message source bytes fits = All-cons IsRecorded (entry.Happened (Control source bytes)) [] fits (All-nil IsRecorded)
+
+pub front_ticks : (n : ℕ) (first others : List Event) → ticks n ≡ first ++ others → (first ≡ ticks (length first)) × (length first ≤ n)
+front_ticks zero [] others is = (refl, omega arith)
+front_ticks zero (x ∷ first) others is = absurd cc
+front_ticks (suc n) [] others is = (refl, omega arith)
+front_ticks (suc n) (x ∷ first) others is =
+    let same : Tick ≡ x = cc in
+    let left : ticks n ≡ first ++ others = cc in
+    let more = front_ticks n first others left in
+    (ap (λ (e : Event). e ∷ first) (sym same) ∙ ap (λ (l : List Event). Tick ∷ l) more.0, omega (arith, more.1))
+
+-- ## Appends
+
+tells_more : (old : JournalState) (part : List ℕ) (told events more : List Event) → TellsEvents old (told ++ events)
+    → IsScriptOf part more → IfSome (append_known old.text part) (λ text. IsScriptOf text (told ++ (events ++ more)))
+tells_more old part told events more tells script =
+    subst (λ (l : List Event). IfSome (append_known old.text part) (λ text. IsScriptOf text l)) (append_assoc told events more)
+    (known_more old.text part (told ++ events) more tells script)
+
+-- nothing more is known of a broken journal
+pub loses_more : (lacking : ℕ) (happened events : List Event) (b : Bool) → Standing b lacking happened events
+    → LosesTicks lacking happened events
+loses_more lacking happened events true stands = stands
+loses_more lacking happened events false stands = record {
+  kept = events;
+  ticks = lacking;
+  few = omega arith;
+  lost = stands;
+  wrote = inl refl;
+}
+
+exact : (lacking : ℕ) (happened events : List Event) (b : Bool) → b ≡ false → Standing b lacking happened events
+    → happened ≡ events ++ ticks lacking
+exact lacking happened events b works stands = subst (λ (b : Bool). Standing b lacking happened events) works stands
+
+ticks_done : (durability how : Durability) (told happened events : List Event) (lacking left n : ℕ) (part : List ℕ)
+    (old new : JournalState) → old.is_broken ≡ false → new ≡ appended part how old → TellsEvents old (told ++ events)
+    → Standing old.is_broken lacking happened events → lacking ≡ left + n → IsScriptOf part (ticks n)
+    → Holds durability told happened (Lacks left) new
+ticks_done durability how told happened events lacking left n part old new works is tells stands count script =
+    let kept : happened ≡ (events ++ ticks n) ++ ticks left =
+    exact lacking happened events old.is_broken works stands
+    ∙ (ap (λ (m : ℕ). events ++ ticks m) count ∙ (ap (λ (l : List Event). events ++ l) (ticks_apart left n)
+    ∙ sym (append_assoc events (ticks n) (ticks left)))) in
+    subst (λ (j : JournalState). Holds durability told happened (Lacks left) j) (sym is) (
+      events ++ ticks n,
+      tells_more old part told events (ticks n) tells script,
+      subst (λ (b : Bool). Standing b left happened (events ++ ticks n)) (sym works) kept,
+    )
+
+-- some of the ticks may be there
+ticks_broken : (durability : Durability) (told happened events : List Event) (lacking left n : ℕ) (part : List ℕ)
+    (old new : JournalState) → CutRecordingsAreRead → Breaks part old new → TellsEvents old (told ++ events)
+    → (b : Bool) → old.is_broken ≡ b → Standing b lacking happened events → lacking ≡ left + n → IsWritten part (ticks n)
+    → Holds durability told happened (Lacks lacking) new
+ticks_broken durability told happened events lacking left n part old new law breaks tells true was stands count w =
+    subst (λ (j : JournalState). Holds durability told happened (Lacks lacking) j) (sym (breaks.none was))
+    (events, tells, subst (λ (b : Bool). Standing b lacking happened events) (sym was) stands)
+ticks_broken durability told happened events lacking left n part old new law breaks tells false was stands count w =
+    let (first, others, parts, script) = written_front law part (ticks n) breaks.front w in
+    let k = length first in
+    let front = front_ticks n first others parts in
+    let split : lacking ≡ lacking - k + k = omega (arith, front.1, count) in
+    let kept : happened ≡ (events ++ first) ++ ticks (lacking - k) =
+    stands ∙ (ap (λ (m : ℕ). events ++ ticks m) split ∙ (ap (λ (l : List Event). events ++ l) (ticks_apart (lacking - k) k)
+    ∙ (ap (λ (l : List Event). events ++ (l ++ ticks (lacking - k))) (sym front.0)
+    ∙ sym (append_assoc events first (ticks (lacking - k)))))) in
+    subst (λ (j : JournalState). Holds durability told happened (Lacks lacking) j) (sym breaks.state) (
+      events ++ first,
+      tells_more old (whole_lines (take breaks.front part)) told events first tells script,
+      record { kept = events ++ first; ticks = lacking - k; few = omega arith; lost = kept; wrote = inl refl },
+    )
+
+message_done : (durability : Durability) (told happened events : List Event) (source : Peer) (bytes part : List ℕ)
+    (old new : JournalState) → old.is_broken ≡ false → new ≡ appended part durability old → TellsEvents old (told ++ events)
+    → Standing old.is_broken 0 happened events → IsScriptOf part (Control source bytes ∷ [])
+    → Holds durability told happened (Announces source bytes) new
+message_done durability told happened events source bytes part old new works is tells stands script =
+    let kept : events ≡ happened = sym (exact 0 happened events old.is_broken works stands ∙ append-nil events) in
+    let message = Control source bytes ∷ [] in
+    subst (λ (j : JournalState). Holds durability told happened (Announces source bytes) j) (sym is) (
+      subst (λ (l : List Event). IfSome (append_known old.text part) (λ text. IsScriptOf text (told ++ (l ++ message)))) kept
+          (tells_more old part told events message tells script),
+      works,
+      λ sync. ap (λ (d : Durability). if is_synced d then append_known old.text part else old.synced) sync,
+    )
+
+-- the line of the message may be there
+pub one_front : (message : Event) (first others : List Event) → message ∷ [] ≡ first ++ others → (first ≡ []) ⊎ (first ≡ message ∷ [])
+one_front message [] others is = inl refl
+one_front message (x ∷ []) others is =
+    let same : message ≡ x = cc in
+    inr (ap (λ (e : Event). e ∷ []) (sym same))
+one_front message (x ∷ y ∷ first) others is =
+    let none : List Event = [] in
+    let left : none ≡ y ∷ (first ++ others) = cc in
+    absurd cc
+
+message_lost : (happened events first : List Event) (source : Peer) (bytes : List ℕ) → happened ≡ events ++ ticks 0
+    → (first ≡ []) ⊎ (first ≡ Control source bytes ∷ []) → LosesTicks 0 happened (events ++ first)
+message_lost happened events first source bytes stands (inl none) = record {
+  kept = events;
+  ticks = 0;
+  few = omega arith;
+  lost = stands;
+  wrote = inl (ap (λ (l : List Event). events ++ l) none ∙ append-nil events);
+}
+message_lost happened events first source bytes stands (inr one) = record {
+  kept = events;
+  ticks = 0;
+  few = omega arith;
+  lost = stands;
+  wrote = inr (source, bytes, ap (λ (l : List Event). events ++ l) one);
+}
+
+message_broken : (durability : Durability) (told happened events : List Event) (source : Peer) (bytes part : List ℕ)
+    (old new : JournalState) → CutRecordingsAreRead → Breaks part old new → TellsEvents old (told ++ events)
+    → (b : Bool) → old.is_broken ≡ b → Standing b 0 happened events → IsWritten part (Control source bytes ∷ [])
+    → Holds durability told happened (Lacks 0) new
+message_broken durability told happened events source bytes part old new law breaks tells true was stands w =
+    subst (λ (j : JournalState). Holds durability told happened (Lacks 0) j) (sym (breaks.none was))
+    (events, tells, subst (λ (b : Bool). Standing b 0 happened events) (sym was) stands)
+message_broken durability told happened events source bytes part old new law breaks tells false was stands w =
+    let (first, others, parts, script) = written_front law part (Control source bytes ∷ []) breaks.front w in
+    subst (λ (j : JournalState). Holds durability told happened (Lacks 0) j) (sym breaks.state) (
+      events ++ first,
+      tells_more old (whole_lines (take breaks.front part)) told events first tells script,
+      message_lost happened events first source bytes stands (one_front (Control source bytes) first others parts),
+    )
+
+same_state : (durability : Durability) (told happened : List Event) (progress : Progress) (old new : JournalState)
+    → new ≡ old → Holds durability told happened progress old → Holds durability told happened progress new
+same_state durability told happened progress old new is holds =
+    subst (λ (j : JournalState). Holds durability told happened progress j) (sym is) holds
+
+one_line : (event : Event) → flat_map event_line (event ∷ []) ≡ event_line event
+one_line event = append-nil (event_line event)
+
+append_holds : RecordingsAreRead → CutRecordingsAreRead → (durability how : Durability) (told happened : List Event)
+    (lacking : ℕ) (lines : List ℕ) (result : Result (Unit {0}) AppendFault) (next : Progress) (old new : JournalState)
+    → Holds durability told happened (Lacks lacking) old → AppendsLines durability lacking lines how result next
+    → AppendsDated lines how old new result → Holds durability told happened next new
+append_holds read cut durability how told happened lacking lines (Ok done) next old new (events, tells, stands) (inl (n, left, count, are, weak, is)) (comment, dated, (works, grew)) =
+    let w = written comment lines (ticks n) dated are (fit_ticks n) in
+    subst (λ (p : Progress). Holds durability told happened p new) (sym is)
+    (ticks_done durability how told happened events lacking left n (comment ++ lines) old new works grew tells stands count
+    (written_script read (comment ++ lines) (ticks n) w))
+append_holds read cut durability how told happened lacking lines (Err Refused) next old new holds (inl (n, left, count, are, weak, is)) (comment, dated, (works, same)) =
+    subst (λ (p : Progress). Holds durability told happened p new) (sym is)
+    (same_state durability told happened (Lacks lacking) old new same holds)
+append_holds read cut durability how told happened lacking lines (Err Broken) next old new (events, tells, stands) (inl (n, left, count, are, weak, is)) (comment, dated, breaks) =
+    let w = written comment lines (ticks n) dated are (fit_ticks n) in
+    subst (λ (p : Progress). Holds durability told happened p new) (sym is)
+    (ticks_broken durability told happened events lacking left n (comment ++ lines) old new cut breaks tells
+    old.is_broken refl stands count w)
+append_holds read cut durability how told happened lacking lines (Ok done) next old new (events, tells, stands) (inr (source, bytes, none, are, strong, is, fits)) (comment, dated, (works, grew)) =
+    let w = written comment lines (Control source bytes ∷ []) dated (are ∙ sym (one_line (Control source bytes))) (fit_message source bytes fits) in
+    subst (λ (p : Progress). Holds durability told happened p new) (sym is)
+    (message_done durability told happened events source bytes (comment ++ lines) old new works
+    (grew ∙ ap (λ (d : Durability). appended (comment ++ lines) d old) strong) tells
+    (subst (λ (n : ℕ). Standing old.is_broken n happened events) none stands)
+    (written_script read (comment ++ lines) (Control source bytes ∷ []) w))
+append_holds read cut durability how told happened lacking lines (Err Refused) next old new (events, tells, stands) (inr (source, bytes, none, are, strong, is, fits)) (comment, dated, (works, same)) =
+    subst (λ (p : Progress). Holds durability told happened p new) (sym is)
+    (same_state durability told happened (Lacks 0) old new same
+    (events, tells, subst (λ (n : ℕ). Standing old.is_broken n happened events) none stands))
+append_holds read cut durability how told happened lacking lines (Err Broken) next old new (events, tells, stands) (inr (source, bytes, none, are, strong, is, fits)) (comment, dated, breaks) =
+    let w = written comment lines (Control source bytes ∷ []) dated (are ∙ sym (one_line (Control source bytes))) (fit_message source bytes fits) in
+    subst (λ (p : Progress). Holds durability told happened p new) (sym is)
+    (message_broken durability told happened events source bytes (comment ++ lines) old new cut breaks tells
+    old.is_broken refl (subst (λ (n : ℕ). Standing old.is_broken n happened events) none stands) w)
+
+-- ## Other entries
+
+tick_stands : (b : Bool) (lacking : ℕ) (happened events : List Event) → Standing b lacking happened events
+    → Standing b (lacking + 1) (happened ++ Tick ∷ []) events
+tick_stands false lacking happened events stands =
+    ap (λ (l : List Event). l ++ Tick ∷ []) stands ∙ (append_assoc events (ticks lacking) (Tick ∷ [])
+    ∙ ap (λ (l : List Event). events ++ l) (replicate_more lacking Tick))
+tick_stands true lacking happened events stands = record {
+  kept = stands.kept;
+  ticks = stands.ticks + 1;
+  few = omega (arith, stands.few);
+  lost = ap (λ (l : List Event). l ++ Tick ∷ []) stands.lost ∙ (append_assoc stands.kept (ticks stands.ticks) (Tick ∷ [])
+      ∙ ap (λ (l : List Event). stands.kept ++ l) (replicate_more stands.ticks Tick));
+  wrote = stands.wrote;
+}
+
+tick_holds : (durability : Durability) (told happened : List Event) (lacking : ℕ) (next : Progress) (old new : JournalState)
+    → Holds durability told happened (Lacks lacking) old → next ≡ Lacks (lacking + 1) → new ≡ old
+    → Holds durability told (happened ++ Tick ∷ []) next new
+tick_holds durability told happened lacking next old new (events, tells, stands) is same =
+    subst (λ (p : Progress). Holds durability told (happened ++ Tick ∷ []) p new) (sym is)
+    (same_state durability told (happened ++ Tick ∷ []) (Lacks (lacking + 1)) old new same
+    (events, tells, tick_stands old.is_broken lacking happened events stands))
+
+-- the message that was announced was handled
+handled_holds : (durability : Durability) (told happened : List Event) (source : Peer) (bytes : List ℕ) (old : JournalState)
+    → Holds durability told happened (Announces source bytes) old
+    → Holds durability told (happened ++ Control source bytes ∷ []) (Lacks 0) old
+handled_holds durability told happened source bytes old (tells, works, synced) =
+    let all = happened ++ Control source bytes ∷ [] in
+    (all, tells, subst (λ (b : Bool). Standing b 0 all all) (sym works) (sym (append-nil all)))
+
+no_event : (durability : Durability) (told happened : List Event) (lacking : ℕ) (next : Progress) (old new : JournalState)
+    → Holds durability told happened (Lacks lacking) old → next ≡ Lacks lacking → new ≡ old
+    → Holds durability told (happened ++ []) next new
+no_event durability told happened lacking next old new holds is same =
+    subst (λ (l : List Event). Holds durability told l next new) (sym (append-nil happened))
+    (subst (λ (p : Progress). Holds durability told happened p new) (sym is)
+    (same_state durability told happened (Lacks lacking) old new same holds))
+
+-- ## Traces
+
+abbrev pub after_entry : List Event → TraceEntry → List Event
+after_entry happened entry = happened ++ without_rtp (events_of_trace (entry ∷ []))
+
+entry_holds : RecordingsAreRead → CutRecordingsAreRead → (durability : Durability) (told happened : List Event)
+    (progress next : Progress) (one : TraceEntry) (old new : JournalState) → Holds durability told happened progress old
+    → Advances durability progress one next → JournalAfter (calls_of (one ∷ [])) old new
+    → Holds durability told (after_entry happened one) next new
+entry_holds read cut durability told happened (Announces source bytes) next one old new holds (is, at) after =
+    let mine : JournalAfter (calls_of (Happened (Control source bytes) ∷ [])) old new =
+    subst (λ (e : TraceEntry). JournalAfter (calls_of (e ∷ [])) old new) is after in
+    subst (λ (e : TraceEntry). Holds durability told (after_entry happened e) next new) (sym is)
+    (subst (λ (p : Progress). Holds durability told (happened ++ Control source bytes ∷ []) p new) (sym at)
+    (same_state durability told (happened ++ Control source bytes ∷ []) (Lacks 0) old new mine
+    (handled_holds durability told happened source bytes old holds)))
+entry_holds read cut durability told happened (Lacks n) next (Called (Append lines how result)) old new holds step (mid, dated, same) =
+    subst (λ (l : List Event). Holds durability told l next new) (sym (append-nil happened))
+    (same_state durability told happened next mid new same
+    (append_holds read cut durability how told happened n lines result next old mid holds step dated))
+entry_holds read cut durability told happened (Lacks n) next (Called (Receive socket receipt)) old new holds step after =
+    no_event durability told happened n next old new holds step after
+entry_holds read cut durability told happened (Lacks n) next (Called (Send socket to bytes)) old new holds step after =
+    no_event durability told happened n next old new holds step after
+entry_holds read cut durability told happened (Lacks n) next (Called (BeginTick timing)) old new holds step after =
+    no_event durability told happened n next old new holds step after
+entry_holds read cut durability told happened (Lacks n) next (Happened (Control source bytes)) old new holds step after =
+    absurd step
+entry_holds read cut durability told happened (Lacks n) next (Happened (Media port source bytes)) old new holds step after =
+    no_event durability told happened n next old new holds step after
+entry_holds read cut durability told happened (Lacks n) next (Happened Tick) old new holds step after =
+    tick_holds durability told happened n next old new holds step after
+entry_holds read cut durability told happened (Lacks n) next (Printed text) old new holds step after =
+    no_event durability told happened n next old new holds step after
+entry_holds read cut durability told happened (Lacks n) next (Noted text) old new holds step after =
+    no_event durability told happened n next old new holds step after
+
+-- ## The parts of a trace
+
+pub quiet_both : (p q : List TraceEntry) →
+    without_rtp (events_of_trace (p ++ q)) ≡ without_rtp (events_of_trace p) ++ without_rtp (events_of_trace q)
+quiet_both [] q = refl
+quiet_both (Called call ∷ p) q = quiet_both p q
+quiet_both (Happened (Control source bytes) ∷ p) q = ap (λ (l : List Event). Control source bytes ∷ l) (quiet_both p q)
+quiet_both (Happened (Media port source bytes) ∷ p) q = quiet_both p q
+quiet_both (Happened Tick ∷ p) q = ap (λ (l : List Event). Tick ∷ l) (quiet_both p q)
+quiet_both (Printed text ∷ p) q = quiet_both p q
+quiet_both (Noted text ∷ p) q = quiet_both p q
+
+pub after_parts : (p q : List Call) (old new : JournalState) → JournalAfter (p ++ q) old new
+    → (mid : JournalState) × JournalAfter p old mid × JournalAfter q mid new
+after_parts [] q old new after = (old, refl, after)
+after_parts (Append lines how result ∷ p) q old new (next, dated, after) =
+    let (mid, first, other) = after_parts p q next new after in
+    (mid, (next, dated, first), other)
+after_parts (Receive socket receipt ∷ p) q old new after = after_parts p q old new after
+after_parts (Send socket to bytes ∷ p) q old new after = after_parts p q old new after
+after_parts (BeginTick timing ∷ p) q old new after = after_parts p q old new after
+
+pub journals_parts : (durability : Durability) (old new : Progress) (p q : List TraceEntry) → Journals durability old (p ++ q) new
+    → (mid : Progress) × Journals durability old p mid × Journals durability mid q new
+journals_parts durability old new [] q js = (old, refl, js)
+journals_parts durability old new (one ∷ p) q (next, step, js) =
+    let (mid, first, other) = journals_parts durability next new p q js in
+    (mid, (next, step, first), other)
+
+-- what a journal tells after a trace
+pub trace_holds : RecordingsAreRead → CutRecordingsAreRead → (durability : Durability) (told happened : List Event)
+    (trace : List TraceEntry) (progress next : Progress) (old new : JournalState) → Holds durability told happened progress old
+    → Journals durability progress trace next → JournalAfter (calls_of trace) old new
+    → Holds durability told (happened ++ without_rtp (events_of_trace trace)) next new
+trace_holds read cut durability told happened [] progress next old new holds js after =
+    subst (λ (l : List Event). Holds durability told l next new) (sym (append-nil happened))
+    (subst (λ (p : Progress). Holds durability told happened p new) (sym js)
+    (same_state durability told happened progress old new after holds))
+trace_holds read cut durability told happened (one ∷ trace) progress next old new holds (mid, step, js) after =
+    let (state, first, others) =
+    after_parts (calls_of (one ∷ [])) (calls_of trace) old new
+    (subst (λ (l : List Call). JournalAfter l old new) (calls_both (one ∷ []) trace) after) in
+    let here = entry_holds read cut durability told happened progress mid one old state holds step first in
+    let there = trace_holds read cut durability told (after_entry happened one) trace mid next state new here js others in
+    subst (λ (l : List Event). Holds durability told l next new)
+    (append_assoc happened (without_rtp (events_of_trace (one ∷ []))) (without_rtp (events_of_trace trace))
+    ∙ ap (λ (l : List Event). happened ++ l) (sym (quiet_both (one ∷ []) trace))) there
+
+-- at the start
+pub start_holds : (durability : Durability) (told : List Event) (journal : JournalState) → TellsEvents journal told
+    → Holds durability told [] (Lacks 0) journal
+start_holds durability told journal tells =
+    ([], subst (λ (l : List Event). TellsEvents journal l) (sym (append-nil told)) tells, stands journal.is_broken)
+  where
+    stands : (b : Bool) → Standing b 0 [] []
+    stands false = refl
+    stands true = record { kept = []; ticks = 0; few = omega arith; lost = refl; wrote = inl refl }

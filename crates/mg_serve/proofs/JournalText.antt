@@ -1,0 +1,279 @@
+-- Journals are scripts: whole lines, one after another.
+use Rattle.std.proofs.Common.{◌≡◌, ◌⊎◌, inl, inr, ℕ, ◌==◌, Bool, true, false, ◌||◌, List, [], ◌∷◌, ◌++◌, length, map, take, drop, All, Option, Some, None, IfSome, refl, sym, ap, subst, ◌∙◌, append_assoc, append-nil, codes}
+use Rattle.std.specs.Prelude.{if◌then◌else◌, flat_map}
+use Rattle.std.proofs.lemmas.List.{take-append-drop}
+use Rattle.std.proofs.lemmas.List.Elements.{All-cons}
+use Rattle.std.proofs.lemmas.List.Folds.{list_any-append}
+use Rattle.std.specs.Io.KnownBytes.{append_known}
+use Rattle.mg_journal.specs.Text.{IsWhole, has_line_feed, whole_lines}
+use Rattle.mg_journal.proofs.TextLemmas.{whole_before, whole_front, whole_more, whole_nil, whole_none, whole_twice}
+use Rattle.mg_words.specs.OptionSteps.{◌>>=◌}
+use Rattle.mg_lines.specs.Lines.{lines_after, lines_of, without_return}
+use Rattle.mg_words.specs.declared.peer.Peer.{Peer}
+use Rattle.mg_core.specs.declared.event.Event.{Event}
+use Rattle.mg_core.specs.declared.event.Event.TheVariants.{Control, Media, Tick}
+use Rattle.mg_core.specs.Script.{event_of, events_of, then_all}
+use Rattle.mg_core.specs.Recording.{Entry, Happened, Noted, IsRecorded, RecordingsAreRead, CutRecordingsAreRead, datagram_text, entry_line, event_line, events_in, recording_of}
+use Rattle.mg_core.proofs.RunLemmas.{events_both}
+use Rattle.mg_ports.specs.Journaled.{IsComment}
+use Rattle.mg_serve.specs.JournalLaws.{IsScriptOf}
+
+-- ## Lines of whole texts
+
+parts_of : (b : ℕ) (bs : List ℕ) (fed : Bool) → has_line_feed (b ∷ bs) ≡ fed → IsWhole (b ∷ bs)
+    → (has_line_feed (b ∷ bs) ≡ true) × IsWhole bs
+unfolding whole_lines
+parts_of b bs true fed whole =
+    let same : b ∷ whole_lines bs ≡ b ∷ bs = rw fed at whole in
+    let left : whole_lines bs ≡ bs = cc in
+    (fed, left)
+parts_of b bs false unfed whole =
+    let none : List ℕ = [] in
+    let same : none ≡ b ∷ bs = rw unfed at whole in
+    absurd cc
+
+more_byte : (ended : Bool) (partial : List ℕ) (b : ℕ) (bs y : List ℕ) (feed : Bool) → (b == 10) ≡ feed
+    → has_line_feed (b ∷ bs) ≡ true
+    → ((p : List ℕ) → (p ≡ []) ⊎ (has_line_feed bs ≡ true)
+    → lines_after ended p (bs ++ y) ≡ lines_after ended p bs ++ lines_after ended [] y)
+    → lines_after ended partial (b ∷ (bs ++ y)) ≡ lines_after ended partial (b ∷ bs) ++ lines_after ended [] y
+unfolding lines_after
+more_byte ended partial b bs y true is fed more =
+    rw is (ap (λ (l : List (List ℕ)). without_return partial ∷ l) (more [] (inl refl)))
+more_byte ended partial b bs y false is fed more =
+    let later : has_line_feed bs ≡ true = rw is at fed in
+    rw is (more (partial ++ b ∷ []) (inr later))
+
+lines_more : (ended : Bool) (partial x y : List ℕ) → IsWhole x → (partial ≡ []) ⊎ (has_line_feed x ≡ true)
+    → lines_after ended partial (x ++ y) ≡ lines_after ended partial x ++ lines_after ended [] y
+unfolding lines_after
+lines_more ended partial [] y whole (inl none) = rw none refl
+lines_more ended partial [] y whole (inr fed) = absurd cc
+lines_more ended partial (b ∷ bs) y whole starts =
+    let parts = parts_of b bs (has_line_feed (b ∷ bs)) refl whole in
+    more_byte ended partial b bs y (b == 10) refl parts.0 (λ p s. lines_more ended p bs y parts.1 s)
+
+either_none : (none : List (List ℕ)) (q : Bool) → (if q then none else none) ≡ none
+either_none none true = refl
+either_none none false = refl
+
+-- a line ends, or goes on
+line_feed : (ended : Bool) (partial : List ℕ) (b : ℕ) (bs : List ℕ) → (b == 10) ≡ true
+    → lines_after ended partial (b ∷ bs) ≡ without_return partial ∷ lines_after ended [] bs
+unfolding lines_after
+line_feed ended partial b bs is = rw is refl
+
+line_byte : (ended : Bool) (partial : List ℕ) (b : ℕ) (bs : List ℕ) → (b == 10) ≡ false
+    → lines_after ended partial (b ∷ bs) ≡ lines_after ended (partial ++ b ∷ []) bs
+unfolding lines_after
+line_byte ended partial b bs is = rw is refl
+
+whole_byte : (b : ℕ) (bs : List ℕ) → has_line_feed (b ∷ bs) ≡ true → whole_lines (b ∷ bs) ≡ b ∷ whole_lines bs
+unfolding whole_lines
+whole_byte b bs fed = rw fed refl
+
+no_lines : (ended : Bool) → lines_after ended [] [] ≡ []
+unfolding lines_after
+no_lines ended = refl
+
+unfed_byte : (partial : List ℕ) (b : ℕ) (bs : List ℕ) (feed : Bool) → (b == 10) ≡ feed → has_line_feed (b ∷ bs) ≡ false
+    → ((p : List ℕ) → has_line_feed bs ≡ false → lines_after false p bs ≡ []) → lines_after false partial (b ∷ bs) ≡ []
+unfed_byte partial b bs true is unfed more =
+    let wrong : true ≡ false = rw is at unfed in
+    absurd cc
+unfed_byte partial b bs false is unfed more =
+    let later : has_line_feed bs ≡ false = rw is at unfed in
+    line_byte false partial b bs is ∙ more (partial ++ b ∷ []) later
+
+cut_unfed : (partial front : List ℕ) → has_line_feed front ≡ false → lines_after false partial front ≡ []
+unfolding lines_after
+cut_unfed partial [] unfed = either_none [] (length partial == 0)
+cut_unfed partial (b ∷ bs) unfed = unfed_byte partial b bs (b == 10) refl unfed (λ p k. cut_unfed p bs k)
+
+after_feed : (bs : List ℕ) (fed : Bool) → has_line_feed bs ≡ fed
+    → ((p : List ℕ) → has_line_feed bs ≡ true → lines_after false p bs ≡ lines_after true p (whole_lines bs))
+    → lines_after false [] bs ≡ lines_after true [] (whole_lines bs)
+after_feed bs true fed more = more [] fed
+after_feed bs false unfed more =
+    cut_unfed [] bs unfed ∙ (sym (no_lines true) ∙ sym (ap (lines_after true []) (whole_none bs unfed)))
+
+fed_byte : (partial : List ℕ) (b : ℕ) (bs : List ℕ) (feed : Bool) → (b == 10) ≡ feed → has_line_feed (b ∷ bs) ≡ true
+    → ((p : List ℕ) → has_line_feed bs ≡ true → lines_after false p bs ≡ lines_after true p (whole_lines bs))
+    → lines_after false partial (b ∷ bs) ≡ lines_after true partial (b ∷ whole_lines bs)
+fed_byte partial b bs true is fed more =
+    line_feed false partial b bs is
+    ∙ (ap (λ (l : List (List ℕ)). without_return partial ∷ l) (after_feed bs (has_line_feed bs) refl more)
+    ∙ sym (line_feed true partial b (whole_lines bs) is))
+fed_byte partial b bs false is fed more =
+    let later : has_line_feed bs ≡ true = rw is at fed in
+    line_byte false partial b bs is ∙ (more (partial ++ b ∷ []) later ∙ sym (line_byte true partial b (whole_lines bs) is))
+
+cut_fed : (partial front : List ℕ) → has_line_feed front ≡ true
+    → lines_after false partial front ≡ lines_after true partial (whole_lines front)
+cut_fed partial [] fed = absurd cc
+cut_fed partial (b ∷ bs) fed =
+    fed_byte partial b bs (b == 10) refl fed (λ p k. cut_fed p bs k)
+    ∙ sym (ap (lines_after true partial) (whole_byte b bs fed))
+
+-- the lines of a cut text are those of its whole lines
+pub cut_is : (front : List ℕ) → lines_of false front ≡ lines_of true (whole_lines front)
+cut_is front = after_feed front (has_line_feed front) refl (λ p fed. cut_fed p front fed)
+
+-- ## Events of whole texts
+
+pub script_more : (x y : List ℕ) (es fs : List Event) → IsScriptOf x es → IsScriptOf y fs → IsScriptOf (x ++ y) (es ++ fs)
+script_more x y es fs one other = (
+  whole_more x y one.0 other.0,
+  ap events_of (lines_more true [] x y one.0 (inl refl)) ∙ events_both (lines_of true x) (lines_of true y) es fs one.1 other.1,
+)
+
+-- the same if the first text may be unknown
+pub known_more : (known : Option (List ℕ)) (y : List ℕ) (es fs : List Event)
+    → IfSome known (λ text. IsScriptOf text es) → IsScriptOf y fs
+    → IfSome (append_known known y) (λ text. IsScriptOf text (es ++ fs))
+known_more None y es fs one other = tt
+known_more (Some x) y es fs one other = script_more x y es fs one other
+
+before_both : (e : Option Event) (l fs : List Event) → then_all e (l ++ fs) ≡ then_all e l ++ fs
+before_both None l fs = refl
+before_both (Some e) l fs = refl
+
+are_same : (a b : List Event) → Some a ≡ Some b → a ≡ b
+are_same a b h = cc
+
+split_step : (o : Option (Option Event)) (p all : Option (List Event)) (es : List Event)
+    → (o >>= λ e. all >>= λ l. Some (then_all e l)) ≡ Some es
+    → ((l : List Event) → all ≡ Some l → (fs : List Event) × (gs : List Event) × (l ≡ fs ++ gs) × (p ≡ Some fs))
+    → (fs : List Event) × (gs : List Event) × (es ≡ fs ++ gs) × ((o >>= λ e. p >>= λ l. Some (then_all e l)) ≡ Some fs)
+split_step None p all es h k = absurd (cc h)
+split_step (Some e) p None es h k = absurd (cc h)
+split_step (Some e) p (Some l) es h k =
+    let (fs, gs, parts, is) = k l refl in (
+      then_all e fs,
+      gs,
+      sym (are_same (then_all e l) es h) ∙ (ap (then_all e) parts ∙ before_both e fs gs),
+      rw is refl,
+    )
+
+split_events : (xs ys : List (List ℕ)) (es : List Event) → events_of (xs ++ ys) ≡ Some es
+    → (fs : List Event) × (gs : List Event) × (es ≡ fs ++ gs) × (events_of xs ≡ Some fs)
+unfolding events_of
+split_events [] ys es h = ([], es, refl, refl)
+split_events (x ∷ xs) ys es h = split_step (event_of x) (events_of xs) (events_of (xs ++ ys)) es h
+    (λ l is. split_events xs ys l is)
+
+-- a cut script is a script of the first events
+pub cut_script : (text cut lost : List ℕ) (es : List Event) → text ≡ cut ++ lost → IsScriptOf text es
+    → (fs : List Event) × (gs : List Event) × (es ≡ fs ++ gs) × IsScriptOf (whole_lines cut) fs
+cut_script text cut lost es parts script =
+    let whole = whole_lines cut in
+    let rest = drop (length whole) cut ++ lost in
+    let is : text ≡ whole ++ rest =
+    parts ∙ (ap (λ (l : List ℕ). l ++ lost) (sym (whole_front cut)) ∙ append_assoc whole (drop (length whole) cut) lost) in
+    let lines : lines_of true text ≡ lines_of true whole ++ lines_of true rest =
+    ap (lines_of true) is ∙ lines_more true [] whole rest (whole_twice cut) (inl refl) in
+    let (fs, gs, apart, first) =
+    split_events (lines_of true whole) (lines_of true rest) es (ap events_of (sym lines) ∙ script.1) in
+    (fs, gs, apart, (whole_twice cut, first))
+
+-- ## Recordings
+
+abbrev EndsWhole : List ℕ → Type 0
+EndsWhole text = IsWhole text × (has_line_feed text ≡ true)
+
+or_true : (b : Bool) → (b || true) ≡ true
+or_true true = refl
+or_true false = refl
+
+ends_more : (x y : List ℕ) → EndsWhole y → EndsWhole (x ++ y)
+ends_more x y ends = (
+  whole_before x y ends.1 ∙ ap (λ (l : List ℕ). x ++ l) ends.0,
+  list_any-append (λ (b : ℕ). b == 10) x y ∙ (ap (λ (b : Bool). has_line_feed x || b) ends.1 ∙ or_true (has_line_feed x)),
+)
+
+feed_ends : EndsWhole (codes "\n")
+unfolding whole_lines
+feed_ends = (refl, refl)
+
+tick_ends : EndsWhole (codes "tick\n")
+unfolding whole_lines
+tick_ends = (refl, refl)
+
+datagram_ends : (source : Peer) (bytes : List ℕ) → EndsWhole (datagram_text source bytes)
+datagram_ends source bytes =
+    ends_more _ _ (ends_more (codes " ") _ (ends_more _ (codes "\n") feed_ends))
+
+entry_ends : (entry : Entry) → EndsWhole (entry_line entry)
+entry_ends (Happened (Control source bytes)) = ends_more (codes "control ") _ (datagram_ends source bytes)
+entry_ends (Happened (Media port source bytes)) =
+    ends_more (codes "rtp ") _ (ends_more _ _ (ends_more (codes " ") _ (datagram_ends source bytes)))
+entry_ends (Happened Tick) = tick_ends
+entry_ends (Noted text) = ends_more (codes "# ") _ (ends_more text (codes "\n") feed_ends)
+
+recording_whole : (entries : List Entry) → IsWhole (recording_of entries)
+recording_whole [] = whole_nil
+recording_whole (entry ∷ entries) =
+    whole_more (entry_line entry) (recording_of entries) (entry_ends entry).0 (recording_whole entries)
+
+-- the events as entries
+abbrev entries_of : List Event → List Entry
+entries_of events = map Happened events
+
+recording_is : (events : List Event) → recording_of (entries_of events) ≡ flat_map event_line events
+recording_is [] = refl
+recording_is (event ∷ events) = ap (λ (l : List ℕ). event_line event ++ l) (recording_is events)
+
+events_are : (events : List Event) → events_in (entries_of events) ≡ events
+events_are [] = refl
+events_are (event ∷ events) = ap (λ (l : List Event). event ∷ l) (events_are events)
+
+events_in_both : (es fs : List Entry) → events_in (es ++ fs) ≡ events_in es ++ events_in fs
+events_in_both [] fs = refl
+events_in_both (Happened event ∷ es) fs = ap (λ (l : List Event). event ∷ l) (events_in_both es fs)
+events_in_both (Noted text ∷ es) fs = events_in_both es fs
+
+-- Lines for events, perhaps after a comment: a recording.
+pub record IsWritten (part : List ℕ) (events : List Event) : Type 0 where
+  pub entries : List Entry
+  pub text : part ≡ recording_of entries
+  pub are : events_in entries ≡ events
+  pub fit : All IsRecorded entries
+
+abbrev pub Fit : List Event → Type 0
+Fit events = All IsRecorded (entries_of events)
+
+noted_text : (text : List ℕ) → recording_of (Noted text ∷ []) ≡ codes "# " ++ (text ++ codes "\n")
+noted_text text = append-nil (codes "# " ++ (text ++ codes "\n"))
+
+pub written : (comment lines : List ℕ) (events : List Event) → (comment ≡ []) ⊎ IsComment comment
+    → lines ≡ flat_map event_line events → Fit events → IsWritten (comment ++ lines) events
+written comment lines events (inl none) is fit = record {
+  entries = entries_of events;
+  text = rw none (is ∙ sym (recording_is events));
+  are = events_are events;
+  fit = fit;
+}
+written comment lines events (inr (text, line, short, plain)) is fit = record {
+  entries = Noted text ∷ entries_of events;
+  text = ap (λ (l : List ℕ). l ++ lines) line ∙ ap (λ (l : List ℕ). (codes "# " ++ (text ++ codes "\n")) ++ l) (is ∙ sym (recording_is events));
+  are = events_are events;
+  fit = All-cons IsRecorded (Noted text) (entries_of events) (short, plain) fit;
+}
+
+-- all of it tells its events
+pub written_script : RecordingsAreRead → (part : List ℕ) (events : List Event) → IsWritten part events → IsScriptOf part events
+written_script law part events w =
+    subst (λ (l : List ℕ). IsScriptOf l events) (sym w.text)
+    (recording_whole w.entries, law w.entries w.fit ∙ ap (λ (l : List Event). Some l) w.are)
+
+-- a front of it tells the first of them
+pub written_front : CutRecordingsAreRead → (part : List ℕ) (events : List Event) (n : ℕ) → IsWritten part events
+    → (first : List Event) × (others : List Event) × (events ≡ first ++ others) × IsScriptOf (whole_lines (take n part)) first
+written_front law part events n w =
+    let (first, others, parts, read) =
+    law w.entries (take n part) (drop n part) w.fit (sym w.text ∙ sym (take-append-drop n part)) in (
+      events_in first,
+      events_in others,
+      sym w.are ∙ (ap events_in parts ∙ events_in_both first others),
+      (whole_twice (take n part), ap events_of (sym (cut_is (take n part))) ∙ read),
+    )

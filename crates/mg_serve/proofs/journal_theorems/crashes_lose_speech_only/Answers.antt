@@ -1,0 +1,9 @@
+use Rattle.mg_serve.proofs.JournalCrashes.{crashes_lose_speech, lives_follow}
+use Rattle.mg_serve.proofs.journal_theorems.crashes_lose_speech_only.Goals as goal
+
+pub returns : goal.returns
+returns c = record {
+  crash = crashes_lose_speech c.recordings_are_read.ensures.theorem c.recordings_are_read.ensures.cut c.sessions_are_runs.ensures
+      c.outcomes_are_unique.ensures.events c.rtp_changes_speech_only.ensures.worlds;
+  lives = lives_follow;
+}

@@ -1,0 +1,69 @@
+-- What a session appends to its journal, and when.
+use Rattle.std.specs.Prelude.{◌≡◌, ◌⊎◌, ℕ, ◌+◌, Bool, true, false, List, [], ◌∷◌, replicate, flat_map}
+use Rattle.std.specs.Prelude.{Option, Some, None, Result, Ok, Err}
+use Rattle.std.specs.List.{list_any}
+use Rattle.mg_journal.specs.declared.append_fault.AppendFault.{AppendFault}
+use Rattle.mg_journal.specs.declared.durability.Durability.{Durability}
+use Rattle.mg_journal.specs.declared.durability.Durability.TheVariants.{Written}
+use Rattle.mg_ports.specs.declared.call.Call.{Call}
+use Rattle.mg_ports.specs.declared.call.Call.TheVariants.{Receive, Send, BeginTick, Append}
+use Rattle.mg_words.specs.declared.peer.Peer.{Peer}
+use Rattle.mg_core.specs.declared.event.Event.TheVariants as events
+use Rattle.mg_core.specs.Recording.{IsDatagram, event_line}
+use Rattle.mg_serve.specs.Trace.{TraceEntry, Called, Happened, calls_of}
+
+abbrev pub is_append : Call → Bool
+is_append (Receive socket receipt) = false
+is_append (Send socket to bytes) = false
+is_append (BeginTick timing) = false
+is_append (Append lines durability result) = true
+
+-- the lines for this many ticks
+abbrev pub tick_lines : ℕ → List ℕ
+tick_lines count = flat_map event_line (replicate count events.Tick)
+
+-- How far the journal is from the events. It lacks this many ticks; or it has everything, and its
+-- last line announces a message that is handled next.
+pub data Progress : Type 0 where
+  Lacks : (ticks : ℕ) → Progress
+  Announces : (source : Peer) (bytes : List ℕ) → Progress
+
+-- the progress after an append that did or did not succeed
+abbrev pub after_append : Result (Unit {0}) AppendFault → (appended before : Progress) → Progress
+after_append (Ok done) appended before = appended
+after_append (Err fault) appended before = before
+
+-- An append of ticks that the journal lacks, or, if it lacks none, of the line for a message that can
+-- arrive.
+abbrev pub AppendsLines : Durability → ℕ → List ℕ → Durability → Result (Unit {0}) AppendFault
+    → Progress → Type 0
+AppendsLines durable lacking lines durability result next =
+    ((ticks left : ℕ) × (lacking ≡ left + ticks) × (lines ≡ tick_lines ticks)
+    × (durability ≡ Written) × (next ≡ after_append result (Lacks left) (Lacks lacking)))
+    ⊎ ((source : Peer) × (bytes : List ℕ) × (lacking ≡ 0)
+    × (lines ≡ event_line (events.Control source bytes)) × (durability ≡ durable)
+    × (next ≡ after_append result (Announces source bytes) (Lacks 0)) × IsDatagram source bytes)
+
+-- The progress after an entry of a trace. A message is handled only after it was announced, and then
+-- at once. Every tick is one more that the journal lacks.
+abbrev pub Advances : Durability → Progress → TraceEntry → Progress → Type 0
+Advances durable (Announces source bytes) entry next =
+    (entry ≡ Happened (events.Control source bytes)) × (next ≡ Lacks 0)
+Advances durable (Lacks ticks) (Called (Append lines durability result)) next =
+    AppendsLines durable ticks lines durability result next
+Advances durable (Lacks ticks) (Happened (events.Control source bytes)) next = ⊥
+Advances durable (Lacks ticks) (Happened events.Tick) next = next ≡ Lacks (ticks + 1)
+Advances durable (Lacks ticks) entry next = next ≡ Lacks ticks
+
+abbrev pub Journals : Durability → Progress → List TraceEntry → Progress → Type 0
+Journals durable old [] new = new ≡ old
+Journals durable old (entry ∷ trace) new =
+    (next : Progress) × Advances durable old entry next × Journals durable next trace new
+
+-- A session without a journal appends nothing. Otherwise messages are appended with this durability.
+-- The numbers are how many ticks the journal lacks, before and after.
+abbrev pub IsJournaled : Option Durability → ℕ → List TraceEntry → ℕ → Type 0
+IsJournaled None lacking trace left =
+    (list_any is_append (calls_of trace) ≡ false) × (left ≡ lacking)
+IsJournaled (Some durable) lacking trace left =
+    Journals durable (Lacks lacking) trace (Lacks left)

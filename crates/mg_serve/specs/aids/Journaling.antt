@@ -1,0 +1,72 @@
+-- Steps of a session's journal, as its ports and its view of the journal see them.
+use Rattle.std.specs.Prelude.{◌≡◌, ◌⊎◌, ℕ, ◌+◌, All, List, [], ◌∷◌, ◌++◌, Option, Some, None, Result, Ok, Err}
+use Rattle.mg_journal.specs.declared.append_fault.AppendFault.{AppendFault}
+use Rattle.mg_journal.specs.declared.durability.Durability.{Durability}
+use Rattle.mg_journal.specs.declared.durability.Durability.TheVariants.{Written}
+use Rattle.mg_core.specs.Recording.{event_line}
+use Rattle.mg_ports.specs.declared.call.Call.{Call}
+use Rattle.mg_ports.specs.declared.call.Call.TheVariants.{Append}
+use Rattle.mg_ports.specs.Calls.{Logged}
+use Rattle.mg_ports.specs.Journaled.{PortsSeen, JournalAfter}
+use Rattle.mg_serve.specs.Journaled.{IsJournaled, tick_lines}
+use Rattle.mg_serve.specs.Session.{IsAppended, MayAppend}
+use Rattle.mg_serve.specs.Trace.{TraceEntry, Called, Happened, calls_of}
+use Rattle.mg_serve.specs.aids.Outside.{JournalView}
+
+-- how many ticks the journal lacks after one more tick
+abbrev pub lacking_after_tick : Option Durability → ℕ → ℕ
+lacking_after_tick None lacking = lacking
+lacking_after_tick (Some durability) lacking = lacking + 1
+
+abbrev pub with_tick : JournalView → JournalView
+with_tick view = record view { lacking = lacking_after_tick view.durability view.lacking }
+
+-- some calls, as ports see them
+pub record LogsCalls (old new : PortsSeen) (calls : List Call) : Type 0 where
+  pub logged : Logged old.calls new.calls calls
+  pub journaled : JournalAfter calls old.journal new.journal
+
+-- one append of ticks that the journal lacked
+pub record AppendsBatch (result : Result (Unit {0}) AppendFault) (before after : PortsSeen)
+    (old new : JournalView) : Type 0 where
+  pub ticks : ℕ
+  pub logs : LogsCalls before after (Append (tick_lines ticks) Written result ∷ [])
+  pub durability : new.durability ≡ old.durability
+  pub lacks : IsJournaled old.durability old.lacking
+      (Called (Append (tick_lines ticks) Written result) ∷ []) new.lacking
+
+-- the line of the event that follows
+abbrev pub IsLineOf : (followed : List TraceEntry) → List ℕ → Type 0
+IsLineOf (Happened event ∷ followed) lines = lines ≡ event_line event
+IsLineOf followed lines = ⊥
+
+-- some appends, of which only the last one may have failed: with the error, if there is one
+abbrev pub AreAppends : (followed : List TraceEntry) → Result (Unit {0}) AppendFault
+    → List TraceEntry → Type 0
+AreAppends followed (Ok done) trace = All IsAppended trace
+AreAppends followed (Err fault) trace =
+    (appended : List TraceEntry) × (lines : List ℕ) × (durability : Durability)
+    × (trace ≡ appended ++ Called (Append lines durability (Err fault)) ∷ []) × All IsAppended appended
+    × (((ticks : ℕ) × (lines ≡ tick_lines ticks)) ⊎ IsLineOf followed lines)
+
+abbrev pub if_ok : Result (Unit {0}) AppendFault → List TraceEntry → List TraceEntry
+if_ok (Ok done) trace = trace
+if_ok (Err fault) trace = []
+
+-- Lines were appended, up to the first append that failed. If none failed, these entries follow.
+pub record AppendsBefore (followed : List TraceEntry) (result : Result (Unit {0}) AppendFault)
+    (before after : PortsSeen) (old new : JournalView) : Type 0 where
+  pub trace : List TraceEntry
+  pub are : AreAppends followed result trace
+  pub logs : LogsCalls before after (calls_of trace)
+  pub durability : new.durability ≡ old.durability
+  pub lacks : IsJournaled old.durability old.lacking (trace ++ if_ok result followed) new.lacking
+
+-- a tick was counted, and then perhaps ticks were appended
+pub record EndsTick (before after : PortsSeen) (old new : JournalView) : Type 0 where
+  pub appends : List TraceEntry
+  pub may : MayAppend appends
+  pub logs : LogsCalls before after (calls_of appends)
+  pub durability : new.durability ≡ old.durability
+  pub lacks : IsJournaled old.durability (lacking_after_tick old.durability old.lacking) appends
+      new.lacking

@@ -1,0 +1,64 @@
+//! What a journal preserves of every session. The functions do nothing: their contracts are the theorems.
+
+ghost use Rattle.mg_serve.specs.JournalLaws.{EachPartIsAMoment, NothingAnsweredIsForgotten, CrashesLoseSpeechOnly, LivesFollow, AnyCutIsAMoment, CutsResumeAMoment, PowerLossesForgetNoAnswer, JournalsTellWhoHears};
+
+/// Every prefix of a session's trace ends at a moment, so the other theorems hold at any time.
+///
+/// The contracts of [`serve`](crate::serve) and [`serve_by_clock`](crate::serve_by_clock) guarantee the premises.
+pub fn each_part_is_a_moment()
+    ensures theorem { EachPartIsAMoment }
+{}
+
+/// Nothing answered is forgotten.
+///
+/// When a gateway with a journal sends an answer, the journal already contains everything except RTP datagrams: each
+/// tick and each message, including the one that is answered. If messages are synced, all of it is on the disk.
+pub fn nothing_answered_is_forgotten()
+    ensures theorem { NothingAnsweredIsForgotten }
+{
+    mg_core::theorems::recordings_are_read();
+}
+
+/// A crash loses speech and a few ticks, and nothing else.
+///
+/// Running the journal's events leads to a world that agrees with the one before the crash, except for what was
+/// received and for the last ticks, which the journal lacked. A message that was announced but not handled is run, too;
+/// it had not been answered. The same holds each time a gateway resumes from its journal.
+pub fn crashes_lose_speech_only()
+    ensures crash { CrashesLoseSpeechOnly }
+    ensures lives { LivesFollow }
+{
+    mg_core::theorems::recordings_are_read();
+    mg_core::theorems::outcomes_are_unique();
+    mg_core::theorems::rtp_changes_speech_only();
+    crate::theorems::sessions_are_runs();
+}
+
+/// Wherever a journal is cut off, it describes a moment.
+///
+/// If a journal is cut off after any byte, for example by a power cut, its complete lines say what had happened at an
+/// earlier moment, perhaps with a message that was announced then. A gateway that resumes from these lines is in the
+/// state of that moment, except for what was received. If messages are synced, that moment isn't earlier than the last
+/// answer.
+pub fn any_cut_is_a_moment()
+    ensures cut { AnyCutIsAMoment }
+    ensures resumes { CutsResumeAMoment }
+    ensures power { PowerLossesForgetNoAnswer }
+{
+    mg_core::theorems::recordings_are_read();
+    mg_core::theorems::outcomes_are_unique();
+    mg_core::theorems::rtp_changes_speech_only();
+    crate::theorems::sessions_are_runs();
+}
+
+/// A journal shows who could hear whom.
+///
+/// For each moment before a crash, a run of the journal's events up to that moment ends in a world in which the same
+/// speech flows.
+pub fn journals_tell_who_hears()
+    ensures theorem { JournalsTellWhoHears }
+{
+    mg_core::theorems::outcomes_are_unique();
+    mg_core::theorems::rtp_changes_speech_only();
+    crate::theorems::sessions_are_runs();
+}

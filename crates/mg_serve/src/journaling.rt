@@ -1,0 +1,180 @@
+ghost use Rattle.std.specs.Prelude.{◌≡◌, ◌^◌, ◌<◌, ◌≤◌, ◌+◌, ◌∷◌, [], IfOk, IsSome, OnOk};
+ghost use Rattle.mg_core.specs.declared.event.Event.TheVariants as events;
+ghost use Rattle.mg_core.specs.Recording.{IsDatagram};
+ghost use Rattle.mg_journal.specs.Text.{EndsInLineFeed};
+ghost use Rattle.mg_ports.specs.declared.call.Call.TheVariants.{Append};
+ghost use Rattle.mg_ports.specs.Calls.{Logged};
+ghost use Rattle.mg_ports.specs.Journaled.{AppendsDated, ports_seen};
+ghost use Rattle.mg_serve.specs.Journaled.{tick_lines};
+ghost use Rattle.mg_serve.specs.Trace.{Happened};
+ghost use Rattle.mg_serve.specs.aids.Journaling.{AppendsBatch, AppendsBefore, EndsTick, with_tick};
+
+use crate::journal_report::JournalReport;
+use mg_core::{EventLine, Peer};
+use mg_journal::{AppendFault, Durability};
+use mg_ports::Ports;
+use std::alloc::{AllocError, Global};
+use std::marker::Model;
+
+/// The maximum number of ticks in one append.
+const BATCH: usize = 1000;
+
+/// The lines for as many ticks as one append may hold.
+const TICK_LINES: [[u8; 5]; BATCH] = [*b"tick\n"; BATCH];
+
+/// How many ticks the journal may lack before they are appended: one second of ticks.
+const SECOND: u64 = 50;
+
+/// The state of a session's journal, if it has one: how many ticks the journal lacks.
+///
+/// Messages are appended before they are handled, ticks about once a second and before each message.
+#[derive(Drop)]
+pub struct Journaling {
+    durability: Option<Durability>,
+    lacking: u64,
+    line: EventLine,
+    failed: u64,
+}
+
+impl Model for Journaling {
+    ghost use Rattle.mg_serve.specs.aids.Outside.{JournalView};
+
+    ghost Value = { JournalView };
+
+    ghost view = { λ j. record { durability = j.durability; lacking = j.lacking } };
+}
+
+/// Appends lines, and counts the append if it fails.
+fn append<P: Ports>(
+    ports: &mut P,
+    lines: &[u8],
+    durability: Durability,
+    failed: &mut u64,
+) -> Result<(), AppendFault>
+    requires line_feed { EndsInLineFeed lines.now }
+    ensures logged { Logged (P.calls ports.old) (P.calls ports.new) (Append lines.now durability result ∷ []) }
+    ensures journal { AppendsDated lines.now durability (P.journal ports.old) (P.journal ports.new) result }
+{
+    let result = ports.append(lines, durability);
+    if result.is_err() {
+        *failed = failed.saturating_add(1);
+    }
+    result
+}
+
+/// Appends the lines of ticks, at least one.
+fn append_lines<P: Ports>(ports: &mut P, ticks: usize, failed: &mut u64) -> Result<(), AppendFault>
+    requires some { 0 < ticks }
+    requires few { ticks ≤ BATCH }
+    ensures logged { Logged (P.calls ports.old) (P.calls ports.new)
+        (Append (tick_lines ticks) Durability.Written result ∷ []) }
+    ensures journal { AppendsDated (tick_lines ticks) Durability.Written (P.journal ports.old) (P.journal ports.new)
+        result }
+{
+    let lines = TICK_LINES;
+    append(
+        ports,
+        lines[..ticks].as_flattened(),
+        Durability::Written,
+        failed,
+    )
+}
+
+impl Journaling {
+    /// Begins with a journal that lacks no tick. Messages are appended with this durability; `None` means that there is
+    /// no journal. No other call allocates.
+    pub fn new(alloc: Global, durability: Option<Durability>) -> Result<Self, AllocError>
+        ensures value { IfOk result (λ j. j ≡ record { durability = durability; lacking = 0 }) }
+    {
+        Ok(Journaling {
+            durability,
+            lacking: 0,
+            line: EventLine::new(alloc)?,
+            failed: 0,
+        })
+    }
+
+    /// Returns what a monitor learns about the journal, given how many messages were dropped because of it.
+    pub fn report(&self, unjournaled: u64) -> JournalReport
+        ensures value { result.lacking ≡ self.now.lacking }
+    {
+        JournalReport {
+            lacking: self.lacking,
+            failed: self.failed,
+            unjournaled,
+        }
+    }
+
+    /// Appends ticks that the journal lacks, at most 1,000, with one append.
+    fn append_ticks<P: Ports>(&mut self, ports: &mut P) -> Result<(), AppendFault>
+        requires journal { IsSome self.old.durability }
+        requires some { 0 < self.old.lacking }
+        ensures few { self.new.lacking ≤ self.old.lacking }
+        ensures fewer { OnOk result (self.new.lacking < self.old.lacking) }
+        ensures value { AppendsBatch result (ports_seen (P.calls ports.old) (P.journal ports.old))
+            (ports_seen (P.calls ports.new) (P.journal ports.new)) self.old self.new }
+    {
+        let ticks = self.lacking.min(BATCH as u64);
+        if let Err(fault) = append_lines(ports, ticks as usize, &mut self.failed) {
+            return Err(fault);
+        }
+        self.lacking -= ticks;
+        Ok(())
+    }
+
+    /// Appends all ticks that the journal lacks, up to the first append that fails.
+    fn append_all_ticks<P: Ports>(&mut self, ports: &mut P) -> Result<(), AppendFault>
+        requires journal { IsSome self.old.durability }
+        ensures few { self.new.lacking ≤ self.old.lacking }
+        ensures none { OnOk result (self.new.lacking ≡ 0) }
+        ensures value { AppendsBefore [] result (ports_seen (P.calls ports.old) (P.journal ports.old))
+            (ports_seen (P.calls ports.new) (P.journal ports.new)) self.old self.new }
+    {
+        while self.lacking > 0 {
+            if let Err(fault) = self.append_ticks(ports) {
+                return Err(fault);
+            }
+        }
+        Ok(())
+    }
+
+    /// Appends all ticks that the journal lacks, and then a message that is handled next. Fails if an append fails.
+    /// Does nothing without a journal.
+    pub fn announce<P: Ports>(
+        &mut self,
+        ports: &mut P,
+        source: Peer,
+        bytes: &[u8],
+    ) -> Result<(), AppendFault>
+        requires datagram { IsDatagram source bytes.now }
+        ensures few { self.new.lacking ≤ self.old.lacking }
+        ensures value { AppendsBefore (Happened (events.Control source bytes.now) ∷ []) result
+            (ports_seen (P.calls ports.old) (P.journal ports.old))
+            (ports_seen (P.calls ports.new) (P.journal ports.new)) self.old self.new }
+    {
+        let Some(durability) = self.durability else {
+            return Ok(());
+        };
+        if let Err(fault) = self.append_all_ticks(ports) {
+            return Err(fault);
+        }
+        self.line.control(source, bytes);
+        append(ports, self.line.as_slice(), durability, &mut self.failed)
+    }
+
+    /// Counts a tick that has passed. If the journal lacks a second or more, it tries one append.
+    pub fn end_tick<P: Ports>(&mut self, ports: &mut P)
+        requires few { self.old.lacking + 1 < 2 ^ 64 }
+        ensures few { self.new.lacking ≤ self.old.lacking + 1 }
+        ensures value { EndsTick (ports_seen (P.calls ports.old) (P.journal ports.old))
+            (ports_seen (P.calls ports.new) (P.journal ports.new)) self.old self.new }
+    {
+        if self.durability.is_none() {
+            return;
+        }
+        self.lacking += 1;
+        if self.lacking >= SECOND {
+            let _ = self.append_ticks(ports);
+        }
+    }
+}

@@ -1,0 +1,65 @@
+//! How many ticks a gateway missed, by the dates in its journal.
+
+use mg_core::Remarks;
+use mg_dates::{Date, Timeline};
+use std::test::Fail;
+
+/// 2026-11-27T14:03:20Z, in milliseconds since 1970.
+const START: u64 = 1_795_788_200_000;
+
+/// Returns a time after the start.
+fn after(millis: u64) -> Date {
+    Date {
+        millis: START + millis,
+    }
+}
+
+#[test]
+fn counts_missed_ticks(rt: HostRuntime) -> Result<(), Fail> {
+    let mut timeline = Timeline::new();
+    assert_eq!(rt; timeline.missed(after(0)), 0);
+    timeline.ticks(7);
+    timeline.comment(b"# time 2026-11-27T14:03:20Z");
+    timeline.comment(b"# another comment");
+    timeline.comment(b"");
+    timeline.ticks(40);
+    timeline.ticks(10);
+    // One second, of which all ticks were run; then a gap of 300 ms.
+    assert_eq!(rt; timeline.missed(after(1_000)), 0);
+    assert_eq!(rt; timeline.missed(after(1_319)), 15);
+    // The clock was set back.
+    assert_eq!(rt; timeline.missed(after(999)), 50);
+    assert_eq!(rt; timeline.missed(Date { millis: START - 1 }), 50);
+    Ok(())
+}
+
+#[test]
+fn counts_from_the_first_date(rt: HostRuntime) -> Result<(), Fail> {
+    let mut timeline = Timeline::new();
+    timeline.comment(b"# time 2026-11-27T14:03:20Z");
+    timeline.ticks(50);
+    // A restart: 19 ms were rounded off, and it took 30 ms to start.
+    assert_eq!(rt; timeline.missed(after(1_219)), 10);
+    timeline.ticks(10);
+    timeline.comment(b"# time 2026-11-27T14:03:21.249Z");
+    timeline.ticks(50);
+    // At the next restart these 49 ms count as missed.
+    assert_eq!(rt; timeline.missed(after(2_249)), 2);
+    Ok(())
+}
+
+#[test]
+fn follows_a_clock_that_is_set(rt: HostRuntime) -> Result<(), Fail> {
+    let mut timeline = Timeline::new();
+    timeline.comment(b"# time 2026-11-27T14:03:20Z");
+    timeline.ticks(50);
+    // An hour ahead.
+    timeline.comment(b"# time 2026-11-27T15:03:21Z");
+    timeline.ticks(50);
+    assert_eq!(rt; timeline.missed(after(3_602_100)), 5);
+    // An hour back.
+    timeline.comment(b"# time 2026-11-27T14:03:22Z");
+    timeline.ticks(50);
+    assert_eq!(rt; timeline.missed(after(3_100)), 5);
+    Ok(())
+}

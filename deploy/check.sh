@@ -31,7 +31,8 @@ rules() {
 }
 
 if has systemd-analyze 'the units'; then
-    cp "$here/lobbysorrel@.service" "$work/lobbysorrel@1.service"
+    # The package's program need not be installed here.
+    sed "s|=/usr/bin/mg_bridge|=$here/../dist/mg_bridge|" "$here/lobbysorrel@.service" > "$work/lobbysorrel@1.service"
     verify lobbysorrel@1.service
     security=$(systemd-analyze security --no-pager --offline=true --threshold=15 "$work/lobbysorrel@1.service") ||
         fail 'lobbysorrel@.service: systemd-analyze security reports an exposure above 1.5'
@@ -149,7 +150,7 @@ END
         [ "$found" = "$wanted" ] || fail "'$*' is completed by '$found', not by '$wanted'"
     }
     completes live mg_bridge l
-    completes '--slots --ssrc --sequence --symmetric-rtp' mg_bridge live --s
+    completes '--control-address --control-port --controller' mg_bridge live --c
     completes --flows mg_bridge replay --fl
     completes '' mg_bridge serve --slots ''
     completes serve mg_bridge help s

@@ -18,6 +18,7 @@ FILES = {
     "/etc/lobbysorrel/NAME.env": "Options of the gateway that the unit `lobbysorrel@NAME` runs (`mg_bridge live`).",
     "/etc/lobbysorrel/*.example": "Examples of options and firewall rules.",
     "/run/lobbysorrel/NAME/gateway.prom": "Metrics of the gateway that the unit `lobbysorrel@NAME` runs.",
+    "/var/lib/lobbysorrel/NAME/journal.txt": "Journal of the gateway that the unit `lobbysorrel@NAME` runs.",
     "/usr/share/doc/lobbysorrel/OPERATING.md": "How to install, secure and monitor a gateway.",
 }
 PACE_STATUSES = "With 0 after `--ticks` ticks or when nothing reads its output any more. With 2, 3 or 4 for the same " \

@@ -23,13 +23,13 @@ use mg_program::{System, program};
 use std::io::{Stderr, Write};
 use std::process::ExitCode;
 
-/// The maximum number of bytes on their way to standard output: at 256 callers, 14 seconds of a recording.
+/// The maximum number of bytes queued for standard output: 14 seconds of a recording with 256 callers.
 const OUTPUT_LIMIT: usize = 64 << 20;
 
-/// The maximum number of bytes on their way to standard error.
+/// The maximum number of bytes queued for standard error.
 const ERRORS_LIMIT: usize = 1 << 20;
 
-/// Returns the system as the program uses it.
+/// Returns the parts of the system that the program uses.
 fn system_of(rt: &HostRuntime) -> System<'_, HostRuntime, HostRuntime, HostRuntime, HostRuntime> {
     System {
         net: rt,

@@ -3,6 +3,7 @@ use Rattle.std.specs.Prelude.{ℕ}
 use Rattle.mg_options.specs.declared.status.Status.{Status}
 use Rattle.mg_options.specs.declared.status.Status.TheVariants.{Done, BadLine, Usage, Failed}
 use Rattle.mg_options.specs.declared.status.Status.TheVariants.{NoAnswer, NoMemory, NoPort}
+use Rattle.mg_options.specs.declared.status.Status.TheVariants.{BadJournal}
 
 unfoldable pub code_of : Status → ℕ
 code_of Done = 0
@@ -12,3 +13,4 @@ code_of NoAnswer = 2
 code_of Failed = 3
 code_of NoMemory = 4
 code_of NoPort = 5
+code_of BadJournal = 6

@@ -13,8 +13,8 @@ pub const TOOLCHAIN: &str = "rattle-kit-13f logic dac8208d650f15bf";
 
 /// Makes the command line of a program, to which options and subcommands are added.
 ///
-/// Its arguments do not include the program's name. `--version` prints the name and the version, then the toolchain on a
-/// line of its own ([`report_error`](crate::report_error)).
+/// Its arguments do not include the program's name. `--version` prints the name and the version, then the toolchain on
+/// a line of its own ([`report_error`](crate::report_error)).
 pub fn program_command<'a>(alloc: Global, name: &'a str, about: &'a str) -> Command<'a>
     ensures app { app_of result ≡ program_line name.now }
 {

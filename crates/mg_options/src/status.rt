@@ -16,14 +16,16 @@ pub enum Status {
     NoMemory,
     /// A port cannot be bound.
     NoPort,
+    /// A journal cannot be used.
+    BadJournal,
 }
 
 impl Status {
-    /// Returns the exit status, from 0 (success) to 5.
+    /// Returns the exit status, from 0 (success) to 6.
     #[tactic(auto, unfolding(crate::specs::Status::code_of))]
     pub fn code(self) -> u8
         ensures value { result ≡ code_of self }
-        ensures small { result ≤ 5 }
+        ensures small { result ≤ 6 }
     {
         match self {
             Status::Done => 0,
@@ -33,6 +35,7 @@ impl Status {
             Status::Failed => 3,
             Status::NoMemory => 4,
             Status::NoPort => 5,
+            Status::BadJournal => 6,
         }
     }
 }

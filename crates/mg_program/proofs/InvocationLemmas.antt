@@ -32,9 +32,10 @@ use Rattle.mg_words.specs.declared.peer.Peer.{Peer}
 use Rattle.mg_program.specs.declared.address.AddressFault.{AddressFault}
 use Rattle.mg_program.specs.declared.controller_fault.ControllerFault.{ControllerFault}
 use Rattle.mg_program.specs.declared.bind_address_fault.BindAddressFault.{BindAddressFault}
+use Rattle.mg_journal.specs.declared.durability.Durability.{Durability}
 use Rattle.mg_program.specs.declared.service.Service.{Service}
 use Rattle.mg_options.specs.Numbers.{number_or}
-use Rattle.mg_program.specs.Options.{address_in, bind_address_in, check_in, gateway_in, requested, command_line, config_at, controllers_in, is_set, metrics_in, options, run_in, run_of, service_in, valid}
+use Rattle.mg_program.specs.Options.{address_in, bind_address_in, check_in, gateway_in, requested, command_line, config_at, controllers_in, durability_in, file_in, given_in, is_set, options, run_in, run_of, service_in, valid}
 
 abbrev has_kinds : Kinds → Bool
 has_kinds [] = false
@@ -168,30 +169,63 @@ run_is name rows address control service config run named commanded served confi
     (ap (λ (r : Result Service Kinds). r >>= with_service name rows address control) served ∙
     rw (is, configured) refl)
 
--- the options of a gateway on sockets, with these controllers, this address to bind to and this file for metrics
-abbrev with_metrics : List Row → List (List ℕ) → Option (List ℕ) → Option (List ℕ) → Result Service Kinds
-with_metrics rows controllers bound metrics = Ok (record {
+-- the options of a gateway on sockets, with these controllers, this address to bind to and these files
+abbrev with_durability : List Row → List (List ℕ) → (bound metrics journal : Option (List ℕ)) → Durability
+    → Result Service Kinds
+with_durability rows controllers bound metrics journal durability = Ok (record {
   controllers = controllers;
   bind_address = bound;
   report = number_or 65536 (codes "report") 0 rows;
   records = is_set (codes "record") rows;
   symmetric_rtp = is_set (codes "symmetric-rtp") rows;
   metrics = metrics;
+  journal = journal;
+  durability = durability;
+  given = given_in rows;
 })
 
+abbrev with_journal : List Row → List (List ℕ) → (bound metrics journal : Option (List ℕ)) → Result Service Kinds
+with_journal rows controllers bound metrics journal =
+    durability_in journal rows >>= with_durability rows controllers bound metrics journal
+
+abbrev with_metrics : List Row → List (List ℕ) → (bound metrics : Option (List ℕ)) → Result Service Kinds
+with_metrics rows controllers bound metrics =
+    valid (file_in (codes "journal") rows) >>= with_journal rows controllers bound metrics
+
 abbrev with_bound : List Row → List (List ℕ) → Option (List ℕ) → Result Service Kinds
-with_bound rows controllers bound = valid (metrics_in rows) >>= with_metrics rows controllers bound
+with_bound rows controllers bound =
+    valid (file_in (codes "metrics") rows) >>= with_metrics rows controllers bound
 
 abbrev with_controllers : List Row → List (List ℕ) → Result Service Kinds
 with_controllers rows controllers = valid (bind_address_in rows) >>= with_bound rows controllers
 
-pub service_is : (rows : List Row) (controllers : List (List ℕ)) (bound metrics : Option (List ℕ)) (service : Service) →
-    Ok controllers ≡ controllers_in rows → Ok bound ≡ bind_address_in rows → Ok metrics ≡ metrics_in rows →
-    Ok service ≡ with_metrics rows controllers bound metrics → service_in rows ≡ Ok service
-service_is rows controllers bound metrics service listed named written is =
+-- the first options, up to the file for metrics
+at_metrics : (rows : List Row) (controllers : List (List ℕ)) (bound metrics : Option (List ℕ)) →
+    Ok controllers ≡ controllers_in rows → Ok bound ≡ bind_address_in rows →
+    Ok metrics ≡ file_in (codes "metrics") rows → service_in rows ≡ with_metrics rows controllers bound metrics
+at_metrics rows controllers bound metrics listed named written =
     continues controllers (controllers_in rows) (with_controllers rows) listed ∙
     (continues bound (bind_address_in rows) (with_bound rows controllers) named ∙
-    (continues metrics (metrics_in rows) (with_metrics rows controllers bound) written ∙ sym is))
+    continues metrics (file_in (codes "metrics") rows) (with_metrics rows controllers bound) written)
+
+at_journal : (rows : List Row) (controllers : List (List ℕ)) (bound metrics journal : Option (List ℕ)) →
+    Ok controllers ≡ controllers_in rows → Ok bound ≡ bind_address_in rows →
+    Ok metrics ≡ file_in (codes "metrics") rows → Ok journal ≡ file_in (codes "journal") rows →
+    service_in rows ≡ with_journal rows controllers bound metrics journal
+at_journal rows controllers bound metrics journal listed named written journaled =
+    at_metrics rows controllers bound metrics listed named written ∙
+    continues journal (file_in (codes "journal") rows) (with_journal rows controllers bound metrics) journaled
+
+pub service_is : (rows : List Row) (controllers : List (List ℕ)) (bound metrics journal : Option (List ℕ))
+    (durability : Durability) (service : Service) →
+    Ok controllers ≡ controllers_in rows → Ok bound ≡ bind_address_in rows →
+    Ok metrics ≡ file_in (codes "metrics") rows → Ok journal ≡ file_in (codes "journal") rows →
+    durability_in journal rows ≡ Ok durability →
+    Ok service ≡ with_durability rows controllers bound metrics journal durability → service_in rows ≡ Ok service
+service_is rows controllers bound metrics journal durability service listed named written journaled durable is =
+    at_journal rows controllers bound metrics journal listed named written journaled ∙
+    (ap (λ (r : Result Durability Kinds). r >>= with_durability rows controllers bound metrics journal) durable ∙
+    sym is)
 
 -- there is none at a text that names no address
 pub refuses_address : (name : Text) (rows : List Row) (fault : AddressFault) →
@@ -222,12 +256,29 @@ refuses_bind_address rows controllers fault listed named =
 
 -- none at a text that is no path
 pub refuses_metrics : (rows : List Row) (controllers : List (List ℕ)) (bound : Option (List ℕ)) (fault : FilePathFault) →
-    Ok controllers ≡ controllers_in rows → Ok bound ≡ bind_address_in rows → Err fault ≡ metrics_in rows →
-    service_in rows ≡ Err (ValueValidation ∷ [])
+    Ok controllers ≡ controllers_in rows → Ok bound ≡ bind_address_in rows →
+    Err fault ≡ file_in (codes "metrics") rows → service_in rows ≡ Err (ValueValidation ∷ [])
 refuses_metrics rows controllers bound fault listed named written =
     continues controllers (controllers_in rows) (with_controllers rows) listed ∙
     (continues bound (bind_address_in rows) (with_bound rows controllers) named ∙
-    stops fault (metrics_in rows) (with_metrics rows controllers bound) written)
+    stops fault (file_in (codes "metrics") rows) (with_metrics rows controllers bound) written)
+
+pub refuses_journal : (rows : List Row) (controllers : List (List ℕ)) (bound metrics : Option (List ℕ))
+    (fault : FilePathFault) → Ok controllers ≡ controllers_in rows → Ok bound ≡ bind_address_in rows →
+    Ok metrics ≡ file_in (codes "metrics") rows → Err fault ≡ file_in (codes "journal") rows →
+    service_in rows ≡ Err (ValueValidation ∷ [])
+refuses_journal rows controllers bound metrics fault listed named written journaled =
+    at_metrics rows controllers bound metrics listed named written ∙
+    stops fault (file_in (codes "journal") rows) (with_journal rows controllers bound metrics) journaled
+
+-- none if there is no journal to sync
+pub refuses_sync : (rows : List Row) (controllers : List (List ℕ)) (bound metrics journal : Option (List ℕ)) →
+    Ok controllers ≡ controllers_in rows → Ok bound ≡ bind_address_in rows →
+    Ok metrics ≡ file_in (codes "metrics") rows → Ok journal ≡ file_in (codes "journal") rows →
+    durability_in journal rows ≡ Err (ValueValidation ∷ []) → service_in rows ≡ Err (ValueValidation ∷ [])
+refuses_sync rows controllers bound metrics journal listed named written journaled refused =
+    at_journal rows controllers bound metrics journal listed named written journaled ∙
+    ap (λ (r : Result Durability Kinds). r >>= with_durability rows controllers bound metrics journal) refused
 
 -- and none with faulty options of a gateway on sockets
 pub refuses_service : (name : Text) (rows : List Row) (address control : List ℕ) →
@@ -257,23 +308,23 @@ bound_fails rows text fault named is = ap some_bound is ∙ ap bound_by named
 pub unbound : (rows : List Row) → None ≡ first_of (codes "bind-address") rows → Ok None ≡ bind_address_in rows
 unbound rows named = ap bound_by named
 
--- the path of the file for metrics, of the string that names it
+-- the path of a file, of the string that names it
 abbrev some_path : Result (List ℕ) FilePathFault → Result (Option (List ℕ)) FilePathFault
 some_path read = read >>= (λ path. Ok (Some path))
 
 abbrev written_by : Option Text → Result (Option (List ℕ)) FilePathFault
 written_by named = option_map_or (λ text. some_path (file_path text)) named (Ok None)
 
-pub path_is : (rows : List Row) (text path : List ℕ) → Some text ≡ first_of (codes "metrics") rows →
-    Ok path ≡ file_path text → Ok (Some path) ≡ metrics_in rows
-path_is rows text path named is = ap some_path is ∙ ap written_by named
+pub path_is : (name : Text) (rows : List Row) (text path : List ℕ) → Some text ≡ first_of name rows →
+    Ok path ≡ file_path text → Ok (Some path) ≡ file_in name rows
+path_is name rows text path named is = ap some_path is ∙ ap written_by named
 
-pub path_fails : (rows : List Row) (text : List ℕ) (fault : FilePathFault) →
-    Some text ≡ first_of (codes "metrics") rows → Err fault ≡ file_path text → Err fault ≡ metrics_in rows
-path_fails rows text fault named is = ap some_path is ∙ ap written_by named
+pub path_fails : (name : Text) (rows : List Row) (text : List ℕ) (fault : FilePathFault) →
+    Some text ≡ first_of name rows → Err fault ≡ file_path text → Err fault ≡ file_in name rows
+path_fails name rows text fault named is = ap some_path is ∙ ap written_by named
 
-pub unwritten : (rows : List Row) → None ≡ first_of (codes "metrics") rows → Ok None ≡ metrics_in rows
-unwritten rows named = ap written_by named
+pub unwritten : (name : Text) (rows : List Row) → None ≡ first_of name rows → Ok None ≡ file_in name rows
+unwritten name rows named = ap written_by named
 
 -- the check of a gateway, if there is one
 abbrev check_of : Option Peer → Result Invocation Kinds

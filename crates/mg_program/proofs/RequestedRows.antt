@@ -8,7 +8,9 @@ use Rattle.mg_core.specs.declared.shown.Shown.TheVariants.{Sent, SentAndFlows}
 use Rattle.mg_engine.specs.Config.{standard}
 use Rattle.mg_program.specs.declared.invocation.Invocation.TheVariants.{Replay, Serve, Live}
 use Rattle.mg_program.specs.declared.service.Service.{Service}
+use Rattle.mg_journal.specs.declared.durability.Durability.TheVariants.{Written, Synced}
 use Rattle.mg_program.specs.declared.draws.Draws.{Draws}
+use Rattle.mg_program.specs.declared.given.Given.{Given}
 use Rattle.mg_program.specs.Options.{requested, command_line, config_at, options}
 
 abbrev slots : Text → List Text
@@ -16,6 +18,21 @@ slots number = codes "replay" ∷ codes "--slots" ∷ number ∷ []
 
 abbrev at_address : Text → List Text
 at_address text = codes "serve" ∷ codes "--address" ∷ text ∷ []
+
+-- no option of the configuration
+abbrev none_given : Given
+none_given = record {
+  address = false;
+  control_address = false;
+  control_port = false;
+  base_port = false;
+  slots = false;
+  first_termination = false;
+  first_context = false;
+  ssrc = false;
+  sequence = false;
+  timestamp = false;
+}
 
 -- under anybody's control, with a report every so many seconds, and without a recording
 abbrev anybody : ℕ → Service
@@ -26,7 +43,14 @@ anybody report = record {
   records = false;
   symmetric_rtp = false;
   metrics = None;
+  journal = None;
+  durability = Written;
+  given = none_given;
 }
+
+-- the same, with these options of the configuration
+abbrev with_given : Given → Service
+with_given given = record (anybody 0) { given = given }
 
 -- all numbers that RTP packets start with are drawn
 abbrev all_drawn : Draws
@@ -45,7 +69,7 @@ unfolding requested command_line options config_at clap_on_literals
 live_by_itself = refl
 
 live_with_both : requested (codes "live" ∷ codes "--slots=4" ∷ codes "--late" ∷ codes "0" ∷ []) ≡
-    Ok (Live (record standard { slots = 4 }) (anybody 0) all_drawn 0)
+    Ok (Live (record standard { slots = 4 }) (with_given (record none_given { slots = true })) all_drawn 0)
 unfolding requested command_line options config_at clap_on_literals
 live_with_both = refl
 
@@ -83,6 +107,28 @@ live_writes_metrics : requested (codes "live" ∷ codes "--metrics" ∷ codes "m
 unfolding requested command_line options config_at clap_on_literals
 live_writes_metrics = refl
 
+live_journals : requested (codes "live" ∷ codes "--journal=j.txt" ∷ []) ≡
+    Ok (Live standard (record (anybody 0) { journal = Some (codes "j.txt") }) all_drawn 5)
+unfolding requested command_line options config_at clap_on_literals
+live_journals = refl
+
+serve_syncs : requested (codes "serve" ∷ codes "--sync" ∷ codes "--journal" ∷ codes "j.txt" ∷ []) ≡
+    Ok (Serve standard (record (anybody 0) { journal = Some (codes "j.txt"); durability = Synced }))
+unfolding requested command_line options config_at clap_on_literals
+serve_syncs = refl
+
+sync_without_a_journal : requested (codes "live" ∷ codes "--sync" ∷ []) ≡ Err (kind.ValueValidation ∷ [])
+unfolding requested command_line options config_at clap_on_literals
+sync_without_a_journal = refl
+
+journal_without_a_path : requested (codes "serve" ∷ codes "--journal=" ∷ []) ≡ Err (kind.ValueValidation ∷ [])
+unfolding requested command_line options config_at clap_on_literals
+journal_without_a_path = refl
+
+replay_journals_nothing : requested (codes "replay" ∷ codes "--journal=j.txt" ∷ []) ≡ Err (kind.UnknownArgument ∷ [])
+unfolding requested command_line options config_at clap_on_literals
+replay_journals_nothing = refl
+
 metrics_without_a_path : requested (codes "live" ∷ codes "--metrics=" ∷ []) ≡ Err (kind.ValueValidation ∷ [])
 unfolding requested command_line options config_at clap_on_literals
 metrics_without_a_path = refl
@@ -94,7 +140,8 @@ serve_writes_no_metrics = refl
 -- behind a router that translates addresses one to one
 live_bound : requested (codes "live" ∷ codes "--address=203.0.113.5" ∷ codes "--bind-address" ∷ codes "10.0.0.1" ∷ []) ≡
     Ok (Live (record standard { address = 203 ∷ 0 ∷ 113 ∷ 5 ∷ []; control_address = 203 ∷ 0 ∷ 113 ∷ 5 ∷ [] })
-    (record (anybody 0) { bind_address = Some (10 ∷ 0 ∷ 0 ∷ 1 ∷ []) }) all_drawn 5)
+    (record (with_given (record none_given { address = true })) { bind_address = Some (10 ∷ 0 ∷ 0 ∷ 1 ∷ []) })
+    all_drawn 5)
 unfolding requested command_line options config_at address_of clap_on_literals
 live_bound = refl
 
@@ -112,7 +159,7 @@ unfolding requested command_line options config_at clap_on_literals
 replay_binds_nothing = refl
 
 live_draws_the_others : requested (codes "live" ∷ codes "--ssrc=7" ∷ codes "--timestamp=0" ∷ []) ≡
-    Ok (Live (record standard { ssrc = 7 }) (anybody 0) (record { ssrc = false; sequence = true; timestamp = false }) 5)
+    Ok (Live (record standard { ssrc = 7 }) (with_given (record none_given { ssrc = true; timestamp = true })) (record { ssrc = false; sequence = true; timestamp = false }) 5)
 unfolding requested command_line options config_at clap_on_literals
 live_draws_the_others = refl
 
@@ -134,7 +181,8 @@ unfolding requested command_line options config_at clap_on_literals
 replay_records_nothing = refl
 
 first_numbers : requested (codes "live" ∷ codes "--first-context=7" ∷ codes "--first-termination" ∷ codes "9" ∷ []) ≡
-    Ok (Live (record standard { first_termination = 9; first_context = 7 }) (anybody 0) all_drawn 5)
+    Ok (Live (record standard { first_termination = 9; first_context = 7 })
+    (with_given (record none_given { first_termination = true; first_context = true })) all_drawn 5)
 unfolding requested command_line options config_at clap_on_literals
 first_numbers = refl
 
@@ -155,8 +203,8 @@ with_slots : requested (slots (codes "4")) ≡ Ok (Replay (record standard { slo
 unfolding requested command_line options config_at clap_on_literals
 with_slots = refl
 
-serve_with_slots : requested (codes "serve" ∷ codes "--slots=4" ∷ []) ≡ Ok (Serve (record standard { slots = 4 }) (anybody
-    0))
+serve_with_slots : requested (codes "serve" ∷ codes "--slots=4" ∷ []) ≡
+    Ok (Serve (record standard { slots = 4 }) (with_given (record none_given { slots = true })))
 unfolding requested command_line options config_at clap_on_literals
 serve_with_slots = refl
 
@@ -175,12 +223,14 @@ unfolding requested command_line options config_at clap_on_literals
 with_plus = refl
 
 with_address : requested (at_address (codes "10.0.0.1")) ≡
-    Ok (Serve (record standard { address = 10 ∷ 0 ∷ 0 ∷ 1 ∷ []; control_address = 10 ∷ 0 ∷ 0 ∷ 1 ∷ [] }) (anybody 0))
+    Ok (Serve (record standard { address = 10 ∷ 0 ∷ 0 ∷ 1 ∷ []; control_address = 10 ∷ 0 ∷ 0 ∷ 1 ∷ [] })
+    (with_given (record none_given { address = true })))
 unfolding requested command_line options config_at address_of clap_on_literals
 with_address = refl
 
 with_leading_zeros : requested (at_address (codes "010.00.0.001")) ≡
-    Ok (Serve (record standard { address = 10 ∷ 0 ∷ 0 ∷ 1 ∷ []; control_address = 10 ∷ 0 ∷ 0 ∷ 1 ∷ [] }) (anybody 0))
+    Ok (Serve (record standard { address = 10 ∷ 0 ∷ 0 ∷ 1 ∷ []; control_address = 10 ∷ 0 ∷ 0 ∷ 1 ∷ [] })
+    (with_given (record none_given { address = true })))
 unfolding requested command_line options config_at address_of clap_on_literals
 with_leading_zeros = refl
 
@@ -194,14 +244,14 @@ multicast_address = refl
 
 greatest_address : requested (at_address (codes "223.255.255.255")) ≡
     Ok (Serve (record standard { address = 223 ∷ 255 ∷ 255 ∷ 255 ∷ []; control_address = 223 ∷ 255 ∷ 255 ∷ 255 ∷ [] })
-    (anybody 0))
+    (with_given (record none_given { address = true })))
 unfolding requested command_line options config_at address_of clap_on_literals
 greatest_address = refl
 
 -- control messages on a network of their own
 two_addresses : requested (codes "live" ∷ codes "--control-address=10.0.0.1" ∷ codes "--address" ∷ codes "192.0.2.1" ∷ [])
-    ≡ Ok (Live (record standard { address = 192 ∷ 0 ∷ 2 ∷ 1 ∷ []; control_address = 10 ∷ 0 ∷ 0 ∷ 1 ∷ [] }) (anybody 0)
-    all_drawn 5)
+    ≡ Ok (Live (record standard { address = 192 ∷ 0 ∷ 2 ∷ 1 ∷ []; control_address = 10 ∷ 0 ∷ 0 ∷ 1 ∷ [] })
+    (with_given (record none_given { address = true; control_address = true })) all_drawn 5)
 unfolding requested command_line options config_at address_of clap_on_literals
 two_addresses = refl
 

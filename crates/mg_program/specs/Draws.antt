@@ -13,3 +13,7 @@ pub record IsDrawn (draws : Draws) (config drawn : Config) : Type 0 where
     sequence = drawn.sequence;
     timestamp = drawn.timestamp;
   }
+
+-- no number is drawn
+abbrev pub no_draws : Draws
+no_draws = record { ssrc = false; sequence = false; timestamp = false }

@@ -6,6 +6,7 @@ pub mod Replay
 pub mod Readiness
 pub mod Title
 pub mod Draws
+pub mod Given
 pub mod FilePath
 pub mod Serve
 pub mod Program

@@ -1,6 +1,6 @@
 -- The command line, as the parser of arguments sees it, and what the arguments ask of the program.
 use Rattle.std.specs.Prelude.{ℕ, Bool, true, false, if◌then◌else◌, List, [], ◌∷◌, Option, Some}
-use Rattle.std.specs.Prelude.{None, is_none, unwrap_or, option_and_then, Result, Ok, Err, codes}
+use Rattle.std.specs.Prelude.{None, is_none, is_some, unwrap_or, option_and_then, Result, Ok, Err, codes}
 use Rattle.std.specs.Prelude.{fold}
 use Rattle.std.specs.Option.{option_map_or}
 use Rattle.std.specs.Str.{bytes_eq}
@@ -20,7 +20,10 @@ use Rattle.mg_core.specs.declared.shown.Shown.TheVariants.{Sent, SentAndFlows}
 use Rattle.mg_engine.specs.declared.config.Config.{Config}
 use Rattle.mg_engine.specs.Config.{standard}
 use Rattle.mg_program.specs.declared.address.AddressFault.{AddressFault}
+use Rattle.mg_journal.specs.declared.durability.Durability.{Durability}
+use Rattle.mg_journal.specs.declared.durability.Durability.TheVariants.{Written, Synced}
 use Rattle.mg_program.specs.declared.draws.Draws.{Draws}
+use Rattle.mg_program.specs.declared.given.Given.{Given}
 use Rattle.mg_program.specs.declared.invocation.Invocation.{Invocation}
 use Rattle.mg_program.specs.declared.invocation.Invocation.TheVariants.{Replay, Serve, Live, Check}
 use Rattle.mg_program.specs.declared.service.Service.{Service}
@@ -60,7 +63,8 @@ abbrev pub sockets_line : Text → App
 sockets_line name =
     fold with_rule (subcommand_line name) (text_rule (codes "bind-address") ∷ controller_rule
     ∷ number_rule (codes "report") 0 65535 ∷ flag_rule (codes "record")
-    ∷ flag_rule (codes "symmetric-rtp") ∷ [])
+    ∷ flag_rule (codes "symmetric-rtp") ∷ text_rule (codes "journal") ∷ flag_rule (codes "sync")
+    ∷ [])
 
 -- the subcommand that runs a script
 abbrev pub replay_line : App
@@ -124,10 +128,34 @@ abbrev pub bind_address_in : List Row → Result (Option (List ℕ)) BindAddress
 bind_address_in found = option_map_or (λ text. bind_address text >>= (λ address. Ok (Some address)))
     (first_of (codes "bind-address") found) (Ok None)
 
--- the file for metrics, if the options name one
-abbrev pub metrics_in : List Row → Result (Option Text) FilePathFault
-metrics_in found = option_map_or (λ text. file_path text >>= (λ path. Ok (Some path)))
-    (first_of (codes "metrics") found) (Ok None)
+-- the file that an option names, if it is given
+abbrev pub file_in : Text → List Row → Result (Option Text) FilePathFault
+file_in name found = option_map_or (λ text. file_path text >>= (λ path. Ok (Some path)))
+    (first_of name found) (Ok None)
+
+-- how durably messages are appended to a journal; only a journal can be synced
+abbrev pub durability_in : (journal : Option Text) → List Row → Result Durability Kinds
+durability_in journal found =
+    if is_set (codes "sync") found
+    then option_map_or (λ path. Ok Synced) journal (Err (ValueValidation ∷ [])) else Ok Written
+
+abbrev pub is_given : Text → List Row → Bool
+is_given name found = is_some (first_of name found)
+
+-- which options of the configuration are given
+abbrev pub given_in : List Row → Given
+given_in found = record {
+  address = is_given (codes "address") found;
+  control_address = is_given (codes "control-address") found;
+  control_port = is_given (codes "control-port") found;
+  base_port = is_given (codes "base-port") found;
+  slots = is_given (codes "slots") found;
+  first_termination = is_given (codes "first-termination") found;
+  first_context = is_given (codes "first-context") found;
+  ssrc = is_given (codes "ssrc") found;
+  sequence = is_given (codes "sequence") found;
+  timestamp = is_given (codes "timestamp") found;
+}
 
 -- ## What the arguments ask of the program
 
@@ -141,7 +169,9 @@ abbrev pub service_in : List Row → Result Service Kinds
 service_in found = do
   controllers ← valid (controllers_in found)
   bound ← valid (bind_address_in found)
-  metrics ← valid (metrics_in found)
+  metrics ← valid (file_in (codes "metrics") found)
+  journal ← valid (file_in (codes "journal") found)
+  durability ← durability_in journal found
   Ok (record {
     controllers = controllers;
     bind_address = bound;
@@ -149,6 +179,9 @@ service_in found = do
     records = is_set (codes "record") found;
     symmetric_rtp = is_set (codes "symmetric-rtp") found;
     metrics = metrics;
+    journal = journal;
+    durability = durability;
+    given = given_in found;
   })
 
 -- the numbers that no option gives, which a gateway in real time draws at random

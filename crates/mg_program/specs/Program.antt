@@ -2,23 +2,10 @@
 use Rattle.std.specs.Prelude.{◌≡◌, ◌⊎◌, ℕ, List, Option}
 use Rattle.mg_options.specs.declared.status.Status.{Status}
 use Rattle.mg_options.specs.declared.status.Status.TheVariants.{Done, Failed, NoAnswer}
-use Rattle.mg_engine.specs.declared.config.Config.{Config}
-use Rattle.mg_program.specs.declared.draws.Draws.{Draws}
-use Rattle.mg_program.specs.declared.service.Service.{Service}
 use Rattle.mg_program.specs.declared.invocation.Invocation.{Invocation}
 use Rattle.mg_program.specs.declared.invocation.Invocation.TheVariants.{Replay, Serve, Live, Check}
-use Rattle.mg_program.specs.Draws.{IsDrawn}
 use Rattle.mg_program.specs.Replay.{Replays}
 use Rattle.mg_program.specs.Serve.{Serves, ServesByClock}
-
--- a clock-driven run with the numbers that were drawn, or none because the system has no random
--- numbers
-abbrev pub RunsDrawn : {W : Type 0} → (W → Option (List ℕ)) → Config → Service → Draws → ℕ → W → W
-    → Status → Type 0
-RunsDrawn contents config service draws late old new status =
-    ((drawn : Config) × IsDrawn draws config drawn
-    × ServesByClock contents drawn service late old new status)
-    ⊎ ((status ≡ Failed) × (new ≡ old))
 
 -- a gateway was asked whether it answers; if it doesn't, nothing is printed
 abbrev pub Checks : {W : Type 0} → W → W → Status → Type 0
@@ -36,6 +23,6 @@ Runs remaining contents silent input rest old new (Serve config service) status 
     Serves remaining contents config service input rest old new status
     × (status ≡ Done → silent)
 Runs remaining contents silent input rest old new (Live config service draws late) status =
-    (rest ≡ input) × RunsDrawn contents config service draws late old new status
+    (rest ≡ input) × ServesByClock contents config service draws late old new status
 Runs remaining contents silent input rest old new (Check gateway) status =
     (rest ≡ input) × Checks old new status × (status ≡ Done → silent)

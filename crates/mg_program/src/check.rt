@@ -17,7 +17,7 @@ const ACKNOWLEDGEMENT: &[u8] = b"MEGACO/1 <check>\nTransactionResponseAck{1}";
 /// The part of the heartbeat's reply that follows the sender.
 const REPLY: &[u8] = b"\nReply=1{Context=-{AuditValue=ROOT}}";
 
-/// How many times the heartbeat is sent at most.
+/// The maximum number of times that the heartbeat is sent.
 const TRIES: usize = 3;
 
 /// How long to wait for each reply, in milliseconds.

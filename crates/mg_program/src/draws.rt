@@ -1,5 +1,5 @@
-ghost use Rattle.std.specs.Prelude.{IfOk};
-ghost use Rattle.mg_program.specs.Draws.{IsDrawn};
+ghost use Rattle.std.specs.Prelude.{◌≡◌, IfOk};
+ghost use Rattle.mg_program.specs.Draws.{IsDrawn, no_draws};
 
 use mg_core::Config;
 use std::io;
@@ -14,6 +14,17 @@ pub struct Draws {
 }
 
 impl Draws {
+    /// No number is drawn.
+    pub fn none() -> Self
+        ensures value { result ≡ no_draws }
+    {
+        Draws {
+            ssrc: false,
+            sequence: false,
+            timestamp: false,
+        }
+    }
+
     /// Draws the numbers, and returns the configuration with them (RFC 3550, sections 5.1 and 8). If the system has no
     /// random numbers, the error is the system's.
     pub fn draw<G: RandomSource>(self, random: &G, config: Config) -> io::Result<Config>

@@ -23,8 +23,8 @@ use std::time::Clock;
 ///
 /// The status is 0 on success, 1 for a bad script line, and 2 for invalid arguments, an invalid configuration or a
 /// gateway that doesn't answer. It is 3 if a read or a write failed, if the clock can't be read, or if the system has
-/// no random numbers. It is 4 if memory ran out, and 5 for a port that can't be bound. If the status is nonzero, the
-/// message goes to `errors`. A gateway's periodic reports go to `reports`.
+/// no random numbers. It is 4 if memory ran out, 5 for a port that can't be bound, and 6 for a journal that can't be
+/// used. If the status is nonzero, the message goes to `errors`. A gateway's periodic reports go to `reports`.
 pub fn program<
     'a,
     N: Net,
@@ -45,7 +45,7 @@ pub fn program<
     errors: &mut E,
     reports: &mut T,
 ) -> u8
-    ensures status { result ≤ 5 }
+    ensures status { result ≤ 6 }
     // The program did what the arguments ask for, as far as the status says.
     ensures ends { EndsWith
         (Runs R.remaining W.contents (errors.new ≡ errors.old) input.old input.new output.old output.new)
@@ -58,21 +58,14 @@ pub fn program<
         }
         Ok(Invocation::Serve(config, service)) => {
             serve(
-                system.net, alloc, config, &service, input, output, errors, reports,
+                system, alloc, config, &service, input, output, errors, reports,
             )
         }
-        Ok(Invocation::Live(config, service, draws, late)) => match draws.draw(
-            system.random,
-            config,
-        ) {
-            Ok(config) => live(
-                system, alloc, config, &service, late, output, errors, reports,
-            ),
-            Err(error) => {
-                let _ = writeln!(errors, "cannot draw random numbers: {error}");
-                Status::Failed
-            }
-        },
+        Ok(Invocation::Live(config, service, draws, late)) => {
+            live(
+                system, alloc, config, &service, draws, late, output, errors, reports,
+            )
+        }
         Ok(Invocation::Check(gateway)) => check(system.net, system.clock, gateway, output, errors),
         Err(error) => report_error(&error, Status::Failed, output, errors),
     };

@@ -8,12 +8,22 @@ pub enum FilePathFault {
 }
 
 impl FilePathFault {
-    /// Returns the error text.
-    pub fn message(self) -> &'static str {
+    /// Returns the error text for the metrics' file.
+    pub fn metrics_message(self) -> &'static str {
         match self {
             FilePathFault::Empty => "invalid value for '--metrics <FILE>': an empty path",
             FilePathFault::TooLong => {
                 "invalid value for '--metrics <FILE>': a path of more than 4000 bytes"
+            }
+        }
+    }
+
+    /// Returns the error text for the journal.
+    pub fn journal_message(self) -> &'static str {
+        match self {
+            FilePathFault::Empty => "invalid value for '--journal <FILE>': an empty path",
+            FilePathFault::TooLong => {
+                "invalid value for '--journal <FILE>': a path of more than 4000 bytes"
             }
         }
     }

@@ -17,6 +17,7 @@
 #![tactic(auto)]
 
 mod address;
+mod begin_journal;
 mod bind_address_fault;
 mod bind_fault;
 mod check;
@@ -28,10 +29,15 @@ mod draws;
 mod entry;
 mod file_path;
 mod file_path_fault;
+mod found_journal;
+mod given;
+mod history;
 mod invocation;
+mod journal_fault;
 mod live;
 mod metrics_file;
 mod options;
+mod prepared;
 mod readiness;
 mod replay;
 mod serve;
@@ -40,6 +46,7 @@ mod sockets;
 mod status;
 mod system;
 mod title;
+mod titled;
 mod udp_ports;
 mod unsent;
 
@@ -53,6 +60,7 @@ pub use crate::draws::Draws;
 pub use crate::entry::program;
 pub use crate::file_path::FilePath;
 pub use crate::file_path_fault::FilePathFault;
+pub use crate::given::Given;
 pub use crate::invocation::Invocation;
 pub use crate::options::requested_run;
 pub use crate::readiness::SOCKETS;

@@ -1,12 +1,17 @@
-ghost use Rattle.std.specs.Prelude.{◌≡◌, ◌↔◌, ◌⊎◌, IfErr};
+ghost use Rattle.std.specs.Prelude.{◌≡◌, ◌≢◌, ◌⊎◌, IfErr};
 ghost use Rattle.mg_clock.specs.Ticks.{clock_seen};
 ghost use Rattle.mg_engine.specs.Config.{IsValidConfig};
+ghost use Rattle.mg_core.specs.World.{World, StandsFor};
+ghost use Rattle.mg_ports.specs.Journaled.{ports_seen};
 ghost use Rattle.mg_serve.specs.Serve.{ServedByClock};
-ghost use Rattle.mg_program.specs.Serve.{ServesByClock, setup_of};
+ghost use Rattle.mg_program.specs.Serve.{CanResume, CanStart, ServesByClock, ServesByClockOnPorts, ServesChosenByClock, setup_of};
 ghost use Rattle.mg_program.specs.Title.{title_if};
 
+use crate::begin_journal::begin_journal;
 use crate::control_watch::ControlWatch;
+use crate::draws::Draws;
 use crate::metrics_file::{MetricsFile, can_write_metrics};
+use crate::prepared::{Prepared, prepare};
 use crate::serve::bind;
 use crate::service::Service;
 use crate::sockets::Sockets;
@@ -15,7 +20,8 @@ use crate::system::System;
 use crate::title::title_of;
 use crate::udp_ports::UdpPorts;
 use mg_clock::{SystemWatch, Watch};
-use mg_core::{Config, RunFault};
+use mg_core::{Config, Core, RunFault};
+use mg_journal::{Journal, JournalFile};
 use mg_monitor::{Both, Metrics, Reports};
 use mg_options::{Status, VERSION};
 use mg_ports::Ports;
@@ -28,10 +34,11 @@ use std::net::Net;
 use std::random::RandomSource;
 use std::time::Clock;
 
-/// Runs a new gateway on these ports, driven by a clock.
+/// Runs a gateway on these ports, driven by a clock.
 fn live_on<P: Ports, K: Watch, W: Write, M: Monitor>(
     alloc: Global,
     config: Config,
+    core: Core,
     service: &Service,
     ports: &mut P,
     watch: &mut K,
@@ -39,16 +46,20 @@ fn live_on<P: Ports, K: Watch, W: Write, M: Monitor>(
     output: &mut W,
     monitor: &mut M,
 ) -> RunFault
-    ensures session { ServedByClock (setup_of config service.now) (title_if service.now.records config) late
+    requires sound { IsValidConfig config }
+    ensures session { (w : World) → StandsFor core.state w →
+        ServedByClock (setup_of config service.now) w (title_if service.now.records config) late
         (clock_seen (K.readings watch.old) (K.waits watch.old)) (clock_seen (K.readings watch.new) (K.waits watch.new))
-        (K.Fails watch.new) (P.calls ports.old) (P.calls ports.new) (W.contents output.old) (W.contents output.new)
-        result }
-    ensures bad { (result ≡ RunFault.BadConfig) ↔ ¬ IsValidConfig config }
+        (K.Fails watch.new)
+        (ports_seen (P.calls ports.old) (P.journal ports.old)) (ports_seen (P.calls ports.new) (P.journal ports.new))
+        (W.contents output.old) (W.contents output.new) result }
+    ensures started { result ≢ RunFault.BadConfig }
 {
     let title = title_of(&config);
     mg_serve::serve_by_clock(
         alloc,
         &service.setup(config),
+        core,
         service.title(title.as_slice()),
         ports,
         watch,
@@ -58,8 +69,31 @@ fn live_on<P: Ports, K: Watch, W: Write, M: Monitor>(
     )
 }
 
-/// Runs a new gateway on UDP ports, driven by the system's clock: a poll and a tick every 20 ms, and a poll when a
-/// message arrives in between. It ends only on a fault, which is reported to `errors`.
+/// Runs a gateway on UDP ports, driven by a clock that watches the control port.
+fn live_on_sockets<J: Journal, C: Clock, W: Write, M: Monitor>(
+    alloc: Global,
+    config: Config,
+    core: Core,
+    service: &Service,
+    ports: &mut UdpPorts<'_, J, C>,
+    watch: &mut ControlWatch<'_, C>,
+    late: u16,
+    output: &mut W,
+    monitor: &mut M,
+) -> RunFault
+    requires sound { IsValidConfig config }
+    requires start { CanStart service.now.journal config core.state }
+    ensures value { ServesByClockOnPorts config service.now late (W.contents output.old) (W.contents output.new) result }
+{
+    live_on(
+        alloc, config, core, service, ports, watch, late, output, monitor,
+    )
+}
+
+/// Runs a gateway on UDP ports, driven by the system's clock: a poll and a tick every 20 ms, and a poll when a message
+/// arrives in between. It ends only on a fault, which is reported to `errors`.
+///
+/// The gateway is new, with some numbers drawn at random, or resumes from the journal.
 ///
 /// After a delay, all missed polls and ticks are executed in one go. If a tick is behind by more than `late` ticks, its
 /// packets are not sent. So callers hear a gap, and timestamps stay in step with the clock. `reports` receives the
@@ -69,13 +103,57 @@ pub fn live<N: Net, C: Clock, G: RandomSource, F: Files, W: Write, E: Write, T: 
     alloc: Global,
     config: Config,
     service: &Service,
+    draws: Draws,
     late: u16,
     output: &mut W,
     errors: &mut E,
     reports: &mut T,
 ) -> Status
-    ensures value { ServesByClock W.contents config service.now late output.old output.new result }
+    ensures value { ServesByClock W.contents config service.now draws late output.old output.new result }
 {
+    match prepare(
+        system.files,
+        system.random,
+        alloc,
+        config,
+        service,
+        draws,
+        errors,
+    ) {
+        Ok(prepared) => live_prepared(
+            system, alloc, prepared, service, late, output, errors, reports,
+        ),
+        Err(status) => status,
+    }
+}
+
+/// Runs a prepared gateway on UDP ports, driven by the system's clock.
+fn live_prepared<
+    N: Net,
+    C: Clock,
+    G: RandomSource,
+    F: Files,
+    J: JournalFile + Drop,
+    W: Write,
+    E: Write,
+    T: Write,
+>(
+    system: &System<'_, N, C, G, F>,
+    alloc: Global,
+    prepared: Prepared<J>,
+    service: &Service,
+    late: u16,
+    output: &mut W,
+    errors: &mut E,
+    reports: &mut T,
+) -> Status
+    requires sound { IsValidConfig prepared.config }
+    requires resumed { CanResume service.now.journal prepared.config prepared.core.state }
+    ensures value { ServesChosenByClock W.contents prepared.config service.now late output.old output.new result }
+{
+    prepared.tell(service, reports);
+    let config = prepared.config;
+    let mut core = prepared.core;
     let mut sockets = match bind(system.net, alloc, &config, service.bind_address, errors) {
         Ok(sockets) => sockets,
         Err(status) => return status,
@@ -83,15 +161,28 @@ pub fn live<N: Net, C: Clock, G: RandomSource, F: Files, W: Write, E: Write, T: 
     if let Err(status) = check_metrics(system.files, service, errors) {
         return status;
     }
+    let journal = match begin_journal(
+        alloc,
+        &config,
+        service,
+        system.clock,
+        prepared.journal,
+        &mut core,
+        errors,
+    ) {
+        Ok(journal) => journal,
+        Err(status) => return status,
+    };
     let mut watch = match watch_control(system.net, system.clock, alloc, &mut sockets, errors) {
         Ok(watch) => watch,
         Err(status) => return status,
     };
-    let mut ports = UdpPorts::new(sockets);
+    let mut ports = UdpPorts::new(sockets, journal);
     let fault = match monitor(system.files, system.clock, alloc, service, errors, reports) {
-        Ok(mut monitor) => live_on(
+        Ok(mut monitor) => live_on_sockets(
             alloc,
             config,
+            core,
             service,
             &mut ports,
             &mut watch,
@@ -129,7 +220,7 @@ fn check_metrics<F: Files, E: Write>(
     }
 }
 
-/// Makes what watches a gateway for its operator: reports, and metrics if they are enabled.
+/// Makes the monitor of a gateway: reports, and metrics if they are enabled.
 fn monitor<'a, C: Clock, F: Files, E: Write, T: Write>(
     files: &'a F,
     clock: &'a C,

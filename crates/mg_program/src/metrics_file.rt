@@ -11,7 +11,7 @@ const MAX_PATH: usize = 4095;
 const LINE_ROOM: usize = 5000;
 
 /// A file for metrics. Each text is written to a temporary file next to it, which is then renamed, so a reader never
-/// sees a part of a text.
+/// sees a partial text.
 ///
 /// The first failure, and the first after a success, is reported to an operator.
 #[derive(Drop)]

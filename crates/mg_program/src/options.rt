@@ -6,7 +6,7 @@ ghost use Rattle.mg_options.specs.Line.{text_rule};
 ghost use Rattle.mg_options.specs.Numbers.{number_or};
 ghost use Rattle.mg_program.specs.Options.{address_in, requested, command_line, config_at, controller_rule, controllers_in};
 ghost use Rattle.mg_program.specs.Options.{bind_address_in, check_in, check_line, draws_of, flag_rule, is_set, live_line, options, replay_line, run_of};
-ghost use Rattle.mg_program.specs.Options.{gateway_in, gateway_rule, metrics_in, run_in, service_in, sockets_line, subcommand_line};
+ghost use Rattle.mg_program.specs.Options.{durability_in, file_in, gateway_in, gateway_rule, given_in, is_given, run_in, service_in, sockets_line, subcommand_line};
 
 use crate::address::{AddressFault, bind_address, own_address};
 use crate::bind_address_fault::BindAddressFault;
@@ -15,11 +15,13 @@ use crate::controllers::Controllers;
 use crate::draws::Draws;
 use crate::file_path::FilePath;
 use crate::file_path_fault::FilePathFault;
+use crate::given::Given;
 use crate::invocation::Invocation;
 use crate::service::Service;
 use clap::error::ErrorKind;
 use clap::{Arg, ArgAction, ArgMatches, Command, Error};
 use mg_core::{Config, Shown, peer_of};
+use mg_journal::Durability;
 use mg_options::{long_number, long_value, program_command, short_number, short_value};
 use std::alloc::Global;
 use std::convert::AsStr;
@@ -27,6 +29,9 @@ use std::convert::AsStr;
 /// The error message if the gateway to check isn't named by its address and port.
 const NO_GATEWAY: &str =
     "invalid value for '<ADDRESS:PORT>': not an IPv4 address, a colon and a port";
+
+/// The error message if there is no journal to sync.
+const NO_JOURNAL: &str = "'--sync' needs '--journal <FILE>'";
 
 /// Makes an option that takes an IPv4 address. Its parser accepts any text.
 fn address_option<'a>(alloc: Global, name: &'a str) -> Arg<'a>
@@ -123,7 +128,11 @@ fn on_sockets<'a>(alloc: Global, name: &'a str, about: &'a str) -> Result<Comman
         ))?
         .arg(flag(alloc, "symmetric-rtp").help(
             "Accept RTP only from the address and port of a termination's Remote (RFC 4961)",
-        ))?;
+        ))?
+        .arg(file_option(alloc, "journal").help(
+            "File for a journal of messages and ticks, from which a restarted gateway continues",
+        ))?
+        .arg(flag(alloc, "sync").help("Answer each message only once it is on the disk"))?;
     Ok(command)
 }
 
@@ -303,16 +312,63 @@ fn bind_address_of(matches: &ArgMatches<'_>) -> Result<Option<[u8; 4]>, BindAddr
     }
 }
 
-/// Returns the file for metrics, if the command line names one.
-fn metrics_of(matches: &ArgMatches<'_>) -> Result<Option<FilePath>, FilePathFault>
-    ensures value { result ≡ metrics_in (rows_of (found_of matches.now)) }
+/// Returns the file that an option names, if it is given.
+fn file_of(name: &str, matches: &ArgMatches<'_>) -> Result<Option<FilePath>, FilePathFault>
+    ensures value { result ≡ file_in name.now (rows_of (found_of matches.now)) }
 {
-    match matches.get_str("metrics") {
+    match matches.get_str(name) {
         Some(text) => match FilePath::of(text) {
             Ok(path) => Ok(Some(path)),
             Err(fault) => Err(fault),
         },
         None => Ok(None),
+    }
+}
+
+/// Returns how durably messages are appended to the journal, or the error message if there is no journal to sync.
+fn durability_of(
+    journal: &Option<FilePath>,
+    matches: &ArgMatches<'_>,
+) -> Result<Durability, &'static str>
+    ensures value { IfOk result (λ durability.
+        durability_in journal.now (rows_of (found_of matches.now)) ≡ Ok durability) }
+    ensures refused { IfErr result (λ _.
+        durability_in journal.now (rows_of (found_of matches.now)) ≡ Err (ValueValidation ∷ [])) }
+{
+    if !is_set("sync", matches) {
+        return Ok(Durability::Written);
+    }
+    match journal {
+        Some(_) => Ok(Durability::Synced),
+        None => Err(NO_JOURNAL),
+    }
+}
+
+/// Returns whether an option is given.
+fn is_given(name: &str, matches: &ArgMatches<'_>) -> bool
+    ensures value { result ≡ is_given name.now (rows_of (found_of matches.now)) }
+{
+    match matches.get_str(name) {
+        Some(_) => true,
+        None => false,
+    }
+}
+
+/// Returns which options of the configuration are given.
+fn given_of(matches: &ArgMatches<'_>) -> Given
+    ensures value { result ≡ given_in (rows_of (found_of matches.now)) }
+{
+    Given {
+        address: is_given("address", matches),
+        control_address: is_given("control-address", matches),
+        control_port: is_given("control-port", matches),
+        base_port: is_given("base-port", matches),
+        slots: is_given("slots", matches),
+        first_termination: is_given("first-termination", matches),
+        first_context: is_given("first-context", matches),
+        ssrc: is_given("ssrc", matches),
+        sequence: is_given("sequence", matches),
+        timestamp: is_given("timestamp", matches),
     }
 }
 
@@ -329,10 +385,15 @@ fn service_of(matches: &ArgMatches<'_>) -> Result<Service, &'static str>
         Ok(address) => address,
         Err(fault) => return Err(fault.message()),
     };
-    let metrics = match metrics_of(matches) {
+    let metrics = match file_of("metrics", matches) {
         Ok(metrics) => metrics,
-        Err(fault) => return Err(fault.message()),
+        Err(fault) => return Err(fault.metrics_message()),
     };
+    let journal = match file_of("journal", matches) {
+        Ok(journal) => journal,
+        Err(fault) => return Err(fault.journal_message()),
+    };
+    let durability = durability_of(&journal, matches)?;
     Ok(Service {
         controllers,
         bind_address,
@@ -340,6 +401,9 @@ fn service_of(matches: &ArgMatches<'_>) -> Result<Service, &'static str>
         records: is_set("record", matches),
         symmetric_rtp: is_set("symmetric-rtp", matches),
         metrics,
+        journal,
+        durability,
+        given: given_of(matches),
     })
 }
 

@@ -1,25 +1,35 @@
-ghost use Rattle.std.specs.Prelude.{◌≡◌, ◌↔◌, Err, IfErr, OnOk};
+ghost use Rattle.std.specs.Prelude.{◌≡◌, ◌≢◌, Err, IfErr, OnOk};
 ghost use Rattle.mg_engine.specs.Config.{IsValidConfig};
+ghost use Rattle.mg_core.specs.World.{World, StandsFor};
+ghost use Rattle.mg_ports.specs.Journaled.{ports_seen};
 ghost use Rattle.mg_serve.specs.Serve.{ServedSession};
-ghost use Rattle.mg_program.specs.Serve.{FailsToStart, Serves, setup_of};
+ghost use Rattle.mg_program.specs.Serve.{CanResume, CanStart, FailsToStart, Serves, ServesChosen, ServesOnPorts, setup_of};
 ghost use Rattle.mg_program.specs.Title.{title_if};
 
+use crate::begin_journal::begin_journal;
 use crate::config_fault::ConfigFault;
+use crate::draws::Draws;
+use crate::prepared::{Prepared, prepare};
 use crate::readiness::SOCKETS;
 use crate::service::Service;
 use crate::sockets::Sockets;
 use crate::status::status_after;
+use crate::system::System;
 use crate::title::title_of;
 use crate::udp_ports::UdpPorts;
-use mg_core::{Config, Counts, RunFault};
+use mg_core::{Config, Core, Counts, RunFault};
+use mg_journal::{Journal, JournalFile};
 use mg_monitor::Reports;
 use mg_options::Status;
 use mg_ports::Ports;
 use mg_serve::Monitor;
 use mio::Events;
 use std::alloc::Global;
+use std::fs::Files;
 use std::io::{Read, Write};
 use std::net::Net;
+use std::random::RandomSource;
+use std::time::Clock;
 
 /// Binds the sockets of a gateway. If that fails, returns the program's exit status. A fault is reported to `errors`.
 ///
@@ -52,25 +62,30 @@ pub fn bind<N: Net, E: Write>(
     }
 }
 
-/// Runs a new gateway on these ports, driven by input lines.
+/// Runs a gateway on these ports, driven by input lines.
 fn serve_on<P: Ports, R: Read, W: Write, M: Monitor>(
     alloc: Global,
     config: Config,
+    core: Core,
     service: &Service,
     ports: &mut P,
     input: &mut R,
     output: &mut W,
     monitor: &mut M,
 ) -> Result<Counts, RunFault>
-    ensures session { ServedSession (setup_of config service.now) (title_if service.now.records config)
-        (R.remaining input.old) (R.remaining input.new) (P.calls ports.old) (P.calls ports.new) (W.contents output.old)
-        (W.contents output.new) result }
-    ensures bad { (result ≡ Err RunFault.BadConfig) ↔ ¬ IsValidConfig config }
+    requires sound { IsValidConfig config }
+    ensures session { (w : World) → StandsFor core.state w →
+        ServedSession (setup_of config service.now) w (title_if service.now.records config)
+        (R.remaining input.old) (R.remaining input.new)
+        (ports_seen (P.calls ports.old) (P.journal ports.old)) (ports_seen (P.calls ports.new) (P.journal ports.new))
+        (W.contents output.old) (W.contents output.new) result }
+    ensures started { result ≢ Err RunFault.BadConfig }
 {
     let title = title_of(&config);
     mg_serve::serve(
         alloc,
         &service.setup(config),
+        core,
         service.title(title.as_slice()),
         ports,
         input,
@@ -79,13 +94,32 @@ fn serve_on<P: Ports, R: Read, W: Write, M: Monitor>(
     )
 }
 
-/// Runs a new gateway on UDP ports, driven by input lines. A fault is reported to `errors`. Periodic reports, if they
-/// are enabled, go to `reports`.
+/// Runs a gateway on UDP ports, driven by input lines.
+fn serve_on_sockets<J: Journal, C: Clock, R: Read, W: Write, M: Monitor>(
+    alloc: Global,
+    config: Config,
+    core: Core,
+    service: &Service,
+    ports: &mut UdpPorts<'_, J, C>,
+    input: &mut R,
+    output: &mut W,
+    monitor: &mut M,
+) -> Result<Counts, RunFault>
+    requires sound { IsValidConfig config }
+    requires start { CanStart service.now.journal config core.state }
+    ensures value { ServesOnPorts config service.now (R.remaining input.old) (R.remaining input.new)
+        (W.contents output.old) (W.contents output.new) result }
+{
+    serve_on(alloc, config, core, service, ports, input, output, monitor)
+}
+
+/// Runs a gateway on UDP ports, driven by input lines. The gateway is new, or resumes from the journal. A fault is
+/// reported to `errors`. Periodic reports, if they are enabled, go to `reports`.
 ///
 /// An invalid configuration is reported before a port is bound, and a port that can't be bound is reported before a
-/// line is read.
-pub fn serve<N: Net, R: Read, W: Write, E: Write, T: Write>(
-    net: &N,
+/// line is read and before anything is appended to the journal.
+pub fn serve<N: Net, C: Clock, G: RandomSource, F: Files, R: Read, W: Write, E: Write, T: Write>(
+    system: &System<'_, N, C, G, F>,
     alloc: Global,
     config: Config,
     service: &Service,
@@ -97,18 +131,77 @@ pub fn serve<N: Net, R: Read, W: Write, E: Write, T: Write>(
     ensures value { Serves R.remaining W.contents config service.now input.old input.new output.old output.new result }
     ensures quiet { result ≡ Status.Done → errors.new ≡ errors.old }
 {
-    let sockets = match bind(net, alloc, &config, service.bind_address, errors) {
+    match prepare(
+        system.files,
+        system.random,
+        alloc,
+        config,
+        service,
+        Draws::none(),
+        errors,
+    ) {
+        Ok(prepared) => serve_prepared(
+            system, alloc, prepared, service, input, output, errors, reports,
+        ),
+        Err(status) => status,
+    }
+}
+
+/// Runs a prepared gateway on UDP ports, driven by input lines.
+fn serve_prepared<
+    N: Net,
+    C: Clock,
+    G: RandomSource,
+    F: Files,
+    J: JournalFile + Drop,
+    R: Read,
+    W: Write,
+    E: Write,
+    T: Write,
+>(
+    system: &System<'_, N, C, G, F>,
+    alloc: Global,
+    prepared: Prepared<J>,
+    service: &Service,
+    input: &mut R,
+    output: &mut W,
+    errors: &mut E,
+    reports: &mut T,
+) -> Status
+    requires sound { IsValidConfig prepared.config }
+    requires resumed { CanResume service.now.journal prepared.config prepared.core.state }
+    ensures value { ServesChosen R.remaining W.contents prepared.config service.now input.old input.new output.old
+        output.new result }
+    ensures quiet { result ≡ Status.Done → errors.new ≡ errors.old }
+{
+    prepared.tell(service, reports);
+    let config = prepared.config;
+    let mut core = prepared.core;
+    let sockets = match bind(system.net, alloc, &config, service.bind_address, errors) {
         Ok(sockets) => sockets,
+        Err(status) => return status,
+    };
+    let journal = match begin_journal(
+        alloc,
+        &config,
+        service,
+        system.clock,
+        prepared.journal,
+        &mut core,
+        errors,
+    ) {
+        Ok(journal) => journal,
         Err(status) => return status,
     };
     let Ok(mut monitor) = Reports::new(alloc, service.report, reports) else {
         let _ = writeln!(errors, "{}", RunFault::NoMemory);
         return Status::NoMemory;
     };
-    let mut ports = UdpPorts::new(sockets);
-    let outcome = serve_on(
+    let mut ports = UdpPorts::new(sockets, journal);
+    let outcome = serve_on_sockets(
         alloc,
         config,
+        core,
         service,
         &mut ports,
         input,

@@ -5,7 +5,9 @@ ghost use Rattle.mg_program.specs.Title.{if_recorded};
 
 use crate::controllers::Controllers;
 use crate::file_path::FilePath;
+use crate::given::Given;
 use mg_core::Config;
+use mg_journal::Durability;
 use mg_serve::Setup;
 
 /// The options of a gateway on sockets, except for its configuration.
@@ -23,6 +25,12 @@ pub struct Service {
     pub symmetric_rtp: bool,
     /// The file for metrics, if a gateway in real time writes one.
     pub metrics: Option<FilePath>,
+    /// The file for the journal, if there is one.
+    pub journal: Option<FilePath>,
+    /// How durably messages are appended to the journal.
+    pub durability: Durability,
+    /// Which options of the configuration are given. With a journal, the others come from the journal's title.
+    pub given: Given,
 }
 
 impl Service {
@@ -30,7 +38,13 @@ impl Service {
     pub fn setup(&self, config: Config) -> Setup<'_>
         ensures value { result ≡ setup_of config self.now }
     {
-        Setup::new(config, self.controllers.as_slice(), self.symmetric_rtp)
+        let journal = self.journal.as_ref().map(|_| self.durability);
+        Setup::new(
+            config,
+            self.controllers.as_slice(),
+            self.symmetric_rtp,
+            journal,
+        )
     }
 
     /// Returns the title of the output, if it is a recording.

@@ -8,7 +8,7 @@ use mg_core::Config;
 use mg_words::{ADDRESS_LIMIT, address_text};
 
 /// The capacity of a title, in bytes: the longest title and a margin.
-const TITLE_LIMIT: usize = 512;
+pub(crate) const TITLE_LIMIT: usize = 512;
 
 /// The first line of a recording, without its line feed.
 pub type Title = ArrayVec<u8, TITLE_LIMIT>;

@@ -1,16 +1,22 @@
 ghost use Rattle.std.specs.Prelude.{◌≡◌, ◌≤◌, ◌<◌, true, length, is_err, IfOk, IfSome, OnErr};
+ghost use Rattle.std.specs.Option.{option_map_or};
+ghost use Rattle.mg_journal.specs.Journal.{no_journal};
 ghost use Rattle.mg_ports.specs.Calls.{IsCounted};
 
 use crate::address::is_multicast;
 use crate::sockets::Sockets;
 use crate::unsent::Unsent;
 use mg_core::Peer;
+use mg_dates::DatedJournal;
+use mg_journal::{AppendFault, Durability, Journal};
 use mg_ports::{FailureCauses, PortFault, Ports, Timing};
+use std::time::Clock;
 
-/// A gateway's ports, on the system's UDP sockets.
+/// A gateway's ports, on the system's UDP sockets, and its journal, if it has one.
 #[derive(Drop)]
-pub struct UdpPorts {
+pub struct UdpPorts<'a, J: Journal, C: Clock> {
     sockets: Sockets,
+    journal: Option<DatedJournal<'a, J, C>>,
     /// Whether the current tick, whose packets are being sent, is on time.
     timing: Timing,
     failures: u64,
@@ -23,13 +29,14 @@ fn is_unusable_destination(address: [u8; 4]) -> bool {
     address == [0; 4] || is_multicast(address)
 }
 
-impl UdpPorts {
+impl<'a, J: Journal, C: Clock> UdpPorts<'a, J, C> {
     /// Makes ports from these sockets.
-    pub fn new(sockets: Sockets) -> Self
+    pub fn new(sockets: Sockets, journal: Option<DatedJournal<'a, J, C>>) -> Self
         ensures fresh { result.failures ≡ 0 }
     {
         UdpPorts {
             sockets,
+            journal,
             timing: Timing::OnTime,
             failures: 0,
             causes: FailureCauses::default(),
@@ -56,6 +63,7 @@ impl UdpPorts {
     /// Counts why a datagram was not sent.
     fn count_cause(&mut self, cause: Unsent)
         ensures failures { self.new.failures ≡ self.old.failures }
+        ensures journal { self.new.journal ≡ self.old.journal }
     {
         match cause {
             Unsent::Late => self.causes.late = self.causes.late.saturating_add(1),
@@ -68,6 +76,7 @@ impl UdpPorts {
     fn count<T>(&mut self, answer: &Result<T, PortFault>)
         ensures fault { OnErr answer.now (IsCounted self.old.failures self.new.failures) }
         ensures timing { self.new.timing ≡ self.old.timing }
+        ensures journal { self.new.journal ≡ self.old.journal }
     {
         if answer.is_err() {
             self.failures = self.failures.saturating_add(1);
@@ -75,8 +84,10 @@ impl UdpPorts {
     }
 }
 
-impl Ports for UdpPorts {
+impl<'a, J: Journal, C: Clock> Ports for UdpPorts<'a, J, C> {
     ghost failed = { λ p. p.failures };
+
+    ghost journal = { λ p. option_map_or (λ d. d) p.journal no_journal };
 
     fn receive(
         &mut self,
@@ -105,6 +116,13 @@ impl Ports for UdpPorts {
 
     fn begin_tick(&mut self, timing: Timing) {
         self.timing = timing;
+    }
+
+    fn append(&mut self, lines: &[u8], durability: Durability) -> Result<(), AppendFault> {
+        match &mut self.journal {
+            Some(journal) => journal.append(lines, durability),
+            None => Err(AppendFault::Broken),
+        }
     }
 
     fn failures(&self) -> u64 {

@@ -1,5 +1,6 @@
 use super::local;
-use mg_core::{Config, Counts, Peer, RunFault};
+use mg_core::{Config, Core, Counts, Peer, RunFault};
+use mg_journal::{FileJournal, MemoryFile};
 use mg_monitor::Reports;
 use mg_ports::{PortFault, Ports};
 use mg_program::{SOCKETS, Sockets, UdpPorts};
@@ -40,13 +41,16 @@ fn config(control_port: u16, slots: u16) -> Config {
     }
 }
 
+/// The ports of a gateway without a journal.
+type PlainPorts<'a> = UdpPorts<'a, FileJournal<MemoryFile>, HostRuntime>;
+
 /// Binds the ports of a gateway.
-fn bind(rt: &HostRuntime, config: &Config) -> Result<UdpPorts, Fail> {
+fn bind<'a>(rt: &'a HostRuntime, config: &Config) -> Result<PlainPorts<'a>, Fail> {
     if !config.is_sound() {
         return Err(Fail::new("bad configuration"));
     }
     let events = Events::with_capacity(rt.alloc(), SOCKETS)?;
-    Ok(UdpPorts::new(Sockets::bind(rt, config, None, events)?))
+    Ok(UdpPorts::new(Sockets::bind(rt, config, None, events)?, None))
 }
 
 /// Returns a caller's non-blocking socket.
@@ -80,12 +84,16 @@ fn serve_lines<P: Ports>(
     ports: &mut P,
     lines: &str,
 ) -> Result<(Result<Counts, RunFault>, Vec<u8>), AllocError> {
+    let Ok(core) = Core::new(alloc, config) else {
+        return Ok((Err(RunFault::NoMemory), Vec::new(alloc)));
+    };
     let mut input = lines.as_bytes();
     let mut printed = Vec::new(alloc);
     let mut reports = Vec::new(alloc);
     let result = serve(
         alloc,
-        &Setup::new(config, &[], false),
+        &Setup::new(config, &[], false, None),
+        core,
         None,
         ports,
         &mut input,
@@ -110,7 +118,7 @@ fn carry_speech(
     rt: &impl Abort,
     alloc: Global,
     config: Config,
-    ports: &mut UdpPorts,
+    ports: &mut PlainPorts<'_>,
     first: &UdpSocket,
     second: &UdpSocket,
 ) -> Result<(), Fail> {
@@ -147,7 +155,7 @@ fn lose_packets(
     rt: &impl Abort,
     alloc: Global,
     config: Config,
-    ports: &mut UdpPorts,
+    ports: &mut PlainPorts<'_>,
     caller: &UdpSocket,
 ) -> Result<(), Fail> {
     caller.send_to(ONE_UNREACHABLE, local(29600))?;
@@ -179,7 +187,7 @@ fn send_to_unicast_addresses(
     rt: &impl Abort,
     alloc: Global,
     config: Config,
-    ports: &mut UdpPorts,
+    ports: &mut PlainPorts<'_>,
     caller: &UdpSocket,
 ) -> Result<(), Fail> {
     caller.send_to(HELD, local(28700))?;
@@ -204,7 +212,7 @@ fn take_at_two_addresses(
     rt: &impl Abort,
     alloc: Global,
     config: Config,
-    ports: &mut UdpPorts,
+    ports: &mut PlainPorts<'_>,
     caller: &UdpSocket,
 ) -> Result<(), Fail> {
     let control = SocketAddr::new(IpAddr::V4(Ipv4Addr::new(127, 0, 0, 2)), 29700);
@@ -241,7 +249,7 @@ fn binds_only_its_addresses(rt: HostRuntime) -> Result<(), Fail> {
 /// A waiting datagram is received. If none is waiting, the receive returns `None`.
 fn receive_what_waits(
     rt: &impl Abort,
-    ports: &mut UdpPorts,
+    ports: &mut PlainPorts<'_>,
     caller: &UdpSocket,
 ) -> Result<(), Fail> {
     let mut buffer = [0; 4];
@@ -290,7 +298,7 @@ fn take_messages(
     rt: &impl Abort,
     alloc: Global,
     config: Config,
-    ports: &mut UdpPorts,
+    ports: &mut PlainPorts<'_>,
     caller: &UdpSocket,
 ) -> Result<(), Fail> {
     for length in [8192, 8193, 65507] {

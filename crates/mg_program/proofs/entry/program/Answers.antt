@@ -1,6 +1,6 @@
 use Rattle.std.proofs.Common.{refl, inl, inr}
 use Rattle.clap.specs.Words.{kind_of}
-use Rattle.mg_program.proofs.entry.program.Goals.{in-Ok-Replay, in-Ok-Serve, in-Ok-Live+in-Ok, in-Ok-Live+in-Err-draw, in-Ok-Check, in-Err+in-Some-1, in-Err+in-None-1}
+use Rattle.mg_program.proofs.entry.program.Goals.{in-Ok-Replay, in-Ok-Serve, in-Ok-Live, in-Ok-Check, in-Err+in-Some-1, in-Err+in-None-1}
 use Rattle.mg_program.proofs.entry.program.Goals as goal
 
 pub returns-clause-ends : goal.returns-clause-ends
@@ -25,20 +25,13 @@ returns-clause-ends g c =
           w.in-Ok-Serve.ensures.run,
           w.in-Ok-Serve.field-0-is,
         ) (inl (w.serve-status.ensures.value, w.serve-status.ensures.quiet))
-        | in-Ok-Live+in-Ok w ↦ rw (
+        | in-Ok-Live w ↦ rw (
           w.status-is,
           w.input-is,
           w.output-is,
           w.in-Ok-Live.ensures.run,
           w.in-Ok-Live.field-0-is,
-        ) (inl (refl, inl (w.in-Ok.config, w.in-Ok.ensures.drawn, w.live.ensures.value)))
-        | in-Ok-Live+in-Err-draw w ↦ rw (
-          w.status-is,
-          w.input-is,
-          w.output-is,
-          w.in-Ok-Live.ensures.run,
-          w.in-Ok-Live.field-0-is,
-        ) (inl (refl, inr (refl, refl)))
+        ) (inl (refl, w.live-status.ensures.value))
         | in-Ok-Check w ↦ rw (
           w.status-is,
           w.input-is,

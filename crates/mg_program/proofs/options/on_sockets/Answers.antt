@@ -11,4 +11,8 @@ returns-clause-app c =
     let report = adds_rule _ _ _ _ _ c.in_ok-arg-3.ensures controller
     (ap rule_of c.help-2.ensures ∙ c.short_number.ensures.rule) refl in
     let record_rule = adds_rule _ _ _ _ _ c.in_ok-arg-4.ensures report (ap rule_of c.help-3.ensures ∙ c.flag.ensures.rule) refl in
-    adds_rule _ _ _ _ _ c.in_ok-command.ensures record_rule (ap rule_of c.help-4.ensures ∙ c.flag-2.ensures.rule) refl
+    let symmetric = adds_rule _ _ _ _ _ c.in_ok-arg-5.ensures record_rule
+    (ap rule_of c.help-4.ensures ∙ c.flag-2.ensures.rule) refl in
+    let journal = adds_rule _ _ _ _ _ c.in_ok-arg-6.ensures symmetric
+    (ap rule_of c.help-5.ensures ∙ c.file_option.ensures.rule) refl in
+    adds_rule _ _ _ _ _ c.in_ok-command.ensures journal (ap rule_of c.help-6.ensures ∙ c.flag-3.ensures.rule) refl

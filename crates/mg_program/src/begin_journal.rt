@@ -1,0 +1,42 @@
+ghost use Rattle.std.specs.Prelude.{◌≡◌, IfErr, OnOk};
+ghost use Rattle.mg_program.specs.Serve.{CanResume, CanStart, FailsToStart};
+
+use crate::found_journal::FoundJournal;
+use crate::service::Service;
+use mg_core::{Config, Core};
+use mg_dates::DatedJournal;
+use mg_journal::{FileJournal, JournalFile};
+use mg_options::Status;
+use std::alloc::Global;
+use std::io::Write;
+use std::time::Clock;
+
+/// Starts appending to the journal, if there is one, and skips the ticks that the gateway missed. If that fails,
+/// returns the program's exit status. A fault is reported to `errors`.
+pub fn begin_journal<'a, F: JournalFile, C: Clock, E: Write>(
+    alloc: Global,
+    config: &Config,
+    service: &Service,
+    clock: &'a C,
+    found: Option<FoundJournal<F>>,
+    core: &mut Core,
+    errors: &mut E,
+) -> Result<Option<DatedJournal<'a, FileJournal<F>, C>>, Status>
+where
+    F: Drop,
+    requires resumed { CanResume service.now.journal config.now core.old.state }
+    ensures started { CanStart service.now.journal config.now core.new.state }
+    ensures quiet { OnOk result (errors.new ≡ errors.old) }
+    ensures ends { IfErr result (FailsToStart config.now) }
+{
+    let Some(path) = &service.journal else {
+        return Ok(None);
+    };
+    let Some(found) = found else {
+        return Ok(None);
+    };
+    match found.begin(alloc, config, clock, core) {
+        Ok(journal) => Ok(Some(journal)),
+        Err(fault) => Err(fault.report(path, errors)),
+    }
+}

@@ -1,0 +1,139 @@
+ghost use Rattle.std.specs.Prelude.{◌≡◌, None, IfErr, IfOk, OnOk};
+ghost use Rattle.mg_engine.specs.Config.{IsValidConfig};
+ghost use Rattle.mg_core.specs.World.{StandsFor, start_of};
+ghost use Rattle.mg_program.specs.Draws.{IsDrawn};
+ghost use Rattle.mg_program.specs.Serve.{CanResume, FailsToStart, IsChosen};
+
+use crate::config_fault::ConfigFault;
+use crate::draws::Draws;
+use crate::found_journal::FoundJournal;
+use crate::history::History;
+use crate::journal_fault::JournalFault;
+use crate::service::Service;
+use arrayvec::ArrayVec;
+use mg_core::{Config, Core, RunFault, StartFault};
+use mg_journal::{DiskFile, JournalFile, Opening, open_journal};
+use mg_options::Status;
+use std::alloc::Global;
+use std::fs::Files;
+use std::io::Write;
+use std::random::RandomSource;
+
+/// A gateway and its journal, before its ports are bound and anything is appended.
+#[derive(Drop)]
+pub struct Prepared<F: JournalFile> {
+    pub config: Config,
+    pub core: Core,
+    pub journal: Option<FoundJournal<F>>,
+}
+
+/// The maximum length of a line for an operator, in bytes: a path and two numbers.
+const LINE_ROOM: usize = 5000;
+
+impl<F: JournalFile> Prepared<F> {
+    /// Reports to an operator where the gateway resumes, if it resumes from a journal.
+    pub fn tell<T: Write>(&self, service: &Service, reports: &mut T) {
+        let (Some(path), Some(found)) = (&service.journal, &self.journal) else {
+            return;
+        };
+        if found.timeline.is_none() {
+            return;
+        }
+        let path = path.as_str();
+        let counts = self.core.counts();
+        let mut line = ArrayVec::<u8, LINE_ROOM>::new();
+        let _ = writeln!(
+            line,
+            "journal {path}: continues after {} messages and {} ticks",
+            counts.control, counts.ticks
+        );
+        let _ = reports.write_all(line.as_slice());
+        let _ = reports.flush();
+    }
+}
+
+/// Makes a new gateway. If that fails, returns the program's exit status. A fault is reported to `errors`.
+fn new_gateway<G: RandomSource, F: JournalFile, E: Write>(
+    random: &G,
+    alloc: Global,
+    config: Config,
+    draws: Draws,
+    opening: Option<Opening<F>>,
+    errors: &mut E,
+) -> Result<Prepared<F>, Status>
+where
+    F: Drop,
+    ensures sound { IfOk result (λ p. IsValidConfig p.config) }
+    ensures drawn { IfOk result (λ p. IsDrawn draws config p.config) }
+    ensures start { IfOk result (λ p. StandsFor p.core.state (start_of p.config)) }
+    ensures journal { IfOk result (λ p. opening ≡ None → p.journal ≡ None) }
+    ensures quiet { OnOk result (errors.new ≡ errors.old) }
+    ensures ends { IfErr result (FailsToStart config) }
+{
+    if let Some(fault) = ConfigFault::of(&config) {
+        let _ = writeln!(errors, "{}: {fault}", RunFault::BadConfig);
+        return Err(Status::Usage);
+    }
+    let config = match draws.draw(random, config) {
+        Ok(config) => config,
+        Err(error) => {
+            let _ = writeln!(errors, "cannot draw random numbers: {error}");
+            return Err(Status::Failed);
+        }
+    };
+    let journal = opening.map(|opening| FoundJournal {
+        opening,
+        timeline: None,
+    });
+    match Core::new(alloc, config) {
+        Ok(core) => Ok(Prepared {
+            config,
+            core,
+            journal,
+        }),
+        Err(_) => {
+            let _ = writeln!(errors, "{}", RunFault::NoMemory);
+            Err(Status::NoMemory)
+        }
+    }
+}
+
+/// Prepares a gateway: a new one, or one that resumes from the journal. If that fails, returns the program's exit
+/// status. A fault is reported to `errors`.
+///
+/// Nothing is sent, and nothing is written to a journal.
+pub fn prepare<G: RandomSource, F: Files, E: Write>(
+    files: &F,
+    random: &G,
+    alloc: Global,
+    config: Config,
+    service: &Service,
+    draws: Draws,
+    errors: &mut E,
+) -> Result<Prepared<DiskFile<F::File>>, Status>
+    ensures sound { IfOk result (λ p. IsValidConfig p.config) }
+    ensures chosen { IfOk result (λ p. IsChosen service.now.journal service.now.given draws config p.config) }
+    ensures resumed { IfOk result (λ p. CanResume service.now.journal p.config p.core.state) }
+    ensures quiet { OnOk result (errors.new ≡ errors.old) }
+    ensures ends { IfErr result (FailsToStart config) }
+{
+    let Some(path) = &service.journal else {
+        return new_gateway(random, alloc, config, draws, None, errors);
+    };
+    let mut opening = match open_journal(files, path.as_str()) {
+        Ok(opening) => opening,
+        Err(error) => return Err(JournalFault::Open(error).report(path, errors)),
+    };
+    match History::of(alloc, &service.given, &config, &mut opening) {
+        Ok(Some(history)) => Ok(Prepared {
+            config: history.config,
+            core: history.core,
+            journal: Some(FoundJournal {
+                opening,
+                timeline: Some(history.timeline),
+            }),
+        }),
+        Ok(None) => new_gateway(random, alloc, config, draws, Some(opening), errors),
+        Err(fault) => Err(fault.report(path, errors)),
+    }
+}

@@ -1,12 +1,19 @@
-"""Ports on 127.0.0.1 for the trials."""
+"""Ports on 127.0.0.1 for the trials, and how they end."""
+import signal
 import socket
 import sys
 
 
-def udp(port=0):
+def end_on_signals():
+    """Ends the trial by an exception if it is told to stop, so that the blocks that hold programs and files end, too."""
+    for one in (signal.SIGTERM, signal.SIGHUP):
+        signal.signal(one, lambda number, _: sys.exit(128 + number))
+
+
+def udp(port=0, address="127.0.0.1"):
     """Returns a non-blocking UDP socket."""
     s = socket.socket(socket.AF_INET, socket.SOCK_DGRAM)
-    s.bind(("127.0.0.1", port))
+    s.bind((address, port))
     s.setblocking(False)
     return s
 

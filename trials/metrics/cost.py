@@ -5,7 +5,6 @@ usage: cost.py BRIDGE
 In each run, 256 callers in four conferences talk for 30 s. Runs with and without metrics alternate. Prints the processor
 time of each, as a share of a processor, and the ratio of the medians.
 """
-import os
 import statistics
 import sys
 import tempfile
@@ -19,12 +18,6 @@ SLOTS, CONFERENCES, RUNS, SECONDS = 256, 4, 5, 30
 MEMORY = "/dev/shm"
 
 
-def processor_time(gateway):
-    """Returns the user and system time of the gateway so far, in seconds."""
-    with open(f"/proc/{gateway.process.pid}/schedstat") as stat:
-        return int(stat.read().split()[0]) / 1e9
-
-
 def share(*options):
     """Returns the share of a processor that a gateway with these options uses."""
     callers = [Caller() for _ in range(SLOTS)]
@@ -36,9 +29,9 @@ def share(*options):
         load = Load(callers)
         load.start()
         time.sleep(2)
-        start, before = time.monotonic(), processor_time(gateway)
+        start, before = time.monotonic(), gateway.processor_time()
         time.sleep(SECONDS)
-        used, passed = processor_time(gateway) - before, time.monotonic() - start
+        used, passed = gateway.processor_time() - before, time.monotonic() - start
         load.hush()
         load.end()
     heard = min(caller.received for caller in callers)

@@ -1,4 +1,4 @@
-"""A gateway on 127.0.0.1 with its controller, for the trials of metrics."""
+"""A gateway on 127.0.0.1 with its controller, for the trials of metrics and of the journal."""
 import re
 import select
 import subprocess
@@ -35,6 +35,11 @@ class Gateway:
     def kill(self):
         self.process.kill()
         self.process.wait()
+
+    def processor_time(self):
+        """Returns the user and system time so far, in seconds."""
+        with open(f"/proc/{self.process.pid}/schedstat") as stat:
+            return int(stat.read().split()[0]) / 1e9
 
     def ask(self, action):
         """Sends a request, and returns the answer."""

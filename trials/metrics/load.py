@@ -1,4 +1,4 @@
-"""Callers who send to a gateway, for the trials of metrics."""
+"""Callers who send to a gateway, for the trials of metrics and of the journal."""
 import struct
 import threading
 import time

@@ -3,7 +3,7 @@
 # usage: run.sh [FOLDER]
 # It needs root, python3, and the Debian packages debootstrap, lintian and systemd-container; it installs none. It
 # downloads a Debian 12 (100 MB, two minutes) into FOLDER/debian, unless it is there already, and leaves it unchanged.
-# Without FOLDER, it deletes it afterwards. The trial takes half a minute.
+# Without FOLDER, it deletes it afterwards. The trial takes a minute and a half.
 set -eu
 here=$(CDPATH='' cd -- "$(dirname -- "$0")" && pwd)
 [ $# -le 1 ] || { echo 'usage: run.sh [FOLDER]' >&2; exit 2; }

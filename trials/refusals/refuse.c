@@ -1,9 +1,11 @@
 /* Fault injection: a preloaded library that makes one of a program's calls fail.
  *
- * REFUSE       the kind of call: memory, read, write, receive, send or wait (for ready sockets)
+ * REFUSE       the kind of call: memory, read, write, receive, send or wait (for ready sockets); or, on a regular file
+ *              that isn't a standard stream, append (a write), sync or cut
  * REFUSE_AT    which call of that kind fails, counted from 1; 0 or absent: none
+ * REFUSE_THEN  a kind of which each call fails once that call has failed
  * REFUSE_TOLD  a file that is created when a call fails
- * REFUSE_PIECE the maximum number of bytes in a read or a write; 0 or absent: no limit
+ * REFUSE_PIECE the maximum number of bytes in a read, a write or an append; 0 or absent: no limit
  *
  * An allocation fails by returning NULL, and any other call with EIO. */
 #define _GNU_SOURCE
@@ -14,6 +16,7 @@
 #include <string.h>
 #include <sys/epoll.h>
 #include <sys/socket.h>
+#include <sys/stat.h>
 #include <sys/syscall.h>
 #include <sys/uio.h>
 #include <unistd.h>
@@ -24,6 +27,7 @@ extern void *__libc_realloc(void *, size_t);
 extern void *__libc_memalign(size_t, size_t);
 
 static const char *kind;
+static const char *then;
 static const char *told;
 static unsigned long at;
 static size_t piece;
@@ -41,11 +45,14 @@ __attribute__((constructor)) static void start(void)
     piece = number("REFUSE_PIECE");
     told = getenv("REFUSE_TOLD");
     kind = getenv("REFUSE");
+    then = getenv("REFUSE_THEN");
 }
 
 /* Whether this call of a kind is the one that fails. */
 static int is_refused(const char *of)
 {
+    if (then && at && calls >= at && strcmp(then, of) == 0)
+        return 1;
     if (!kind || strcmp(kind, of) != 0 || ++calls != at)
         return 0;
     if (told)
@@ -88,7 +95,14 @@ int posix_memalign(void **p, size_t a, size_t n)
 /* The function of this name in the next library. */
 #define NEXT(name) __typeof__(name) *next = (__typeof__(name) *)dlsym(RTLD_NEXT, #name)
 
-static size_t in_piece(int fd, size_t n) { return piece && fd <= 1 && n > piece ? piece : n; }
+/* Whether this is a regular file, but no standard stream. */
+static int is_file(int fd)
+{
+    struct stat stat;
+    return fd > 2 && fstat(fd, &stat) == 0 && S_ISREG(stat.st_mode);
+}
+
+static size_t in_piece(int fd, size_t n) { return piece && (fd <= 1 || is_file(fd)) && n > piece ? piece : n; }
 
 ssize_t read(int fd, void *bytes, size_t n)
 {
@@ -99,7 +113,25 @@ ssize_t read(int fd, void *bytes, size_t n)
 ssize_t write(int fd, const void *bytes, size_t n)
 {
     NEXT(write);
-    return is_call_refused("write") ? -1 : next(fd, bytes, in_piece(fd, n));
+    return is_call_refused(is_file(fd) ? "append" : "write") ? -1 : next(fd, bytes, in_piece(fd, n));
+}
+
+int fsync(int fd)
+{
+    NEXT(fsync);
+    return is_call_refused("sync") ? -1 : next(fd);
+}
+
+int fdatasync(int fd)
+{
+    NEXT(fdatasync);
+    return is_call_refused("sync") ? -1 : next(fd);
+}
+
+int ftruncate(int fd, off_t length)
+{
+    NEXT(ftruncate);
+    return is_call_refused("cut") ? -1 : next(fd, length);
 }
 
 ssize_t recvfrom(int fd, void *bytes, size_t n, int flags, struct sockaddr *from, socklen_t *length)

@@ -1,0 +1,24 @@
+#!/bin/sh
+# Kills a gateway with a journal again and again while calls go on, and checks what callers and the controller see. Then
+# cuts a journal at each of its bytes, makes each write of it fail, fills the disk, takes a host away, and starts with long
+# journals.
+# usage: run.sh [--gateway PATH]
+# It needs root, gcc, python3, what standby.sh needs, and a gigabyte on the disk of the current folder. It takes fifteen
+# minutes. cost.sh measures what a journal costs.
+set -eu
+here=$(CDPATH='' cd -- "$(dirname -- "$0")" && pwd)
+. "$here/../gateway_option.sh"
+# The scheduling policy of the unit file, if permitted.
+policy=
+if chrt -f 10 true 2> /dev/null; then policy='chrt -f 10'; fi
+work=$(mktemp -d)
+trap 'rm -rf "$work"' EXIT
+gcc -O2 -Wall -Wextra -shared -fPIC -o "$work/refuse.so" "$here/../refusals/refuse.c"
+export PYTHONPATH="$here/.."
+$policy python3 "$here/crash.py" "$gateway" 256 600 40
+python3 "$here/cuts.py" "$gateway"
+python3 "$here/refused.py" "$gateway" "$work/refuse.so"
+python3 "$here/files.py" "$gateway"
+python3 "$here/disk.py" "$gateway"
+"$here/standby.sh" --gateway "$gateway"
+python3 "$here/start.py" "$gateway" .

@@ -122,6 +122,23 @@ for kind in memory read write receive send wait; do
     PYTHONPATH=$here/.. python3 "$here/serve.py" "$bridge" "$work/refuse.so" "$kind"
 done
 
+# A session that isn't asked for anything after the write that fails. `serve` must not end as if all was printed.
+name=serve
+printf 'stats\ntick\nstats\nquit\n' > "$work/session"
+serve() {
+    ports=$(PYTHONPATH=$here/.. python3 -c 'from loopback import free_ports; print(*free_ports(2))')
+    refused "$1" "$2" 0 "$work/session" "$bridge" serve --slots=2 --control-port="${ports% *}" --base-port="${ports#* }"
+}
+serve none 0
+cp "$work/out" "$work/whole"
+k=1
+while serve write "$k"; was_refused; do
+    ended 3 'write failed'
+    head -c "$(wc -c < "$work/out")" "$work/whole" | cmp -s - "$work/out" || wrong 'no prefix of the output'
+    k=$((k + 1))
+done
+is_last "$work/whole"
+
 # A core alone: what it returns before and after a message for which memory ran out. Its program is rebuilt if it or
 # the crates have changed.
 name=control

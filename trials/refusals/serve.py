@@ -7,6 +7,7 @@ heartbeat. A message that isn't answered is sent again, and a datagram that isn'
 with 1 at the first session that goes wrong.
 """
 import os
+import select
 import signal
 import socket
 import subprocess
@@ -26,6 +27,8 @@ TOLD = b"Add=RTP/%d{Media{Stream=1{Local{v=0\r\nc=IN IP4 127.0.0.1\r\nm=audio %d
 HEARTBEAT = b"MEGACO/1 [127.0.0.1]:2945 Transaction=2{Context=-{AuditValue=ROOT{Audit{}}}}"
 ALIVE = b"Reply=2{Context=-{AuditValue=ROOT}}"
 STATS = "control={control} media={media} ticks={ticks} sent={sent} failed={failed} dropped=0,0,0,0,0,0 concealed=0"
+# The kinds of failures after which the gateway can't pass on a line before it prints the next one.
+DELAYING = ("wait", "write")
 # What the gateway prints if a read or a write fails.
 FAILED = {"read": "read failed\n", "write": "write failed\n"}
 
@@ -84,8 +87,20 @@ class Session:
     def is_refused(self):
         return os.path.exists(self.mark)
 
+    def is_delayed(self):
+        """Returns whether nothing is printed within a second, because of the failure."""
+        return KIND in DELAYING and not select.select([self.program.stdout], [], [], 1)[0] and self.is_refused()
+
     def line(self):
-        """Returns the next complete line that is printed."""
+        """Returns the next complete line that is printed. A line that is delayed comes with those for `stats`."""
+        if not self.is_delayed():
+            return self.next_line()
+        self.program.stdin.write(b"stats\n")
+        line, counts = self.next_line(), self.next_line()
+        expect(line in ("ready\n", counts), "other counts were printed later")
+        return line
+
+    def next_line(self):
         text = b""
         while not text.endswith(b"\n"):
             byte = self.program.stdout.read(1)
@@ -186,7 +201,8 @@ class Session:
         if refused and KIND in FAILED:
             expect((status, errors) == (3, FAILED[KIND]), f"status {status}, {errors!r}")
         elif refused and KIND == "memory" and not self.printed:
-            expect((status, errors) == (4, "out of memory\n"), f"status {status}, {errors!r}")
+            told = errors.endswith("out of memory\n") or errors.startswith("no memory for ")
+            expect(status == 4 and told, f"status {status}, {errors!r}")
         else:
             expect(not ended and (status, errors) == (0, ""), f"status {status}, {errors!r}")
             failed = self.counts["failed"]

@@ -17,10 +17,11 @@ mod live_output;
 mod tests;
 
 use crate::live_output::LiveOutput;
+use mg_core::RunFault;
 use mg_options::{Status, program_arguments};
 use mg_outlet::{Outlet, OutletFault, Overflow, SystemReady};
 use mg_program::{System, program};
-use std::io::{Stderr, Write};
+use std::io::{self, ErrorKind, Stderr, Write};
 use std::process::ExitCode;
 
 /// The maximum number of bytes queued for standard output: 14 seconds of a recording with 256 callers.
@@ -44,6 +45,26 @@ fn error_outlet(rt: &HostRuntime) -> Result<Outlet<Stderr, SystemReady>, OutletF
     Outlet::watching(rt, rt.alloc(), rt.stderr(), ERRORS_LIMIT, Overflow::Skip)
 }
 
+/// Returns a program's exit status: `code`, unless it succeeded but its last output couldn't be passed on.
+fn status_at_end<E: Write>(code: u8, passed: &io::Result<()>, errors: &mut E) -> u8 {
+    if code != Status::Done.code() || passed.is_ok() {
+        return code;
+    }
+    let _ = writeln!(errors, "{}", RunFault::Write);
+    Status::Failed.code()
+}
+
+/// Returns the exit status of a gateway that can't make its outlets.
+fn status_without_outlets(fault: &OutletFault) -> Status {
+    match fault {
+        OutletFault::Memory { .. } => Status::NoMemory,
+        OutletFault::Watch { error, .. } if error.kind() == ErrorKind::OutOfMemory => {
+            Status::NoMemory
+        }
+        OutletFault::Watch { .. } => Status::Failed,
+    }
+}
+
 /// Runs a gateway, which never waits for a reader. At the end, only `serve` waits until its output has been read.
 fn run_gateway(rt: &HostRuntime, words: &[String], is_serve: bool) -> Result<u8, OutletFault> {
     let outlet = Outlet::watching(rt, rt.alloc(), rt.stdout(), OUTPUT_LIMIT, Overflow::End)?;
@@ -60,11 +81,12 @@ fn run_gateway(rt: &HostRuntime, words: &[String], is_serve: bool) -> Result<u8,
         &mut errors,
         &mut reports,
     );
-    let _ = if is_serve {
+    let passed = if is_serve {
         output.finish()
     } else {
         output.flush()
     };
+    let code = status_at_end(code, &passed, &mut errors);
     let _ = reports.flush();
     let _ = errors.flush();
     Ok(code)
@@ -102,7 +124,7 @@ fn main(rt: HostRuntime) -> ExitCode {
         Ok(code) => ExitCode::from(code),
         Err(fault) => {
             let _ = writeln!(errors, "{fault}");
-            ExitCode::from(Status::Failed.code())
+            ExitCode::from(status_without_outlets(&fault).code())
         }
     }
 }

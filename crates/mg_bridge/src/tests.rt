@@ -3,6 +3,7 @@ mod checking;
 mod commanding;
 mod conversation;
 mod drawing;
+mod ending;
 mod in_real_time;
 mod journal;
 mod replaying;

@@ -8,9 +8,9 @@ use std::test::Fail;
 const START: u64 = 1_795_788_200_000;
 
 /// Returns a time after the start.
-fn after(millis: u64) -> Date {
+fn after(millis: u32) -> Date {
     Date {
-        millis: START + millis,
+        millis: START + u64::from(millis),
     }
 }
 

@@ -57,7 +57,7 @@ fn next_packet(socket: &UdpSocket) -> io::Result<(u16, u32)> {
     Ok((sequence, timestamp))
 }
 
-/// Of the ticks due at 2100 ms, those from the hundredth on are at most five ticks late.
+/// Of the ticks due at 2100 ms, the hundredth and all later ones are at most five ticks late.
 #[test]
 fn turns_a_stall_into_a_gap(rt: HostRuntime) -> Result<(), Fail> {
     let caller = UdpSocket::bind(&rt, local(28912))?;
@@ -127,7 +127,7 @@ fn turns_a_stall_into_a_gap(rt: HostRuntime) -> Result<(), Fail> {
 }
 
 /// A clock that advances only when it waits, and fails after 100 ms. At its second reading, a controller sends a
-/// message; the clock records the time at which the answer was first seen.
+/// message; the clock records when the answer was first seen.
 #[derive(Drop)]
 struct ListeningClock<'a> {
     now: Cell<u64>,

@@ -11,7 +11,7 @@ use std::{env, fs};
 const ADD: &[u8] =
     b"MEGACO/1 [127.0.0.1]:5000 Transaction=1{Context=${Add=${Media{LocalControl{Mode=SendReceive}}}}}";
 
-/// An input that sends a message to the gateway, and then gives the gateway's lines.
+/// An input that first sends the gateway a message, and then returns the gateway's lines.
 #[derive(Drop)]
 struct Talk<'a> {
     socket: &'a UdpSocket,
@@ -109,7 +109,7 @@ fn goes_on_from_a_journal(rt: HostRuntime) -> Result<(), Fail> {
         text.as_slice()
             .starts_with(b"# mg_bridge replay --address=127.0.0.1 ")
     );
-    // The next gateway takes the first one's options from the title. It knows the message, and doesn't add again.
+    // The next gateway takes the first one's options from the title. It knows the message, and doesn't run it again.
     let second = ["serve", "--journal", path.as_str()];
     let done = run_with(&rt, &second, &socket, 28801, b"stats\npoll\nstats\nquit\n");
     assert_eq!(rt; done.status, 0);
@@ -127,7 +127,7 @@ fn goes_on_from_a_journal(rt: HostRuntime) -> Result<(), Fail> {
     Ok(())
 }
 
-/// Runs a gateway whose journal has this text. Also returns the text that the journal has then.
+/// Runs a gateway whose journal has this text. Also returns the text that the journal has afterwards.
 fn run_on(rt: &HostRuntime, text: &[u8], option: &str) -> Result<(Outcome, Vec<u8>), Fail> {
     let path = new_path(rt, "mg_bridge_refuses.txt")?;
     fs::write(rt, path.as_str(), text)?;
@@ -139,7 +139,7 @@ fn run_on(rt: &HostRuntime, text: &[u8], option: &str) -> Result<(Outcome, Vec<u
     Ok((done, left))
 }
 
-/// The title of a gateway on ports of its own.
+/// The title of a gateway on its own ports.
 const TITLE: &str =
     "# mg_bridge replay --address=127.0.0.1 --control-address=127.0.0.1 --control-port=28807 --base-port=28808 --slots=2 --first-termination=1 --first-context=1 --ssrc=7 --sequence=0 --timestamp=0\n";
 
@@ -184,7 +184,7 @@ impl Clock for FixedClock {
     }
 }
 
-/// Ten seconds have passed since the date, and five of their ticks were run.
+/// Ten seconds have passed since the date, but only five ticks were run.
 #[test]
 fn passes_the_ticks_that_it_missed(rt: HostRuntime) -> Result<(), Fail> {
     let path = new_path(&rt, "mg_bridge_missed.txt")?;

@@ -2,8 +2,8 @@
 # Checks the units, what they do at a stop, the firewall rules, the alert rules and the Debian package. Prints one line
 # for each check.
 # usage: check.sh
-# It needs python3 and dpkg-deb. It skips a check whose program is missing: systemd-analyze, nft (needs root), promtool,
-# lintian, man, or bash.
+# It needs python3 and dpkg-deb. It skips a check whose program is missing: systemd-analyze, erl, nft (needs root),
+# promtool, lintian, man, or bash.
 set -eu
 here=$(CDPATH='' cd -- "$(dirname -- "$0")" && pwd)
 work=$(mktemp -d)
@@ -37,6 +37,13 @@ if has systemd-analyze 'the units'; then
     security=$(systemd-analyze security --no-pager --offline=true --threshold=15 "$work/lobbysorrel@1.service") ||
         fail 'lobbysorrel@.service: systemd-analyze security reports an exposure above 1.5'
     echo "lobbysorrel@.service: valid, $(echo "$security" | sed -n 's/.*\(exposure level\).*: \([0-9.]*\) .*/\1 \2/p')"
+fi
+if has systemd-analyze "the controller's unit" && has erl "the controller's unit"; then
+    cp "$here/lobbysorrel-controller.service" "$work"
+    verify lobbysorrel-controller.service
+    security=$(systemd-analyze security --no-pager --offline=true --threshold=15 "$work/lobbysorrel-controller.service") ||
+        fail 'lobbysorrel-controller.service: systemd-analyze security reports an exposure above 1.5'
+    echo "lobbysorrel-controller.service: valid, $(echo "$security" | sed -n 's/.*\(exposure level\).*: \([0-9.]*\) .*/\1 \2/p')"
 fi
 if has nft 'the firewall rules'; then
     nft -c -f "$here/gateway.nft"

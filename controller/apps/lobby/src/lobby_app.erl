@@ -1,0 +1,59 @@
+%%% @doc The application.
+-module(lobby_app).
+-behaviour(application).
+
+-export([run/1, start/2, stop/1]).
+
+%% @doc Starts the application on a node of its own, with a file of configuration: `erl -run lobby_app run FILE'. Ends
+%% the node with 2 if the configuration is wrong, and with 1 if something else is.
+-spec run([file:filename()]) -> ok.
+run([File]) ->
+    ok = application:load(lobby),
+    case lobby_config:load(File) of
+        {error, Text} -> stop(2, Text);
+        ok -> case application:ensure_all_started(lobby) of
+            {ok, _} -> _ = spawn(fun watch/0), ok;
+            {error, Reason} -> stop(1, io_lib:format("~0P", [Reason, 30]))
+        end
+    end.
+
+%% Without the application the node is of no use: whoever started it starts another one.
+watch() ->
+    Monitor = monitor(process, lobby_sup),
+    receive
+        {'DOWN', Monitor, process, _, Reason} -> case init:get_status() of
+            {stopping, _} -> ok;
+            _ -> stop(1, io_lib:format("ended: ~0P", [Reason, 30]))
+        end
+    end.
+
+-spec stop(1 | 2, iodata()) -> no_return().
+stop(Status, Text) ->
+    io:format(standard_error, "lobby: ~ts~n", [Text]),
+    halt(Status).
+
+-spec start(application:start_type(), term()) -> {ok, pid()} | {error, term()}.
+start(_, _) ->
+    case lobby_config:check(application:get_all_env(lobby)) of
+        {ok, Config} -> started(with_token(Config));
+        {error, Text} -> {error, {bad_configuration, Text}}
+    end.
+
+started(Config) ->
+    case lobby_sup:start_link(Config) of
+        {ok, Pid} -> {ok, Pid};
+        {error, Reason} -> {error, Reason};
+        ignore -> {error, ignore}
+    end.
+
+%% Without a configured token one is made, which only who reads the log knows.
+with_token(Config = #{tokens := [], http := {Address, Port}}) ->
+    Token = string:lowercase(binary:encode_hex(crypto:strong_rand_bytes(16))),
+    logger:notice("the page is http://~s:~b/#~s", [inet:ntoa(Address), Port, Token]),
+    Config#{tokens := [{Token, operator}]};
+with_token(Config) ->
+    Config.
+
+-spec stop(term()) -> ok.
+stop(_) ->
+    ok.

@@ -1,0 +1,113 @@
+%%% @doc The application's environment, checked before anything starts.
+-module(lobby_config).
+
+-export([check/1, load/1]).
+-export_type([config/0]).
+
+-type config() :: #{gateways := [lobby_gateway:config()],
+                    sip := lobby_sip_message:peer(), t1 := pos_integer(), min_se := pos_integer(),
+                    callers := [lobby_auth:network()], users := lobby_auth:users(),
+                    max_calls := pos_integer(), max_calls_from := pos_integer(),
+                    silent_after := pos_integer(), room_audit := pos_integer(),
+                    store := memory | disc,
+                    http := lobby_sip_message:peer(), tokens := [{binary(), operator | viewer}]}.
+
+%% The kinds of values, with the default, by name.
+-define(TOP, #{gateways => {gateways, required},
+               sip => {address, {{127, 0, 0, 1}, 5060}}, t1 => {{10, 5000}, 500}, min_se => {{1, 3600}, 90},
+               callers => {networks, []}, users => {users, #{}},
+               max_calls => {{1, 100000}, 1024}, max_calls_from => {{1, 100000}, 1024},
+               silent_after => {{1000, 3600000}, 30000}, room_audit => {{500, 600000}, 5000},
+               store => {store, memory},
+               http => {address, {{127, 0, 0, 1}, 8080}}, tokens => {tokens, []}}).
+-define(GATEWAY, #{name => {text, required}, address => {address, required}, here => {ip, {127, 0, 0, 1}},
+                   retry => {{10, 5000}, 100}, tries => {{1, 20}, 4}, quiet => {{100, 60000}, 5000},
+                   audit => {{50, 60000}, 250}, returns => {{0, 20000}, 0},
+                   terminations => {{1, 256}, 256}, contexts => {{1, 64}, 64}}).
+
+%% @doc The configuration with defaults, or what is wrong with it.
+-spec check([{atom(), term()}]) -> {ok, config()} | {error, string()}.
+check(Env) ->
+    case values("the configuration", ?TOP, maps:from_list(Env)) of
+        {ok, Config = #{gateways := Gateways}} -> gateways([values("a gateway", ?GATEWAY, G) || G <- Gateways], Config);
+        Error -> Error
+    end.
+
+%% @doc Sets the applications' environment to what a file says, if the application's is right: a list as in
+%% `sys.config', such as `[{lobby, [{gateways, [..]}]}].'
+-spec load(file:filename()) -> ok | {error, string()}.
+load(File) ->
+    case file:consult(File) of
+        {ok, [Applications]} -> set(File, Applications);
+        {ok, _} -> wrong("~ts has to have one list, with a full stop behind it", [File]);
+        {error, Reason} -> wrong("~ts: ~ts", [File, file:format_error(Reason)])
+    end.
+
+set(File, Applications) ->
+    case is(applications, Applications) andalso lists:keyfind(lobby, 1, Applications) of
+        {lobby, Env} -> case check(Env) of
+            {ok, _} -> application:set_env(Applications);
+            Error -> Error
+        end;
+        false -> wrong("~ts has to have a list such as [{lobby,[{gateways,[..]}]}]", [File])
+    end.
+
+gateways(Checked, Config) ->
+    Names = [Name || {ok, #{name := Name}} <- Checked],
+    case {[Error || Error = {error, _} <- Checked], Names -- lists:usort(Names)} of
+        {[Error | _], _} -> Error;
+        {[], [Name | _]} -> wrong("two gateways have the name ~0p", [Name]);
+        {[], []} -> {ok, Config#{gateways := [Gateway || {ok, Gateway} <- Checked]}}
+    end.
+
+values(What, Kinds, Values) when is_map(Values) ->
+    case maps:keys(Values) -- maps:keys(Kinds) of
+        [] -> maps:fold(fun(Key, Kind, Acc) -> value(What, Key, Kind, Values, Acc) end, {ok, #{}}, Kinds);
+        [Unknown | _] -> wrong("~s has no ~0p", [What, Unknown])
+    end;
+values(What, _, Other) ->
+    wrong("~s is a map, not ~0p", [What, Other]).
+
+value(_, _, _, _, Error = {error, _}) ->
+    Error;
+value(What, Key, {Kind, Default}, Values, {ok, Checked}) ->
+    Value = maps:get(Key, Values, Default),
+    case {Value, is(Kind, Value)} of
+        {required, _} -> wrong("~s needs ~0p", [What, Key]);
+        {_, true} -> {ok, Checked#{Key => Value}};
+        {_, false} -> wrong("~0p is ~s, not ~0p", [Key, described(Kind), Value])
+    end.
+
+is(applications, Value) ->
+    is_list(Value) andalso lists:all(fun({Name, Env}) -> is_atom(Name) andalso is(env, Env); (_) -> false end, Value);
+is(env, Value) -> is_list(Value) andalso lists:all(fun({Key, _}) -> is_atom(Key); (_) -> false end, Value);
+is(gateways, Value) -> is_list(Value) andalso Value =/= [];
+is(tokens, Value) -> is_list(Value) andalso lists:all(fun is_token/1, Value);
+is(store, Value) -> lists:member(Value, [memory, disc]);
+is(networks, Value) -> is_list(Value) andalso lists:all(fun is_network/1, Value);
+is(users, Value) ->
+    is_map(Value) andalso lists:all(fun(Text) -> is(text, Text) end, maps:keys(Value) ++ maps:values(Value));
+is(text, Value) -> is_binary(Value) andalso Value =/= <<>>;
+is(ip, Value) -> inet:is_ipv4_address(Value);
+is(address, {Address, Port}) -> inet:is_ipv4_address(Address) andalso is({1, 65535}, Port);
+is(address, _) -> false;
+is({Min, Max}, Value) -> is_integer(Value) andalso Value >= Min andalso Value =< Max.
+
+is_network({Address, Bits}) -> inet:is_ipv4_address(Address) andalso is({0, 32}, Bits);
+is_network(_) -> false.
+
+is_token({Token, Role}) when is_binary(Token), byte_size(Token) >= 16 -> lists:member(Role, [operator, viewer]);
+is_token(_) -> false.
+
+described(store) -> "memory or disc";
+described(networks) -> "a list of networks such as {{192,0,2,0},24}";
+described(users) -> "a map of passwords by name, both binaries that aren't empty";
+described(tokens) -> "a list of tokens such as {<<\"sixteen bytes or more\">>,operator} or ..,viewer}";
+described(gateways) -> "a list of at least one gateway";
+described(text) -> "a binary that isn't empty";
+described(ip) -> "an IPv4 address such as {127,0,0,1}";
+described(address) -> "an IPv4 address and a port such as {{127,0,0,1},2944}";
+described({Min, Max}) -> io_lib:format("a whole number from ~b to ~b", [Min, Max]).
+
+wrong(Format, Values) ->
+    {error, lists:flatten(io_lib:format(Format, Values))}.

@@ -1,0 +1,110 @@
+%%% @doc A SIP dialog as a value (RFC 3261, section 12), of a call that came in.
+-module(lobby_dialog).
+
+-include_lib("p1_sip/include/esip.hrl").
+
+-export([new/2, received/2, refreshed/2, request/4, ack/2, contact/1, target/2, key/1, caller/1]).
+-export_type([dialog/0, own/0]).
+
+%% The transport and the own address.
+-type own() :: {Transport :: binary(), lobby_sip_message:peer()}.
+-type party() :: {binary(), #uri{}, [{binary(), binary()}]}.
+-record(dialog, {call_id :: binary(), local :: party(), remote :: party(), remote_tag :: binary(),
+                 target :: #uri{}, routes :: [party()], own_sequence = 0 :: non_neg_integer(),
+                 sequence :: non_neg_integer()}).
+-opaque dialog() :: #dialog{}.
+
+%% @doc The dialog that our 200 to an INVITE makes, with our tag.
+-spec new(lobby_sip_message:message(), Tag :: binary()) -> {ok, dialog()} | {error, no_contact}.
+new(Invite, Tag) ->
+    case lobby_sip_message:headers(contact, Invite) of
+        [{_, Target = #uri{}, _} | _] ->
+            {Name, Uri, Params} = lobby_sip_message:header(to, Invite),
+            {ok, #dialog{call_id = lobby_sip_message:header('call-id', Invite),
+                         local = {Name, Uri, lists:keystore(<<"tag">>, 1, Params, {<<"tag">>, Tag})},
+                         remote = lobby_sip_message:header(from, Invite),
+                         remote_tag = lobby_sip_message:tag(from, Invite),
+                         target = Target, routes = lobby_sip_message:headers('record-route', Invite),
+                         sequence = lobby_sip_message:sequence(Invite)}};
+        _ ->
+            {error, no_contact}
+    end.
+
+%% @doc A request in the dialog: new, one that came before, or older than the last one (section 12.2.2).
+-spec received(lobby_sip_message:message(), dialog()) -> {new, dialog()} | repeated | old.
+received(Request, D = #dialog{sequence = Last}) ->
+    case lobby_sip_message:sequence(Request) of
+        Sequence when Sequence > Last -> {new, D#dialog{sequence = Sequence}};
+        Last -> repeated;
+        _ -> old
+    end.
+
+%% @doc A re-INVITE, an UPDATE or the answer to ours may have another Contact (section 12.2).
+-spec refreshed(lobby_sip_message:message(), dialog()) -> dialog().
+refreshed(Message, D) ->
+    case lobby_sip_message:headers(contact, Message) of
+        [{_, Target = #uri{}, _} | _] -> D#dialog{target = Target};
+        _ -> D
+    end.
+
+%% @doc An own request in the dialog, from the own address.
+-spec request(Method :: binary(), {Headers :: [{term(), term()}], Body :: binary()}, own(), dialog()) ->
+          {lobby_sip_message:message(), dialog()}.
+request(Method, Content, Own, D = #dialog{own_sequence = Sequence}) ->
+    {message(Method, Sequence + 1, Content, Own, D), D#dialog{own_sequence = Sequence + 1}}.
+
+%% @doc The ACK to a 2xx response to our last INVITE (section 13.2.2.4).
+-spec ack(own(), dialog()) -> lobby_sip_message:message().
+ack(Own, D = #dialog{own_sequence = Sequence}) ->
+    message(<<"ACK">>, Sequence, {[], <<>>}, Own, D).
+
+message(Method, Sequence, {Headers, Body}, Own = {Transport, {Address, Port}}, D) ->
+    #dialog{call_id = CallId, local = Local, remote = Remote} = D,
+    {Uri, Routes} = route(D),
+    Via = #via{transport = Transport, host = list_to_binary(inet:ntoa(Address)), port = Port,
+               params = [{<<"branch">>, lobby_sip_message:branch()}, {<<"rport">>, <<>>}]},
+    #sip{type = request, method = Method, uri = Uri, body = Body,
+         hdrs = [{via, [Via]}, {'max-forwards', 70}, {from, Local}, {to, Remote}, {'call-id', CallId}, {cseq, Sequence},
+                 contact(Own)] ++ [{route, Routes} || Routes =/= []] ++ Headers}.
+
+%% @doc Where the caller reaches us.
+-spec contact(own()) -> {contact, [party()]}.
+contact({Transport, {Address, Port}}) ->
+    Params = [{<<"transport">>, <<"tcp">>} || Transport =:= <<"TCP">>],
+    Uri = #uri{user = <<"lobby">>, host = list_to_binary(inet:ntoa(Address)), port = Port, params = Params},
+    {contact, [{<<>>, Uri, []}]}.
+
+%% Section 12.2.1.1: a first route without lr wants to be the request's URI.
+route(#dialog{target = Target, routes = []}) ->
+    {Target, []};
+route(#dialog{target = Target, routes = Routes = [{_, First, _} | Rest]}) ->
+    case lists:keymember(<<"lr">>, 1, First#uri.params) of
+        true -> {Target, Routes};
+        false -> {First, Rest ++ [{<<>>, Target, []}]}
+    end.
+
+%% @doc Where an own request goes: to the first route or the caller's Contact if that is an IPv4 address, and otherwise
+%% to the address that his last request came from. Over TCP, it goes back over his connection.
+-spec target(dialog(), Source :: lobby_sip_message:target()) -> lobby_sip_message:target().
+target(_, Connection = {tcp, _, _}) ->
+    Connection;
+target(D, Source) ->
+    #uri{host = Host, port = Port} = case D of
+        #dialog{routes = [{_, First, _} | _]} -> First;
+        #dialog{target = Target} -> Target
+    end,
+    case inet:parse_ipv4strict_address(binary_to_list(Host)) of
+        {ok, Address} when is_integer(Port), Port > 0, Port < 65536 -> {Address, Port};
+        {ok, Address} -> {Address, 5060};
+        {error, _} -> Source
+    end.
+
+%% @doc What requests of the caller in this dialog have in common: Call-ID and his tag.
+-spec key(dialog() | lobby_sip_message:message()) -> {CallId :: binary(), Tag :: binary()}.
+key(#dialog{call_id = CallId, remote_tag = Tag}) -> {CallId, Tag};
+key(Request) -> {lobby_sip_message:header('call-id', Request), lobby_sip_message:tag(from, Request)}.
+
+%% @doc How the caller names himself.
+-spec caller(dialog()) -> binary().
+caller(#dialog{remote = {<<>>, Uri, _}}) -> lobby_sip_message:shown(iolist_to_binary(esip_codec:encode_uri(Uri)));
+caller(#dialog{remote = {Name, _, _}}) -> lobby_sip_message:shown(binary:replace(Name, <<"\"">>, <<>>, [global])).

@@ -1,0 +1,235 @@
+%%% @doc The HTTP interface and its page, on OTP's httpd. Requests carry a token (RFC 6750); a viewer's only reads.
+-module(lobby_http).
+
+-include_lib("inets/include/httpd.hrl").
+
+-export([start_link/1, do/1, routes/0]).
+-export_type([config/0]).
+
+-type config() :: #{http := {inet:ip4_address(), inet:port_number()},
+                    tokens := [{Token :: binary(), operator | viewer}]}.
+-type answer() :: {Status :: pos_integer(), lobby_json:json()}
+                | {Status :: pos_integer(), Headers :: [{atom(), string()}], iodata()} | events.
+%% Is called with the name in the path, if it has one, and with the object in the body.
+-type handler() :: fun((binary(), #{binary() => term()}) -> answer()).
+-type route() :: {Method :: string(), Path :: binary(), handler()}.
+
+-spec start_link(config()) -> {ok, pid()} | {error, term()}.
+start_link(#{http := {Address, Port}, tokens := Tokens}) ->
+    ok = persistent_term:put(?MODULE, [{crypto:hash(sha256, Token), Role} || {Token, Role} <- Tokens]),
+    Root = code:priv_dir(lobby),
+    start([{bind_address, Address}, {port, Port}, {server_name, "lobby"}, {server_root, Root}, {document_root, Root},
+           {modules, [?MODULE]}, {max_body_size, 65536}, {server_tokens, none}], 50).
+
+%% When it is started again, the socket of the one before may be closed only a little later.
+start(Options, Tries) ->
+    case inets:start(httpd, Options, stand_alone) of
+        {error, _} when Tries > 1 -> timer:sleep(20), start(Options, Tries - 1);
+        Started -> Started
+    end.
+
+%% @doc Called by httpd for each request.
+-spec do(#mod{}) -> {proceed, [{response, tuple()}]}.
+do(#mod{socket = Socket, method = Method, request_uri = Uri, parsed_header = Headers, entity_body = Body}) ->
+    %% httpd sends head and body apart, so that without this a body would wait for an acknowledgement.
+    ok = inet:setopts(Socket, [{nodelay, true}]),
+    Path = [decoded(Part) || Part <- string:lexemes(hd(string:split(Uri, "?")), "/")],
+    case answer(Method, Path, Headers, list_to_binary(Body)) of
+        events -> ok = lobby_event_stream:run(Socket), {proceed, [{response, {already_sent, 200, 0}}]};
+        {Status, Json} -> response(Status, [{content_type, "application/json"}], lobby_json:encode(Json));
+        {Status, More, Text} -> response(Status, More, Text)
+    end.
+
+response(Status, More, Text) ->
+    Head = [{code, Status}, {content_length, integer_to_list(iolist_size(Text))}, {cache_control, "no-store"} | More],
+    {proceed, [{response, {response, Head, [Text]}}]}.
+
+%% What can't be decoded is no name of anything.
+decoded(Part) ->
+    case uri_string:percent_decode(list_to_binary(Part)) of
+        Text when is_binary(Text) -> Text;
+        _ -> <<>>
+    end.
+
+-spec answer(string(), [binary()], [{string(), string()}], binary()) -> answer().
+answer("GET", [], _, _) ->
+    {200, [{content_type, "text/html; charset=utf-8"}], file("index.html")};
+answer("GET", [<<"openapi.json">>], _, _) ->
+    {200, [{content_type, "application/json"}], file("openapi.json")};
+answer(Method, Path, Headers, Body) ->
+    Matching = [{Known, Name, Handler} || {Known, Route, Handler} <- routes(), Name <- name(Route, Path)],
+    case {role(Headers), Matching} of
+        {none, _} -> denied(401, {'www-authenticate', "Bearer"}, <<"a token is needed: Authorization: Bearer TOKEN">>);
+        {_, []} -> {404, failure(<<"there is nothing of this name">>)};
+        {Role, Routes} -> case lists:keyfind(Method, 1, Routes) of
+            {"GET", Name, Handler} -> Handler(Name, #{});
+            {_, _, _} when Role =:= viewer -> {403, failure(<<"this token only reads">>)};
+            {_, Name, Handler} -> with_object(Body, fun(Object) -> Handler(Name, Object) end);
+            false ->
+                Allowed = lists:join(", ", [Known || {Known, _, _} <- Routes]),
+                denied(405, {allow, lists:append(Allowed)}, iolist_to_binary(["the methods are ", Allowed]))
+        end
+    end.
+
+denied(Status, Header, Text) ->
+    {Status, [{content_type, "application/json"}, Header], lobby_json:encode(failure(Text))}.
+
+with_object(<<>>, Handler) ->
+    Handler(#{});
+with_object(Body, Handler) ->
+    case lobby_json:decode(Body) of
+        {ok, Object} -> Handler(Object);
+        {error, Text} -> {400, failure(Text)}
+    end.
+
+file(Name) ->
+    {ok, Bytes} = file:read_file(filename:join(code:priv_dir(lobby), Name)),
+    Bytes.
+
+role(Headers) ->
+    case proplists:get_value("authorization", Headers) of
+        "Bearer " ++ Token ->
+            %% Hashes are compared, so that the time says nothing of the token.
+            proplists:get_value(crypto:hash(sha256, string:trim(Token)), persistent_term:get(?MODULE), none);
+        _ ->
+            none
+    end.
+
+failure(Text) -> #{error => Text}.
+
+%% The name that a path has where the route has one in braces.
+name(Route, Path) ->
+    names(binary:split(Route, <<"/">>, [global, trim_all]), Path, <<>>).
+
+names([<<"{", _/binary>> | Route], [Name | Path], _) -> names(Route, Path, Name);
+names([Part | Route], [Part | Path], Name) -> names(Route, Path, Name);
+names([], [], Name) -> [Name];
+names(_, _, _) -> [].
+
+%% @doc What can be asked with a token.
+-spec routes() -> [route()].
+routes() ->
+    [{"GET", <<"/rooms">>, fun(_, _) -> {200, #{rooms => lobby_rooms:names()}} end},
+     {"GET", <<"/rooms/{name}">>, fun(Name, _) -> in_room(Name, fun() -> room(Name) end) end},
+     {"PUT", <<"/rooms/{name}">>, fun create/2},
+     {"DELETE", <<"/rooms/{name}">>, fun(Name, _) -> in_room(Name, fun() -> close(Name) end) end},
+     {"POST", <<"/rooms/{name}/rules">>, fun add_rules/2},
+     {"POST", <<"/rooms/{name}/lock">>, fun(Name, _) -> in_room(Name, fun() -> lock(Name, true) end) end},
+     {"POST", <<"/rooms/{name}/unlock">>, fun(Name, _) -> in_room(Name, fun() -> lock(Name, false) end) end},
+     {"POST", <<"/members/{id}/isolate">>, rules(fun(Id, _) -> lobby_rules:isolate({member, Id}) end)},
+     {"POST", <<"/members/{id}/release">>, rules(fun(Id, _) -> lobby_rules:release({member, Id}) end)},
+     {"POST", <<"/members/{id}/oneway">>, fun oneway/2},
+     {"POST", <<"/members/{id}/mute">>, update(#{muted => true})},
+     {"POST", <<"/members/{id}/unmute">>, update(#{muted => false})},
+     {"POST", <<"/members/{id}/role">>, fun role/2},
+     {"POST", <<"/members/{id}/move">>, fun move/2},
+     {"POST", <<"/members/{id}/hang_up">>, fun(Id, _) -> changed(lobby_call:hang_up(Id)) end},
+     {"GET", <<"/gateways">>, fun(_, _) -> {200, #{gateways => gateways()}} end},
+     {"GET", <<"/events">>, fun(_, _) -> events end},
+     {"GET", <<"/metrics">>, fun(_, _) ->
+         {200, [{content_type, "text/plain; version=0.0.4"}], lobby_metrics:text()}
+     end}].
+
+%%% Rooms and gateways.
+
+%% A room can end while it is asked, and wait for its gateway for long.
+in_room(Name, Answer) ->
+    case lists:member(Name, lobby_rooms:names()) of
+        true ->
+            try
+                Answer()
+            catch
+                exit:{timeout, {gen_server, call, _}} -> {504, failure(<<"the gateway doesn't answer yet">>)};
+                exit:{Reason, {gen_server, call, _}} when Reason =:= normal; Reason =:= noproc -> no_room()
+            end;
+        false -> no_room()
+    end.
+
+no_room() -> {404, failure(<<"there is no such room">>)}.
+
+room(Name) ->
+    Audited = lobby_room:audit(Name),
+    Callers = maps:from_list([{Id, Caller} || #{id := Id, caller := Caller} <- lobby_call:all()]),
+    {200, (lobby_json:room(Name, lobby_room:describe(Name), Callers))#{audited => Audited =/= unknown}}.
+
+create(Name, Object) ->
+    case {lobby_rooms:is_name(Name), lobby_json:rules(Object)} of
+        {false, _} -> no_name();
+        {_, {error, Text}} -> {400, failure(Text)};
+        {_, {ok, Rules}} -> changed(lobby_rooms:create(Name, Rules))
+    end.
+
+close(Name) ->
+    ok = lobby_room:let_go(Name),
+    Ids = [Id || #{id := Id, room := Room} <- lobby_call:all(), Room =:= Name],
+    lists:foreach(fun(Id) -> _ = lobby_call:hang_up(Id) end, Ids),
+    changed(ok).
+
+add_rules(Name, Object) ->
+    case lobby_json:rules(Object) of
+        {ok, Rules} -> in_room(Name, fun() -> changed(lobby_room:add_rules(Name, Rules)) end);
+        {error, Text} -> {400, failure(Text)}
+    end.
+
+lock(Name, Locked) -> changed(lobby_room:lock(Name, Locked)).
+
+gateways() -> [lobby_json:gateway(Handle, Load) || {Handle, Load} <- lobby_gateway:serving()].
+
+no_name() -> {400, failure(<<"a room's name has 1 to 32 letters, digits and _.-">>)}.
+
+%%% Members.
+
+%% In the room of this member.
+of_member(Id, Change) ->
+    case [Room || #{id := Known, room := Room} <- lobby_call:all(), Known =:= Id] of
+        [Room] -> in_room(Room, fun() -> changed(Change(Room)) end);
+        [] -> changed({error, no_member})
+    end.
+
+-spec rules(fun((binary(), map()) -> [lobby_rules:rule()])) -> handler().
+rules(Rules) ->
+    fun(Id, Object) -> of_member(Id, fun(Room) -> lobby_room:add_rules(Room, Rules(Id, Object)) end) end.
+
+-spec update(lobby_conference:change()) -> handler().
+update(Change) ->
+    fun(Id, _) -> of_member(Id, fun(Room) -> lobby_room:update(Room, Id, Change) end) end.
+
+oneway(Id, Object) ->
+    with_text(<<"listener">>, Object, fun(Listener) -> of_member(Id, fun(Room) ->
+        case lobby_room:describe(Room) of
+            #{members := #{Listener := _}} ->
+                lobby_room:add_rules(Room, lobby_rules:oneway({member, Id}, {member, Listener}));
+            #{} -> {error, no_listener}
+        end
+    end) end).
+
+role(Id, Object) ->
+    with_text(<<"role">>, Object, fun(Role) -> (update(#{role => Role}))(Id, Object) end).
+
+move(Id, Object) ->
+    with_text(<<"room">>, Object, fun(To) -> case lobby_rooms:is_name(To) of
+        true -> changed(lobby_call:move(Id, To));
+        false -> no_name()
+    end end).
+
+with_text(Key, Object, Change) ->
+    case lobby_json:text(Key, Object) of
+        {ok, Text} -> Change(Text);
+        {error, Text} -> {400, failure(Text)}
+    end.
+
+changed(ok) -> {200, #{}};
+changed({ok, _}) -> {200, #{}};
+changed({error, {refused, Code}}) ->
+    {502, failure(<<"the gateway refuses it: error ", (integer_to_binary(Code))/binary>>)};
+changed({error, Reason}) ->
+    {Status, Text} = reason(Reason),
+    {Status, failure(Text)}.
+
+reason(no_member) -> {404, <<"there is no such member">>};
+reason(no_listener) -> {404, <<"the listener is no member of the room">>};
+reason(same_room) -> {409, <<"the member is in this room">>};
+reason(room_full) -> {409, <<"the room is full">>};
+reason(too_many_rules) -> {409, <<"the room has too many rules">>};
+reason(too_many_rooms) -> {409, <<"there are too many rooms">>};
+reason(no_room) -> {503, <<"no gateway has room">>}.

@@ -1,0 +1,90 @@
+%%% @doc What the HTTP interface reads and writes, as JSON terms (maps, as jiffy has them).
+-module(lobby_json).
+
+-export([decode/1, encode/1, rules/1, text/2, room/3, gateway/2]).
+-export_type([json/0]).
+
+-type json() :: #{binary() | atom() => term()}.
+
+%% @doc An object, and nothing else.
+-spec decode(binary()) -> {ok, #{binary() => term()}} | {error, binary()}.
+decode(Text) ->
+    try jiffy:decode(Text, [return_maps]) of
+        Object when is_map(Object) -> {ok, Object};
+        _ -> {error, <<"the body is not a JSON object">>}
+    catch
+        %% jiffy's error has the position and a name.
+        error:{At, Reason} when is_integer(At), is_atom(Reason) ->
+            {error, iolist_to_binary(io_lib:format("the body is not JSON: ~s at byte ~b", [Reason, At]))}
+    end.
+
+%% @doc Names that callers sent needn't be UTF-8.
+-spec encode(json()) -> iodata().
+encode(Json) ->
+    jiffy:encode(Json, [force_utf8]).
+
+%% @doc The rules of {"rules": [..]} or {"preset": ".."}.
+-spec rules(#{binary() => term()}) -> {ok, [lobby_rules:rule()]} | {error, binary()}.
+rules(#{<<"preset">> := Preset}) ->
+    case lists:keyfind(Preset, 1, [{atom_to_binary(P), P} || P <- [plain, lecture, coaching, monitored]]) of
+        {_, Known} -> {ok, lobby_rules:preset(Known)};
+        false -> {error, <<"preset is one of plain, lecture, coaching, monitored">>}
+    end;
+rules(#{<<"rules">> := Rules}) when is_list(Rules) ->
+    Read = [rule(Rule) || Rule <- Rules],
+    case lists:member(error, Read) of
+        false -> {ok, Read};
+        true -> {error, <<"a rule is {\"hears\": true or false, \"talker\": PARTY, \"listener\": PARTY}, "
+                          "and a party is \"everyone\", {\"role\": TEXT} or {\"member\": ID}">>}
+    end;
+rules(_) ->
+    {error, <<"\"rules\" or \"preset\" is missing">>}.
+
+rule(#{<<"hears">> := Hears, <<"talker">> := Talker, <<"listener">> := Listener}) when is_boolean(Hears) ->
+    case {party(Talker), party(Listener)} of
+        {From, To} when From =/= error, To =/= error -> {case Hears of true -> allow; false -> deny end, From, To};
+        _ -> error
+    end;
+rule(_) ->
+    error.
+
+party(<<"everyone">>) -> everyone;
+party(Party) when map_size(Party) =:= 1 -> case maps:to_list(Party) of
+    [{<<"role">>, Role}] when is_binary(Role), byte_size(Role) =< 32 -> {role, Role};
+    [{<<"member">>, Id}] when is_binary(Id), byte_size(Id) =< 32 -> {member, Id};
+    _ -> error
+end;
+party(_) -> error.
+
+%% @doc A text of 1 to 32 bytes under this key.
+-spec text(binary(), #{binary() => term()}) -> {ok, binary()} | {error, binary()}.
+text(Key, Object) ->
+    case Object of
+        #{Key := Text} when is_binary(Text), byte_size(Text) >= 1, byte_size(Text) =< 32 -> {ok, Text};
+        #{} -> {error, <<"\"", Key/binary, "\" is a text of 1 to 32 bytes">>}
+    end.
+
+%% @doc A room, with what the gateway says of its topology and with callers' names by id.
+-spec room(lobby_room:name(), lobby_room:description(), #{lobby_rules:id() => binary()}) -> json().
+room(Name, Description, Callers) ->
+    #{members := Members, rules := Rules, flows := Flows, gateway := Gateway, context := Context,
+      locked := Locked} = Description,
+    #{name => Name, gateway => or_null(Gateway), context => or_null(Context), locked => Locked,
+      rules => [written(Rule) || Rule <- Rules],
+      members => [Member#{id => Id, caller => maps:get(Id, Callers, <<>>)}
+                  || {Id, Member} <- lists:sort(maps:to_list(Members))],
+      flows => [#{talker => Talker, listener => Listener} || {Talker, Listener} <- Flows]}.
+
+or_null(Atom) when is_atom(Atom) -> null;
+or_null(Value) -> Value.
+
+written({Verdict, Talker, Listener}) ->
+    #{hears => Verdict =:= allow, talker => written_party(Talker), listener => written_party(Listener)}.
+
+written_party(everyone) -> <<"everyone">>;
+written_party({Kind, Name}) -> #{Kind => Name}.
+
+%% @doc A gateway that serves.
+-spec gateway(lobby_gateway:handle(), lobby_placement:load()) -> json().
+gateway(Handle, Load) ->
+    Load#{name => lobby_gateway:name(Handle)}.

@@ -1,0 +1,72 @@
+%%% @doc Who hears whom in a room, as rules about members and roles.
+%%%
+%%% Rules are a list that is read like a firewall's: the last rule that matches a talker and a listener decides, and
+%%% without one the listener hears the talker. Rules name members, never terminations, so they hold on any gateway.
+-module(lobby_rules).
+
+-export([hears/3, flows/2, add/2, forget/2, preset/1, isolate/1, release/1, oneway/2]).
+-export_type([id/0, role/0, party/0, rule/0, member/0, flow/0, flows/0]).
+
+-define(MAX_RULES, 256).
+
+-type id() :: term().
+-type role() :: binary().
+-type party() :: everyone | {role, role()} | {member, id()}.
+%% Whether the second party hears the first one.
+-type rule() :: {allow | deny, Talker :: party(), Listener :: party()}.
+-type member() :: {id(), role()}.
+-type flow() :: {Talker :: id(), Listener :: id()}.
+%% The open flows.
+-type flows() :: sets:set(flow()).
+
+%% @doc Whether the rules let a listener hear a talker. Nobody hears himself.
+-spec hears(Listener :: member(), Talker :: member(), [rule()]) -> boolean().
+hears({Id, _}, {Id, _}, _) ->
+    false;
+hears(Listener, Talker, Rules) ->
+    Matching = [Verdict || {Verdict, From, To} <- Rules, is_party(Talker, From), is_party(Listener, To)],
+    Matching =:= [] orelse lists:last(Matching) =:= allow.
+
+-spec is_party(member(), party()) -> boolean().
+is_party(_, everyone) -> true;
+is_party({_, Role}, {role, Wanted}) -> Role =:= Wanted;
+is_party({Id, _}, {member, Wanted}) -> Id =:= Wanted.
+
+%% @doc The flows that the rules leave open between these members.
+-spec flows([member()], [rule()]) -> flows().
+flows(Members, Rules) ->
+    sets:from_list([{From, To} || Talker = {From, _} <- Members, Listener = {To, _} <- Members,
+                                  hears(Listener, Talker, Rules)], [{version, 2}]).
+
+%% @doc Appends rules. A new rule replaces an earlier one about the same two parties, which it would override.
+-spec add([rule()], [rule()]) -> {ok, [rule()]} | {error, too_many_rules}.
+add(New, Rules) ->
+    Kept = [Rule || Rule = {_, From, To} <- Rules, not lists:any(fun({_, F, T}) -> {F, T} =:= {From, To} end, New)],
+    case Kept ++ New of
+        All when length(All) =< ?MAX_RULES -> {ok, All};
+        _ -> {error, too_many_rules}
+    end.
+
+%% @doc Drops the rules that name a member who left.
+-spec forget(id(), [rule()]) -> [rule()].
+forget(Id, Rules) ->
+    [Rule || Rule = {_, From, To} <- Rules, From =/= {member, Id}, To =/= {member, Id}].
+
+%% @doc Rules for the usual kinds of rooms, by roles.
+-spec preset(plain | lecture | coaching | monitored) -> [rule()].
+preset(plain) -> [];
+preset(lecture) -> [{deny, {role, <<"listener">>}, everyone}];
+preset(coaching) -> [{deny, {role, <<"coach">>}, {role, <<"customer">>}}];
+preset(monitored) -> [{deny, {role, <<"monitor">>}, everyone}].
+
+%% @doc The party hears nobody, and nobody hears it.
+-spec isolate(party()) -> [rule()].
+isolate(Party) -> [{deny, Party, everyone}, {deny, everyone, Party}].
+
+%% @doc The party hears everyone, and everyone hears it.
+-spec release(party()) -> [rule()].
+release(Party) -> [{allow, Party, everyone}, {allow, everyone, Party}].
+
+%% @doc The listener hears the talker, but not the other way round.
+-spec oneway(Talker :: party(), Listener :: party()) -> [rule()].
+oneway(Talker, Listener) -> [{allow, Talker, Listener}, {deny, Listener, Talker}].

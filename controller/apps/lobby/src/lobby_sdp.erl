@@ -1,0 +1,149 @@
+%%% @doc Session descriptions (RFC 4566) of callers: offers, answers and own offers (RFC 3264) of one audio stream with
+%%% G.711. Other streams are declined. The gateway never sees a caller's description.
+-module(lobby_sdp).
+
+-export([parse/1, media/1, direction/1, answer/4, offer/3]).
+-export_type([session/0, direction/0, reason/0]).
+
+%% `sendonly': the one who describes only sends.
+-type direction() :: sendrecv | sendonly | recvonly | inactive.
+-type stream() :: taken | {declined, Kind :: binary(), Transport :: binary(), Formats :: [binary()]}.
+-record(session, {media :: lobby_h248:media(), direction :: direction(), streams :: [stream()]}).
+-opaque session() :: #session{}.
+-type reason() :: no_audio | no_common_format | bad_address | bad_syntax.
+
+-define(MAX_STREAMS, 16).
+
+%% @doc A caller's description.
+-spec parse(binary()) -> {ok, session()} | {error, reason()}.
+parse(Text) ->
+    {Head, Blocks} = blocks([trim(Line) || Line <- binary:split(Text, <<"\n">>, [global])]),
+    case length(Blocks) =< ?MAX_STREAMS andalso [stream(Block) || Block <- Blocks] of
+        false -> {error, bad_syntax};
+        Streams -> case lists:member(bad, Streams) of
+            true -> {error, bad_syntax};
+            false -> take(Head, lists:zip(Streams, Blocks))
+        end
+    end.
+
+%% Bytes, because a description needn't be UTF-8 as a whole.
+words(Text) ->
+    binary:split(Text, <<" ">>, [global, trim_all]).
+
+trim(Line) ->
+    re:replace(Line, "[\r ]+$", "", [{return, binary}]).
+
+%% The lines before the first m= line, and a list of lines for each m= line.
+blocks(Lines) ->
+    {Head, Rest} = lists:splitwith(fun(Line) -> not is_media(Line) end, Lines),
+    {Head, media_blocks(Rest)}.
+
+media_blocks([]) ->
+    [];
+media_blocks([First | Rest]) ->
+    {Lines, Others} = lists:splitwith(fun(Line) -> not is_media(Line) end, Rest),
+    [[First | Lines] | media_blocks(Others)].
+
+is_media(<<"m=", _/binary>>) -> true;
+is_media(_) -> false.
+
+stream([<<"m=", Value/binary>> | _]) ->
+    case words(Value) of
+        [Kind, Port, Transport | Formats = [_ | _]] -> {Kind, port(Port), Transport, Formats};
+        _ -> bad
+    end.
+
+%% A port range (`4000/2') isn't taken.
+port(Text) ->
+    case string:to_integer(Text) of
+        {Port, <<>>} when Port > 0, Port < 65536 -> Port;
+        _ -> none
+    end.
+
+%% The first stream that can be served is taken, and the others are declined.
+take(Head, Streams) ->
+    Tried = [{Stream, audio(Stream, Lines, Head)} || {Stream, Lines} <- Streams],
+    case [Found || {_, Found = {ok, _, _}} <- Tried] of
+        [{ok, Media, Direction} | _] ->
+            {Before, [_ | After]} = lists:splitwith(fun({_, Found}) -> element(1, Found) =/= ok end, Tried),
+            Streams1 = [declined(S) || {S, _} <- Before] ++ [taken] ++ [declined(S) || {S, _} <- After],
+            {ok, #session{media = Media, direction = Direction, streams = Streams1}};
+        [] ->
+            {error, hd([Reason || {_, {error, Reason}} <- Tried, Reason =/= no_audio] ++ [no_audio])}
+    end.
+
+declined({Kind, _, Transport, Formats}) ->
+    {declined, Kind, Transport, Formats}.
+
+audio({<<"audio">>, Port, <<"RTP/AVP">>, Formats}, Lines, Head) when Port =/= none ->
+    case {[Format || Type <- Formats, Format <- format(Type)], address(Lines ++ Head)} of
+        {[], _} -> {error, no_common_format};
+        {_, none} -> {error, bad_address};
+        {[Format | _], {0, 0, 0, 0}} -> {ok, {{{0, 0, 0, 0}, Port}, Format}, inactive};
+        {[Format | _], Address} -> {ok, {{Address, Port}, Format}, direction_of(Lines ++ Head)}
+    end;
+audio(_, _, _) ->
+    {error, no_audio}.
+
+format(<<"0">>) -> [pcmu];
+format(<<"8">>) -> [pcma];
+format(_) -> [].
+
+%% Only IPv4 addresses of a host: the gateway sends to nothing else.
+address(Lines) ->
+    case [Host || <<"c=", Value/binary>> <- Lines, [<<"IN">>, <<"IP4">>, Host] <- [words(Value)]] of
+        [Host | _] -> case inet:parse_ipv4strict_address(binary_to_list(Host)) of
+            {ok, Address = {First, _, _, _}} when First < 224 -> Address;
+            _ -> none
+        end;
+        [] -> none
+    end.
+
+direction_of(Lines) ->
+    case [Direction || <<"a=", Value/binary>> <- Lines, Direction <- direction_named(Value)] of
+        [Direction | _] -> Direction;
+        [] -> sendrecv
+    end.
+
+direction_named(<<"sendrecv">>) -> [sendrecv];
+direction_named(<<"sendonly">>) -> [sendonly];
+direction_named(<<"recvonly">>) -> [recvonly];
+direction_named(<<"inactive">>) -> [inactive];
+direction_named(_) -> [].
+
+%% @doc Where the caller receives, and in which format.
+-spec media(session()) -> lobby_h248:media().
+media(#session{media = Media}) -> Media.
+
+%% @doc The caller's direction; `inactive' if he holds with the address 0.0.0.0.
+-spec direction(session()) -> direction().
+direction(#session{direction = Direction}) -> Direction.
+
+%% @doc The answer to an offer. Id and version are those of the own description (its o= line).
+-spec answer(session(), Local :: lobby_h248:media(), Id :: non_neg_integer(), Version :: non_neg_integer()) -> binary().
+answer(#session{direction = Direction, streams = Streams}, Local, Id, Version) ->
+    description(Streams, Local, reversed(Direction), Id, Version).
+
+%% @doc An own offer of one stream, to a caller who has described nothing yet, or what he described: the streams keep
+%% their places (RFC 3264, section 8).
+-spec offer(session() | none, Local :: lobby_h248:media(), {Id :: non_neg_integer(), Version :: non_neg_integer()}) ->
+          binary().
+offer(none, Local, {Id, Version}) -> description([taken], Local, sendrecv, Id, Version);
+offer(#session{streams = Streams}, Local, {Id, Version}) -> description(Streams, Local, sendrecv, Id, Version).
+
+reversed(sendonly) -> recvonly;
+reversed(recvonly) -> sendonly;
+reversed(Direction) -> Direction.
+
+description(Streams, {{Address, Port}, Format}, Direction, Id, Version) ->
+    Host = inet:ntoa(Address),
+    iolist_to_binary([
+        io_lib:format("v=0\r\no=- ~b ~b IN IP4 ~s\r\ns=-\r\nc=IN IP4 ~s\r\nt=0 0\r\n", [Id, Version, Host, Host]),
+        [stream(Stream, Port, Format, Direction) || Stream <- Streams]]).
+
+stream({declined, Kind, Transport, Formats}, _, _, _) ->
+    ["m=", Kind, " 0 ", Transport, [[" ", Format] || Format <- Formats], "\r\n"];
+stream(taken, Port, Format, Direction) ->
+    {Type, Name} = case Format of pcmu -> {0, "PCMU"}; pcma -> {8, "PCMA"} end,
+    io_lib:format("m=audio ~b RTP/AVP ~b\r\na=rtpmap:~b ~s/8000\r\na=ptime:20\r\na=~s\r\n",
+                  [Port, Type, Type, Name, Direction]).

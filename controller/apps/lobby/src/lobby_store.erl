@@ -1,0 +1,68 @@
+%%% @doc What has to outlive the process that knows it: rooms, calls, and what gateways have for us. With a folder for
+%%% mnesia, it also outlives the node.
+-module(lobby_store).
+-behaviour(gen_server).
+
+-export([start_link/1, put/3, get/2, delete/2, all/1, count/1]).
+-export([init/1, handle_call/3, handle_cast/2]).
+-export_type([table/0, config/0]).
+
+-type table() :: lobby_rooms | lobby_gateways | lobby_calls | lobby_counters.
+%% `disc': mnesia's folder (its `dir') has the tables, too.
+-type config() :: #{store := memory | disc}.
+-define(TABLES, [lobby_rooms, lobby_gateways, lobby_calls, lobby_counters]).
+-define(WAIT, 30000).
+
+-spec start_link(config()) -> gen_server:start_ret().
+start_link(Config) ->
+    gen_server:start_link({local, ?MODULE}, ?MODULE, Config, []).
+
+-spec put(table(), Key :: term(), Value :: term()) -> ok.
+put(Table, Key, Value) ->
+    mnesia:dirty_write({Table, Key, Value}).
+
+-spec get(table(), Key :: term()) -> {ok, Value :: term()} | error.
+get(Table, Key) ->
+    case mnesia:dirty_read(Table, Key) of
+        [{_, _, Value}] -> {ok, Value};
+        [] -> error
+    end.
+
+-spec delete(table(), Key :: term()) -> ok.
+delete(Table, Key) ->
+    mnesia:dirty_delete(Table, Key).
+
+-spec all(table()) -> [{Key :: term(), Value :: term()}].
+all(Table) ->
+    [{Key, Value} || {_, Key, Value} <- mnesia:dirty_match_object({Table, '_', '_'})].
+
+%% @doc Adds one to a counter.
+-spec count(Key :: term()) -> ok.
+count(Key) ->
+    _ = mnesia:dirty_update_counter(lobby_counters, Key, 1),
+    ok.
+
+%% Tables that are there stay as they are: a process that starts again finds what it had.
+-spec init(config()) -> {ok, none}.
+init(#{store := Store}) ->
+    Copies = case Store of memory -> ram_copies; disc -> disc_copies end,
+    Store =:= disc andalso on_disc(mnesia:change_table_copy_type(schema, node(), disc_copies)),
+    lists:foreach(fun(Table) ->
+        case mnesia:create_table(Table, [{Copies, [node()]}, {attributes, [key, value]}]) of
+            {atomic, ok} -> ok;
+            {aborted, {already_exists, Table}} -> ok
+        end
+    end, ?TABLES),
+    ok = mnesia:wait_for_tables(?TABLES, ?WAIT),
+    {ok, none}.
+
+on_disc({atomic, ok}) -> true;
+on_disc({aborted, {already_exists, schema, _, disc_copies}}) -> true.
+
+-spec handle_call(term(), gen_server:from(), none) -> {reply, {error, unknown_call}, none}.
+handle_call(_, _, none) ->
+    {reply, {error, unknown_call}, none}.
+
+-spec handle_cast(term(), none) -> {noreply, none}.
+handle_cast(_, none) ->
+    {noreply, none}.

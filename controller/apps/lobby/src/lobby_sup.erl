@@ -1,0 +1,46 @@
+%%% @doc The top. Each child needs those before it: if one fails, those after it are started again, and go on with what
+%%% the store kept.
+-module(lobby_sup).
+-behaviour(supervisor).
+
+-export([start_link/1, start_link/2, init/1]).
+
+-spec start_link(lobby_config:config()) -> supervisor:startlink_ret().
+start_link(Config) ->
+    supervisor:start_link({local, ?MODULE}, ?MODULE, Config).
+
+%% @doc A supervisor below the top, which is registered by this name.
+-spec start_link(Name :: atom(), {gateways, [lobby_gateway:config()]} | rooms | calls) -> supervisor:startlink_ret().
+start_link(Name, Children) ->
+    supervisor:start_link({local, Name}, ?MODULE, Children).
+
+%% Whatever fails takes up what its predecessor knew.
+-spec init(lobby_config:config() | {gateways, [lobby_gateway:config()]} | rooms | calls) ->
+          {ok, {supervisor:sup_flags(), [supervisor:child_spec()]}}.
+init({gateways, Gateways}) ->
+    {ok, {#{strategy => one_for_one, intensity => 20, period => 10},
+          [#{id => Name, start => {lobby_gateway, start_link, [Gateway]}} || Gateway = #{name := Name} <- Gateways]}};
+init(rooms) ->
+    {ok, {#{strategy => simple_one_for_one, intensity => 20, period => 10},
+          [#{id => room, start => {lobby_room, start_link, []}, restart => transient}]}};
+init(calls) ->
+    {ok, {#{strategy => simple_one_for_one, intensity => 100, period => 10},
+          [#{id => call, start => {lobby_call, start_link, []}, restart => transient}]}};
+init(Config = #{gateways := Gateways, sip := Own}) ->
+    Sip = maps:with([sip, max_calls, max_calls_from, callers, users], Config),
+    Http = maps:with([http, tokens], Config),
+    {ok, {#{strategy => rest_for_one, intensity => 10, period => 10}, [
+        #{id => lobby_store, start => {lobby_store, start_link, [maps:with([store], Config)]}},
+        #{id => pg, start => {pg, start_link, [lobby]}},
+        #{id => lobby_registry, start => {lobby_registry, start_link, []}},
+        sup(lobby_gateway_sup, {gateways, Gateways}),
+        sup(lobby_room_sup, rooms),
+        #{id => restore_rooms, start => {lobby_rooms, restore, []}},
+        sup(lobby_call_sup, calls),
+        #{id => lobby_sip, start => {lobby_sip, start_link, [Sip]}},
+        #{id => lobby_tcp_sup, start => {lobby_tcp_sup, start_link, [Own]}, type => supervisor},
+        #{id => restore_calls, start => {lobby_call, restore, []}},
+        #{id => lobby_http, start => {lobby_http, start_link, [Http]}, type => supervisor}]}}.
+
+sup(Name, Children) ->
+    #{id => Name, start => {?MODULE, start_link, [Name, Children]}, type => supervisor}.

@@ -1,0 +1,98 @@
+%%% @doc Turns a change of the open flows in a context into Topology triples (RFC 3525, section 7.1.18).
+%%%
+%%% The triples of one request take effect together. A change that doesn't fit into one request takes several. It
+%%% closes flows first, so that between two requests no flow is open that is open neither before nor after the change.
+-module(lobby_topology).
+
+-export([changes/3, changes/4, after_batch/3, from_triples/1, everyone/1]).
+-export_type([direction/0, triple/1]).
+
+%% A triple has at most 34 bytes, with ten-digit numbers, and the gateway reads messages of up to 8,192 bytes.
+-define(MAX_TRIPLES, 200).
+
+-type direction() :: bothway | oneway | isolate.
+%% In a oneway triple, the second termination hears the first one.
+-type triple(Name) :: {Name | all, Name | all, direction()}.
+
+%% @doc All flows between these members: what a context has without a Topology.
+-spec everyone([Id]) -> sets:set({Id, Id}).
+everyone(Ids) ->
+    sets:from_list([{A, B} || A <- Ids, B <- Ids, A =/= B], [{version, 2}]).
+
+%% @doc The triples that change the open flows between these members, in batches of one request each.
+-spec changes([Id], Before :: sets:set({Id, Id}), After :: sets:set({Id, Id})) -> [[triple(Id)]].
+changes(Ids, Before, After) ->
+    changes(Ids, Before, After, ?MAX_TRIPLES).
+
+%% @doc The same, with at most this many triples in a batch.
+-spec changes([Id], Before :: sets:set({Id, Id}), After :: sets:set({Id, Id}), pos_integer()) -> [[triple(Id)]].
+changes(Ids, Before, After, Max) ->
+    Pairs = [{Was, Is} || {A, B} <- pairs(Ids), Was <- [state(A, B, Before)], Is <- [state(A, B, After)], Was =/= Is],
+    {Closing, Opening} = lists:partition(fun({Was, Is}) -> closes(Was, Is) end, Pairs),
+    Triples = [Is || {_, Is} <- Closing ++ Opening],
+    case length(Triples) =< Max orelse whole(Ids, After, Max) of
+        true -> [Triples || Triples =/= []];
+        {ok, Whole} -> [Whole];
+        none -> batches(Triples, Max)
+    end.
+
+%% All flows anew: what most pairs have, and then the others. Only if this fits into one request, because in between
+%% flows would be open that must not be.
+whole(Ids, After, Max) ->
+    States = [state(A, B, After) || {A, B} <- pairs(Ids)],
+    Candidates = [[{all, all, Most} | [State || State = {_, _, How} <- States, How =/= Most]]
+                  || Most <- [bothway, isolate]],
+    case [Whole || Whole <- Candidates, length(Whole) =< Max] of
+        [Whole | _] -> {ok, Whole};
+        [] -> none
+    end.
+
+pairs(Ids) ->
+    [{A, B} || [A | Later] <- suffixes(Ids), B <- Later].
+
+suffixes([]) -> [];
+suffixes(List = [_ | Tail]) -> [List | suffixes(Tail)].
+
+%% The triple that describes a pair.
+state(A, B, Flows) ->
+    case {sets:is_element({A, B}, Flows), sets:is_element({B, A}, Flows)} of
+        {true, true} -> {A, B, bothway};
+        {true, false} -> {A, B, oneway};
+        {false, true} -> {B, A, oneway};
+        {false, false} -> {A, B, isolate}
+    end.
+
+%% Whether the change of a pair closes a flow.
+closes({_, _, isolate}, _) -> false;
+closes({_, _, bothway}, _) -> true;
+closes({_, _, oneway}, {_, _, bothway}) -> false;
+closes({_, _, oneway}, _) -> true.
+
+batches([], _) -> [];
+batches(Triples, Max) when length(Triples) =< Max -> [Triples];
+batches(Triples, Max) ->
+    {Batch, Rest} = lists:split(Max, Triples),
+    [Batch | batches(Rest, Max)].
+
+%% @doc The open flows between these members after a request with this batch.
+-spec after_batch([Id], Before :: sets:set({Id, Id}), [triple(Id)]) -> sets:set({Id, Id}).
+after_batch(Ids, Before, Batch) ->
+    lists:foldl(fun({A, B, How}, Flows) ->
+        set(How, [{X, Y} || X <- named(A, Ids), Y <- named(B, Ids), X =/= Y], Flows)
+    end, Before, Batch).
+
+%% @doc The open flows that an audit of the topology lists.
+-spec from_triples([triple(Id)]) -> sets:set({Id, Id}).
+from_triples(Triples) ->
+    lists:foldl(fun({A, B, How}, Flows) -> set(How, [{A, B}], Flows) end, sets:new([{version, 2}]), Triples).
+
+named(all, Ids) -> Ids;
+named(Id, _) -> [Id].
+
+set(bothway, Pairs, Flows) -> opened(Pairs, opened(reversed(Pairs), Flows));
+set(oneway, Pairs, Flows) -> opened(Pairs, closed(reversed(Pairs), Flows));
+set(isolate, Pairs, Flows) -> closed(Pairs, closed(reversed(Pairs), Flows)).
+
+opened(Pairs, Flows) -> lists:foldl(fun sets:add_element/2, Flows, Pairs).
+closed(Pairs, Flows) -> lists:foldl(fun sets:del_element/2, Flows, Pairs).
+reversed(Pairs) -> [{B, A} || {A, B} <- Pairs].

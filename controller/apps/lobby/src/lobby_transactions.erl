@@ -1,0 +1,146 @@
+%%% @doc The transactions with one gateway, as a value: numbers, a window, retransmission and acknowledgement (RFC 3525,
+%%% section 8 and annex D).
+%%%
+%%% The gateway runs a request again if it arrives again after its reply was pushed out by 32 others. So only a few
+%%% requests are sent after the oldest one that has no answer. It also runs a request again that arrives after its
+%%% reply was acknowledged. So an acknowledgement follows only after a quiet time, in which no copy can be under way.
+-module(lobby_transactions).
+
+-export([new/3, submit/4, resubmit/4, received/4, expired/2, deadline/1, hold/1, resume/2, abandon/1]).
+-export_type([transactions/0, options/0, effect/1, reply/0]).
+
+%% Half of the 32 replies that a gateway keeps for all its controllers.
+-define(WINDOW, 16).
+-define(KEPT_REPLIES, 32).
+-define(MAX_WAITING, 1024).
+
+-type milliseconds() :: integer().
+%% `tries': how often a request is sent, `retry' apart, before the gateway counts as lost.
+-type options() :: #{retry := pos_integer(), tries := pos_integer(), quiet := pos_integer()}.
+-type reply() :: {ok, lobby_h248:reply()} | {error, Code :: pos_integer()}.
+-type effect(From) :: {send, binary()} | {answer, From, lobby_h248:action(), reply()} | {refuse, From, busy}
+                    | no_answer.
+
+-record(request, {from :: term(), action :: lobby_h248:action(), message :: binary(), again :: milliseconds(),
+                  left :: non_neg_integer() | infinity}).
+-record(transactions, {sender :: lobby_h248:endpoint(), options :: options(), next :: lobby_h248:transaction(),
+                       open = #{} :: #{lobby_h248:transaction() => #request{}},
+                       waiting = queue:new() :: queue:queue({term(), lobby_h248:action(), pos_integer() | infinity}),
+                       %% Answered and not acknowledged, with the end of the quiet time, newest first.
+                       answered = [] :: [{lobby_h248:transaction(), milliseconds()}],
+                       %% Requests that are held back: those that were sent, and those that waited.
+                       held = none :: {#{lobby_h248:transaction() => #request{}}, queue:queue(term())} | none}).
+-opaque transactions() :: #transactions{}.
+
+%% @doc Numbers ascend from the first one. It has to be higher than those that the gateway may have replies for.
+-spec new(Sender :: lobby_h248:endpoint(), First :: lobby_h248:transaction(), options()) -> transactions().
+new(Sender, First, Options) ->
+    #transactions{sender = Sender, options = Options, next = First}.
+
+%% @doc Sends a request, now or as soon as the window allows it. An urgent one is the next, and never refused. With
+%% `forever', it is repeated until it is answered.
+-spec submit({queued | urgent | forever, From}, lobby_h248:action(), milliseconds(), transactions()) ->
+          {[effect(From)], transactions()}.
+submit({queued, From}, Action, Now, T = #transactions{waiting = Waiting, options = #{tries := Tries}}) ->
+    case queue:len(Waiting) of
+        ?MAX_WAITING -> {[{refuse, From, busy}], T};
+        _ -> flush(Now, T#transactions{waiting = queue:in({From, Action, Tries}, Waiting)})
+    end;
+submit({Kind, From}, Action, Now, T = #transactions{waiting = Waiting, options = #{tries := Tries}}) ->
+    Left = case Kind of urgent -> Tries; forever -> infinity end,
+    flush(Now, T#transactions{waiting = queue:in_r({From, Action, Left}, Waiting)}).
+
+%% @doc Repeats an abandoned request under its number, so that it isn't run twice.
+-spec resubmit({lobby_h248:transaction(), lobby_h248:action()}, From, milliseconds(), transactions()) ->
+          {[effect(From)], transactions()}.
+resubmit({Number, Action}, From, Now, T = #transactions{options = #{tries := Tries}}) ->
+    send(Number, From, Action, Tries, Now, T).
+
+flush(Now, T = #transactions{open = Open, waiting = Waiting, next = Number}) ->
+    case {queue:out(Waiting), Number - lists:min([Number | maps:keys(Open)]) < ?WINDOW} of
+        {{{value, {From, Action, Left}}, Rest}, true} ->
+            Next = T#transactions{waiting = Rest, next = following(Number)},
+            {Sent, T1} = send(Number, From, Action, Left, Now, Next),
+            {Effects, T2} = flush(Now, T1),
+            {Sent ++ Effects, T2};
+        _ ->
+            {[], T}
+    end.
+
+following(16#FFFFFFFF) -> 1;
+following(Number) -> Number + 1.
+
+send(Number, From, Action, Left, Now, T = #transactions{sender = Sender, open = Open, options = #{retry := Retry}}) ->
+    Message = lobby_h248:request(Sender, Number, Action),
+    Request = #request{from = From, action = Action, message = Message, again = Now + Retry, left = less(Left)},
+    {[{send, Message}], T#transactions{open = Open#{Number => Request}}}.
+
+less(infinity) -> infinity;
+less(Left) -> Left - 1.
+
+%% @doc A reply arrived. One that nothing waits for is ignored.
+-spec received(lobby_h248:transaction(), reply(), milliseconds(), transactions()) -> {[effect(term())], transactions()}.
+received(Number, Reply, Now, T = #transactions{open = Open, answered = Answered, options = #{quiet := Quiet}}) ->
+    case maps:take(Number, Open) of
+        {#request{from = From, action = Action}, Rest} ->
+            Later = lists:sublist([{Number, Now + Quiet} | Answered], ?KEPT_REPLIES),
+            {Sent, T1} = flush(Now, T#transactions{open = Rest, answered = Later}),
+            {[{answer, From, Action, Reply} | Sent], T1};
+        error ->
+            {[], T}
+    end.
+
+%% @doc Repeats what has waited long enough, and acknowledges what is quiet. `no_answer': a request was sent often
+%% enough.
+-spec expired(milliseconds(), transactions()) -> {[effect(term())], transactions()}.
+expired(Now, T = #transactions{open = Open}) ->
+    Due = lists:sort([Number || {Number, #request{again = Again}} <- maps:to_list(Open), Again =< Now]),
+    case [Number || Number <- Due, (maps:get(Number, Open))#request.left =:= 0] of
+        [] ->
+            {Sent, T1} = lists:mapfoldl(fun(Number, Acc) -> again(Number, Now, Acc) end, T, Due),
+            {Acknowledged, T2} = acknowledge(Now, T1),
+            {Sent ++ Acknowledged, T2};
+        _ ->
+            {[no_answer], T}
+    end.
+
+again(Number, Now, T = #transactions{open = Open, options = #{retry := Retry}}) ->
+    #{Number := Request = #request{message = Message, left = Left}} = Open,
+    {{send, Message}, T#transactions{open = Open#{Number := Request#request{again = Now + Retry, left = less(Left)}}}}.
+
+acknowledge(Now, T = #transactions{answered = Answered, sender = Sender}) ->
+    case lists:partition(fun({_, Quiet}) -> Quiet =< Now end, Answered) of
+        {[], _} -> {[], T};
+        {Quiet, Later} ->
+            Message = lobby_h248:acknowledgement(Sender, lists:sort([Number || {Number, _} <- Quiet])),
+            {[{send, Message}], T#transactions{answered = Later}}
+    end.
+
+%% @doc When `expired/2' is to be called next.
+-spec deadline(transactions()) -> milliseconds() | infinity.
+deadline(#transactions{open = Open, answered = Answered}) ->
+    Again = [Time || #request{again = Time} <- maps:values(Open)],
+    Quiet = [Time || {_, Time} <- Answered],
+    lists:min([infinity | Again ++ Quiet]).
+
+%% @doc Holds all requests back, and then sends only what is submitted from now on, until `resume/2'.
+-spec hold(transactions()) -> transactions().
+hold(T = #transactions{open = Open, waiting = Waiting}) ->
+    T#transactions{held = {Open, Waiting}, open = #{}, waiting = queue:new()}.
+
+%% @doc Goes on with the requests that were held back. Those that were sent before are sent again under their numbers.
+-spec resume(milliseconds(), transactions()) -> {[effect(term())], transactions()}.
+resume(Now, T = #transactions{held = {Held, Waiting}, options = #{tries := Tries}}) ->
+    Again = maps:map(fun(_, Request) -> Request#request{again = Now, left = Tries} end, Held),
+    {Sent, T1} = expired(Now, T#transactions{held = none, open = Again, waiting = Waiting}),
+    {More, T2} = flush(Now, T1),
+    {Sent ++ More, T2}.
+
+%% @doc Gives up all requests: who waits for an answer, and what may have been run without our knowledge.
+-spec abandon(transactions()) -> {[From :: term()], [{lobby_h248:transaction(), lobby_h248:action()}], transactions()}.
+abandon(T = #transactions{held = {Held, Later}, open = Open, waiting = Waiting}) ->
+    abandon(T#transactions{held = none, open = maps:merge(Held, Open), waiting = queue:join(Later, Waiting)});
+abandon(T = #transactions{open = Open, waiting = Waiting}) ->
+    Froms = [From || #request{from = From} <- maps:values(Open)] ++ [From || {From, _, _} <- queue:to_list(Waiting)],
+    {Froms, [{Number, Action} || {Number, #request{action = Action}} <- maps:to_list(Open)],
+     T#transactions{open = #{}, waiting = queue:new()}}.

@@ -1,0 +1,711 @@
+%% SIP calls, with a phone that does as it is told, and real gateways.
+-module(lobby_calls_SUITE).
+
+-include_lib("common_test/include/ct.hrl").
+-include_lib("stdlib/include/assert.hrl").
+
+-compile([export_all]).
+
+all() ->
+    [a_call, callers_hear_each_other, a_repeated_invite_has_the_same_answer, the_answer_is_repeated_until_the_ack,
+     without_an_ack_the_call_ends, hold_and_resume, hold_by_update, streams_are_declined, an_offer_that_comes_late, cancel_and_options,
+     session_timers, who_is_silent_is_asked, requests_that_are_refused, limits, addresses_that_may_call, passwords, a_lost_gateway_is_replaced, sixty_callers_hear_each_other_again, our_invite_is_repeated_and_acknowledged, both_invite_at_once,
+     who_vanished_is_removed, who_refuses_our_invite_is_hung_up, hung_up_and_moved, addresses_of_ipv6, routes, a_call_that_starts_again_knows_its_place, processes_fail, the_node_fails, garbage,
+     over_tcp, connections_are_limited, answers_are_quick, sipp, baresips].
+
+init_per_testcase(Case, Config) ->
+    ok = application:load(lobby),
+    Gateways = [gateway:start() || _ <- lists:seq(1, case lists:member(Case, [a_lost_gateway_is_replaced, sixty_callers_hear_each_other_again]) of true -> 2; false -> 1 end)],
+    Sip = gateway:free_address(),
+    Env = [{gateways, [gateway:config(integer_to_binary(N), G) || {N, G} <- lists:enumerate(Gateways)]}, {sip, Sip}, {http, gateway:free_address()} | env(Case)],
+    [ok = application:set_env(lobby, Key, Value) || {Key, Value} <- Env],
+    {ok, _} = application:ensure_all_started(lobby),
+    until(fun() -> length(lobby_gateway:serving()) =:= length(Gateways) end),
+    [{sip, Sip}, {gateways, Gateways} | Config].
+
+%% Short timers: a phone that doesn't answer is given up after 64 * t1.
+env(addresses_that_may_call) -> [{callers, [{{192, 0, 2, 0}, 24}]}];
+env(passwords) -> [{users, #{<<"test">> => <<"secret">>}}];
+env(session_timers) -> [{min_se, 2}];
+env(who_is_silent_is_asked) -> [{silent_after, 1000}, {room_audit, 500}];
+env(limits) -> [{max_calls_from, 3}, {max_calls, 4}];
+env(Case) when Case =:= without_an_ack_the_call_ends; Case =:= who_vanished_is_removed -> [{t1, 20}];
+env(both_invite_at_once) -> [{t1, 100}];
+env(_) -> [].
+
+end_per_testcase(_, Config) ->
+    _ = application:stop(lobby),
+    _ = application:stop(mnesia),
+    ok = application:unload(lobby),
+    gateway:kill_all(),
+    Config.
+
+%% Longer than it takes, for a busy machine.
+until(Holds) -> until(Holds, erlang:monotonic_time(millisecond), 15000).
+
+until(Holds, Start, Limit) ->
+    Passed = erlang:monotonic_time(millisecond) - Start,
+    case Holds() of
+        true -> Passed;
+        false when Passed < Limit -> timer:sleep(5), until(Holds, Start, Limit);
+        false -> error({not_within_ms, Limit})
+    end.
+
+sip(Config) -> proplists:get_value(sip, Config).
+gateway(Config) -> hd(proplists:get_value(gateways, Config)).
+
+%% Calls a room, and acknowledges.
+call(Config) -> call("100", Config).
+call(Room, Config) ->
+    Phone = phone:start(sip(Config), Room),
+    Calling = phone:invite(phone:sdp(Phone), Phone),
+    Response = phone:recv(Calling),
+    ?assertEqual(200, phone:status(Response)),
+    Talking = phone:learn(Response, Calling),
+    phone:ack(Talking),
+    {Talking, Response}.
+
+%% Where the gateway receives, by a description.
+local(Text) ->
+    {match, [Port]} = re:run(Text, "m=audio (\\d+) ", [{capture, all_but_first, list}]),
+    {{127, 0, 0, 1}, list_to_integer(Port)}.
+
+members(Room) ->
+    try
+        maps:keys(maps:get(members, lobby_room:describe(Room)))
+    catch
+        exit:{_, {gen_server, call, _}} -> []
+    end.
+
+%% The modes in a room's context, as the gateway itself says.
+modes(Room, Config) ->
+    #{context := Context} = lobby_room:describe(Room),
+    lists:sort(maps:values(gateway:modes(Context, gateway(Config)))).
+
+hang_up(Phone) ->
+    Phone1 = phone:request("BYE", "", Phone),
+    Response = phone:recv(Phone1),
+    ?assertEqual({200, "BYE"}, {phone:status(Response), lists:last(string:lexemes(phone:header("CSeq", Response), " "))}).
+
+%%% Cases.
+
+a_call(Config) ->
+    {Phone, Response} = call(Config),
+    ?assertEqual(none, phone:header("Record-Route", Response)),
+    {_, Port} = sip(Config),
+    ?assertEqual("<sip:lobby@127.0.0.1:" ++ integer_to_list(Port) ++ ">", phone:header("Contact", Response)),
+    ?assertEqual("application/sdp", phone:header("Content-Type", Response)),
+    ?assertNotEqual(nomatch, string:find(Response, "a=sendrecv")),
+    ?assertEqual(1, length(members(<<"100">>))),
+    hang_up(Phone),
+    until(fun() -> members(<<"100">>) =:= [] end),
+    %% The answer to his BYE may have been lost. One with another tag is of no call.
+    hang_up(Phone),
+    ?assertEqual(481, begin P = phone:request("BYE", "", phone:learn("\r\nTo: <sip:100@127.0.0.1>;tag=0011223344556677\r\n", Phone)), phone:status(phone:recv(P)) end),
+    ?assertEqual(481, begin P1 = phone:request("UPDATE", "", Phone), phone:status(phone:recv(P1)) end).
+
+callers_hear_each_other(Config) ->
+    {A, RA} = call(Config),
+    {B, RB} = call(Config),
+    {C, _} = call("200", Config),
+    caller:talk(phone:media(A), local(RA)),
+    until(fun() -> caller:heard(phone:media(B)) > 5 end),
+    ?assertEqual(0, caller:heard(phone:media(A))),
+    caller:talk(phone:media(B), local(RB)),
+    until(fun() -> caller:heard(phone:media(A)) > 5 end),
+    ?assertEqual(0, caller:heard(phone:media(C))),
+    ?assert(caller:received(phone:media(C)) > 0).
+
+a_repeated_invite_has_the_same_answer(Config) ->
+    Phone = phone:start(sip(Config)),
+    Phone1 = phone:invite(phone:sdp(Phone), Phone),
+    First = phone:recv(Phone1),
+    %% A repeated one has the same number.
+    _ = phone:invite(phone:sdp(Phone), Phone),
+    ?assertEqual(First, phone:recv(Phone1)),
+    ?assertEqual(1, length(members(<<"100">>))).
+
+the_answer_is_repeated_until_the_ack(Config) ->
+    Phone = phone:start(sip(Config)),
+    Phone1 = phone:invite(phone:sdp(Phone), Phone),
+    First = phone:recv(Phone1),
+    ?assertEqual(First, phone:recv(Phone1, 700)),
+    ?assert(phone:quiet(Phone1, 700)),
+    phone:ack(phone:learn(First, Phone1)),
+    ?assert(phone:quiet(Phone1, 1500)),
+    ?assertEqual(1, length(members(<<"100">>))).
+
+without_an_ack_the_call_ends(Config) ->
+    Phone = phone:start(sip(Config)),
+    Phone1 = phone:invite(phone:sdp(Phone), Phone),
+    Start = erlang:monotonic_time(millisecond),
+    Bye = until_bye(Phone1),
+    Took = erlang:monotonic_time(millisecond) - Start,
+    ?assert(Took >= 1280 andalso Took < 1500),
+    until(fun() -> members(<<"100">>) =:= [] end),
+    phone:answer(200, Bye, Phone1),
+    ?assert(phone:quiet(Phone1, 500)).
+
+until_bye(Phone) ->
+    Text = phone:recv(Phone),
+    case phone:status(Text) of "BYE" -> Text; 200 -> until_bye(Phone) end.
+
+hold_and_resume(Config) ->
+    {Phone, First} = call(Config),
+    ?assertEqual(['SendReceive'], modes(<<"100">>, Config)),
+    {Held, R1} = reinvite("sendonly", Phone),
+    ?assertNotEqual(nomatch, string:find(R1, "a=recvonly")),
+    ?assertEqual(['Inactive'], modes(<<"100">>, Config)),
+    {Listening, R2} = reinvite("recvonly", Held),
+    ?assertNotEqual(nomatch, string:find(R2, "a=sendonly")),
+    ?assertEqual(['SendOnly'], modes(<<"100">>, Config)),
+    {_, R3} = reinvite("sendrecv", Listening),
+    ?assertEqual(['SendReceive'], modes(<<"100">>, Config)),
+    ?assertEqual([local(First)], lists:usort([local(R) || R <- [R1, R2, R3]])),
+    %% RFC 3264, section 8: the versions ascend by one.
+    ?assertEqual([1, 2, 3, 4], [version(R) || R <- [First, R1, R2, R3]]).
+
+version(Text) ->
+    {match, [Version]} = re:run(Text, "o=- \\d+ (\\d+) ", [{capture, all_but_first, list}]),
+    list_to_integer(Version).
+
+reinvite(Direction, Phone) ->
+    Phone1 = phone:invite(phone:sdp(Phone, Direction), Phone),
+    Response = phone:recv(Phone1),
+    ?assertEqual(200, phone:status(Response)),
+    phone:ack(Phone1),
+    {Phone1, Response}.
+
+hold_by_update(Config) ->
+    {Phone, _} = call(Config),
+    Phone1 = phone:request("UPDATE", phone:sdp(Phone, "inactive"), Phone),
+    Response = phone:recv(Phone1),
+    ?assertEqual({200, "2 UPDATE"}, {phone:status(Response), phone:header("CSeq", Response)}),
+    ?assertEqual(['Inactive'], modes(<<"100">>, Config)),
+    ?assert(phone:quiet(Phone1, 700)).
+
+streams_are_declined(Config) ->
+    Phone = phone:start(sip(Config)),
+    Phone1 = phone:invite(phone:sdp(Phone) ++ "m=video 5000 RTP/AVP 96\r\n", Phone),
+    Response = phone:recv(Phone1),
+    ?assertNotEqual(nomatch, string:find(Response, "m=video 0 RTP/AVP 96\r\n")).
+
+an_offer_that_comes_late(Config) ->
+    Phone = phone:start(sip(Config)),
+    Phone1 = phone:invite("", Phone),
+    Response = phone:recv(Phone1),
+    ?assertEqual(200, phone:status(Response)),
+    ?assertEqual(['Inactive'], modes(<<"100">>, Config)),
+    {B, RB} = call(Config),
+    caller:talk(phone:media(B), local(RB)),
+    phone:ack(phone:sdp(Phone), phone:learn(Response, Phone1)),
+    until(fun() -> modes(<<"100">>, Config) =:= ['SendReceive', 'SendReceive'] end),
+    until(fun() -> caller:heard(phone:media(Phone)) > 5 end),
+    caller:talk(phone:media(Phone), local(Response)),
+    until(fun() -> caller:heard(phone:media(B)) > 5 end).
+
+cancel_and_options(Config) ->
+    {Phone, _} = call(Config),
+    %% The INVITE has been answered, so CANCEL does nothing.
+    _ = phone:request("CANCEL", "", Phone),
+    ?assertEqual(200, phone:status(phone:recv(Phone))),
+    ?assertEqual(1, length(members(<<"100">>))),
+    Phone1 = phone:request("OPTIONS", "", Phone),
+    Response = phone:recv(Phone1),
+    ?assertEqual({200, "INVITE, ACK, BYE, CANCEL, OPTIONS, UPDATE"}, {phone:status(Response), phone:header("Allow", Response)}),
+    ?assertEqual(405, begin P2 = phone:request("INFO", "", Phone1), phone:status(phone:recv(P2)) end),
+    Stranger = phone:start(sip(Config)),
+    _ = phone:request("OPTIONS", "", Stranger),
+    ?assertEqual(200, phone:status(phone:recv(Stranger))).
+
+requests_that_are_refused(Config) ->
+    Status = fun(Method, Room, Body, Extra) ->
+        Phone = phone:start(sip(Config), Room),
+        _ = phone:request(Method, Body, Extra, Phone),
+        phone:status(phone:recv(Phone))
+    end,
+    Sdp = phone:sdp(phone:start(sip(Config))),
+    ?assertEqual(404, Status("INVITE", "a%20b", Sdp, [])),
+    ?assertEqual(404, Status("INVITE", lists:duplicate(33, $1), Sdp, [])),
+    ?assertEqual(420, Status("INVITE", "100", Sdp, ["Require: 100rel"])),
+    ?assertEqual(488, Status("INVITE", "100", "v=0\r\nc=IN IP4 127.0.0.1\r\nm=audio 4000 RTP/AVP 18\r\n", [])),
+    ?assertEqual(488, Status("INVITE", "100", "garbage", [])),
+    ?assertEqual(405, Status("REGISTER", "100", "", [])),
+    [?assertEqual(481, Status(Method, "100", "", [])) || Method <- ["BYE", "CANCEL", "UPDATE"]],
+    Phone = phone:start(sip(Config)),
+    phone:send("INVITE sip:100@127.0.0.1 SIP/2.0\r\nVia: SIP/2.0/UDP 127.0.0.1:9;branch=z9hG4bK-1;rport\r\nCall-ID: 1\r\n\r\n", Phone),
+    ?assertEqual(400, phone:status(phone:recv(Phone))),
+    phone:send("ACK sip:100@127.0.0.1 SIP/2.0\r\nVia: SIP/2.0/UDP 127.0.0.1:9;branch=z9hG4bK-1;rport\r\nCall-ID: 1\r\n\r\n", Phone),
+    ?assert(phone:quiet(Phone, 300)),
+    ?assertEqual([], lobby_rooms:names()),
+    %% In a call: media that can't be served, and an older request. The call goes on.
+    {P1, _} = call(Config),
+    P2 = phone:invite("v=0\r\nc=IN IP4 127.0.0.1\r\nm=audio 4000 RTP/AVP 18\r\n", P1),
+    ?assertEqual(488, phone:status(phone:recv(P2))),
+    _ = phone:request("UPDATE", phone:sdp(P1, "inactive"), phone:number(0, P2)),
+    ?assertEqual(500, phone:status(phone:recv(P2))),
+    ?assertEqual(['SendReceive'], modes(<<"100">>, Config)),
+    hang_up(P2).
+
+limits(Config) ->
+    Calls = [call(Config) || _ <- lists:seq(1, 3)],
+    Phone = phone:start(sip(Config)),
+    _ = phone:invite(phone:sdp(Phone), Phone),
+    ?assertEqual(486, phone:status(phone:recv(Phone))),
+    hang_up(element(1, hd(Calls))),
+    until(fun() -> proplists:get_value(active, supervisor:count_children(lobby_call_sup)) =:= 2 end),
+    _ = call(Config).
+
+session_timers(Config) ->
+    Call = fun(Expires, Require) ->
+        Phone = phone:start(sip(Config)),
+        Phone1 = phone:invite(phone:sdp(Phone), ["Supported: timer", "Session-Expires: " ++ Expires | Require], Phone),
+        Response = phone:recv(Phone1),
+        {case phone:status(Response) of 200 -> P = phone:learn(Response, Phone1), phone:ack(P), P; _ -> Phone1 end, Response}
+    end,
+    {_, Short} = Call("1", []),
+    ?assertEqual({422, "2"}, {phone:status(Short), phone:header("Min-SE", Short)}),
+    %% The caller has to refresh: he does once, and then he doesn't.
+    {A, RA} = Call("3;refresher=uac", ["Require: timer"]),
+    ?assertEqual({"3;refresher=uac", "timer"}, {phone:header("Session-Expires", RA), phone:header("Require", RA)}),
+    timer:sleep(1500),
+    A1 = phone:request("UPDATE", "", ["Session-Expires: 3;refresher=uac"], A),
+    Refreshed = phone:recv(A1),
+    ?assertEqual({200, "3;refresher=uac", "0"}, {phone:status(Refreshed), phone:header("Session-Expires", Refreshed), phone:header("Content-Length", Refreshed)}),
+    ?assert(phone:quiet(A1, 1700)),
+    ?assertEqual("BYE", phone:status(phone:recv(A1, 600))),
+    %% We have to refresh, after half of the time.
+    {B, RB} = Call("3;refresher=uas", []),
+    ?assertEqual({"3;refresher=uas", none}, {phone:header("Session-Expires", RB), phone:header("Require", RB)}),
+    [begin
+         ?assert(phone:quiet(B, 1300)),
+         Invite = phone:recv(B, 500),
+         ?assertEqual({"INVITE", "3;refresher=uac"}, {phone:status(Invite), phone:header("Session-Expires", Invite)}),
+         phone:answer(200, Invite, phone:sdp(B), B),
+         ?assertEqual("ACK", phone:status(phone:recv(B)))
+     end || _ <- [1, 2]].
+
+%% Who sends packets isn't asked. Who sends none is asked again and again, and so who vanished is found.
+who_is_silent_is_asked(Config) ->
+    {Loud, R} = call(Config),
+    caller:talk(phone:media(Loud), local(R)),
+    {Silent, _} = call(Config),
+    Invite = phone:recv(Silent, 2500),
+    ?assertEqual("INVITE", phone:status(Invite)),
+    phone:answer(200, Invite, phone:sdp(Silent), Silent),
+    ?assertEqual("ACK", phone:status(phone:recv(Silent))),
+    ?assertEqual("INVITE", phone:status(phone:recv(Silent, 2500))),
+    ?assert(phone:quiet(Loud, 100)).
+
+addresses_that_may_call(Config) ->
+    Phone = phone:start(sip(Config)),
+    _ = phone:invite(phone:sdp(Phone), Phone),
+    ?assertEqual(403, phone:status(phone:recv(Phone))).
+
+passwords(Config) ->
+    {_, Port} = sip(Config),
+    Phone = phone:start(sip(Config)),
+    Phone1 = phone:invite(phone:sdp(Phone), Phone),
+    Response = phone:recv(Phone1),
+    ?assertEqual(401, phone:status(Response)),
+    {match, [Nonce]} = re:run(phone:header("WWW-Authenticate", Response), "nonce=\"([^\"]*)\"", [{capture, all_but_first, list}]),
+    Md5 = fun(Text) -> string:lowercase(binary:encode_hex(crypto:hash(md5, Text))) end,
+    Uri = "sip:100@127.0.0.1:" ++ integer_to_list(Port),
+    Digest = fun(Password) ->
+        Answer = Md5([Md5(["test:lobby:", Password]), ":", Nonce, ":00000001:c:auth:", Md5(["INVITE:", Uri])]),
+        lists:flatten(io_lib:format("Authorization: Digest username=\"test\", realm=\"lobby\", nonce=\"~s\", uri=\"~s\", response=\"~s\", "
+                                    "qop=auth, nc=00000001, cnonce=\"c\"", [Nonce, Uri, Answer]))
+    end,
+    Phone2 = phone:invite(phone:sdp(Phone1), [Digest("wrong")], Phone1),
+    ?assertEqual(401, phone:status(phone:recv(Phone2))),
+    Phone3 = phone:invite(phone:sdp(Phone2), [Digest("secret")], Phone2),
+    ?assertEqual(200, phone:status(phone:recv(Phone3))),
+    ?assertEqual(1, length(members(<<"100">>))).
+
+a_lost_gateway_is_replaced(Config) ->
+    [A, B] = proplists:get_value(gateways, Config),
+    Phones = [element(1, call(Config)) || _ <- lists:seq(1, 5)],
+    #{gateway := First} = lobby_room:describe(<<"100">>),
+    Start = erlang:monotonic_time(millisecond),
+    gateway:kill(case First of <<"1">> -> A; <<"2">> -> B end),
+    Locals = [begin
+        Invite = phone:recv(Phone),
+        ?assertEqual("INVITE", phone:status(Invite)),
+        %% The tags are as they were: TaG, not tag.
+        ?assertNotEqual(nomatch, string:find(phone:header("To", Invite), ";tag=TaG")),
+        phone:answer(200, Invite, phone:sdp(Phone), Phone),
+        ?assertEqual("ACK", phone:status(phone:recv(Phone))),
+        local(Invite)
+    end || Phone <- Phones],
+    ct:pal("all invited anew ~b ms after the kill", [erlang:monotonic_time(millisecond) - Start]),
+    ?assert(erlang:monotonic_time(millisecond) - Start < 1200),
+    ?assertEqual(5, length(lists:usort(Locals))),
+    caller:talk(phone:media(hd(Phones)), hd(Locals)),
+    [until(fun() -> caller:heard(phone:media(Phone)) > 5 end) || Phone <- tl(Phones)].
+
+%% Sixty callers who talk all the time, of whom one is isolated, in one room whose gateway is killed three times.
+sixty_callers_hear_each_other_again(Config) ->
+    ok = lobby_rooms:create(<<"100">>, [{deny, {role, <<"alone">>}, everyone}, {deny, everyone, {role, <<"alone">>}}]),
+    [Alone | Others] = [phone:automatic(sip(Config), "100") || _ <- lists:seq(1, 60)],
+    {_, AlonePort} = Alone,
+    [Id] = [I || {_, #{call := Call}} <- lobby_store:all(lobby_calls), I <- [element(2, Call)], string:find(io_lib:format("~p", [Call]),
+                 "{127,0,0,1}," ++ integer_to_list(AlonePort) ++ "}") =/= nomatch],
+    {ok, _} = lobby_room:update(<<"100">>, Id, #{role => <<"alone">>}),
+    timer:sleep(300),
+    Gateways = maps:from_list(lists:zip([<<"1">>, <<"2">>], proplists:get_value(gateways, Config))),
+    _ = lists:foldl(fun(_, Gs) ->
+        #{gateway := Name} = lobby_room:describe(<<"100">>),
+        caller:reset(Alone),
+        gateway:kill(maps:get(Name, Gs)),
+        %% What was under way, and what is in the buffers.
+        timer:sleep(50),
+        Killed = erlang:monotonic_time(millisecond) - 50,
+        [caller:reset(Caller) || Caller <- Others],
+        until(fun() -> lists:all(fun(Caller) -> caller:heard(Caller) > 0 end, Others) end),
+        Times = lists:sort([caller:first_heard(Caller) - Killed || Caller <- Others]),
+        ct:pal("heard again after ~b to ~b ms", [hd(Times), lists:last(Times)]),
+        ?assert(lists:last(Times) < 1200),
+        timer:sleep(500),
+        ?assertEqual(0, caller:heard(Alone)),
+        ?assert(caller:received(Alone) > 0),
+        until(fun() -> length(lobby_gateway:serving()) =:= 1 end),
+        Gs1 = Gs#{Name := gateway:restart(maps:get(Name, Gs), [])},
+        until(fun() -> length(lobby_gateway:serving()) =:= 2 end),
+        Gs1
+    end, Gateways, [1, 2, 3]).
+
+%% There is nothing to say to callers whose address stays, so the gateway begins anew with other ports.
+our_invite(Config) ->
+    {Phone, _} = call(Config),
+    _ = gateway:restart_elsewhere(gateway(Config), ["--first-context", "1000", "--first-termination", "1000"]),
+    Invite = phone:recv(Phone, 4000),
+    ?assertEqual("INVITE", phone:status(Invite)),
+    {Phone, Invite}.
+
+our_invite_is_repeated_and_acknowledged(Config) ->
+    {Phone, Invite} = our_invite(Config),
+    ?assertEqual(Invite, phone:recv(Phone)),
+    %% After a provisional answer it isn't.
+    phone:answer(180, Invite, Phone),
+    phone:flush(Phone),
+    ?assert(phone:quiet(Phone, 1500)),
+    phone:answer(200, Invite, phone:sdp(Phone), Phone),
+    Ack = phone:recv(Phone),
+    ?assertEqual({"ACK", "1 ACK"}, {phone:status(Ack), phone:header("CSeq", Ack)}),
+    %% The ACK was lost.
+    phone:answer(200, Invite, phone:sdp(Phone), Phone),
+    ?assertEqual("ACK", phone:status(phone:recv(Phone))),
+    hang_up(Phone).
+
+both_invite_at_once(Config) ->
+    {Phone, Invite} = our_invite(Config),
+    Phone1 = phone:invite(phone:sdp(Phone), Phone),
+    ?assertEqual(491, phone:status(next(["INVITE"], Phone1))),
+    phone:answer(491, Invite, Phone1),
+    Ack = next(["INVITE"], Phone1),
+    ?assertEqual("ACK", phone:status(Ack)),
+    %% The ACK to a refusal is in the INVITE's transaction.
+    ?assertEqual(phone:header("Via", Invite), phone:header("Via", Ack)),
+    Again = phone:recv(Phone1, 3000),
+    ?assertEqual({"INVITE", "2 INVITE"}, {phone:status(Again), phone:header("CSeq", Again)}),
+    phone:answer(200, Again, phone:sdp(Phone1), Phone1),
+    ?assertEqual("ACK", phone:status(next(["INVITE"], Phone1))).
+
+%% What comes next, but for repetitions of these.
+next(Repeated, Phone) ->
+    Text = phone:recv(Phone),
+    case lists:member(phone:status(Text), Repeated) of
+        true -> next(Repeated, Phone);
+        false -> Text
+    end.
+
+who_vanished_is_removed(Config) ->
+    {Phone, _} = our_invite(Config),
+    phone:close(Phone),
+    until(fun() -> members(<<"100">>) =:= [] end),
+    until(fun() -> proplists:get_value(active, supervisor:count_children(lobby_call_sup)) =:= 0 end).
+
+who_refuses_our_invite_is_hung_up(Config) ->
+    {Phone, Invite} = our_invite(Config),
+    phone:answer(405, Invite, Phone),
+    ?assertEqual("ACK", phone:status(next(["INVITE"], Phone))),
+    ?assertEqual("BYE", phone:status(phone:recv(Phone))),
+    until(fun() -> members(<<"100">>) =:= [] end).
+
+hung_up_and_moved(Config) ->
+    {Phone, First} = call(Config),
+    {_, _} = call("200", Config),
+    [Id] = members(<<"100">>),
+    ?assertEqual({error, same_room}, lobby_call:move(Id, <<"100">>)),
+    ?assertEqual(ok, lobby_call:move(Id, <<"200">>)),
+    ?assertEqual(2, length(members(<<"200">>))),
+    ?assert(phone:quiet(Phone, 300)),
+    {Held, Response} = reinvite("sendonly", Phone),
+    ?assertEqual(local(First), local(Response)),
+    ?assertEqual(['Inactive', 'SendReceive'], modes(<<"200">>, Config)),
+    ?assertEqual(ok, lobby_call:hang_up(Id)),
+    Bye = phone:recv(Held),
+    ?assertEqual("BYE", phone:status(Bye)),
+    phone:answer(200, Bye, Held),
+    until(fun() -> length(members(<<"200">>)) =:= 1 end),
+    until(fun() -> lobby_call:hang_up(Id) =:= {error, no_member} end).
+
+addresses_of_ipv6(Config) ->
+    Phone = phone:start(sip(Config)),
+    {_, Port} = sip(Config),
+    Body = phone:sdp(Phone),
+    phone:send(io_lib:format("INVITE sip:100@127.0.0.1:~b SIP/2.0\r\nVia: SIP/2.0/UDP [fd00::2]:5070;branch=z9hG4bK-1;rport\r\n"
+                             "From: <sip:linphone@[fd00::2]>;tag=1\r\nTo: <sip:100@127.0.0.1>\r\nCall-ID: 1\r\nCSeq: 1 INVITE\r\n"
+                             "Contact: <sip:linphone@[fd00::2]:5070>\r\nContent-Length: ~b\r\n\r\n~s", [Port, length(Body), Body]), Phone),
+    Response = phone:recv(Phone),
+    ?assertEqual(200, phone:status(Response)),
+    ?assertEqual("<sip:linphone@[fd00::2]>;tag=1", phone:header("From", Response)),
+    [Id] = members(<<"100">>),
+    ok = lobby_call:hang_up(Id),
+    Bye = next([200], Phone),
+    ?assertMatch("BYE sip:linphone@[fd00::2]:5070 SIP/2.0" ++ _, Bye).
+
+routes(Config) ->
+    Phone = phone:start(sip(Config)),
+    Proxy = phone:start(sip(Config)),
+    Route = "<sip:127.0.0.1:" ++ integer_to_list(phone:port(Proxy)) ++ ";lr>",
+    Phone1 = phone:invite(phone:sdp(Phone), ["Record-Route: " ++ Route], Phone),
+    Response = phone:recv(Phone1),
+    ?assertEqual(Route, phone:header("Record-Route", Response)),
+    phone:ack(phone:learn(Response, Phone1)),
+    timer:sleep(50),
+    [Id] = members(<<"100">>),
+    ok = lobby_call:hang_up(Id),
+    Bye = phone:recv(Proxy),
+    ?assertEqual({"BYE", Route}, {phone:status(Bye), phone:header("Route", Bye)}).
+
+%% The controller's node is killed, and another one starts with its folder: it calls the phone, and cleans the gateway.
+the_node_fails(Config) ->
+    Folder = string:trim(os:cmd("mktemp -d")),
+    ok = application:stop(lobby),
+    Gateway = gateway:start(),
+    Start = fun() ->
+        {ok, Peer, _} = peer:start_link(#{connection => standard_io, args => ["-mnesia", "dir", "\"" ++ Folder ++ "\"", "-pa" | code:get_path()]}),
+        _ = peer:call(Peer, application, load, [lobby]),
+        [ok = peer:call(Peer, application, set_env, [lobby, Key, Value])
+         || {Key, Value} <- [{gateways, [gateway:config(<<"1">>, Gateway)]}, {sip, sip(Config)}, {http, gateway:free_address()}, {store, disc}]],
+        {ok, _} = peer:call(Peer, application, ensure_all_started, [lobby]),
+        until(fun() -> length(peer:call(Peer, lobby_gateway, serving, [])) =:= 1 end),
+        Peer
+    end,
+    First = Start(),
+    ok = peer:call(First, lobby_rooms, create, [<<"100">>, lobby_rules:preset(lecture)]),
+    {Phone, _} = call(Config),
+    {Other, _} = call(Config),
+    %% What was written is on the disc a little later.
+    timer:sleep(4000),
+    Pid = peer:call(First, os, getpid, []),
+    unlink(First),
+    _ = os:cmd("kill -9 " ++ Pid),
+    Second = Start(),
+    [begin
+         Invite = phone:recv(P, 3000),
+         ?assertEqual("INVITE", phone:status(Invite)),
+         phone:answer(200, Invite, phone:sdp(P), P),
+         ?assertEqual("ACK", phone:status(phone:recv(P)))
+     end || P <- [Phone, Other]],
+    #{members := Members, rules := Rules} = peer:call(Second, lobby_room, describe, [<<"100">>]),
+    ?assertEqual({2, lobby_rules:preset(lecture)}, {map_size(Members), Rules}),
+    %% Our own context, and the room's.
+    ?assertEqual(2, length(gateway:contexts(lists:seq(1, 60), Gateway))),
+    hang_up(Phone),
+    ?assertEqual(1, map_size(maps:get(members, peer:call(Second, lobby_room, describe, [<<"100">>])))),
+    peer:stop(Second),
+    ok = file:del_dir_r(Folder).
+
+%% Each process is killed in turn. The call goes on: the phone can be reached, holds, resumes, and hangs up at the end.
+%% The conference is made again while a call's process is being started again.
+a_call_that_starts_again_knows_its_place(Config) ->
+    {Phone, Response} = call(Config),
+    [Pid] = [P || {_, P, _, _} <- supervisor:which_children(lobby_call_sup)],
+    ok = sys:suspend(lobby_call_sup),
+    exit(Pid, kill),
+    _ = gateway:restart_elsewhere(gateway(Config), ["--first-context", "1000", "--first-termination", "1000"]),
+    [Id] = members(<<"100">>),
+    until(fun() -> case lobby_room:describe(<<"100">>) of
+        #{members := #{Id := #{termination := T}}} -> T >= 1000;
+        _ -> false
+    end end),
+    ok = sys:resume(lobby_call_sup),
+    Invite = phone:recv(Phone, 4000),
+    ?assertEqual("INVITE", phone:status(Invite)),
+    ?assertNotEqual(local(Response), local(Invite)),
+    {ok, {Now, _}} = lobby_room:update(<<"100">>, Id, #{}),
+    ?assertEqual(Now, local(Invite)),
+    phone:answer(200, Invite, phone:sdp(Phone), Phone).
+
+processes_fail(Config) ->
+    {Phone, _} = call(Config),
+    Key = hd([K || {K, _} <- lobby_store:all(lobby_calls)]),
+    Last = lists:foldl(fun(Name, P) ->
+        Before = process(Name),
+        exit(Before, kill),
+        until(fun() -> up(Name, Before) end),
+        answer_all(P, 1500),
+        {P1, _} = reinvite("sendonly", P),
+        until(fun() -> modes(<<"100">>, Config) =:= ['Inactive'] end),
+        answer_all(P1, 200),
+        {P2, _} = reinvite("sendrecv", P1),
+        ?assertEqual(['SendReceive'], modes(<<"100">>, Config)),
+        P2
+    end, Phone, [{call, Key}, lobby_sip, lobby_connections, lobby_call_sup, {room, <<"100">>}, {gateway, <<"1">>}, lobby_room_sup, lobby_registry]),
+    hang_up(Last),
+    until(fun() -> members(<<"100">>) =:= [] end).
+
+process(Name) when is_atom(Name) -> whereis(Name);
+process(Name) -> lobby_registry:whereis_name(Name).
+
+up(Name, Before) ->
+    lists:all(fun(Process) -> whereis(Process) =/= undefined end, [lobby_registry, lobby_room_sup, lobby_call_sup, lobby_sip])
+        andalso not lists:member(process(Name), [undefined, Before]) andalso members(<<"100">>) =/= []
+        andalso lobby_store:all(lobby_calls) =/= []
+        andalso lists:all(fun({Key, _}) -> lobby_registry:whereis_name({call, Key}) =/= undefined end, lobby_store:all(lobby_calls)).
+
+%% Answers INVITEs until none has come for so long.
+answer_all(Phone, Ms) ->
+    Text = phone:recv(Phone, Ms),
+    case phone:status(Text) of
+        none -> ok;
+        "INVITE" -> phone:answer(200, Text, phone:sdp(Phone), Phone), answer_all(Phone, Ms);
+        _ -> answer_all(Phone, Ms)
+    end.
+
+%% Anything at the SIP port: no process ends, nothing grows, and calls are answered.
+garbage(Config) ->
+    Sip = whereis(lobby_sip),
+    {Port, Phone} = {element(2, sip(Config)), phone:start(sip(Config))},
+    {ok, Socket} = gen_udp:open(0, [binary]),
+    Parts = [<<"INVITE sip:100@127.0.0.1 SIP/2.0\r\n">>, <<"Via: SIP/2.0/UDP 1.2.3.4;branch=z9hG4bK-1\r\n">>, <<"From: <sip:a@b>;tag=1\r\n">>,
+             <<"To: <sip:a@b>\r\n">>, <<"Call-ID: ">>, <<"CSeq: 1 INVITE\r\n">>, <<"\r\n">>, <<"BYE sip:100@127.0.0.1 SIP/2.0\r\n">>],
+    Send = fun() ->
+        Pieces = [case rand:uniform(10) of 1 -> rand:bytes(rand:uniform(60)); _ -> Part end || Part <- Parts, rand:uniform(4) > 1],
+        ok = gen_udp:send(Socket, {127, 0, 0, 1}, Port, Pieces)
+    end,
+    Total = fun() ->
+        [begin timer:sleep(100), [erlang:garbage_collect(P) || P <- processes()] end || _ <- [1, 2, 3]],
+        Ours = [whereis(Name) || Name <- [lobby_sip, lobby_registry, lobby_store, lobby_call_sup, lobby_room_sup, lobby_sup]],
+        lists:sum([Bytes || Pid <- Ours, {memory, Bytes} <- [process_info(Pid, memory)]])
+            + 8 * lists:sum([ets:info(lobby_registry, memory) | [mnesia:table_info(Table, memory) || Table <- [lobby_calls, lobby_rooms, lobby_gateways]]])
+            + length(processes()) * 100000
+    end,
+    Bursts = fun(N) -> [begin [Send() || _ <- lists:seq(1, 100)], timer:sleep(20) end || _ <- lists:seq(1, N)] end,
+    Bursts(20),
+    Before = Total(),
+    Bursts(100),
+    Grown = Total() - Before,
+    ct:pal("grown by ~b bytes", [Grown]),
+    ?assert(Grown < 300000),
+    ?assertEqual(Sip, whereis(lobby_sip)),
+    ?assertEqual([], lobby_store:all(lobby_calls)),
+    _ = phone:invite(phone:sdp(Phone), Phone),
+    ?assertEqual(200, phone:status(phone:recv(Phone))).
+
+%% A call over TCP: in pieces, with blank lines, and with our requests over the phone's connection, once each.
+over_tcp(Config) ->
+    Phone = phone:start_tcp(sip(Config), "100"),
+    phone:send("\r\n\r\n", Phone),
+    Calling = phone:send_slowly(phone:sdp(Phone), Phone),
+    Response = phone:recv(Calling),
+    ?assertEqual(200, phone:status(Response)),
+    {_, Port} = sip(Config),
+    ?assertEqual("<sip:lobby@127.0.0.1:" ++ integer_to_list(Port) ++ ";transport=tcp>", phone:header("Contact", Response)),
+    Talking = phone:learn(Response, Calling),
+    phone:ack(Talking),
+    {Held, _} = reinvite("sendonly", Talking),
+    ?assertEqual(['Inactive'], modes(<<"100">>, Config)),
+    _ = gateway:restart_elsewhere(gateway(Config), ["--first-context", "1000", "--first-termination", "1000"]),
+    Invite = phone:recv(Held, 4000),
+    ?assertMatch({"INVITE", "SIP/2.0/TCP" ++ _}, {phone:status(Invite), phone:header("Via", Invite)}),
+    ?assert(phone:quiet(Held, 1200)),
+    phone:answer(200, Invite, phone:sdp(Held), Held),
+    ?assertEqual("ACK", phone:status(phone:recv(Held))),
+    hang_up(Held),
+    until(fun() -> members(<<"100">>) =:= [] end),
+    %% What is no SIP is passed over, and what is too long ends the connection.
+    phone:send("garbage\r\n\r\n", Held),
+    ?assert(phone:quiet(Held, 100)),
+    phone:send(lists:duplicate(70000, $a), Held),
+    ?assertEqual(closed, phone:recv(Held)).
+
+connections_are_limited(Config) ->
+    Connect = fun() -> {ok, S} = gen_tcp:connect({127, 0, 0, 1}, element(2, sip(Config)), [binary, {active, false}]), S end,
+    Sockets = [Connect() || _ <- lists:seq(1, 64)],
+    until(fun() -> proplists:get_value(active, supervisor:count_children(lobby_connections)) =:= 64 end),
+    ?assertEqual({error, closed}, gen_tcp:recv(Connect(), 0, 2000)),
+    ?assertEqual({error, timeout}, gen_tcp:recv(hd(Sockets), 0, 100)),
+    ok = gen_tcp:close(hd(Sockets)),
+    until(fun() -> proplists:get_value(active, supervisor:count_children(lobby_connections)) =:= 63 end),
+    timer:sleep(1100),
+    ?assertEqual({error, timeout}, gen_tcp:recv(Connect(), 0, 500)).
+
+%% From INVITE to 200, with the gateway's answers.
+answers_are_quick(Config) ->
+    Times = [begin
+        Phone = phone:start(sip(Config), "200"),
+        Start = erlang:monotonic_time(microsecond),
+        Phone1 = phone:invite(phone:sdp(Phone), Phone),
+        Response = phone:recv(Phone1),
+        Took = erlang:monotonic_time(microsecond) - Start,
+        Phone2 = phone:learn(Response, Phone1),
+        phone:ack(Phone2),
+        hang_up(Phone2),
+        Took
+    end || _ <- lists:seq(1, 100)],
+    Median = lists:nth(50, lists:sort(Times)),
+    ct:pal("INVITE to 200: median ~b us, at most ~b us", [Median, lists:max(Times)]),
+    %% Without waiting for a tick, and also on a busy machine.
+    ?assert(Median =< 20000).
+
+%% SIPp's own caller: 200 calls at 20 a second, and 50 over a line that loses, doubles and delays datagrams.
+sipp(Config) ->
+    {_, Port} = sip(Config),
+    ?assertEqual("0", sipp(Port, "-r 20 -m 200 -d 1000", Config)),
+    until(fun() -> members(<<"100">>) =:= [] end),
+    Relay = relay:start(sip(Config), #{lose => 0.1, double => 0.1, delay => 30}),
+    {_, RelayPort} = relay:address(Relay),
+    ?assertEqual("0", sipp(RelayPort, "-r 20 -m 50 -d 500", Config)),
+    until(fun() -> members(<<"100">>) =:= [] end),
+    ?assertEqual(1, length(gateway:contexts(lists:seq(1, 400), gateway(Config)))),
+    ?assertEqual("0", sipp(Port, "-t t1 -r 20 -m 50 -d 500", Config)),
+    until(fun() -> members(<<"100">>) =:= [] end).
+
+sipp(Port, Options, Config) ->
+    {_, Own} = gateway:free_address(),
+    Log = filename:join(proplists:get_value(priv_dir, Config), "sipp.log"),
+    Command = io_lib:format("timeout 60 sipp -sn uac 127.0.0.1:~b -i 127.0.0.1 -p ~b -s 100 ~s -nostdin > ~s 2>&1; echo $?", [Port, Own, Options, Log]),
+    string:trim(os:cmd(lists:flatten(Command))).
+
+%% Three baresips with tones, as customer, agent and coach. First each hears the two others. Then the customer doesn't
+%% hear the coach. At last the customer is isolated.
+baresips(Config) ->
+    {_, Port} = sip(Config),
+    Tones = [Agent, Coach, Customer] = [400, 1000, 2000],
+    %% A short path: baresip cuts long ones off.
+    Temporary = string:trim(os:cmd("mktemp -d")),
+    Folder = fun(Tone) -> filename:join(Temporary, integer_to_list(Tone)) end,
+    Uri = "sip:100@127.0.0.1:" ++ integer_to_list(Port),
+    Ports = [baresip:start(Folder(Tone), Tone, Uri, 11) || Tone <- Tones],
+    until(fun() -> length(members(<<"100">>)) =:= 3 end),
+    timer:sleep(3000),
+    [{ok, _} = lobby_room:update(<<"100">>, id_of(Tone), #{role => Role})
+     || {Tone, Role} <- [{Agent, <<"agent">>}, {Coach, <<"coach">>}, {Customer, <<"customer">>}]],
+    ok = lobby_room:set_rules(<<"100">>, lobby_rules:preset(coaching)),
+    timer:sleep(3000),
+    ok = lobby_room:add_rules(<<"100">>, lobby_rules:isolate({member, id_of(Customer)})),
+    [receive {P, {exit_status, _}} -> ok after 15000 -> error(no_end) end || P <- Ports],
+    Heard = fun(Seconds) -> [{Tone, baresip:heard(Folder(Tone), Tones, Seconds)} || Tone <- Tones] end,
+    ?assertEqual([{Agent, [Coach, Customer]}, {Coach, [Agent, Customer]}, {Customer, [Agent, Coach]}], Heard({1.0, 2.5})),
+    ?assertEqual([{Agent, [Coach, Customer]}, {Coach, [Agent, Customer]}, {Customer, [Agent]}], Heard({4.2, 5.5})),
+    ?assertEqual([{Agent, [Coach]}, {Coach, [Agent]}, {Customer, []}], Heard({7.5, 8.5})),
+    ok = file:del_dir_r(Temporary),
+    until(fun() -> members(<<"100">>) =:= [] end).
+
+id_of(Tone) ->
+    Name = "tone" ++ integer_to_list(Tone),
+    [Id] = [Id || #{id := Id, caller := Caller} <- lobby_call:all(), string:find(Caller, Name) =/= nomatch],
+    Id.

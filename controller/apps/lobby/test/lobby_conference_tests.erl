@@ -1,0 +1,209 @@
+%% Any list of joins, leaves, rules, mutes, holds, moves and failures, on a model of a gateway: once a room is settled,
+%% exactly those hear each other of whom its rules and modes say so, and at no moment in between anybody else.
+-module(lobby_conference_tests).
+
+-include_lib("eunit/include/eunit.hrl").
+-include("properties.hrl").
+
+-export([prop_exactly_the_rules_hold/0]).
+
+%% Two rooms on one gateway; `wanted': by room and member, what was asked for; `rules': by room.
+-record(world, {rooms = #{1 => lobby_conference:new(), 2 => lobby_conference:new()}, gateway, wanted = #{},
+                rules = #{1 => [], 2 => []}, terminations = #{}, next = 1000, limit}).
+
+%%% What the rules say, said in another way than in the code: rule by rule, each sets the flows that it names.
+hears(Listener, Talker, Rules) ->
+    lists:foldl(fun({Verdict, From, To}, Before) ->
+        case names(From, Talker) andalso names(To, Listener) of
+            true -> Verdict =:= allow;
+            false -> Before
+        end
+    end, true, Rules).
+
+names(everyone, _) -> true;
+names({member, Id}, {Id, _}) -> true;
+names({role, Role}, {_, Role}) -> true;
+names(_, _) -> false.
+
+talks(#{muted := Muted, direction := Direction}) -> not Muted andalso Direction =:= sendrecv.
+listens(#{direction := Direction}) -> lists:member(Direction, [sendrecv, recvonly]).
+
+wanted(#world{wanted = Wanted, rules = Rules}) ->
+    lists:sort([{A, B} || {{Room, A}, WA} <- maps:to_list(Wanted), {{R, B}, WB} <- maps:to_list(Wanted), R =:= Room, A =/= B,
+                          talks(WA), listens(WB),
+                          hears({B, maps:get(role, WB)}, {A, maps:get(role, WA)}, maps:get(Room, Rules))]).
+
+%%% What the gateway lets members hear.
+heard(#world{gateway = G, terminations = Ts}) ->
+    There = [{Id, T} || {Id, T} <- maps:to_list(Ts), lists:member(T, model_gateway:terminations(G))],
+    lists:sort([{A, B} || {A, TA} <- There, {B, TB} <- There, model_gateway:open(TA, TB, G),
+                          lists:member(model_gateway:mode(TA, G), [sendRecv, recvOnly]),
+                          lists:member(model_gateway:mode(TB, G), [sendRecv, sendOnly])]).
+
+%%% Steps.
+media(Port) -> {{{127, 0, 0, 1}, Port}, pcmu}.
+
+step({join, Room, Id, Role, Port}, W = #world{wanted = Wanted}) ->
+    case [R || {R, I} <- maps:keys(Wanted), I =:= Id] of
+        [] ->
+            Member = lobby_conference:member(Id, Role, media(Port), sendrecv),
+            W1 = room(Room, fun(C) -> lobby_conference:join(Member, C) end, W),
+            W1#world{wanted = Wanted#{{Room, Id} => #{role => Role, muted => false, direction => sendrecv}}};
+        _ -> W
+    end;
+step({leave, Id}, W = #world{wanted = Wanted}) ->
+    case [Room || {Room, I} <- maps:keys(Wanted), I =:= Id] of
+        [Room] ->
+            W1 = room(Room, fun(C) -> lobby_conference:leave(Id, C) end, W),
+            forget_rules(Room, Id, W1#world{wanted = maps:remove({Room, Id}, Wanted)});
+        [] -> W
+    end;
+step({update, Id, Change}, W = #world{wanted = Wanted}) ->
+    case [Room || {Room, I} <- maps:keys(Wanted), I =:= Id] of
+        [Room] ->
+            W1 = room(Room, fun(C) -> lobby_conference:update(Id, Change, C) end, W),
+            W1#world{wanted = Wanted#{{Room, Id} := maps:merge(maps:get({Room, Id}, Wanted), maps:remove(media, Change))}};
+        [] -> W
+    end;
+step({rules, Room, New}, W = #world{rules = Rules, wanted = Wanted}) ->
+    %% Rules about members who are there, as the room sees to.
+    There = [Rule || Rule = {_, A, B} <- New, is_there(A, Room, Wanted), is_there(B, Room, Wanted)],
+    (room(Room, fun(C) -> lobby_conference:set_rules(There, C) end, W))#world{rules = Rules#{Room := There}};
+step({move, Id}, W = #world{wanted = Wanted, rooms = Rooms}) ->
+    case [Room || {Room, I} <- maps:keys(Wanted), I =:= Id] of
+        [From] ->
+            To = 3 - From,
+            {ok, Member, Held, Left} = lobby_conference:take(Id, maps:get(From, Rooms)),
+            Entered = lobby_conference:give(Member, Held, maps:get(To, Rooms)),
+            {Is, Others} = maps:take({From, Id}, Wanted),
+            forget_rules(From, Id, W#world{rooms = Rooms#{From := Left, To := Entered}, wanted = Others#{{To, Id} => Is}});
+        [] -> W
+    end;
+%% The gateway begins anew: the rooms hear of it, or find out by an audit.
+step({lose, How}, W = #world{next = Next, limit = Limit, rooms = Rooms}) ->
+    Lost = W#world{gateway = model_gateway:new(Next, Limit), next = Next + 1000, terminations = #{}},
+    Find = case How of told -> fun(R, Acc) -> room(R, fun lobby_conference:forget/1, Acc) end; untold -> fun audit/2 end,
+    lists:foldl(Find, Lost, maps:keys(Rooms));
+step({disturb, How}, W = #world{gateway = G, rooms = Rooms}) ->
+    lists:foldl(fun audit_several/2, W#world{gateway = model_gateway:disturb(How, G)}, maps:keys(Rooms)).
+
+audit_several(Room, W = #world{rooms = Rooms}) ->
+    case lobby_conference:audit(maps:get(Room, Rooms)) of
+        none -> W;
+        _ -> audit(Room, W)
+    end.
+
+is_there({member, Id}, Room, Wanted) -> is_map_key({Room, Id}, Wanted);
+is_there(_, _, _) -> true.
+
+forget_rules(Room, Id, W = #world{rules = Rules}) ->
+    W#world{rules = Rules#{Room := [Rule || Rule = {_, A, B} <- maps:get(Room, Rules), A =/= {member, Id}, B =/= {member, Id}]}}.
+
+room(Room, Change, W = #world{rooms = Rooms}) ->
+    W#world{rooms = Rooms#{Room := Change(maps:get(Room, Rooms))}}.
+
+audit(Room, W = #world{rooms = Rooms, gateway = G}) ->
+    case lobby_conference:audit(maps:get(Room, Rooms)) of
+        none -> room(Room, fun lobby_conference:forget/1, W);
+        {Action, Step} ->
+            {Reply, G1} = model_gateway:run(Action, G),
+            {_, C} = lobby_conference:done(Step, Reply, maps:get(Room, Rooms)),
+            W#world{rooms = Rooms#{Room := C}, gateway = G1}
+    end.
+
+%% Sends requests until the rooms are settled, beginning with this one. After each, nobody may hear anyone whom he isn't
+%% to hear, unless he heard him before the change.
+settle(Before, W = #world{rooms = Rooms}) ->
+    lists:foldl(fun(Room, Acc) -> settle(Room, Before, Acc, 100) end, W, maps:keys(Rooms)).
+
+settle(Room, Before, W = #world{rooms = Rooms, gateway = G}, Left) when Left > 0 ->
+    case lobby_conference:next(maps:get(Room, Rooms)) of
+        settled -> W;
+        {Action, Step} ->
+            {Reply, G1} = model_gateway:run(Action, G),
+            {Events, C} = lobby_conference:done(Step, Reply, maps:get(Room, Rooms)),
+            W1 = lists:foldl(fun(Event, Acc) -> event(Event, Room, Acc) end, W#world{rooms = Rooms#{Room := C}, gateway = G1}, Events),
+            W2 = W1#world{terminations = terminations(W1)},
+            case heard(W2) -- (wanted(W2) ++ Before) of
+                [] -> settle(Room, Before, W2, Left - 1);
+                Wrong -> throw({heard_too_early, Wrong, Action})
+            end
+    end.
+
+event({rejected, Id, Code}, Room, W = #world{wanted = Wanted, rooms = Rooms}) ->
+    true = lists:member(Code, [434, 515]),
+    case lists:member(Id, lobby_conference:ids(maps:get(Room, Rooms))) of
+        true -> W;
+        false -> forget_rules(Room, Id, W#world{wanted = maps:remove({Room, Id}, Wanted)})
+    end;
+event(_, _, W) -> W.
+
+terminations(#world{rooms = Rooms, terminations = Ts}) ->
+    lists:foldl(fun(C, Acc) ->
+        lists:foldl(fun(Id, A) ->
+            case lobby_conference:find(Id, C) of
+                {ok, #{termination := T}} -> A#{Id => T};
+                {ok, _} -> A
+            end
+        end, Acc, lobby_conference:ids(C))
+    end, Ts, maps:values(Rooms)).
+
+run(Steps, Limit) ->
+    lists:foldl(fun(Step, W) ->
+        W1 = step(Step, W),
+        Before = heard(W1),
+        %% Twice: what one room gives up may let the other one go on.
+        W2 = settle(Before, settle(Before, W1)),
+        ?assertEqual(wanted(W2), heard(W2)),
+        ?assertEqual(length(maps:keys(W2#world.wanted)), length(model_gateway:terminations(W2#world.gateway))),
+        W2
+    end, #world{gateway = model_gateway:new(1, Limit), limit = Limit}, Steps).
+
+%%% Generators.
+id() -> range(1, 6).
+role() -> oneof([<<"customer">>, <<"agent">>, <<"coach">>]).
+party() -> oneof([everyone, {role, role()}, {member, id()}]).
+rule() -> {oneof([allow, deny]), party(), party()}.
+step() ->
+    frequency([{6, {join, range(1, 2), id(), role(), oneof([515, 4000])}},
+               {2, {leave, id()}},
+               {4, {rules, range(1, 2), list(rule())}},
+               {2, {update, id(), oneof([#{muted => true}, #{muted => false}, #{media => media(4002)}, #{media => media(515)},
+                                         #{role => <<"agent">>}])}},
+               {2, {update, id(), ?BIND(D, oneof([sendrecv, sendonly, recvonly, inactive]), #{direction => D})}},
+               {2, {move, id()}},
+               {1, {lose, oneof([told, untold])}},
+               {1, {disturb, oneof([bothway, isolate])}}]).
+
+prop_exactly_the_rules_hold() ->
+    ?FORALL({Steps, Limit}, {list(step()), range(2, 5)}, begin run(Steps, Limit), true end).
+
+properties_test_() ->
+    [?property(prop_exactly_the_rules_hold, 2000)].
+
+%%% Single cases.
+alice() -> lobby_conference:member(alice, <<"customer">>, media(4000), sendrecv).
+bob() -> lobby_conference:member(bob, <<"coach">>, media(4002), sendrecv).
+
+one_newcomer_takes_one_request_with_his_topology_test() ->
+    C0 = lobby_conference:set_rules(lobby_rules:preset(coaching), lobby_conference:join(alice(), lobby_conference:new())),
+    {#{context := new}, Step} = lobby_conference:next(C0),
+    {[{joined, alice}], C1} = lobby_conference:done(Step, #{context => 9, results => [{add, 5, #{local => media(6000)}}]}, C0),
+    ?assertEqual(settled, lobby_conference:next(C1)),
+    {Action, _} = lobby_conference:next(lobby_conference:join(bob(), C1)),
+    ?assertMatch(#{context := 9, topology := [{5, new, oneway}], commands := [{add_optional, #{mode := sendRecv}}]}, Action).
+
+several_are_added_inactive_test() ->
+    C = lobby_conference:join(bob(), lobby_conference:join(alice(), lobby_conference:new())),
+    {#{commands := Commands}, _} = lobby_conference:next(C),
+    ?assertMatch([{add_optional, #{mode := inactive}}, {add_optional, #{mode := inactive}}], Commands).
+
+an_error_of_the_context_loses_it_test() ->
+    C = lobby_conference:join(alice(), lobby_conference:new()),
+    {_, Step} = lobby_conference:next(C),
+    {_, C1} = lobby_conference:done(Step, #{context => 9, results => [{add, 5, #{local => media(6000)}}]}, C),
+    {_, Step2} = lobby_conference:next(lobby_conference:update(alice, #{muted => true}, C1)),
+    {Events, C2} = lobby_conference:done(Step2, #{context => 9, results => [{modify, 5, {error, 430}}]}, C1),
+    ?assertEqual([{lost, 9}], Events),
+    ?assertEqual(new, lobby_conference:context(C2)),
+    ?assertEqual([alice], lobby_conference:ids(C2)).

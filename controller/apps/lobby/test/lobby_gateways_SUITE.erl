@@ -1,0 +1,573 @@
+%% Rooms on real gateways.
+-module(lobby_gateways_SUITE).
+
+-include_lib("common_test/include/ct.hrl").
+-include_lib("stdlib/include/assert.hrl").
+
+-compile([export_all]).
+
+all() ->
+    [the_rules_hold_on_the_gateway, a_newcomer_enters_with_his_rules, mutes_and_holds_are_modes, members_move, refused_media,
+     a_lecture_of_sixty, a_killed_gateway_is_replaced, one_that_begins_anew_is_noticed,
+     one_that_begins_with_the_same_numbers_is_noticed, one_that_was_out_of_reach_is_cleaned,
+     a_room_waits_for_a_gateway, one_with_a_journal_comes_back, one_that_comes_back_soon_is_not_missed, one_that_comes_back_soon_is_seen,
+     requests_wait_for_one_with_a_journal, one_that_does_not_come_back_is_replaced, one_that_lost_its_journal_is_noticed,
+     one_that_comes_back_with_less_is_corrected, processes_fail, a_room_fails_in_the_middle_of_a_request,
+     somebody_else_changes_the_topology, lost_and_doubled_datagrams, anything_for_some_seconds].
+
+init_per_testcase(_, Config) ->
+    ok = application:load(lobby),
+    [ok = application:set_env(lobby, Key, gateway:free_address()) || Key <- [sip, http]],
+    Config.
+
+end_per_testcase(_, Config) ->
+    _ = application:stop(lobby),
+    _ = application:stop(mnesia),
+    ok = application:unload(lobby),
+    gateway:kill_all(),
+    Config.
+
+%%% Helpers.
+
+run(Gateways) ->
+    run(Gateways, #{}).
+
+run(Gateways, Options) ->
+    Configs = [maps:merge(gateway:config(Name, G), Options) || {Name, G} <- Gateways],
+    ok = application:set_env(lobby, gateways, Configs),
+    {ok, _} = application:ensure_all_started(lobby),
+    until(fun() -> length(lobby_gateway:serving()) =:= length(Gateways) end).
+
+%% Waits until something holds, and says after how many milliseconds.
+%% Longer than it takes, for a busy machine.
+until(Holds) -> until(Holds, erlang:monotonic_time(millisecond), 15000).
+
+until(Holds, Start, Limit) ->
+    Passed = erlang:monotonic_time(millisecond) - Start,
+    case Holds() of
+        true -> Passed;
+        false when Passed < Limit -> timer:sleep(5), until(Holds, Start, Limit);
+        false -> error({not_within_ms, Limit})
+    end.
+
+media(Port) -> {{{127, 0, 0, 1}, Port}, pcmu}.
+
+join(Room, Id, Role) ->
+    {ok, Local} = lobby_rooms:join(Room, Id, lobby_conference:member(Id, Role, media(40000), sendrecv)),
+    Local.
+
+%% Members by termination, in a room's description.
+ids(#{members := Members}) ->
+    maps:from_list([{T, Id} || {Id, #{termination := T}} <- maps:to_list(Members)]).
+
+%% Who is heard by whom, as the gateway itself says.
+heard(Room, Gateways) ->
+    About = #{gateway := Name, context := Context} = lobby_room:describe(Room),
+    G = maps:get(Name, Gateways),
+    Ids = ids(About),
+    ?assertEqual(lists:sort(maps:keys(Ids)), gateway:terminations(Context, G)),
+    lists:sort([{maps:get(A, Ids), maps:get(B, Ids)} || {A, B} <- gateway:topology(Context, G)]).
+
+%%% Cases.
+
+the_rules_hold_on_the_gateway(_) ->
+    G = gateway:start(),
+    run([{<<"a">>, G}]),
+    ok = lobby_rooms:create(<<"100">>, lobby_rules:preset(coaching)),
+    [join(<<"100">>, Id, Role) || {Id, Role} <- [{alice, <<"customer">>}, {bob, <<"agent">>}, {carol, <<"coach">>}]],
+    Gs = #{<<"a">> => G},
+    ?assertEqual([{alice, bob}, {alice, carol}, {bob, alice}, {bob, carol}, {carol, bob}], heard(<<"100">>, Gs)),
+    ok = lobby_room:add_rules(<<"100">>, lobby_rules:isolate({member, bob})),
+    ?assertEqual([{alice, carol}], heard(<<"100">>, Gs)),
+    ok = lobby_room:add_rules(<<"100">>, lobby_rules:release({member, bob})),
+    ?assertEqual([{alice, bob}, {alice, carol}, {bob, alice}, {bob, carol}, {carol, bob}], heard(<<"100">>, Gs)),
+    ok = lobby_room:leave(<<"100">>, carol),
+    ?assertEqual([{alice, bob}, {bob, alice}], heard(<<"100">>, Gs)),
+    #{context := Context} = lobby_room:describe(<<"100">>),
+    [lobby_room:leave(<<"100">>, Id) || Id <- [alice, bob]],
+    ?assertEqual([], gateway:contexts([Context], G)).
+
+%% Heard with ears: a talker who never pauses, and a newcomer who must not hear him.
+a_newcomer_enters_with_his_rules(_) ->
+    G = gateway:start(),
+    run([{<<"a">>, G}]),
+    ok = lobby_rooms:create(<<"100">>, [{deny, {role, <<"customer">>}, {role, <<"coach">>}}]),
+    Talker = caller:start(),
+    {ok, {To, _}} = lobby_rooms:join(<<"100">>, talker, lobby_conference:member(talker, <<"customer">>, caller:media(Talker), sendrecv)),
+    caller:talk(Talker, To),
+    Agent = caller:start(),
+    {ok, _} = lobby_rooms:join(<<"100">>, agent, lobby_conference:member(agent, <<"agent">>, caller:media(Agent), sendrecv)),
+    until(fun() -> caller:heard(Agent) > 10 end),
+    [begin
+         Coach = caller:start(),
+         {ok, _} = lobby_rooms:join(<<"100">>, {coach, N}, lobby_conference:member({coach, N}, <<"coach">>, caller:media(Coach), sendrecv)),
+         until(fun() -> caller:received(Coach) > 5 end),
+         ?assertEqual(0, caller:heard(Coach)),
+         ok = lobby_room:leave(<<"100">>, {coach, N})
+     end || N <- lists:seq(1, 20)].
+
+mutes_and_holds_are_modes(_) ->
+    G = gateway:start(),
+    run([{<<"a">>, G}]),
+    [join(<<"100">>, Id, <<"member">>) || Id <- [alice, bob]],
+    Mode = fun(Id) ->
+        #{context := Context, members := #{Id := #{termination := T}}} = lobby_room:describe(<<"100">>),
+        maps:get(T, gateway:modes(Context, G))
+    end,
+    ?assertEqual('SendReceive', Mode(alice)),
+    [begin {ok, _} = lobby_room:update(<<"100">>, alice, Change), ?assertEqual(Wanted, Mode(alice)) end
+     || {Change, Wanted} <- [{#{muted => true}, 'SendOnly'}, {#{direction => sendonly}, 'Inactive'}, {#{muted => false}, 'Inactive'},
+                             {#{direction => recvonly}, 'SendOnly'}, {#{direction => sendrecv}, 'SendReceive'}]],
+    ?assertEqual('SendReceive', Mode(bob)),
+    ?assertEqual({error, no_member}, lobby_room:update(<<"100">>, nobody, #{muted => true})).
+
+members_move(_) ->
+    G = gateway:start(),
+    run([{<<"a">>, G}]),
+    Gs = #{<<"a">> => G},
+    ok = lobby_rooms:create(<<"break">>, [{deny, {role, <<"guest">>}, everyone}]),
+    Before = [join(<<"main">>, Id, <<"guest">>) || Id <- [alice, bob, carol]],
+    ?assertEqual({ok, lists:nth(1, Before)}, lobby_rooms:move(alice, <<"main">>, <<"break">>)),
+    ?assertEqual({ok, lists:nth(2, Before)}, lobby_rooms:move(bob, <<"main">>, <<"break">>)),
+    ?assertEqual([], heard(<<"break">>, Gs)),
+    {ok, _} = lobby_rooms:move(carol, <<"main">>, <<"break">>),
+    ok = lobby_room:set_rules(<<"break">>, []),
+    ?assertEqual(6, length(heard(<<"break">>, Gs))),
+    ?assertEqual([<<"break">>], lobby_rooms:names()),
+    ?assertEqual({error, no_member}, lobby_rooms:move(dave, <<"break">>, <<"main">>)).
+
+%% A Remote with the address 0.0.0.0 is taken, and one with port 0 isn't.
+refused_media(_) ->
+    G = gateway:start(),
+    run([{<<"a">>, G}]),
+    Bad = {{{127, 0, 0, 1}, 0}, pcmu},
+    ?assertEqual({error, {refused, 515}}, lobby_rooms:join(<<"100">>, x, lobby_conference:member(x, <<"member">>, Bad, sendrecv))),
+    ?assertEqual([], lobby_rooms:names()),
+    Local = join(<<"100">>, alice, <<"member">>),
+    ?assertEqual({error, {refused, 515}}, lobby_room:update(<<"100">>, alice, #{media => Bad})),
+    ?assertEqual({ok, Local}, lobby_room:update(<<"100">>, alice, #{muted => false})).
+
+%% So many that the topology takes several requests and can't be audited.
+a_lecture_of_sixty(_) ->
+    G = gateway:start(["--first-termination", "4000000000"]),
+    run([{<<"a">>, G}]),
+    ok = lobby_rooms:create(<<"hall">>, []),
+    [join(<<"hall">>, N, case N rem 2 of 0 -> <<"even">>; 1 -> <<"odd">> end) || N <- lists:seq(1, 60)],
+    ok = lobby_room:set_rules(<<"hall">>, [{deny, {role, <<"even">>}, {role, <<"odd">>}}]),
+    ?assertEqual(unknown, lobby_room:audit(<<"hall">>)),
+    [ok = lobby_room:leave(<<"hall">>, N) || N <- lists:seq(21, 60)],
+    Heard = heard(<<"hall">>, #{<<"a">> => G}),
+    ?assertEqual(lists:sort([{A, B} || A <- lists:seq(1, 20), B <- lists:seq(1, 20), A =/= B, not (A rem 2 =:= 0 andalso B rem 2 =:= 1)]), Heard).
+
+a_killed_gateway_is_replaced(_) ->
+    A = gateway:start(),
+    B = gateway:start(),
+    Gs = #{<<"a">> => A, <<"b">> => B},
+    %% With so many tries, only its host's refusals tell in time.
+    run(maps:to_list(Gs), #{tries => 20}),
+    ok = lobby_rooms:create(<<"100">>, [{deny, everyone, {member, 3}}]),
+    [begin join(<<"100">>, N, <<"member">>), yes = lobby_registry:register_name({member, N}, self()) end || N <- lists:seq(1, 30)],
+    #{gateway := First} = lobby_room:describe(<<"100">>),
+    gateway:kill(maps:get(First, Gs)),
+    Start = erlang:monotonic_time(millisecond),
+    [receive {lobby_room, N, {moved, _}} -> ok after 3000 -> error(not_moved) end || N <- lists:seq(1, 30)],
+    Took = erlang:monotonic_time(millisecond) - Start,
+    ct:pal("made again ~b ms after the kill", [Took]),
+    %% On an idle machine it is half of that.
+    ?assert(Took < 1200),
+    #{gateway := Second} = lobby_room:describe(<<"100">>),
+    ?assertNotEqual(First, Second),
+    [ok = lobby_room:leave(<<"100">>, N) || N <- lists:seq(11, 30)],
+    ?assertEqual(lists:sort([{X, Y} || X <- lists:seq(1, 10), Y <- lists:seq(1, 10), X =/= Y, Y =/= 3]), heard(<<"100">>, Gs)).
+
+one_that_begins_anew_is_noticed(_) ->
+    begun_anew(["--first-termination", "1000", "--first-context", "1000"], ["--first-termination", "2000", "--first-context", "2000"]).
+
+%% The restarted gateway has a context and terminations with the same names, which somebody else made.
+one_that_begins_with_the_same_numbers_is_noticed(_) ->
+    begun_anew([], []).
+
+begun_anew(First, Second) ->
+    G = gateway:start(First),
+    run([{<<"a">>, G}]),
+    ok = lobby_rooms:create(<<"100">>, lobby_rules:isolate({member, bob})),
+    Locals = [join(<<"100">>, Id, <<"member">>) || Id <- [alice, bob, carol]],
+    [{Before, _}] = lobby_gateway:serving(),
+    G1 = gateway:restart(G, Second),
+    Other = "Add=${Media{LocalControl{Mode=Inactive},Remote{\nv=0\nc=IN IP4 127.0.0.1\nm=audio 9 RTP/AVP 0\n}}}",
+    [gateway:ask("Context=${" ++ Other ++ "," ++ Other ++ "," ++ Other ++ "}", G1) || _ <- [1, 2]],
+    Took = until(fun() -> case lobby_gateway:serving() of [_] -> made_again(Locals, G1); [] -> false end end),
+    ct:pal("made again ~b ms after the others", [Took]),
+    ?assertEqual({error, lost}, lobby_gateway:request(Before, #{context => null, commands => [{audit, root, []}]})),
+    ?assertEqual([{alice, carol}, {carol, alice}], heard(<<"100">>, #{<<"a">> => G1})).
+
+%% The members are in a context that has the three of them and nobody else.
+made_again(Locals, G) ->
+    #{context := Context, members := Members} = lobby_room:describe(<<"100">>),
+    Context =/= new andalso length(gateway:terminations(Context, G)) =:= length(Locals)
+        andalso lists:sort([T || #{termination := T} <- maps:values(Members)]) =:= gateway:terminations(Context, G)
+        andalso lists:all(fun(Mode) -> Mode =:= 'SendReceive' end, maps:values(gateway:modes(Context, G))).
+
+one_that_was_out_of_reach_is_cleaned(_) ->
+    A = gateway:start(),
+    B = gateway:start(["--first-context", "500"]),
+    Gs = #{<<"a">> => A, <<"b">> => B},
+    run(maps:to_list(Gs)),
+    [join(<<"100">>, Id, <<"member">>) || Id <- [alice, bob]],
+    #{gateway := First, context := Context} = lobby_room:describe(<<"100">>),
+    Stopped = maps:get(First, Gs),
+    %% The other one has no room, so that a new room's Add is under way to the one that stops.
+    Others = [H || {H, _} <- lobby_gateway:serving(), lobby_gateway:name(H) =/= First],
+    [{ok, #{results := [_, _, _]}} = lobby_gateway:request(H, #{context => new, commands => lists:duplicate(3, {add, #{mode => inactive}})})
+     || H <- Others],
+    ?assertEqual([Context], gateway:contexts([Context], Stopped)),
+    gateway:stop(Stopped),
+    spawn(fun() -> lobby_rooms:join(<<"200">>, carol, lobby_conference:member(carol, <<"member">>, media(40000), sendrecv)) end),
+    until(fun() -> maps:get(gateway, lobby_room:describe(<<"100">>)) =/= First end),
+    gateway:continue(Stopped),
+    until(fun() -> length(lobby_gateway:serving()) =:= 2 end),
+    ?assertEqual([sentinel(Stopped)], gateway:contexts(lists:seq(1, 60) ++ lists:seq(500, 560), Stopped)),
+    ?assertEqual([{alice, bob}, {bob, alice}], heard(<<"100">>, Gs)).
+
+a_room_waits_for_a_gateway(_) ->
+    G = gateway:start(),
+    run([{<<"a">>, G}]),
+    [join(<<"100">>, Id, <<"member">>) || Id <- [alice, bob]],
+    gateway:stop(G),
+    until(fun() -> maps:get(gateway, lobby_room:describe(<<"100">>)) =:= none end),
+    ?assertEqual({error, no_room}, lobby_rooms:join(<<"100">>, x, lobby_conference:member(x, <<"member">>, media(40000), sendrecv))),
+    gateway:continue(G),
+    until(fun() -> maps:get(gateway, lobby_room:describe(<<"100">>)) =:= <<"a">> end),
+    ?assertEqual([{alice, bob}, {bob, alice}], heard(<<"100">>, #{<<"a">> => G})).
+
+%%% With a journal.
+
+journal(Config) ->
+    filename:join(?config(priv_dir, Config), "journal" ++ integer_to_list(erlang:unique_integer([positive])) ++ ".txt").
+
+%% A room with three members, who are this process, on a gateway with a journal. One is isolated.
+journaled(Returns, Others, Config) ->
+    Journal = ["--journal", journal(Config)],
+    G = gateway:start(Journal),
+    run([{<<"a">>, G}], #{returns => Returns}),
+    ok = lobby_rooms:create(<<"100">>, lobby_rules:isolate({member, bob})),
+    [begin join(<<"100">>, Id, <<"member">>), yes = lobby_registry:register_name({member, Id}, self()) end || Id <- [alice, bob, carol]],
+    [ok = supervisor_starts(gateway:config(Name, Other)) || {Name, Other} <- Others],
+    until(fun() -> length(lobby_gateway:serving()) =:= 1 + length(Others) end),
+    ok = lobby_events:subscribe(),
+    {G, Journal}.
+
+%% Later, so that the room is on the first one.
+supervisor_starts(Config = #{name := Name}) ->
+    {ok, #{gateways := [Whole]}} = lobby_config:check([{gateways, [Config]}]),
+    {ok, _} = supervisor:start_child(lobby_gateway_sup, #{id => Name, start => {lobby_gateway, start_link, [Whole]}}),
+    ok.
+
+event(Event) ->
+    receive {lobby_event, Event} -> ok after 15000 -> error({no_event, Event}) end.
+
+count(Counter) ->
+    lists:sum([N || {{C, _}, N} <- lobby_events:counts(), C =:= Counter]).
+
+counts() ->
+    [count(C) || C <- [lobby_gateway_losses_total, lobby_gateway_returns_total, lobby_conferences_kept_total,
+                       lobby_conferences_made_again_total, lobby_topologies_repaired_total]].
+
+%% Nothing is to be done, and that is seen. Nobody is told to call again.
+one_with_a_journal_comes_back(Config) ->
+    {G, Journal} = journaled(5000, [], Config),
+    Gs = #{<<"a">> => G},
+    Before = lobby_room:describe(<<"100">>),
+    [{Handle, _}] = lobby_gateway:serving(),
+    ?assertEqual([0, 0, 0, 0, 0], counts()),
+    lists:foldl(fun(N, Old) ->
+        gateway:kill(Old),
+        event({gateway, <<"a">>, away}),
+        ?assertEqual([], lobby_gateway:serving()),
+        New = gateway:restart(Old, Journal),
+        event({gateway, <<"a">>, returned}),
+        event({gateway, <<"a">>, serving}),
+        until(fun() -> count(lobby_conferences_kept_total) =:= N end),
+        ?assertEqual([0, N, N, 0, 0], counts()),
+        ?assertMatch([{Handle, _}], lobby_gateway:serving()),
+        ?assertEqual(Before, lobby_room:describe(<<"100">>)),
+        ?assertEqual([{alice, carol}, {carol, alice}], heard(<<"100">>, Gs)),
+        ?assertEqual(2, length(gateway:contexts(lists:seq(1, 60), G))),
+        New
+    end, G, [1, 2]),
+    receive {lobby_room, Id, What} -> error({told, Id, What}) after 0 -> ok end.
+
+%% Sooner than anybody asks: the calls go on, whether or not it was noticed.
+one_that_comes_back_soon_is_not_missed(Config) ->
+    {G, Journal} = journaled(5000, [], Config),
+    Before = lobby_room:describe(<<"100">>),
+    lists:foldl(fun(_, Old) ->
+        New = gateway:restart(Old, Journal),
+        timer:sleep(rand:uniform(300)),
+        ok = lobby_room:add_rules(<<"100">>, lobby_rules:isolate({member, bob})),
+        New
+    end, G, lists:seq(1, 10)),
+    until(fun() -> length(lobby_gateway:serving()) =:= 1 end),
+    ?assertEqual(Before, lobby_room:describe(<<"100">>)),
+    ?assertEqual([{alice, carol}, {carol, alice}], heard(<<"100">>, #{<<"a">> => G})),
+    ?assertEqual(0, count(lobby_gateway_losses_total)).
+
+%% By its counts, which begin at 0 again: once for the conference, whether or not the gateway was missed.
+one_that_comes_back_soon_is_seen(Config) ->
+    ok = application:set_env(lobby, room_audit, 500),
+    {G, Journal} = journaled(5000, [], Config),
+    Caller = caller:start(),
+    {ok, {To, _}} = lobby_rooms:join(<<"100">>, talker, lobby_conference:member(talker, <<"member">>, caller:media(Caller), sendrecv)),
+    caller:talk(Caller, To),
+    lists:foldl(fun(N, Old) ->
+        timer:sleep(1500),
+        ?assertEqual(N - 1, count(lobby_conferences_kept_total)),
+        New = gateway:restart(Old, Journal),
+        until(fun() -> count(lobby_conferences_kept_total) =:= N end),
+        New
+    end, G, [1, 2, 3]),
+    timer:sleep(1500),
+    ?assertEqual(3, count(lobby_conferences_kept_total)),
+    ?assertEqual(0, count(lobby_gateway_losses_total)).
+
+%% Those that were sent before the gateway ended, and those that come while it is awaited: each is run once.
+requests_wait_for_one_with_a_journal(Config) ->
+    {G, Journal} = journaled(5000, [], Config),
+    Self = self(),
+    Join = fun(Room, Id) -> spawn(fun() -> Self ! {Id, lobby_rooms:join(Room, Id, lobby_conference:member(Id, <<"member">>, media(40000), sendrecv))} end) end,
+    gateway:stop(G),
+    Join(<<"100">>, dave),
+    timer:sleep(50),
+    gateway:kill(G),
+    event({gateway, <<"a">>, away}),
+    spawn(fun() -> ok = lobby_room:add_rules(<<"100">>, lobby_rules:isolate({member, carol})), Self ! isolated end),
+    receive {dave, Early} -> error(Early) after 300 -> ok end,
+    _ = gateway:restart(G, Journal),
+    receive {dave, {ok, _}} -> ok after 10000 -> error(no_answer) end,
+    receive isolated -> ok after 10000 -> error(no_answer) end,
+    ?assertEqual([{alice, dave}, {dave, alice}], heard(<<"100">>, #{<<"a">> => G})),
+    ?assertEqual([0, 1], lists:sublist(counts(), 2)),
+    [{_, Load}] = lobby_gateway:serving(),
+    ?assertMatch(#{terminations := 5, contexts := 2}, Load).
+
+%% When it comes back after all, what it has is ended.
+one_that_does_not_come_back_is_replaced(Config) ->
+    B = gateway:start(["--first-context", "500"]),
+    {G, Journal} = journaled(300, [{<<"b">>, B}], Config),
+    Gs = #{<<"a">> => G, <<"b">> => B},
+    gateway:kill(G),
+    Start = erlang:monotonic_time(millisecond),
+    event({gateway, <<"a">>, away}),
+    event({gateway, <<"a">>, lost}),
+    [receive {lobby_room, Id, {moved, _}} -> ok after 3000 -> error(not_moved) end || Id <- [alice, bob, carol]],
+    ct:pal("made again ~b ms after the kill", [erlang:monotonic_time(millisecond) - Start]),
+    ?assertEqual([{alice, carol}, {carol, alice}], heard(<<"100">>, Gs)),
+    ?assertEqual([1, 0, 0, 1, 0], counts()),
+    _ = gateway:restart(G, Journal),
+    event({gateway, <<"a">>, serving}),
+    ?assertEqual([sentinel(G)], gateway:contexts(lists:seq(1, 60), G)),
+    ?assertEqual([{alice, carol}, {carol, alice}], heard(<<"100">>, Gs)).
+
+%% It has the same numbers, by somebody else's requests, which ours must not change: one that had no answer when the
+%% gateway ended is sent again only when it is known to be the same.
+one_that_lost_its_journal_is_noticed(Config) ->
+    {G, _} = journaled(5000, [], Config),
+    #{context := Context} = lobby_room:describe(<<"100">>),
+    gateway:stop(G),
+    Ours = spawn(fun() -> lobby_room:add_rules(<<"100">>, lobby_rules:isolate({member, carol})) end),
+    timer:sleep(50),
+    gateway:kill(G),
+    event({gateway, <<"a">>, away}),
+    G1 = gateway:restart(G, ["--journal", journal(Config)]),
+    Other = "Add=${Media{LocalControl{Mode=Inactive},Remote{\nv=0\nc=IN IP4 127.0.0.1\nm=audio 9 RTP/AVP 0\n}}}",
+    gateway:ask("Context=${" ++ Other ++ "}", G1),
+    gateway:ask("Context=${" ++ Other ++ "," ++ Other ++ "," ++ Other ++ "}", G1),
+    event({gateway, <<"a">>, lost}),
+    event({gateway, <<"a">>, serving}),
+    until(fun() -> not is_process_alive(Ours) andalso all_held(<<"100">>) end),
+    ?assertEqual([], heard(<<"100">>, #{<<"a">> => G1})),
+    ?assertEqual([1, 0, 0, 1, 0], counts()),
+    ?assertEqual({2, 6}, {Context, length(gateway:topology(Context, G1))}).
+
+%% As from a standby's copy of the journal, whose end may be missing: it has all but the last requests.
+one_that_comes_back_with_less_is_corrected(Config) ->
+    {G, Journal = [_, File]} = journaled(5000, [], Config),
+    {ok, Copy} = file:read_file(File),
+    join(<<"100">>, dave, <<"member">>),
+    ok = lobby_room:add_rules(<<"100">>, lobby_rules:isolate({member, carol})),
+    gateway:kill(G),
+    event({gateway, <<"a">>, away}),
+    ok = file:write_file(File, Copy),
+    _ = gateway:restart(G, Journal),
+    event({gateway, <<"a">>, returned}),
+    until(fun() -> count(lobby_conferences_made_again_total) =:= 1 andalso all_held(<<"100">>) end),
+    ?assertEqual([{alice, dave}, {dave, alice}], heard(<<"100">>, #{<<"a">> => G})),
+    ?assertEqual([0, 1, 0, 1, 0], counts()),
+    ?assertEqual(2, length(gateway:contexts(lists:seq(1, 60), G))).
+
+%% Each process of ours is killed in turn. The rooms stay, nothing is left over on the gateway, and the rules hold.
+processes_fail(_) ->
+    G = gateway:start(),
+    run([{<<"a">>, G}]),
+    Gs = #{<<"a">> => G},
+    ok = lobby_rooms:create(<<"100">>, lobby_rules:isolate({member, bob})),
+    [join(<<"100">>, Id, <<"member">>) || Id <- [alice, bob, carol]],
+    [begin
+         Before = killed(Name),
+         until(fun() -> is_up(Name, Before) andalso length(lobby_gateway:serving()) =:= 1 andalso all_held(<<"100">>) end),
+         ?assertEqual([{alice, carol}, {carol, alice}], heard(<<"100">>, Gs)),
+         [#{terminations := Used, contexts := Contexts}] = [Load || {_, Load} <- lobby_gateway:serving()],
+         ?assertEqual({4, 2}, {Used, Contexts}),
+         ?assertEqual(1, length(gateway:contexts(lists:seq(1, 60), G) -- [sentinel(G)]))
+     end || Name <- [{room, <<"100">>}, {gateway, <<"a">>}, lobby_registry, lobby_gateway_sup, lobby_room_sup, {room, <<"100">>}]].
+
+%% The context of the gateway's own process: the one whose only member is inactive.
+sentinel(G) ->
+    hd([Context || Context <- gateway:contexts(lists:seq(1, 60) ++ lists:seq(500, 560), G), maps:values(gateway:modes(Context, G)) =:= ['Inactive']]).
+
+process(Name) when is_atom(Name) -> whereis(Name);
+process(Name) -> lobby_registry:whereis_name(Name).
+
+killed(Name) ->
+    Pid = process(Name),
+    exit(Pid, kill),
+    Pid.
+
+is_up(Name, Before) ->
+    whereis(lobby_registry) =/= undefined andalso process(Name) =/= undefined andalso process(Name) =/= Before
+        andalso lobby_registry:whereis_name({room, <<"100">>}) =/= undefined.
+
+all_held(Room) ->
+    #{members := Members} = lobby_room:describe(Room),
+    lists:all(fun(Member) -> is_map_key(termination, Member) end, maps:values(Members)).
+
+%% The room's process ends after its Add went out: nobody knows the termination, and it has to go.
+a_room_fails_in_the_middle_of_a_request(_) ->
+    G = gateway:start(),
+    run([{<<"a">>, G}]),
+    join(<<"100">>, alice, <<"member">>),
+    [begin
+         gateway:stop(G),
+         Joining = spawn(fun() -> lobby_rooms:join(Room, bob, lobby_conference:member(bob, <<"member">>, media(40000), sendrecv)) end),
+         timer:sleep(50),
+         exit(Joining, kill),
+         exit(lobby_registry:whereis_name({room, Room}), kill),
+         gateway:continue(G),
+         timer:sleep(300),
+         until(fun() -> [{U, C} || {_, #{terminations := U, contexts := C}} <- lobby_gateway:serving()] =:= [{2, 2}] end),
+         ?assertEqual(2, length(gateway:contexts(lists:seq(1, 60), G)))
+     end || Room <- [<<"100">>, <<"200">>]].
+
+somebody_else_changes_the_topology(_) ->
+    G = gateway:start(),
+    run([{<<"a">>, G}]),
+    ok = lobby_rooms:create(<<"100">>, lobby_rules:isolate({member, bob})),
+    [join(<<"100">>, Id, <<"member">>) || Id <- [alice, bob, carol]],
+    ?assertEqual(same, lobby_room:audit(<<"100">>)),
+    #{context := Context} = lobby_room:describe(<<"100">>),
+    gateway:ask(io_lib:format("Context=~b{Topology{*,*,Bothway},AuditValue=ROOT}", [Context]), G),
+    gateway:ask(io_lib:format("Context=~b{Topology{*,*,Bothway}}", [Context]), G),
+    ?assertEqual(6, length(gateway:topology(Context, G))),
+    ?assertEqual(repaired, lobby_room:audit(<<"100">>)),
+    ?assertEqual([{alice, carol}, {carol, alice}], heard(<<"100">>, #{<<"a">> => G})),
+    %% Without being asked, too.
+    gateway:ask(io_lib:format("Context=~b{Topology{*,*,Isolate}}", [Context]), G),
+    until(fun() -> heard(<<"100">>, #{<<"a">> => G}) =:= [{alice, carol}, {carol, alice}] end, erlang:monotonic_time(millisecond), 8000).
+
+%% A relay loses and doubles datagrams in both directions.
+lost_and_doubled_datagrams(_) ->
+    G = gateway:start(),
+    Relay = relay:start(gateway:address(G), #{lose => 0.15, double => 0.2, delay => 60}),
+    ok = application:set_env(lobby, gateways, [#{name => <<"a">>, address => relay:address(Relay), tries => 12, quiet => 500}]),
+    {ok, _} = application:ensure_all_started(lobby),
+    until(fun() -> length(lobby_gateway:serving()) =:= 1 end),
+    ok = lobby_rooms:create(<<"100">>, []),
+    [begin
+         join(<<"100">>, N, <<"member">>),
+         ok = lobby_room:set_rules(<<"100">>, lobby_rules:isolate({member, N}))
+     end || N <- lists:seq(1, 12)],
+    Others = lists:seq(1, 11),
+    ?assertEqual(lists:sort([{A, B} || A <- Others, B <- Others, A =/= B]), heard(<<"100">>, #{<<"a">> => G})),
+    %% Copies that are still under way, and the acknowledgements.
+    timer:sleep(1000),
+    ?assertEqual(lists:sort([{A, B} || A <- Others, B <- Others, A =/= B]), heard(<<"100">>, #{<<"a">> => G})),
+    ?assertEqual(2, length(gateway:contexts(lists:seq(1, 60), G))).
+
+%% Random changes and failures on two gateways; whenever a change is done, the gateway's own answer equals the rules.
+anything_for_some_seconds() -> [{timetrap, {hours, 3}}].
+
+anything_for_some_seconds(_) ->
+    A = gateway:start(),
+    B = gateway:start(["--first-context", "5000", "--first-termination", "5000"]),
+    run([{<<"a">>, A}, {<<"b">>, B}]),
+    [ok = lobby_rooms:create(Room, []) || Room <- [<<"1">>, <<"2">>]],
+    Seed = rand:seed_s(exsss, erlang:monotonic_time()),
+    ct:pal("seed ~p", [rand:export_seed_s(Seed)]),
+    %% For as long as one likes: ANYTHING_SECONDS=3600.
+    Seconds = list_to_integer(os:getenv("ANYTHING_SECONDS", "8")),
+    End = erlang:monotonic_time(millisecond) + 1000 * Seconds,
+    Changes = anything(End, #{gateways => #{<<"a">> => A, <<"b">> => B}, changes => 0}),
+    ct:pal("~b changes", [Changes]),
+    ?assert(Changes > 200).
+
+anything(End, W = #{changes := N, gateways := Gs}) ->
+    case erlang:monotonic_time(millisecond) < End of
+        false -> N;
+        true ->
+            Gs1 = anything_once(rand:uniform(100), Gs),
+            [check(Room, Gs1) || Room <- [<<"1">>, <<"2">>]],
+            N rem 10000 =:= 9999 andalso ct:pal("~b changes", [N + 1]),
+            anything(End, W#{changes := N + 1, gateways := Gs1})
+    end.
+
+anything_once(1, Gs) ->
+    Name = lists:nth(rand:uniform(2), [<<"a">>, <<"b">>]),
+    Numbers = integer_to_list(10000 * rand:uniform(100000)),
+    Gs#{Name := gateway:restart(maps:get(Name, Gs), ["--first-context", Numbers, "--first-termination", Numbers])};
+anything_once(2, Gs) ->
+    exit(lobby_registry:whereis_name({room, <<"1">>}), kill),
+    until(fun() -> lobby_registry:whereis_name({room, <<"1">>}) =/= undefined end),
+    Gs;
+anything_once(K, Gs) when K < 40 ->
+    Id = rand:uniform(8),
+    case lists:append([[R || is_map_key(Id, maps:get(members, lobby_room:describe(R)))] || R <- [<<"1">>, <<"2">>]]) of
+        [] -> lobby_rooms:join(integer_to_binary(rand:uniform(2)), Id,
+                               lobby_conference:member(Id, lists:nth(rand:uniform(2), [<<"x">>, <<"y">>]), media(40000), sendrecv));
+        [Room] when K < 20 -> lobby_room:leave(Room, Id);
+        [Room] -> lobby_rooms:move(Id, Room, case Room of <<"1">> -> <<"2">>; <<"2">> -> <<"1">> end)
+    end,
+    Gs;
+anything_once(_, Gs) ->
+    Party = fun() -> lists:nth(rand:uniform(4), [everyone, {role, <<"x">>}, {role, <<"y">>}, {member, rand:uniform(8)}]) end,
+    ok = lobby_room:add_rules(integer_to_binary(rand:uniform(2)), [{lists:nth(rand:uniform(2), [allow, deny]), Party(), Party()}]),
+    Gs.
+
+%% As soon as the room has a gateway that is there.
+check(Room, Gs) ->
+    until(fun() -> agrees(Room, Gs) end).
+
+agrees(Room, Gs) ->
+    case lobby_room:describe(Room) of
+        #{members := Members} when map_size(Members) =:= 0 -> true;
+        #{gateway := none} -> false;
+        About = #{members := Members, rules := Rules, gateway := Name, context := Context} when is_integer(Context) ->
+            G = maps:get(Name, Gs),
+            Wanted = lists:sort([{A, B} || {A, #{role := RA}} <- maps:to_list(Members), {B, #{role := RB}} <- maps:to_list(Members),
+                                           A =/= B, hears({B, RB}, {A, RA}, Rules)]),
+            Ids = ids(About),
+            There = gateway:terminations(Context, G),
+            lists:sort(maps:keys(Ids)) =:= There
+                andalso (length(There) < 2 orelse Wanted =:= lists:sort([{maps:get(A, Ids), maps:get(B, Ids)}
+                                                                          || {A, B} <- gateway:topology(Context, G)]));
+        _ -> false
+    end.
+
+hears(Listener, Talker, Rules) ->
+    lists:foldl(fun({Verdict, From, To}, Before) ->
+        case names(From, Talker) andalso names(To, Listener) of true -> Verdict =:= allow; false -> Before end
+    end, true, Rules).
+
+names(everyone, _) -> true;
+names({member, Id}, {Id, _}) -> true;
+names({role, Role}, {_, Role}) -> true;
+names(_, _) -> false.

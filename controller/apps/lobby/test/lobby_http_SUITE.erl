@@ -1,0 +1,359 @@
+%% The HTTP interface, with calls and a real gateway.
+-module(lobby_http_SUITE).
+
+-include_lib("common_test/include/ct.hrl").
+-include_lib("stdlib/include/assert.hrl").
+
+-compile([export_all]).
+
+-define(OPERATOR, "operator-token-0001").
+-define(VIEWER, "viewer-token-000001").
+
+all() ->
+    [a_room_is_steered, rooms_are_created_and_closed, tokens, errors, what_the_gateway_says, metrics, the_page, everything_is_described, events, watchers_are_limited, a_watcher_that_does_not_read, supervisors_fail, anything].
+
+init_per_testcase(_, Config) ->
+    {ok, _} = application:ensure_all_started(inets),
+    ok = application:load(lobby),
+    G = gateway:start(),
+    [Sip, Http] = [gateway:free_address() || _ <- [sip, http]],
+    Env = [{gateways, [gateway:config(<<"a">>, G)]}, {sip, Sip}, {http, Http},
+           {tokens, [{<<?OPERATOR>>, operator}, {<<?VIEWER>>, viewer}]}],
+    [ok = application:set_env(lobby, Key, Value) || {Key, Value} <- Env],
+    {ok, _} = application:ensure_all_started(lobby),
+    serving(100),
+    [{sip, Sip}, {http, Http}, {gateway, G} | Config].
+
+serving(Tries) when Tries > 0 ->
+    case lobby_gateway:serving() of
+        [_] -> ok;
+        [] -> timer:sleep(50), serving(Tries - 1)
+    end.
+
+end_per_testcase(_, Config) ->
+    _ = application:stop(lobby),
+    _ = application:stop(mnesia),
+    ok = application:unload(lobby),
+    gateway:kill_all(),
+    Config.
+
+ask(Method, Path, Config) -> ask(Method, Path, "", ?OPERATOR, Config).
+
+ask(Method, Path, Body, Config) -> ask(Method, Path, Body, ?OPERATOR, Config).
+
+ask(Method, Path, Body, Token, Config) ->
+    Url = url(Path, Config),
+    Headers = auth(Token),
+    Request = case Method of
+        get -> {Url, Headers};
+        delete -> {Url, Headers};
+        _ -> {Url, Headers, "application/json", Body}
+    end,
+    {ok, {{_, Status, _}, Given, Text}} = httpc:request(Method, Request, [], [{body_format, binary}]),
+    case proplists:get_value("content-type", Given) of
+        "application/json" -> {Status, jiffy:decode(Text, [return_maps])};
+        Type -> {Status, Type, Text}
+    end.
+
+url(Path, Config) ->
+    {_, Port} = proplists:get_value(http, Config),
+    "http://127.0.0.1:" ++ integer_to_list(Port) ++ Path.
+
+auth(none) -> [];
+auth(Token) -> [{"authorization", "Bearer " ++ Token}].
+
+call(Room, Config) ->
+    Phone = phone:start(proplists:get_value(sip, Config), Room),
+    Calling = phone:invite(phone:sdp(Phone), Phone),
+    Response = phone:recv(Calling),
+    ?assertEqual(200, phone:status(Response)),
+    Talking = phone:learn(Response, Calling),
+    phone:ack(Talking),
+    Talking.
+
+members(Room, Config) ->
+    {200, #{<<"members">> := Members}} = ask(get, "/rooms/" ++ Room, Config),
+    [Id || #{<<"id">> := Id} <- Members].
+
+%% A phone that joins the room and leaves it again.
+phone_joins(Config) ->
+    Phone = call("100", Config),
+    Phone1 = phone:request("BYE", "", Phone),
+    [?assertEqual(200, phone:status(phone:recv(Phone1)))].
+
+%% The open flows as the gateway itself says, as many as there are.
+flows(Room, Config) ->
+    #{context := Context} = lobby_room:describe(list_to_binary(Room)),
+    length(gateway:topology(Context, proplists:get_value(gateway, Config))).
+
+a_room_is_steered(Config) ->
+    Phones = [call("100", Config) || _ <- [1, 2, 3]],
+    ?assertEqual({200, #{<<"rooms">> => [<<"100">>]}}, ask(get, "/rooms", Config)),
+    [A, B, _] = [binary_to_list(Id) || Id <- members("100", Config)],
+    Do = fun(Id, Action, Body) -> ask(post, "/members/" ++ Id ++ "/" ++ Action, Body, Config) end,
+    ?assertEqual({200, #{}}, Do(A, "isolate", "")),
+    ?assertEqual(2, flows("100", Config)),
+    ?assertEqual({200, #{}}, Do(A, "release", "{}")),
+    ?assertEqual(6, flows("100", Config)),
+    ?assertEqual({200, #{}}, Do(A, "role", "{\"role\": \"coach\"}")),
+    ?assertEqual({200, #{}}, ask(post, "/rooms/100/rules", "{\"rules\": [{\"hears\": false, \"talker\": {\"role\": \"coach\"},"
+                                 " \"listener\": {\"member\": \"" ++ B ++ "\"}}]}", Config)),
+    ?assertEqual(5, flows("100", Config)),
+    ?assertEqual({200, #{}}, ask(put, "/rooms/100", "{\"rules\": []}", Config)),
+    ?assertEqual({200, #{}}, Do(A, "oneway", "{\"listener\": \"" ++ B ++ "\"}")),
+    #{flows := Flows} = lobby_room:describe(<<"100">>),
+    ?assertEqual([{list_to_binary(B), list_to_binary(A)}], [{X, Y} || X <- members("100", Config), Y <- members("100", Config), X =/= Y] -- Flows),
+    ?assertEqual({200, #{}}, ask(post, "/rooms/100/lock", "", Config)),
+    ?assertMatch({200, #{<<"locked">> := true}}, ask(get, "/rooms/100", Config)),
+    Late = phone:start(proplists:get_value(sip, Config), "100"),
+    _ = phone:invite(phone:sdp(Late), Late),
+    ?assertEqual(403, phone:status(phone:recv(Late))),
+    ?assertEqual({200, #{}}, ask(post, "/rooms/100/unlock", "", Config)),
+    _ = phone_joins(Config),
+    ?assertEqual({200, #{}}, Do(A, "mute", "")),
+    {200, #{<<"members">> := Members}} = ask(get, "/rooms/100", Config),
+    ?assertEqual([{<<"coach">>, true}], [{Role, Muted} || #{<<"id">> := Id, <<"role">> := Role, <<"muted">> := Muted} <- Members,
+                                                          Id =:= list_to_binary(A)]),
+    ?assertEqual([<<"Test">>], lists:usort([Caller || #{<<"caller">> := Caller} <- Members])),
+    ?assertEqual({200, #{}}, Do(A, "unmute", "")),
+    ?assertEqual({200, #{}}, Do(A, "move", "{\"room\": \"200\"}")),
+    ?assertEqual([list_to_binary(A)], members("200", Config)),
+    ?assertEqual({200, #{}}, Do(A, "hang_up", "")),
+    ?assertEqual(["BYE"], [Status || Phone <- Phones, Status <- [phone:status(phone:recv(Phone, 200))], Status =/= none]),
+    ?assertEqual({404, #{<<"error">> => <<"there is no such room">>}}, ask(get, "/rooms/200", Config)).
+
+rooms_are_created_and_closed(Config) ->
+    ?assertEqual({200, #{}}, ask(put, "/rooms/desk", "{\"preset\": \"coaching\"}", Config)),
+    {200, #{<<"rules">> := [Rule]}} = ask(get, "/rooms/desk", Config),
+    ?assertEqual(#{<<"hears">> => false, <<"talker">> => #{<<"role">> => <<"coach">>}, <<"listener">> => #{<<"role">> => <<"customer">>}}, Rule),
+    Phone = call("desk", Config),
+    ?assertEqual({200, #{}}, ask(delete, "/rooms/desk", Config)),
+    ?assertEqual("BYE", phone:status(phone:recv(Phone))),
+    ?assertEqual({200, #{<<"rooms">> => []}}, ask(get, "/rooms", Config)),
+    ?assertEqual({200, #{}}, ask(put, "/rooms/desk", "{\"rules\": []}", Config)),
+    ?assertEqual({200, #{}}, ask(delete, "/rooms/desk", Config)),
+    ?assertEqual({200, #{<<"rooms">> => []}}, ask(get, "/rooms", Config)).
+
+tokens(Config) ->
+    ?assertMatch({401, #{<<"error">> := _}}, ask(get, "/rooms", "", none, Config)),
+    ?assertMatch({401, #{<<"error">> := _}}, ask(get, "/rooms", "", "another-token-00001", Config)),
+    ?assertMatch({401, #{<<"error">> := _}}, ask(get, "/metrics", "", none, Config)),
+    ?assertMatch({200, _}, ask(get, "/rooms", "", ?VIEWER, Config)),
+    ?assertMatch({403, #{<<"error">> := _}}, ask(put, "/rooms/1", "{\"rules\": []}", ?VIEWER, Config)),
+    ?assertEqual([], lobby_rooms:names()).
+
+errors(Config) ->
+    Phone = call("100", Config),
+    [Id] = [binary_to_list(I) || I <- members("100", Config)],
+    Member = "/members/" ++ Id,
+    Party = <<"a rule is {\"hears\": true or false, \"talker\": PARTY, \"listener\": PARTY}, "
+              "and a party is \"everyone\", {\"role\": TEXT} or {\"member\": ID}">>,
+    [?assertEqual({Method, Path, Body, {Status, #{<<"error">> => Text}}}, {Method, Path, Body, ask(Method, Path, Body, Config)})
+     || {Status, Text, Method, Path, Body} <-
+            [{404, <<"there is nothing of this name">>, get, "/nothing", ""},
+             {404, <<"there is no such room">>, get, "/rooms/none", ""},
+             {404, <<"there is nothing of this name">>, post, "/nothing", "{}"},
+             {404, <<"there is nothing of this name">>, get, "/../lobby_http.erl", ""},
+             {400, <<"the body is not JSON: truncated_json at byte 2">>, put, "/rooms/1", "{"},
+             {400, <<"the body is not a JSON object">>, put, "/rooms/1", "[]"},
+             {400, <<"\"rules\" or \"preset\" is missing">>, put, "/rooms/1", "{}"},
+             {400, <<"\"rules\" or \"preset\" is missing">>, put, "/rooms/1", ""},
+             {400, <<"a room's name has 1 to 32 letters, digits and _.-">>, put, "/rooms/a%20b", "{\"rules\": []}"},
+             {400, <<"preset is one of plain, lecture, coaching, monitored">>, put, "/rooms/1", "{\"preset\": 1}"},
+             {400, Party, post, "/rooms/100/rules", "{\"rules\": [1]}"},
+             {400, Party, post, "/rooms/100/rules", "{\"rules\": [{\"hears\": true, \"talker\": 1, \"listener\": \"everyone\"}]}"},
+             {400, Party, post, "/rooms/100/rules", "{\"rules\": [{\"hears\": true, \"talker\": {}, \"listener\": \"everyone\"}]}"},
+             {404, <<"there is no such room">>, post, "/rooms/none/rules", "{\"rules\": []}"},
+             {404, <<"there is no such room">>, post, "/rooms/none/lock", ""},
+             {404, <<"there is no such room">>, delete, "/rooms/none", ""},
+             {404, <<"there is no such member">>, post, "/members/none/mute", ""},
+             {404, <<"there is no such member">>, post, "/members/none/hang_up", ""},
+             {404, <<"there is nothing of this name">>, post, Member ++ "/dance", ""},
+             {400, <<"\"role\" is a text of 1 to 32 bytes">>, post, Member ++ "/role", "{}"},
+             {400, <<"\"role\" is a text of 1 to 32 bytes">>, post, Member ++ "/role", "{\"role\": \"" ++ lists:duplicate(33, $a) ++ "\"}"},
+             {404, <<"the listener is no member of the room">>, post, Member ++ "/oneway", "{\"listener\": \"x\"}"},
+             {400, <<"\"room\" is a text of 1 to 32 bytes">>, post, Member ++ "/move", "{\"room\": 1}"},
+             {409, <<"the member is in this room">>, post, Member ++ "/move", "{\"room\": \"100\"}"},
+             {400, <<"a room's name has 1 to 32 letters, digits and _.-">>, post, Member ++ "/move", "{\"room\": \"a b\"}"},
+             {405, <<"the methods are GET">>, post, "/rooms", "{}"},
+             {405, <<"the methods are GET, PUT, DELETE">>, post, "/rooms/100", "{}"},
+             {405, <<"the methods are POST">>, get, Member ++ "/mute", ""}]],
+    {ok, {_, Allowed, _}} = httpc:request(post, {url("/rooms", Config), auth(?OPERATOR), "application/json", "{}"}, [], []),
+    ?assertEqual("GET", proplists:get_value("allow", Allowed)),
+    {ok, {_, Denied, _}} = httpc:request(get, {url("/rooms", Config), []}, [], []),
+    ?assertEqual("Bearer", proplists:get_value("www-authenticate", Denied)),
+    ?assertMatch({413, _, _}, ask(put, "/rooms/1", lists:duplicate(70000, $a), Config)),
+    %% Too many rules.
+    Many = fun(N) -> "{\"rules\": [" ++ lists:append(lists:join(",", ["{\"hears\": true, \"talker\": {\"role\": \"" ++ integer_to_list(I) ++
+                     "\"}, \"listener\": \"everyone\"}" || I <- lists:seq(1, N)])) ++ "]}" end,
+    ?assertMatch({409, #{<<"error">> := <<"the room has too many rules">>}}, ask(post, "/rooms/100/rules", Many(257), Config)),
+    ?assertEqual([list_to_binary(Id)], members("100", Config)),
+    phone:close(Phone).
+
+%% The page shows what the gateway has, also when somebody else changed it behind the room's back.
+what_the_gateway_says(Config) ->
+    [call("100", Config) || _ <- [1, 2]],
+    {200, #{<<"context">> := Context, <<"audited">> := true, <<"flows">> := Flows}} = ask(get, "/rooms/100", Config),
+    ?assertEqual(2, length(Flows)),
+    gateway:ask(io_lib:format("Context=~b{Topology{*,*,Isolate}}", [Context]), proplists:get_value(gateway, Config)),
+    {200, #{<<"flows">> := Repaired}} = ask(get, "/rooms/100", Config),
+    ?assertEqual(Flows, Repaired),
+    ?assertEqual(2, flows("100", Config)),
+    {200, #{<<"gateways">> := [#{<<"name">> := <<"a">>, <<"terminations">> := 3, <<"contexts">> := 2}]}} = ask(get, "/gateways", Config).
+
+metrics(Config) ->
+    call("100", Config),
+    [ok = lobby_events:count(lobby_gateway_losses_total, Name) || Name <- [<<"a">>, <<"a">>, <<"b\"\\\n">>]],
+    {200, "text/plain; version=0.0.4", Text} = ask(get, "/metrics", Config),
+    %% One line for the type of all that have the same name.
+    ?assertEqual(1, length(binary:matches(Text, <<"# TYPE lobby_gateway_losses_total counter\n">>))),
+    [?assertNotEqual({Line, nomatch}, {Line, binary:match(Text, Line)})
+     || Line <- [<<"lobby_gateway_losses_total{gateway=\"a\"} 2\n">>, <<"lobby_gateway_losses_total{gateway=\"b\\\"\\\\\\n\"} 1\n">>,
+                 <<"lobby_rooms 1\n">>, <<"lobby_calls 1\n">>, <<"lobby_gateways_serving 1\n">>, <<"lobby_gateway_terminations{gateway=\"a\"} 2\n">>]].
+
+the_page(Config) ->
+    {200, "text/html; charset=utf-8", Page} = ask(get, "/", "", none, Config),
+    ?assertNotEqual(nomatch, binary:match(Page, <<"<title>Lobby</title>">>)).
+
+%% Each request that is described is answered, and rooms have the members that are described.
+everything_is_described(Config) ->
+    {200, #{<<"paths">> := Paths, <<"components">> := #{<<"schemas">> := Schemas}}} = ask(get, "/openapi.json", "", none, Config),
+    Described = [{string:uppercase(binary_to_list(Method)), Path} || {Path, Methods} <- maps:to_list(Paths), Method <- maps:keys(Methods)],
+    ?assertEqual(lists:sort([{Method, Path} || {Method, Path, _} <- lobby_http:routes()]), lists:sort(Described)),
+    [begin
+         [call("100", Config) || _ <- [1, 2]],
+         [Id, Other] = members("100", Config),
+         Filled = string:replace(string:replace(Path, "{name}", "100"), "{id}", Id),
+         Answer = ask(list_to_atom(string:lowercase(Method)), binary_to_list(iolist_to_binary(Filled)), body(Path, Other), Config),
+         ?assertMatch({_, _, 200}, {Method, Path, element(1, Answer)}),
+         ask(delete, "/rooms/100", Config),
+         ask(delete, "/rooms/200", Config)
+     end || {Method, Path} <- Described, Path =/= <<"/events">>],
+    call("100", Config),
+    {200, Room = #{<<"members">> := [Member]}} = ask(get, "/rooms/100", Config),
+    {200, #{<<"gateways">> := [Gateway]}} = ask(get, "/gateways", Config),
+    [?assertEqual({Name, lists:sort(maps:keys(maps:get(<<"properties">>, maps:get(Name, Schemas))))}, {Name, lists:sort(maps:keys(Is))})
+     || {Name, Is} <- [{<<"Room">>, Room}, {<<"Member">>, Member}, {<<"Gateway">>, Gateway}]].
+
+body(<<"/members/{id}/oneway">>, Other) -> "{\"listener\": \"" ++ binary_to_list(Other) ++ "\"}";
+body(<<"/members/{id}/role">>, _) -> "{\"role\": \"x\"}";
+body(<<"/members/{id}/move">>, _) -> "{\"room\": \"200\"}";
+body(_, _) -> "{\"rules\": []}".
+
+%% Each change is sent as an event, and a question isn't.
+events(Config) ->
+    Watching = watch(?VIEWER, Config),
+    ?assertMatch("HTTP/1.1 200 OK\r\nContent-Type: text/event-stream\r\n" ++ _, head(Watching)),
+    Room = "event: room\ndata: {\"name\":\"100\"}\n\n",
+    Phone = call("100", Config),
+    ?assertEqual(Room, said(Watching)),
+    [Id] = members("100", Config),
+    ?assertEqual("", said(400, Watching)),
+    [begin
+         ?assertMatch({_, {200, _}}, {Path, ask(post, Path, Body, Config)}),
+         ?assertEqual({Path, Room}, {Path, said(Watching)})
+     end || {Path, Body} <- [{"/members/" ++ binary_to_list(Id) ++ "/isolate", ""}, {"/members/" ++ binary_to_list(Id) ++ "/mute", ""},
+                             {"/rooms/100/lock", ""}, {"/rooms/100/rules", "{\"rules\": []}"}]],
+    Phone1 = phone:request("BYE", "", Phone),
+    ?assertEqual(200, phone:status(phone:recv(Phone1))),
+    ?assertEqual(Room, said(Watching)),
+    gateway:kill(proplists:get_value(gateway, Config)),
+    "event: gateway\ndata: " ++ Data = said(Watching),
+    ?assertEqual(#{<<"name">> => <<"a">>, <<"state">> => <<"lost">>}, jiffy:decode(string:trim(Data), [return_maps])),
+    %% Who ends the connection is forgotten.
+    ok = gen_tcp:close(Watching),
+    until(fun() -> pg:get_local_members(lobby, events) =:= [] end),
+    NoToken = watch("", Config),
+    ?assertMatch("HTTP/1.1 401 " ++ _, head(NoToken)).
+
+watch(Token, Config) ->
+    {Address, Port} = proplists:get_value(http, Config),
+    {ok, Socket} = gen_tcp:connect(Address, Port, [list, {active, false}, {recbuf, 4096}]),
+    ok = gen_tcp:send(Socket, "GET /events HTTP/1.1\r\nHost: x\r\nAuthorization: Bearer " ++ Token ++ "\r\n\r\n"),
+    Socket.
+
+head(Socket) ->
+    {ok, Text} = gen_tcp:recv(Socket, 0, 2000),
+    Text.
+
+%% What is sent until it is quiet for a while, each once.
+said(Socket) -> said(3000, Socket).
+said(Timeout, Socket) ->
+    lists:append(lists:uniq([Event ++ "\n\n" || Event <- string:split(received(Timeout, Socket), "\n\n", all), Event =/= ""])).
+
+received(Timeout, Socket) ->
+    case gen_tcp:recv(Socket, 0, Timeout) of
+        {ok, Text} -> Text ++ received(400, Socket);
+        {error, timeout} -> ""
+    end.
+
+watchers_are_limited(Config) ->
+    Watching = [begin S = watch(?VIEWER, Config), "HTTP/1.1 200" ++ _ = head(S), S end || _ <- lists:seq(1, 32)],
+    ?assertMatch("HTTP/1.1 503 " ++ _, head(watch(?VIEWER, Config))),
+    ok = gen_tcp:close(hd(Watching)),
+    until(fun() -> length(pg:get_local_members(lobby, events)) =:= 31 end),
+    ?assertMatch("HTTP/1.1 200 " ++ _, head(watch(?VIEWER, Config))).
+
+%% It is disconnected, and holds nobody up.
+a_watcher_that_does_not_read(Config) ->
+    Watching = watch(?VIEWER, Config),
+    _ = head(Watching),
+    [Pid] = pg:get_local_members(lobby, events),
+    Name = binary:copy(<<"x">>, 32),
+    Stop = erlang:monotonic_time(millisecond) + 10000,
+    Flood = fun Flood(N) ->
+        case is_process_alive(Pid) andalso erlang:monotonic_time(millisecond) < Stop of
+            true -> [ok = lobby_events:publish({room, <<Name/binary, (integer_to_binary(I))/binary>>}) || I <- lists:seq(N, N + 999)], timer:sleep(10), Flood(N + 1000);
+            false -> ok
+        end
+    end,
+    Flood(0),
+    ?assertNot(is_process_alive(Pid)),
+    ?assertEqual([], pg:get_local_members(lobby, events)),
+    ?assertMatch({200, _}, ask(get, "/rooms", Config)).
+
+%% What needs the rooms is started again with them, and that includes the sockets.
+supervisors_fail(Config) ->
+    Phone = call("100", Config),
+    [begin
+         Before = whereis(Name),
+         exit(Before, kill),
+         until(fun() -> not lists:member(whereis(Name), [undefined, Before]) andalso whereis(lobby_sip) =/= undefined end),
+         until(fun() -> is_answered(Config) end)
+     end || Name <- [lobby_room_sup, lobby_call_sup, lobby_room_sup, lobby_registry, lobby_room_sup, lobby_gateway_sup]],
+    ?assertEqual(1, length(members("100", Config))),
+    %% At once, as a supervisor does it.
+    [begin
+         ok = supervisor:terminate_child(lobby_sup, Child),
+         ?assertMatch({ok, _}, supervisor:restart_child(lobby_sup, Child))
+     end || Child <- [lobby_http, lobby_tcp_sup, lobby_sip], _ <- lists:seq(1, 100)],
+    phone:close(Phone).
+
+until(Holds) -> until(Holds, 750).
+
+until(Holds, Tries) when Tries > 0 ->
+    case Holds() of
+        true -> ok;
+        false -> timer:sleep(20), until(Holds, Tries - 1)
+    end.
+
+is_answered(Config) ->
+    {_, Port} = proplists:get_value(http, Config),
+    case httpc:request(get, {"http://127.0.0.1:" ++ integer_to_list(Port) ++ "/rooms/100", [{"authorization", "Bearer " ++ ?VIEWER}]}, [], []) of
+        {ok, {{_, 200, _}, _, _}} -> true;
+        _ -> false
+    end.
+
+%% Anything at the port: each request is answered or the connection closed, and the server goes on.
+anything(Config) ->
+    {Address, Port} = proplists:get_value(http, Config),
+    [begin
+         {ok, Socket} = gen_tcp:connect(Address, Port, [binary, {active, false}]),
+         _ = gen_tcp:send(Socket, Bytes),
+         _ = gen_tcp:recv(Socket, 0, 200),
+         gen_tcp:close(Socket)
+     end || Bytes <- [<<"garbage">>, <<"GET">>, <<"GET /", 255, " HTTP/1.1\r\nHost: x\r\n\r\n">>, <<"POST /rooms HTTP/1.1\r\nHost: x\r\nContent-Length: -1\r\n\r\n">>,
+                      <<"PUT /rooms/%zz HTTP/1.1\r\nHost: x\r\nContent-Length: 2\r\nAuthorization: Bearer ", ?OPERATOR, "\r\n\r\n{}">>,
+                      <<"GET /%zz HTTP/1.1\r\nHost: x\r\nAuthorization: Bearer ", ?OPERATOR, "\r\n\r\n">>,
+                      <<"GET / HTTP/1.1\r\nHost: x\r\n", (binary:copy(<<"X: y\r\n">>, 10000))/binary, "\r\n">> | [rand:bytes(200) || _ <- lists:seq(1, 50)]]],
+    ?assertMatch({200, _}, ask(get, "/rooms", Config)).

@@ -1,0 +1,35 @@
+-module(lobby_tcp_tests).
+
+-include_lib("eunit/include/eunit.hrl").
+
+message(Length, Body) ->
+    iolist_to_binary(["OPTIONS sip:a@b SIP/2.0\r\n", Length, "X: y\r\n\r\n", Body]).
+
+one_message_test() ->
+    Message = message("Content-Length: 3\r\n", "abc"),
+    ?assertEqual({ok, Message, <<>>}, lobby_tcp:frame(Message)),
+    ?assertEqual({ok, Message, <<"next">>}, lobby_tcp:frame(<<Message/binary, "next">>)).
+
+short_and_strange_spellings_test() ->
+    [?assertEqual({ok, message(Length, "abc"), <<"d">>}, lobby_tcp:frame(message(Length, "abcd")))
+     || Length <- ["l: 3\r\n", "content-length:3\r\n", "CONTENT-LENGTH \t: 3 \r\n"]].
+
+without_a_length_there_is_no_body_test() ->
+    ?assertEqual({ok, message("", ""), <<"abc">>}, lobby_tcp:frame(message("", "abc"))),
+    %% A header that only ends like it.
+    ?assertEqual({ok, message("X-Content-Length: 3\r\n", ""), <<"abc">>}, lobby_tcp:frame(message("X-Content-Length: 3\r\n", "abc"))).
+
+blank_lines_are_skipped_test() ->
+    Message = message("Content-Length: 0\r\n", ""),
+    ?assertEqual({ok, Message, <<>>}, lobby_tcp:frame(<<"\r\n\r\n\r\n", Message/binary>>)),
+    ?assertEqual(more, lobby_tcp:frame(<<"\r\n\r\n">>)).
+
+parts_of_a_message_test() ->
+    Message = message("Content-Length: 3\r\n", "abc"),
+    [?assertEqual(more, lobby_tcp:frame(binary:part(Message, 0, N))) || N <- lists:seq(0, byte_size(Message) - 1)].
+
+too_long_test() ->
+    ?assertEqual({error, too_long}, lobby_tcp:frame(message("Content-Length: 65500\r\n", ""))),
+    ?assertEqual({error, too_long}, lobby_tcp:frame(message("Content-Length: 999999999\r\n", ""))),
+    ?assertEqual({error, too_long}, lobby_tcp:frame(binary:copy(<<"a">>, 65536))),
+    ?assertEqual(more, lobby_tcp:frame(binary:copy(<<"a">>, 65535))).

@@ -1,0 +1,82 @@
+%% Changes of the topology, against what RFC 3525, section 7.1.18, says that a triple does.
+-module(lobby_topology_tests).
+
+-include_lib("eunit/include/eunit.hrl").
+-include("properties.hrl").
+
+-export([prop_the_batches_lead_to_the_wanted_flows/0, prop_closing_comes_first/0]).
+
+%% The open flows after a triple. Isolate and bothway concern both directions, oneway also closes the other one.
+apply_triple({A, B, How}, Ids, Flows) ->
+    Pairs = [{X, Y} || X <- named(A, Ids), Y <- named(B, Ids), X =/= Y],
+    lists:foldl(fun({X, Y}, Open) -> apply_pair(How, X, Y, Open) end, Flows, Pairs).
+
+apply_pair(bothway, X, Y, Open) -> sets:add_element({X, Y}, sets:add_element({Y, X}, Open));
+apply_pair(isolate, X, Y, Open) -> sets:del_element({X, Y}, sets:del_element({Y, X}, Open));
+apply_pair(oneway, X, Y, Open) -> sets:add_element({X, Y}, sets:del_element({Y, X}, Open)).
+
+named(all, Ids) -> Ids;
+named(Id, _) -> [Id].
+
+apply_batch(Batch, Ids, Flows) ->
+    lists:foldl(fun(Triple, Open) -> apply_triple(Triple, Ids, Open) end, Flows, Batch).
+
+equal(A, B) -> lists:sort(sets:to_list(A)) =:= lists:sort(sets:to_list(B)).
+
+%% Members, two sets of open flows between them, and a limit of triples.
+change() ->
+    ?BIND(N, range(0, 7), ?BIND({Before, After}, {flows(N), flows(N)}, {lists:seq(1, N), Before, After, range(1, 30)})).
+
+flows(N) ->
+    ?BIND(List, list({range(1, max(1, N)), range(1, max(1, N))}),
+         sets:from_list([{A, B} || {A, B} <- List, A =/= B], [{version, 2}])).
+
+prop_the_batches_lead_to_the_wanted_flows() ->
+    ?FORALL({Ids, Before, After, Max}, change(),
+            begin
+                Batches = lobby_topology:changes(Ids, Before, After, Max),
+                Last = lists:foldl(fun(Batch, Flows) -> apply_batch(Batch, Ids, Flows) end, Before, Batches),
+                equal(After, Last) andalso lists:all(fun(B) -> B =/= [] andalso length(B) =< Max end, Batches)
+            end).
+
+%% After each request: nothing is open that is open neither before nor after; and once a flow has been opened, no flow
+%% that is to be closed is open any more.
+prop_closing_comes_first() ->
+    ?FORALL({Ids, Before, After, Max}, change(),
+            begin
+                Batches = lobby_topology:changes(Ids, Before, After, Max),
+                {_, Fine} = lists:foldl(fun(Batch, {Flows, Fine}) ->
+                    Now = apply_batch(Batch, Ids, Flows),
+                    {Now, Fine andalso sets:is_subset(Now, sets:union(Before, After))
+                              andalso (sets:is_subset(Now, Before) orelse no_pair_left(Now, Before, After))}
+                end, {Before, true}, Batches),
+                Fine
+            end).
+
+%% Every pair that loses a flow has lost it, unless the same triple opens its other direction.
+no_pair_left(Now, Before, After) ->
+    Opened = sets:subtract(Now, Before),
+    Left = sets:subtract(sets:intersection(Now, Before), After),
+    sets:is_empty(Left) orelse lists:all(fun({A, B}) -> sets:is_element({B, A}, Before) end, sets:to_list(Opened)).
+
+properties_test_() ->
+    [?property(prop_the_batches_lead_to_the_wanted_flows, 500), ?property(prop_closing_comes_first, 500)].
+
+no_change_takes_no_request_test() ->
+    Flows = lobby_topology:everyone([1, 2, 3]),
+    ?assertEqual([], lobby_topology:changes([1, 2, 3], Flows, Flows)).
+
+one_pair_takes_one_triple_test() ->
+    Before = lobby_topology:everyone([1, 2, 3]),
+    ?assertEqual([[{1, 2, isolate}]],
+                 lobby_topology:changes([1, 2, 3], Before, sets:subtract(Before, sets:from_list([{1, 2}, {2, 1}])))),
+    ?assertEqual([[{2, 1, oneway}]],
+                 lobby_topology:changes([1, 2, 3], Before, sets:del_element({1, 2}, Before))).
+
+%% A lecture of 64: one request, with a wildcard.
+a_lecture_takes_one_request_test() ->
+    Ids = lists:seq(1, 64),
+    After = sets:from_list([{1, To} || To <- tl(Ids)], [{version, 2}]),
+    [Batch] = lobby_topology:changes(Ids, lobby_topology:everyone(Ids), After),
+    ?assertEqual(64, length(Batch)),
+    ?assertEqual({all, all, isolate}, hd(Batch)).

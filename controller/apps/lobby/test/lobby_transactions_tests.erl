@@ -1,0 +1,160 @@
+%% The transactions against a model of the gateway's kept replies, over a network that loses, delays, doubles and
+%% reorders: whatever it does within the quiet time, no request is run twice, and each is answered at most once.
+-module(lobby_transactions_tests).
+
+-include_lib("eunit/include/eunit.hrl").
+-include("properties.hrl").
+
+-export([prop_no_request_is_run_twice/0]).
+
+-define(OPTIONS, #{retry => 100, tries => 4, quiet => 5000}).
+-define(ACTION, #{context => null, commands => [{audit, root, []}]}).
+
+new() -> lobby_transactions:new({{127, 0, 0, 1}, 2945}, 1000, ?OPTIONS).
+
+%%% The network: messages under way to the gateway and numbers of replies under way from it, with the time they left.
+-record(net, {t = new(), now = 0, requests = [], replies = [], kept = [], runs = #{}, submitted = 0, answered = [], lost = false, held = false}).
+
+do(_, Net = #net{lost = true}) -> Net;
+do(away, Net = #net{t = T, now = Now, submitted = N, held = false}) ->
+    %% While it is awaited, only one request is repeated.
+    effects(lobby_transactions:submit({forever, N}, ?ACTION, Now, lobby_transactions:hold(T)), Net#net{submitted = N + 1, held = true});
+do(away, Net = #net{t = T, now = Now, held = true}) ->
+    effects(lobby_transactions:resume(Now, T), Net#net{held = false});
+do(submit, Net = #net{held = true}) -> Net;
+do(submit, Net = #net{t = T, now = Now, submitted = N}) ->
+    effects(lobby_transactions:submit({queued, N}, ?ACTION, Now, T), Net#net{submitted = N + 1});
+do({advance, Ms}, Net = #net{now = Now}) ->
+    advance(Now + Ms, Net);
+do({deliver, I, Keep}, Net = #net{requests = Requests, now = Now}) ->
+    case pick(I, Requests) of
+        none -> Net;
+        Picked = {Message, Sent} when Now - Sent < 4500 -> gateway(Message, left(Keep, Picked, Net));
+        Picked -> Net#net{requests = Requests -- [Picked]}
+    end;
+do({answer, I, Keep}, Net = #net{replies = Replies, t = T, now = Now}) ->
+    case pick(I, Replies) of
+        none -> Net;
+        Number ->
+            Rest = case Keep of true -> Replies; false -> Replies -- [Number] end,
+            effects(lobby_transactions:received(Number, {ok, #{context => null, results => []}}, Now, T), Net#net{replies = Rest})
+    end;
+do({lose, I}, Net = #net{requests = Requests}) ->
+    case pick(I, Requests) of none -> Net; Picked -> Net#net{requests = Requests -- [Picked]} end.
+
+left(true, _, Net) -> Net;
+left(false, Picked, Net = #net{requests = Requests}) -> Net#net{requests = Requests -- [Picked]}.
+
+pick(_, []) -> none;
+pick(I, List) -> lists:nth(I rem length(List) + 1, List).
+
+%% Up to each deadline in turn, as a process with a timer does.
+advance(To, Net = #net{t = T}) ->
+    case lobby_transactions:deadline(T) of
+        Deadline when Deadline =< To, not Net#net.lost ->
+            Net1 = Net#net{now = max(Deadline, Net#net.now)},
+            advance(To, effects(lobby_transactions:expired(Net1#net.now, T), Net1));
+        _ -> Net#net{now = To}
+    end.
+
+effects({Effects, T}, Net) -> lists:foldl(fun effect/2, Net#net{t = T}, Effects).
+
+effect({send, Message}, Net = #net{requests = Requests, now = Now}) -> Net#net{requests = Requests ++ [{Message, Now}]};
+effect({answer, From, _, _}, Net = #net{answered = Answered}) -> Net#net{answered = [From | Answered]};
+effect(no_answer, Net) -> Net#net{lost = true}.
+
+%% As the gateway does it: a kept reply is sent again, and the last 32 are kept until they are acknowledged.
+gateway(Message, Net = #net{kept = Kept, runs = Runs, replies = Replies}) ->
+    case re:run(Message, "T=(\\d+)", [{capture, all_but_first, list}]) of
+        {match, [Text]} ->
+            Number = list_to_integer(Text),
+            case lists:member(Number, Kept) of
+                true -> Net#net{replies = Replies ++ [Number]};
+                false -> Net#net{replies = Replies ++ [Number], kept = lists:sublist([Number | Kept], 32),
+                                 runs = maps:update_with(Number, fun(N) -> N + 1 end, 1, Runs)}
+            end;
+        nomatch ->
+            {match, Numbers} = re:run(Message, "(?<=[{,])\\d+", [global, {capture, all, list}]),
+            Net#net{kept = Kept -- [list_to_integer(N) || [N] <- Numbers]}
+    end.
+
+event() ->
+    frequency([{6, submit}, {4, {advance, range(0, 120)}}, {1, {advance, range(3000, 6000)}},
+               {8, {deliver, range(0, 50), boolean()}}, {8, {answer, range(0, 50), boolean()}}, {1, {lose, range(0, 50)}}, {1, away}]).
+
+prop_no_request_is_run_twice() ->
+    %% Many events: more than 32 requests have to be run for a reply to be pushed out.
+    ?FORALL(Events, ?BIND(N, range(0, 400), vector(N, event())),
+            begin
+                Net = lists:foldl(fun do/2, #net{}, Events),
+                lists:all(fun(N) -> N =:= 1 end, maps:values(Net#net.runs))
+                    andalso length(lists:usort(Net#net.answered)) =:= length(Net#net.answered)
+            end).
+
+properties_test_() ->
+    [?property(prop_no_request_is_run_twice, 500)].
+
+sends({Effects, T}) -> {length([sent || {send, _} <- Effects]), T}.
+
+a_request_is_repeated_and_then_given_up_test() ->
+    {1, T0} = sends(lobby_transactions:submit({queued, me}, ?ACTION, 0, new())),
+    ?assertEqual(100, lobby_transactions:deadline(T0)),
+    {1, T1} = sends(lobby_transactions:expired(100, T0)),
+    {1, T2} = sends(lobby_transactions:expired(200, T1)),
+    {1, T3} = sends(lobby_transactions:expired(300, T2)),
+    ?assertMatch({[no_answer], _}, lobby_transactions:expired(400, T3)),
+    {Waiting, Open, _} = lobby_transactions:abandon(T3),
+    ?assertEqual({[me], [{1000, ?ACTION}]}, {Waiting, Open}).
+
+one_that_waits_forever_is_not_given_up_test() ->
+    {1, T0} = sends(lobby_transactions:submit({forever, me}, ?ACTION, 0, new())),
+    lists:foldl(fun(N, T) -> {1, T1} = sends(lobby_transactions:expired(100 * N, T)), T1 end, T0, lists:seq(1, 100)).
+
+%% Sixteen are under way, and the next ones follow only when the oldest is answered.
+the_window_begins_at_the_oldest_test() ->
+    T = lists:foldl(fun(N, Acc) -> element(2, lobby_transactions:submit({queued, N}, ?ACTION, 0, Acc)) end, new(), lists:seq(1, 20)),
+    Reply = {error, 501},
+    {Effects, T1} = lobby_transactions:received(1001, Reply, 1, T),
+    ?assertEqual([{answer, 2, ?ACTION, Reply}], Effects),
+    {[{answer, 1, _, _} | More], _} = lobby_transactions:received(1000, Reply, 1, T1),
+    ?assertEqual(2, length(More)).
+
+a_reply_is_acknowledged_after_the_quiet_time_test() ->
+    {1, T0} = sends(lobby_transactions:submit({queued, me}, ?ACTION, 0, new())),
+    {[{answer, me, _, _}], T1} = lobby_transactions:received(1000, {error, 501}, 10, T0),
+    ?assertEqual(5010, lobby_transactions:deadline(T1)),
+    ?assertMatch({[], _}, lobby_transactions:expired(5009, T1)),
+    {[{send, Message}], T2} = lobby_transactions:expired(5010, T1),
+    ?assertMatch({match, _}, re:run(Message, "K\\{\\s*1000\\s*\\}")),
+    ?assertEqual(infinity, lobby_transactions:deadline(T2)).
+
+too_many_are_refused_test() ->
+    T = lists:foldl(fun(N, Acc) -> element(2, lobby_transactions:submit({queued, N}, ?ACTION, 0, Acc)) end, new(), lists:seq(1, 1040)),
+    ?assertMatch({[{refuse, me, busy}], _}, lobby_transactions:submit({queued, me}, ?ACTION, 0, T)).
+
+an_urgent_request_is_the_next_test() ->
+    T = lists:foldl(fun(N, Acc) -> element(2, lobby_transactions:submit({queued, N}, ?ACTION, 0, Acc)) end, new(), lists:seq(1, 1040)),
+    {[], T1} = lobby_transactions:submit({urgent, me}, #{context => 77, commands => [{subtract, all}]}, 0, T),
+    {[{answer, 1, _, _}, {send, Message}], _} = lobby_transactions:received(1000, {error, 501}, 1, T1),
+    ?assertMatch({match, _}, re:run(Message, "C=77")).
+
+what_is_held_back_is_sent_again_under_its_number_test() ->
+    {_, T0} = lobby_transactions:submit({queued, me}, ?ACTION, 0, new()),
+    Held = lobby_transactions:hold(T0),
+    ?assertEqual(infinity, lobby_transactions:deadline(Held)),
+    {[{send, Audit}], T1} = lobby_transactions:submit({forever, audit}, ?ACTION, 500, Held),
+    ?assertMatch({match, _}, re:run(Audit, "T=1001")),
+    %% An answer that is late comes again.
+    {[], T2} = lobby_transactions:received(1000, {error, 501}, 600, T1),
+    {[{answer, audit, _, _}], T3} = lobby_transactions:received(1001, {error, 501}, 600, T2),
+    {[{send, Again}], T4} = lobby_transactions:resume(600, T3),
+    ?assertMatch({match, _}, re:run(Again, "T=1000")),
+    {[{answer, me, _, _}], _} = lobby_transactions:received(1000, {error, 501}, 700, T4),
+    {Waiting, Open, _} = lobby_transactions:abandon(T2),
+    ?assertEqual({[audit, me], [1000, 1001]}, {lists:sort(Waiting), [Number || {Number, _} <- Open]}).
+
+an_abandoned_request_keeps_its_number_test() ->
+    {_, T0} = lobby_transactions:submit({queued, me}, ?ACTION, 0, new()),
+    {_, [Abandoned], T1} = lobby_transactions:abandon(T0),
+    {[{send, Message}], _} = lobby_transactions:resubmit(Abandoned, me, 1, T1),
+    ?assertMatch({match, _}, re:run(Message, "T=1000")).

@@ -1,0 +1,48 @@
+%% A relay between a controller and a gateway that loses, doubles and delays datagrams in both directions.
+-module(relay).
+
+-export([start/2, address/1]).
+
+start(Gateway, Faults) ->
+    Parent = self(),
+    Pid = spawn_link(fun() ->
+        {ok, Socket} = gen_udp:open(0, [binary, {ip, {127, 0, 0, 1}}, {active, true}, {buffer, 65536}]),
+        {ok, Port} = inet:port(Socket),
+        Parent ! {self(), Port},
+        loop(Socket, Gateway, Faults, #{})
+    end),
+    receive {Pid, Port} -> {Pid, Port} end.
+
+address({_, Port}) -> {{127, 0, 0, 1}, Port}.
+
+%% Each controller has a socket of its own to the gateway.
+loop(Socket, Gateway = {GatewayAddress, GatewayPort}, Faults, Sockets) ->
+    receive
+        {udp, Socket, Address, Port, Datagram} ->
+            {Out, Sockets1} = out({Address, Port}, Sockets),
+            faulty(Faults, {send, Out, GatewayAddress, GatewayPort, Datagram}),
+            loop(Socket, Gateway, Faults, Sockets1);
+        {udp, Out, _, _, Datagram} ->
+            #{Out := {Address, Port}} = Sockets,
+            faulty(Faults, {send, Socket, Address, Port, Datagram}),
+            loop(Socket, Gateway, Faults, Sockets);
+        {send, From, Address, Port, Datagram} ->
+            ok = gen_udp:send(From, Address, Port, Datagram),
+            loop(Socket, Gateway, Faults, Sockets)
+    end.
+
+out(Controller, Sockets) ->
+    case Sockets of
+        #{Controller := Out} -> {Out, Sockets};
+        #{} ->
+            {ok, Out} = gen_udp:open(0, [binary, {ip, {127, 0, 0, 1}}, {active, true}, {buffer, 65536}]),
+            {Out, Sockets#{Controller => Out, Out => Controller}}
+    end.
+
+faulty(#{lose := Lose, double := Double, delay := Delay}, Message) ->
+    Copies = case rand:uniform() of
+        X when X < Lose -> 0;
+        X when X < Lose + Double -> 2;
+        _ -> 1
+    end,
+    [erlang:send_after(rand:uniform(Delay) - 1, self(), Message) || _ <- lists:seq(1, Copies)].

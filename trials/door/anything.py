@@ -1,0 +1,190 @@
+"""Random joins, rules, roles, mutes, moves, holds and failures, on two gateways with journals. Every second, what the
+gateways themselves answer is compared with what the rooms' rules say, and with what each phone hears.
+
+usage: anything.py [MINUTES]
+"""
+import random
+import signal
+import sys
+import time
+import urllib.error
+
+from door import Door, Phone, Phones, check, finish
+from loopback import end_on_signals
+
+PHONES, ROOMS, ROLES = 12, ["1", "2", "3"], ["customer", "agent", "coach"]
+# What a change may be answered with when something else happened first.
+RACES = (404, 409, 502, 503, 504)
+
+
+def matches(party, member):
+    return party == "everyone" or party.get("role") == member["role"] or party.get("member") == member["id"]
+
+
+def hears(listener, talker, rules):
+    """The last rule that matches decides."""
+    return next((rule["hears"] for rule in reversed(rules)
+                 if matches(rule["talker"], talker) and matches(rule["listener"], listener)), True)
+
+
+class World:
+    def __init__(self, door):
+        self.door, self.changes, self.failures, self.last = door, 0, 0, None
+        self.loop = Phones(self.phone(n) for n in range(PHONES))
+
+    def phone(self, n):
+        return Phone(self.door, random.choice(ROOMS), 300 + 100 * n, 1500)
+
+    def members(self):
+        """All members, by the names of their phones, with their rooms."""
+        return {name: (room, member) for room in ROOMS for name, member in self.door.members(room).items()}
+
+    def ask(self, method, path, body=None):
+        try:
+            self.door.ask(method, path, body)
+        except urllib.error.HTTPError as error:
+            if error.code not in RACES:
+                check(f"{method} {path} {body}: {error.code}", False)
+
+    def change(self):
+        self.changes += 1
+        phone = random.choice(self.loop.phones)
+        room, member = self.members().get(phone.name, (None, None))
+        if member is None:
+            phone.number, phone.to_tag = 0, ""
+            phone.call_id, phone.room = f"{random.random()}@trial", random.choice(ROOMS)
+            phone.call()
+            self.loop.run(5, lambda: phone.state != "new")
+            return
+        match random.choice(["isolate", "release", "oneway", "mute", "unmute", "role", "move", "rules", "preset", "hang_up", "bye", "lock"]):
+            case "oneway":
+                others = [m for r, m in self.members().values() if r == room and m["id"] != member["id"]]
+                if others:
+                    self.ask("POST", f"/members/{member['id']}/oneway", {"listener": random.choice(others)["id"]})
+            case "role":
+                self.ask("POST", f"/members/{member['id']}/role", {"role": random.choice(ROLES)})
+            case "move":
+                self.ask("POST", f"/members/{member['id']}/move", {"room": random.choice(ROOMS)})
+            case "rules":
+                party = lambda: random.choice(["everyone", {"role": random.choice(ROLES)}, {"member": member["id"]}])
+                self.ask("POST", f"/rooms/{room}/rules", {"rules": [{"hears": random.random() < 0.5, "talker": party(), "listener": party()}]})
+            case "preset":
+                self.ask("PUT", f"/rooms/{room}", {"preset": random.choice(["plain", "lecture", "coaching", "monitored"])})
+            case "bye":
+                phone.hang_up()
+                self.loop.run(5, lambda: phone.state == "ended")
+            case "lock":
+                self.ask("POST", f"/rooms/{room}/lock")
+                self.ask("POST", f"/rooms/{room}/unlock")
+            case other:
+                self.ask("POST", f"/members/{member['id']}/{other}")
+
+    def fail(self):
+        """Ends a gateway or a process of the controller, or holds a gateway up."""
+        self.failures += 1
+        self.last = "a gateway"
+        gateway = random.choice(self.door.gateways)
+        match random.choice(["comes back", "is lost", "is held up", "process", "process"]):
+            case "comes back":
+                gateway.kill()
+                self.loop.run(random.uniform(0.05, 0.8))
+                gateway.start()
+            case "is lost":
+                gateway.kill()
+                self.loop.run(2.5)
+                gateway.start()
+            case "is held up":
+                gateway.process.send_signal(signal.SIGSTOP)
+                self.loop.run(random.uniform(0.2, 2.5))
+                gateway.process.send_signal(signal.SIGCONT)
+            case _:
+                # Its own end would be that of everything; the store's is the node's.
+                name, process = random.choice(self.door.processes())
+                self.last = name
+                self.door.evaluate(f'exit(list_to_pid("{process}"), kill).')
+                self.loop.run(0.5)
+
+    def wanted(self):
+        """By room: the context, and the flows that the rules say, by terminations; and by phone, whom he is to hear."""
+        rooms, heard = [], {phone.pitch: set() for phone in self.loop.phones}
+        pitches = {phone.name: phone.pitch for phone in self.loop.phones}
+        for name in self.door.ask("GET", "/rooms")["rooms"]:
+            room = self.door.ask("GET", f"/rooms/{name}")
+            pairs = [(talker, listener) for talker in room["members"] for listener in room["members"]
+                     if talker is not listener and hears(listener, talker, room["rules"])]
+            if not room["members"]:
+                continue
+            rooms.append((room["gateway"], room["context"], {(a["termination"], b["termination"]) for a, b in pairs},
+                          {m["termination"] for m in room["members"]}))
+            for talker, listener in pairs:
+                if not talker["muted"]:
+                    heard[pitches[listener["caller"]]].add(pitches[talker["caller"]])
+        return rooms, heard
+
+    def agrees(self):
+        """Whether the gateways have what the rules say. Of a single member, there is nothing to compare."""
+        try:
+            rooms, self.heard = self.wanted()
+            gateways = {gateway.name: gateway for gateway in self.door.gateways}
+            return all(len(there) < 2 or flows == gateways[name].flows(context) for name, context, flows, there in rooms)
+        except (OSError, KeyError):
+            return False  # Something isn't there yet.
+
+    def explain(self, pitches):
+        """Prints what phones, the controller and the gateways know of each other."""
+        gateways = {gateway.name: gateway for gateway in self.door.gateways}
+        members = self.members()
+        for phone in self.loop.phones:
+            if phone.pitch in pitches:
+                room, member = members.get(phone.name, (None, {}))
+                print(f"  {phone.pitch}: {phone.state}, sends to {phone.remote}, listens on {phone.rtp.getsockname()}; {room}: {member}")
+                if room and "termination" in member:
+                    about = self.door.ask("GET", f"/rooms/{room}")
+                    print("   ", gateways[about["gateway"]].ask(f"Context={about['context']}{{AuditValue=RTP/{member['termination']}"
+                                                                "{Audit{Media}}}").replace("\n", " "))
+
+    def compare(self, limit):
+        took = self.loop.run(limit, lambda: self.loop.run(0.05) and self.agrees())
+        if not self.agrees():
+            rooms, _ = self.wanted()
+            check(f"after {took:.1f} s, a gateway has another topology: {rooms}", False)
+        for _ in range(20):
+            self.loop.forget()
+            self.loop.run(0.15)
+            ears = self.loop.matrix()
+            wrong = {pitch: (ears.get(pitch, set()), whom) for pitch, whom in self.heard.items() if ears.get(pitch, set()) != whom}
+            if not wrong:
+                return took
+        self.explain(set().union(*({pitch} | (ears ^ whom) for pitch, (ears, whom) in wrong.items())))
+        check(f"after {self.last}, phones hear others (pitch: (hears, should hear)): {wrong}", False)
+        finish()
+
+
+def main():
+    end_on_signals()
+    minutes = float(sys.argv[1]) if len(sys.argv) > 1 else 60
+    with Door(gateways=2, journal=True, returns=1000) as door:
+        world = World(door)
+        end, times, shown = time.monotonic() + 60 * minutes, [], time.monotonic()
+        while time.monotonic() < end:
+            began = time.monotonic()
+            for _ in range(random.randint(1, 6)):
+                world.change()
+            failing = random.random() < 0.1
+            if failing:
+                world.fail()
+            times.append(world.compare(10 if failing else 5))
+            world.loop.run(max(0, 1 - (time.monotonic() - began)))
+            if time.monotonic() - shown > 60:
+                shown = time.monotonic()
+                print(f"{world.changes} changes, {world.failures} failures, {len(times)} comparisons", flush=True)
+        counts = {name: int(door.metric(f"lobby_{name}_total")) for name in
+                  ("gateway_losses", "gateway_returns", "conferences_kept", "conferences_made_again", "topologies_repaired")}
+        log = (door.folder / "log").read_text()
+        check(f"{world.changes} changes, {world.failures} failures, {len(times)} comparisons; the controller counts {counts}",
+              len(times) > 0)
+        print(f"{log.count('CRASH REPORT')} crash reports in the controller's log")
+    finish()
+
+
+main()

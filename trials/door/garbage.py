@@ -1,0 +1,115 @@
+"""Sends garbage to the SIP port over UDP and TCP, and to HTTP: random bytes, and real messages that were changed at random.
+A call goes on meanwhile, and neither memory nor the number of processes grows.
+
+usage: garbage.py [ROUNDS]
+"""
+import random
+import re
+import socket
+import sys
+import time
+
+from door import TOKEN, Door, Phone, Phones, check, finish
+from loopback import end_on_signals, udp
+
+DATAGRAMS, CONNECTIONS = 4000, 60
+
+
+def changed(message):
+    """A message with some bytes changed, left out or repeated."""
+    data = bytearray(message)
+    for _ in range(random.randint(1, 12)):
+        at = random.randrange(len(data))
+        match random.randrange(5):
+            case 0: data[at] = random.randrange(256)
+            case 1: del data[at:at + random.randint(1, 40)]
+            case 2: data[at:at] = data[at:at + random.randint(1, 200)]
+            case 3: data[at:at] = random.randbytes(random.randint(1, 20))
+            case 4: data[at:at] = random.choice([b"\r\n\r\n", b"\r\n ", b";tag=", b"<sip:[::1]>", b"4294967296", b"-1", b"%00", b"\xff\xfe", b"," * 300])
+        if not data:
+            return b""
+    return bytes(data[:65000])
+
+
+def sip(door):
+    """A message that would be right, from a caller of its own."""
+    method = random.choice(["INVITE", "ACK", "BYE", "CANCEL", "OPTIONS", "UPDATE", "REGISTER", "SIP/2.0"])
+    first = "SIP/2.0 200 OK" if method == "SIP/2.0" else f"{method} sip:none@127.0.0.1:{door.sip} SIP/2.0"
+    body = "v=0\r\no=- 1 1 IN IP4 127.0.0.1\r\ns=-\r\nc=IN IP4 127.0.0.1\r\nt=0 0\r\nm=audio 9 RTP/AVP 0\r\n"
+    return (f"{first}\r\nVia: SIP/2.0/UDP 127.0.0.1:9;branch=z9hG4bK{random.random()};rport\r\nMax-Forwards: 70\r\n"
+            f"From: <sip:x@127.0.0.1>;tag=a{random.random()}\r\nTo: <sip:none@127.0.0.1>\r\nCall-ID: {random.random()}\r\n"
+            f"CSeq: 1 {method}\r\nContact: <sip:x@127.0.0.1:9>\r\nContent-Type: application/sdp\r\n"
+            f"Content-Length: {len(body)}\r\n\r\n{body}").encode()
+
+
+def http():
+    method, path = random.choice(["GET", "PUT", "POST", "DELETE", "HEAD", "X"]), random.choice(["/", "/rooms", "/rooms/%41", "/events", "/metrics"])
+    body = random.choice(['{"rules": []}', '{"rules": [{"hears": 1}]}', "{", "[" * 5000])
+    return (f"{method} {path} HTTP/1.1\r\nHost: x\r\nAuthorization: Bearer {random.choice([TOKEN, 'x'])}\r\n"
+            f"Content-Length: {len(body)}\r\n\r\n{body}").encode()
+
+
+def connections(port, message):
+    """Connections that send garbage; some of them wait, and some end at once."""
+    held = []
+    for _ in range(CONNECTIONS):
+        one = socket.create_connection(("127.0.0.1", port), 2)
+        one.settimeout(0.02)
+        try:
+            one.sendall(random.choice([random.randbytes(random.randint(1, 3000)), changed(message()), message()]))
+            if random.random() < 0.5:
+                one.recv(65536)
+        except OSError:
+            pass
+        held.append(one)
+        if len(held) > 20:
+            held.pop(0).close()
+    for one in held:
+        one.close()
+
+
+def size(door):
+    """Bytes and processes of the node, after all have collected their garbage."""
+    text = door.evaluate("[garbage_collect(P) || P <- processes()], {erlang:memory(total), erlang:system_info(process_count), "
+                         "erlang:system_info(atom_count)}.")
+    return [int(number) for number in re.findall(r"\d+", text)]
+
+
+def main():
+    end_on_signals()
+    rounds = int(sys.argv[1]) if len(sys.argv) > 1 else 6
+    with Door(t1=20, callers="[{{127,0,0,1},32}]") as door:
+        phones = [Phone(door, "100", pitch, 4000) for pitch in (400, 1000)]
+        loop = Phones(phones)
+        loop.call()
+        sizes = []
+        for _ in range(rounds):
+            for n in range(DATAGRAMS):
+                with udp() as own:
+                    message = random.choice([random.randbytes(random.randint(0, 1500)), changed(sip(door)), changed(sip(door))])
+                    own.sendto(message, ("127.0.0.1", door.sip))
+                if n % 20 == 0:
+                    loop.run(0.005)
+            connections(door.sip, lambda: sip(door))
+            connections(door.http, http)
+            # Calls that nobody acknowledged end after 64 times t1.
+            loop.run(4)
+            sizes.append(size(door))
+            print(f"{DATAGRAMS} datagrams, {2 * CONNECTIONS} connections: {sizes[-1][0] / 1e6:.1f} MB, {sizes[-1][1]} processes, "
+                  f"{sizes[-1][2]} atoms; {len(door.ask('GET', '/rooms')['rooms'])} rooms", flush=True)
+        loop.run(1)
+        both = loop.matrix() == {400: {1000}, 1000: {400}}
+        invited = [len(phone.invited) for phone in phones]
+        grown = sizes[-1][0] / sizes[1][0]
+        check(f"both callers hear each other: {both}; re-INVITEs: {invited}; from the second round to the last, memory grew by "
+              f"{100 * grown - 100:.1f} %, processes by {sizes[-1][1] - sizes[1][1]}, atoms by {sizes[-1][2] - sizes[1][2]}",
+              both and invited == [0, 0] and grown < 1.05 and abs(sizes[-1][1] - sizes[1][1]) <= 5 and sizes[-1][2] - sizes[1][2] < 50)
+        crashes = (door.folder / "log").read_text().count("CRASH REPORT")
+        check(f"{crashes} crash reports in the log", crashes == 0)
+        if crashes:
+            text = (door.folder / "log").read_text()
+            print(text[text.index("CRASH REPORT"):][:1500])
+    finish()
+
+
+main()

@@ -1,0 +1,20 @@
+#!/bin/sh
+# Runs the trials of the controller on this host, with gateways of dist/ (or of BRIDGE) and phones on 127.0.0.1.
+# usage: run.sh [TRIAL ..]
+# The default is heard loss failover crashes garbage anything; the last takes an hour. It needs python3 and the Debian
+# packages that controller/test needs; the trial page needs more. To keep the ports apart from those of other programs,
+# run it in a network namespace. Each trial prints what it saw, and ends with status 1 if something is wrong.
+set -eu
+here=$(CDPATH='' cd -- "$(dirname -- "$0")" && pwd)
+cd "$here/../../controller"
+# shellcheck source=controller/base
+. ./base
+rebar3 compile > /dev/null
+cd - > /dev/null
+[ $# -gt 0 ] || set -- heard loss failover crashes garbage anything
+status=0
+for trial; do
+    echo "== $trial"
+    PYTHONPATH=$here/.. python3 "$here/$trial.py" || status=1
+done
+exit $status

@@ -15,7 +15,7 @@
 %% Seconds for which a nonce is taken.
 -define(AGE, 300).
 
-%% @doc Whether an address is in one of these networks. Without networks, all are allowed.
+%% @doc Returns whether one of these networks contains an address. If there are no networks, every address is allowed.
 -spec is_allowed(inet:ip4_address(), [network()]) -> boolean().
 is_allowed(_, []) ->
     true;

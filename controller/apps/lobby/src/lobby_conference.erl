@@ -347,7 +347,7 @@ moved(Id, After, #{context := Context, results := [{move, _, #{}}]}, C = #confer
     Member = lists:keyfind(Id, #member.id, Members),
     {[{changed, Id}], C#conference{context = Context, arriving = maps:remove(Id, C#conference.arriving), open = After,
                                    held = Held#{Id => Has#held{mode = common(Mode, mode(Member))}}}};
-%% He can't be moved, so his termination is given up, and he is added anew.
+%% A member who can't be moved is removed and added again.
 moved(Id, _, _, C = #conference{arriving = Arriving, leaving = Leaving}) ->
     {[], C#conference{arriving = maps:remove(Id, Arriving), leaving = places(Id, C) ++ Leaving}}.
 

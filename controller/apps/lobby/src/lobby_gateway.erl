@@ -5,7 +5,7 @@
 %%%
 %%% - without an answer, the gateway is lost. It is lost sooner if its host says again and again that nobody has the
 %%%   port (ICMP);
-%%% - if the audit shows another termination or none, it has begun anew, and what it had is gone;
+%%% - if the audit shows another termination or none, the gateway has restarted and lost its conferences;
 %%% - a gateway with a journal is awaited before it counts as lost. If it comes back and still has this termination, it
 %%%   has all others, too, and nothing was lost but time;
 %%% - if a lost gateway answers again and still has this termination, it was only out of reach. What it has of ours was
@@ -59,7 +59,7 @@ request(Handle = {Name, _}, Action) ->
     try
         gen_statem:call(via(Name), {request, Handle, Action}, infinity)
     catch
-        %% The process ended or isn't there. What it had is ended when it starts again.
+        %% The process has ended. Its conferences are ended when it starts again.
         exit:{_, {gen_statem, call, _}} -> {error, lost}
     end.
 
@@ -114,7 +114,7 @@ handle_event(info, {udp_passive, Socket}, _, #data{socket = Socket}) ->
 handle_event(info, {udp_error, Socket, econnrefused}, serving, Data = #data{socket = Socket, refused = none}) ->
     {keep_state, Data#data{refused = now_ms()}};
 handle_event(info, {udp_error, Socket, econnrefused}, serving, Data = #data{socket = Socket, refused = Since}) ->
-    %% Not at the first repetition: it may be about to begin anew.
+    %% Not at the first repetition: the gateway may be about to restart.
     case now_ms() - Since < 2 * maps:get(retry, Data#data.config) of
         true -> keep_state_and_data;
         false -> result(serving, gone(refused, Data))

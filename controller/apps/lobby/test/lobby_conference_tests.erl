@@ -47,22 +47,22 @@ step({join, Room, Id, Role, Port}, W = #world{wanted = Wanted}) ->
     case [R || {R, I} <- maps:keys(Wanted), I =:= Id] of
         [] ->
             Member = lobby_conference:member(Id, Role, media(Port), sendrecv),
-            W1 = room(Room, fun(C) -> lobby_conference:join(Member, C) end, W),
-            W1#world{wanted = Wanted#{{Room, Id} => #{role => Role, muted => false, direction => sendrecv}}};
+            World1 = room(Room, fun(C) -> lobby_conference:join(Member, C) end, W),
+            World1#world{wanted = Wanted#{{Room, Id} => #{role => Role, muted => false, direction => sendrecv}}};
         _ -> W
     end;
 step({leave, Id}, W = #world{wanted = Wanted}) ->
     case [Room || {Room, I} <- maps:keys(Wanted), I =:= Id] of
         [Room] ->
-            W1 = room(Room, fun(C) -> lobby_conference:leave(Id, C) end, W),
-            forget_rules(Room, Id, W1#world{wanted = maps:remove({Room, Id}, Wanted)});
+            World1 = room(Room, fun(C) -> lobby_conference:leave(Id, C) end, W),
+            forget_rules(Room, Id, World1#world{wanted = maps:remove({Room, Id}, Wanted)});
         [] -> W
     end;
 step({update, Id, Change}, W = #world{wanted = Wanted}) ->
     case [Room || {Room, I} <- maps:keys(Wanted), I =:= Id] of
         [Room] ->
-            W1 = room(Room, fun(C) -> lobby_conference:update(Id, Change, C) end, W),
-            W1#world{wanted = Wanted#{{Room, Id} := maps:merge(maps:get({Room, Id}, Wanted), maps:remove(media, Change))}};
+            World1 = room(Room, fun(C) -> lobby_conference:update(Id, Change, C) end, W),
+            World1#world{wanted = Wanted#{{Room, Id} := maps:merge(maps:get({Room, Id}, Wanted), maps:remove(media, Change))}};
         [] -> W
     end;
 step({rules, Room, New}, W = #world{rules = Rules, wanted = Wanted}) ->
@@ -122,10 +122,10 @@ settle(Room, Before, W = #world{rooms = Rooms, gateway = G}, Left) when Left > 0
         {Action, Step} ->
             {Reply, G1} = model_gateway:run(Action, G),
             {Events, C} = lobby_conference:done(Step, Reply, maps:get(Room, Rooms)),
-            W1 = lists:foldl(fun(Event, Acc) -> event(Event, Room, Acc) end, W#world{rooms = Rooms#{Room := C}, gateway = G1}, Events),
-            W2 = W1#world{terminations = terminations(W1)},
-            case heard(W2) -- (wanted(W2) ++ Before) of
-                [] -> settle(Room, Before, W2, Left - 1);
+            World1 = lists:foldl(fun(Event, Acc) -> event(Event, Room, Acc) end, W#world{rooms = Rooms#{Room := C}, gateway = G1}, Events),
+            World2 = World1#world{terminations = terminations(World1)},
+            case heard(World2) -- (wanted(World2) ++ Before) of
+                [] -> settle(Room, Before, World2, Left - 1);
                 Wrong -> throw({heard_too_early, Wrong, Action})
             end
     end.
@@ -150,13 +150,13 @@ terminations(#world{rooms = Rooms, terminations = Ts}) ->
 
 run(Steps, Limit) ->
     lists:foldl(fun(Step, W) ->
-        W1 = step(Step, W),
-        Before = heard(W1),
+        World1 = step(Step, W),
+        Before = heard(World1),
         %% Twice: what one room gives up may let the other one go on.
-        W2 = settle(Before, settle(Before, W1)),
-        ?assertEqual(wanted(W2), heard(W2)),
-        ?assertEqual(length(maps:keys(W2#world.wanted)), length(model_gateway:terminations(W2#world.gateway))),
-        W2
+        World2 = settle(Before, settle(Before, World1)),
+        ?assertEqual(wanted(World2), heard(World2)),
+        ?assertEqual(length(maps:keys(World2#world.wanted)), length(model_gateway:terminations(World2#world.gateway))),
+        World2
     end, #world{gateway = model_gateway:new(1, Limit), limit = Limit}, Steps).
 
 %%% Generators.

@@ -97,36 +97,36 @@ properties_test_() ->
 sends({Effects, T}) -> {length([sent || {send, _} <- Effects]), T}.
 
 a_request_is_repeated_and_then_given_up_test() ->
-    {1, T0} = sends(lobby_transactions:submit({queued, me}, ?ACTION, 0, new())),
-    ?assertEqual(100, lobby_transactions:deadline(T0)),
-    {1, T1} = sends(lobby_transactions:expired(100, T0)),
-    {1, T2} = sends(lobby_transactions:expired(200, T1)),
-    {1, T3} = sends(lobby_transactions:expired(300, T2)),
-    ?assertMatch({[no_answer], _}, lobby_transactions:expired(400, T3)),
-    {Waiting, Open, _} = lobby_transactions:abandon(T3),
+    {1, Table0} = sends(lobby_transactions:submit({queued, me}, ?ACTION, 0, new())),
+    ?assertEqual(100, lobby_transactions:deadline(Table0)),
+    {1, Table1} = sends(lobby_transactions:expired(100, Table0)),
+    {1, Table2} = sends(lobby_transactions:expired(200, Table1)),
+    {1, Table3} = sends(lobby_transactions:expired(300, Table2)),
+    ?assertMatch({[no_answer], _}, lobby_transactions:expired(400, Table3)),
+    {Waiting, Open, _} = lobby_transactions:abandon(Table3),
     ?assertEqual({[me], [{1000, ?ACTION}]}, {Waiting, Open}).
 
 one_that_waits_forever_is_not_given_up_test() ->
-    {1, T0} = sends(lobby_transactions:submit({forever, me}, ?ACTION, 0, new())),
-    lists:foldl(fun(N, T) -> {1, T1} = sends(lobby_transactions:expired(100 * N, T)), T1 end, T0, lists:seq(1, 100)).
+    {1, Table0} = sends(lobby_transactions:submit({forever, me}, ?ACTION, 0, new())),
+    lists:foldl(fun(N, T) -> {1, Table1} = sends(lobby_transactions:expired(100 * N, T)), Table1 end, Table0, lists:seq(1, 100)).
 
 %% Sixteen are under way, and the next ones follow only when the oldest is answered.
 the_window_begins_at_the_oldest_test() ->
     T = lists:foldl(fun(N, Acc) -> element(2, lobby_transactions:submit({queued, N}, ?ACTION, 0, Acc)) end, new(), lists:seq(1, 20)),
     Reply = {error, 501},
-    {Effects, T1} = lobby_transactions:received(1001, Reply, 1, T),
+    {Effects, Table1} = lobby_transactions:received(1001, Reply, 1, T),
     ?assertEqual([{answer, 2, ?ACTION, Reply}], Effects),
-    {[{answer, 1, _, _} | More], _} = lobby_transactions:received(1000, Reply, 1, T1),
+    {[{answer, 1, _, _} | More], _} = lobby_transactions:received(1000, Reply, 1, Table1),
     ?assertEqual(2, length(More)).
 
 a_reply_is_acknowledged_after_the_quiet_time_test() ->
-    {1, T0} = sends(lobby_transactions:submit({queued, me}, ?ACTION, 0, new())),
-    {[{answer, me, _, _}], T1} = lobby_transactions:received(1000, {error, 501}, 10, T0),
-    ?assertEqual(5010, lobby_transactions:deadline(T1)),
-    ?assertMatch({[], _}, lobby_transactions:expired(5009, T1)),
-    {[{send, Message}], T2} = lobby_transactions:expired(5010, T1),
+    {1, Table0} = sends(lobby_transactions:submit({queued, me}, ?ACTION, 0, new())),
+    {[{answer, me, _, _}], Table1} = lobby_transactions:received(1000, {error, 501}, 10, Table0),
+    ?assertEqual(5010, lobby_transactions:deadline(Table1)),
+    ?assertMatch({[], _}, lobby_transactions:expired(5009, Table1)),
+    {[{send, Message}], Table2} = lobby_transactions:expired(5010, Table1),
     ?assertMatch({match, _}, re:run(Message, "K\\{\\s*1000\\s*\\}")),
-    ?assertEqual(infinity, lobby_transactions:deadline(T2)).
+    ?assertEqual(infinity, lobby_transactions:deadline(Table2)).
 
 too_many_are_refused_test() ->
     T = lists:foldl(fun(N, Acc) -> element(2, lobby_transactions:submit({queued, N}, ?ACTION, 0, Acc)) end, new(), lists:seq(1, 1040)),
@@ -134,27 +134,27 @@ too_many_are_refused_test() ->
 
 an_urgent_request_is_the_next_test() ->
     T = lists:foldl(fun(N, Acc) -> element(2, lobby_transactions:submit({queued, N}, ?ACTION, 0, Acc)) end, new(), lists:seq(1, 1040)),
-    {[], T1} = lobby_transactions:submit({urgent, me}, #{context => 77, commands => [{subtract, all}]}, 0, T),
-    {[{answer, 1, _, _}, {send, Message}], _} = lobby_transactions:received(1000, {error, 501}, 1, T1),
+    {[], Table1} = lobby_transactions:submit({urgent, me}, #{context => 77, commands => [{subtract, all}]}, 0, T),
+    {[{answer, 1, _, _}, {send, Message}], _} = lobby_transactions:received(1000, {error, 501}, 1, Table1),
     ?assertMatch({match, _}, re:run(Message, "C=77")).
 
 what_is_held_back_is_sent_again_under_its_number_test() ->
-    {_, T0} = lobby_transactions:submit({queued, me}, ?ACTION, 0, new()),
-    Held = lobby_transactions:hold(T0),
+    {_, Table0} = lobby_transactions:submit({queued, me}, ?ACTION, 0, new()),
+    Held = lobby_transactions:hold(Table0),
     ?assertEqual(infinity, lobby_transactions:deadline(Held)),
-    {[{send, Audit}], T1} = lobby_transactions:submit({forever, audit}, ?ACTION, 500, Held),
+    {[{send, Audit}], Table1} = lobby_transactions:submit({forever, audit}, ?ACTION, 500, Held),
     ?assertMatch({match, _}, re:run(Audit, "T=1001")),
     %% An answer that is late comes again.
-    {[], T2} = lobby_transactions:received(1000, {error, 501}, 600, T1),
-    {[{answer, audit, _, _}], T3} = lobby_transactions:received(1001, {error, 501}, 600, T2),
-    {[{send, Again}], T4} = lobby_transactions:resume(600, T3),
+    {[], Table2} = lobby_transactions:received(1000, {error, 501}, 600, Table1),
+    {[{answer, audit, _, _}], Table3} = lobby_transactions:received(1001, {error, 501}, 600, Table2),
+    {[{send, Again}], Table4} = lobby_transactions:resume(600, Table3),
     ?assertMatch({match, _}, re:run(Again, "T=1000")),
-    {[{answer, me, _, _}], _} = lobby_transactions:received(1000, {error, 501}, 700, T4),
-    {Waiting, Open, _} = lobby_transactions:abandon(T2),
+    {[{answer, me, _, _}], _} = lobby_transactions:received(1000, {error, 501}, 700, Table4),
+    {Waiting, Open, _} = lobby_transactions:abandon(Table2),
     ?assertEqual({[audit, me], [1000, 1001]}, {lists:sort(Waiting), [Number || {Number, _} <- Open]}).
 
 an_abandoned_request_keeps_its_number_test() ->
-    {_, T0} = lobby_transactions:submit({queued, me}, ?ACTION, 0, new()),
-    {_, [Abandoned], T1} = lobby_transactions:abandon(T0),
-    {[{send, Message}], _} = lobby_transactions:resubmit(Abandoned, me, 1, T1),
+    {_, Table0} = lobby_transactions:submit({queued, me}, ?ACTION, 0, new()),
+    {_, [Abandoned], Table1} = lobby_transactions:abandon(Table0),
+    {[{send, Message}], _} = lobby_transactions:resubmit(Abandoned, me, 1, Table1),
     ?assertMatch({match, _}, re:run(Message, "T=1000")).

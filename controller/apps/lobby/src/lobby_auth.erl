@@ -15,7 +15,7 @@
 %% Seconds for which a nonce is taken.
 -define(AGE, 300).
 
-%% @doc Returns whether one of these networks contains an address. If there are no networks, every address is allowed.
+%% @doc Returns whether an address may call: it lies in one of the networks, or no networks are configured.
 -spec is_allowed(inet:ip4_address(), [network()]) -> boolean().
 is_allowed(_, []) ->
     true;

@@ -266,7 +266,7 @@ returned(State = #state{gateway = Gateway, conference = C}, #state{gateway = Gat
 returned(State, _) ->
     published(State).
 
-%% Members whose packets stand still, though they should speak, are told that they are silent.
+%% Tells members who should be sending, but whose packet counts no longer rise, that they are silent.
 watched(State = #state{gateway = none}) ->
     State#state{packets = #{}};
 watched(State = #state{conference = C, gateway = Gateway, packets = Before}) ->
@@ -279,7 +279,7 @@ watched(State = #state{conference = C, gateway = Gateway, packets = Before}) ->
     Still = maps:map(fun(T, Count) -> still(Count, maps:get(T, Before, none), Now) end, Counted),
     Silent = [{Id, T} || {Id, T} <- Speakers, #{T := {_, Since}} <- [Still], Now - Since >= silent_after()],
     lists:foreach(fun({Id, _}) -> tell(Id, silent) end, Silent),
-    %% They are told again only after as long a time.
+    %% They aren't told again until as much time has passed.
     State#state{packets = maps:without([T || {_, T} <- Silent], Still)}.
 
 still(Count, {Count, Since}, _) -> {Count, Since};
@@ -367,8 +367,8 @@ save(State = #state{name = Name, conference = C, gateway = Gateway, told = Told,
 audit_interval() ->
     application:get_env(lobby, room_audit, 5000).
 
-%% Members are told where the gateway receives them now, and that it doesn't receive them any more. One whose process is
-%% being started again is told the next time.
+%% Tells members which address the gateway now receives them at, or that it no longer receives them. A member whose
+%% process is restarting is told the next time.
 tell(State = #state{conference = C, told = Told, events = Events}) ->
     Ids = lobby_conference:ids(C),
     Now = maps:from_list([{Id, Local} || Id <- Ids, {ok, Local} <- [lobby_conference:local(Id, C)]]),

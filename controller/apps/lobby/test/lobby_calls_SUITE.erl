@@ -20,7 +20,7 @@ init_per_testcase(Case, Config) ->
     Env = [{gateways, [gateway:config(integer_to_binary(N), G) || {N, G} <- lists:enumerate(Gateways)]}, {sip, Sip}, {http, gateway:free_address()} | env(Case)],
     [ok = application:set_env(lobby, Key, Value) || {Key, Value} <- Env],
     {ok, _} = application:ensure_all_started(lobby),
-    until(fun() -> length(lobby_gateway:serving()) =:= length(Gateways) end),
+    lobby_case:until(fun() -> length(lobby_gateway:serving()) =:= length(Gateways) end),
     [{sip, Sip}, {gateways, Gateways} | Config].
 
 %% Short timers: a phone that doesn't answer is given up after 64 * t1.
@@ -34,22 +34,8 @@ env(both_invite_at_once) -> [{t1, 100}];
 env(_) -> [].
 
 end_per_testcase(_, Config) ->
-    _ = application:stop(lobby),
-    _ = application:stop(mnesia),
-    ok = application:unload(lobby),
-    gateway:kill_all(),
+    ok = lobby_case:stop(),
     Config.
-
-%% Longer than it takes, for a busy machine.
-until(Holds) -> until(Holds, erlang:monotonic_time(millisecond), 15000).
-
-until(Holds, Start, Limit) ->
-    Passed = erlang:monotonic_time(millisecond) - Start,
-    case Holds() of
-        true -> Passed;
-        false when Passed < Limit -> timer:sleep(5), until(Holds, Start, Limit);
-        false -> error({not_within_ms, Limit})
-    end.
 
 sip(Config) -> proplists:get_value(sip, Config).
 gateway(Config) -> hd(proplists:get_value(gateways, Config)).
@@ -98,7 +84,7 @@ a_call(Config) ->
     ?assertNotEqual(nomatch, string:find(Response, "a=sendrecv")),
     ?assertEqual(1, length(members(<<"100">>))),
     hang_up(Phone),
-    until(fun() -> members(<<"100">>) =:= [] end),
+    lobby_case:until(fun() -> members(<<"100">>) =:= [] end),
     %% The answer to his BYE may have been lost. One with another tag is of no call.
     hang_up(Phone),
     ?assertEqual(481, begin P = phone:request("BYE", "", phone:learn("\r\nTo: <sip:100@127.0.0.1>;tag=0011223344556677\r\n", Phone)), phone:status(phone:recv(P)) end),
@@ -109,10 +95,10 @@ callers_hear_each_other(Config) ->
     {B, RB} = call(Config),
     {C, _} = call("200", Config),
     caller:talk(phone:media(A), local(RA)),
-    until(fun() -> caller:heard(phone:media(B)) > 5 end),
+    lobby_case:until(fun() -> caller:heard(phone:media(B)) > 5 end),
     ?assertEqual(0, caller:heard(phone:media(A))),
     caller:talk(phone:media(B), local(RB)),
-    until(fun() -> caller:heard(phone:media(A)) > 5 end),
+    lobby_case:until(fun() -> caller:heard(phone:media(A)) > 5 end),
     ?assertEqual(0, caller:heard(phone:media(C))),
     ?assert(caller:received(phone:media(C)) > 0).
 
@@ -142,7 +128,7 @@ without_an_ack_the_call_ends(Config) ->
     Bye = until_bye(Phone1),
     Took = erlang:monotonic_time(millisecond) - Start,
     ?assert(Took >= 1280 andalso Took < 1500),
-    until(fun() -> members(<<"100">>) =:= [] end),
+    lobby_case:until(fun() -> members(<<"100">>) =:= [] end),
     phone:answer(200, Bye, Phone1),
     ?assert(phone:quiet(Phone1, 500)).
 
@@ -199,10 +185,10 @@ an_offer_that_comes_late(Config) ->
     {B, RB} = call(Config),
     caller:talk(phone:media(B), local(RB)),
     phone:ack(phone:sdp(Phone), phone:learn(Response, Phone1)),
-    until(fun() -> modes(<<"100">>, Config) =:= ['SendReceive', 'SendReceive'] end),
-    until(fun() -> caller:heard(phone:media(Phone)) > 5 end),
+    lobby_case:until(fun() -> modes(<<"100">>, Config) =:= ['SendReceive', 'SendReceive'] end),
+    lobby_case:until(fun() -> caller:heard(phone:media(Phone)) > 5 end),
     caller:talk(phone:media(Phone), local(Response)),
-    until(fun() -> caller:heard(phone:media(B)) > 5 end).
+    lobby_case:until(fun() -> caller:heard(phone:media(B)) > 5 end).
 
 cancel_and_options(Config) ->
     {Phone, _} = call(Config),
@@ -253,7 +239,7 @@ limits(Config) ->
     _ = phone:invite(phone:sdp(Phone), Phone),
     ?assertEqual(486, phone:status(phone:recv(Phone))),
     hang_up(element(1, hd(Calls))),
-    until(fun() -> proplists:get_value(active, supervisor:count_children(lobby_call_sup)) =:= 2 end),
+    lobby_case:until(fun() -> proplists:get_value(active, supervisor:count_children(lobby_call_sup)) =:= 2 end),
     _ = call(Config).
 
 session_timers(Config) ->
@@ -341,7 +327,7 @@ a_lost_gateway_is_replaced(Config) ->
     ?assert(erlang:monotonic_time(millisecond) - Start < 1200),
     ?assertEqual(5, length(lists:usort(Locals))),
     caller:talk(phone:media(hd(Phones)), hd(Locals)),
-    [until(fun() -> caller:heard(phone:media(Phone)) > 5 end) || Phone <- tl(Phones)].
+    [lobby_case:until(fun() -> caller:heard(phone:media(Phone)) > 5 end) || Phone <- tl(Phones)].
 
 %% Sixty callers who talk all the time, of whom one is isolated, in one room whose gateway is killed three times.
 sixty_callers_hear_each_other_again(Config) ->
@@ -361,16 +347,16 @@ sixty_callers_hear_each_other_again(Config) ->
         timer:sleep(50),
         Killed = erlang:monotonic_time(millisecond) - 50,
         [caller:reset(Caller) || Caller <- Others],
-        until(fun() -> lists:all(fun(Caller) -> caller:heard(Caller) > 0 end, Others) end),
+        lobby_case:until(fun() -> lists:all(fun(Caller) -> caller:heard(Caller) > 0 end, Others) end),
         Times = lists:sort([caller:first_heard(Caller) - Killed || Caller <- Others]),
         ct:pal("heard again after ~b to ~b ms", [hd(Times), lists:last(Times)]),
         ?assert(lists:last(Times) < 1200),
         timer:sleep(500),
         ?assertEqual(0, caller:heard(Alone)),
         ?assert(caller:received(Alone) > 0),
-        until(fun() -> length(lobby_gateway:serving()) =:= 1 end),
+        lobby_case:until(fun() -> length(lobby_gateway:serving()) =:= 1 end),
         Gs1 = Gs#{Name := gateway:restart(maps:get(Name, Gs), [])},
-        until(fun() -> length(lobby_gateway:serving()) =:= 2 end),
+        lobby_case:until(fun() -> length(lobby_gateway:serving()) =:= 2 end),
         Gs1
     end, Gateways, [1, 2, 3]).
 
@@ -422,15 +408,15 @@ next(Repeated, Phone) ->
 who_vanished_is_removed(Config) ->
     {Phone, _} = our_invite(Config),
     phone:close(Phone),
-    until(fun() -> members(<<"100">>) =:= [] end),
-    until(fun() -> proplists:get_value(active, supervisor:count_children(lobby_call_sup)) =:= 0 end).
+    lobby_case:until(fun() -> members(<<"100">>) =:= [] end),
+    lobby_case:until(fun() -> proplists:get_value(active, supervisor:count_children(lobby_call_sup)) =:= 0 end).
 
 who_refuses_our_invite_is_hung_up(Config) ->
     {Phone, Invite} = our_invite(Config),
     phone:answer(405, Invite, Phone),
     ?assertEqual("ACK", phone:status(next(["INVITE"], Phone))),
     ?assertEqual("BYE", phone:status(phone:recv(Phone))),
-    until(fun() -> members(<<"100">>) =:= [] end).
+    lobby_case:until(fun() -> members(<<"100">>) =:= [] end).
 
 hung_up_and_moved(Config) ->
     {Phone, First} = call(Config),
@@ -447,8 +433,8 @@ hung_up_and_moved(Config) ->
     Bye = phone:recv(Held),
     ?assertEqual("BYE", phone:status(Bye)),
     phone:answer(200, Bye, Held),
-    until(fun() -> length(members(<<"200">>)) =:= 1 end),
-    until(fun() -> lobby_call:hang_up(Id) =:= {error, no_member} end).
+    lobby_case:until(fun() -> length(members(<<"200">>)) =:= 1 end),
+    lobby_case:until(fun() -> lobby_call:hang_up(Id) =:= {error, no_member} end).
 
 addresses_of_ipv6(Config) ->
     Phone = phone:start(sip(Config)),
@@ -490,7 +476,7 @@ the_node_fails(Config) ->
         [ok = peer:call(Peer, application, set_env, [lobby, Key, Value])
          || {Key, Value} <- [{gateways, [gateway:config(<<"1">>, Gateway)]}, {sip, sip(Config)}, {http, gateway:free_address()}, {store, disc}]],
         {ok, _} = peer:call(Peer, application, ensure_all_started, [lobby]),
-        until(fun() -> length(peer:call(Peer, lobby_gateway, serving, [])) =:= 1 end),
+        lobby_case:until(fun() -> length(peer:call(Peer, lobby_gateway, serving, [])) =:= 1 end),
         Peer
     end,
     First = Start(),
@@ -527,7 +513,7 @@ a_call_that_starts_again_knows_its_place(Config) ->
     exit(Pid, kill),
     _ = gateway:restart_elsewhere(gateway(Config), ["--first-context", "1000", "--first-termination", "1000"]),
     [Id] = members(<<"100">>),
-    until(fun() -> case lobby_room:describe(<<"100">>) of
+    lobby_case:until(fun() -> case lobby_room:describe(<<"100">>) of
         #{members := #{Id := #{termination := T}}} -> T >= 1000;
         _ -> false
     end end),
@@ -545,17 +531,17 @@ processes_fail(Config) ->
     Last = lists:foldl(fun(Name, P) ->
         Before = process(Name),
         exit(Before, kill),
-        until(fun() -> up(Name, Before) end),
+        lobby_case:until(fun() -> up(Name, Before) end),
         answer_all(P, 1500),
         {P1, _} = reinvite("sendonly", P),
-        until(fun() -> modes(<<"100">>, Config) =:= ['Inactive'] end),
+        lobby_case:until(fun() -> modes(<<"100">>, Config) =:= ['Inactive'] end),
         answer_all(P1, 200),
         {P2, _} = reinvite("sendrecv", P1),
         ?assertEqual(['SendReceive'], modes(<<"100">>, Config)),
         P2
     end, Phone, [{call, Key}, lobby_sip, lobby_connections, lobby_call_sup, {room, <<"100">>}, {gateway, <<"1">>}, lobby_room_sup, lobby_registry]),
     hang_up(Last),
-    until(fun() -> members(<<"100">>) =:= [] end).
+    lobby_case:until(fun() -> members(<<"100">>) =:= [] end).
 
 process(Name) when is_atom(Name) -> whereis(Name);
 process(Name) -> lobby_registry:whereis_name(Name).
@@ -625,7 +611,7 @@ over_tcp(Config) ->
     phone:answer(200, Invite, phone:sdp(Held), Held),
     ?assertEqual("ACK", phone:status(phone:recv(Held))),
     hang_up(Held),
-    until(fun() -> members(<<"100">>) =:= [] end),
+    lobby_case:until(fun() -> members(<<"100">>) =:= [] end),
     %% What is no SIP is passed over, and what is too long ends the connection.
     phone:send("garbage\r\n\r\n", Held),
     ?assert(phone:quiet(Held, 100)),
@@ -635,11 +621,11 @@ over_tcp(Config) ->
 connections_are_limited(Config) ->
     Connect = fun() -> {ok, S} = gen_tcp:connect({127, 0, 0, 1}, element(2, sip(Config)), [binary, {active, false}]), S end,
     Sockets = [Connect() || _ <- lists:seq(1, 64)],
-    until(fun() -> proplists:get_value(active, supervisor:count_children(lobby_connections)) =:= 64 end),
+    lobby_case:until(fun() -> proplists:get_value(active, supervisor:count_children(lobby_connections)) =:= 64 end),
     ?assertEqual({error, closed}, gen_tcp:recv(Connect(), 0, 2000)),
     ?assertEqual({error, timeout}, gen_tcp:recv(hd(Sockets), 0, 100)),
     ok = gen_tcp:close(hd(Sockets)),
-    until(fun() -> proplists:get_value(active, supervisor:count_children(lobby_connections)) =:= 63 end),
+    lobby_case:until(fun() -> proplists:get_value(active, supervisor:count_children(lobby_connections)) =:= 63 end),
     timer:sleep(1100),
     ?assertEqual({error, timeout}, gen_tcp:recv(Connect(), 0, 500)).
 
@@ -665,14 +651,14 @@ answers_are_quick(Config) ->
 sipp(Config) ->
     {_, Port} = sip(Config),
     ?assertEqual("0", sipp(Port, "-r 20 -m 200 -d 1000", Config)),
-    until(fun() -> members(<<"100">>) =:= [] end),
+    lobby_case:until(fun() -> members(<<"100">>) =:= [] end),
     Relay = relay:start(sip(Config), #{lose => 0.1, double => 0.1, delay => 30}),
     {_, RelayPort} = relay:address(Relay),
     ?assertEqual("0", sipp(RelayPort, "-r 20 -m 50 -d 500", Config)),
-    until(fun() -> members(<<"100">>) =:= [] end),
+    lobby_case:until(fun() -> members(<<"100">>) =:= [] end),
     ?assertEqual(1, length(gateway:contexts(lists:seq(1, 400), gateway(Config)))),
     ?assertEqual("0", sipp(Port, "-t t1 -r 20 -m 50 -d 500", Config)),
-    until(fun() -> members(<<"100">>) =:= [] end).
+    lobby_case:until(fun() -> members(<<"100">>) =:= [] end).
 
 sipp(Port, Options, Config) ->
     {_, Own} = gateway:free_address(),
@@ -690,7 +676,7 @@ baresips(Config) ->
     Folder = fun(Tone) -> filename:join(Temporary, integer_to_list(Tone)) end,
     Uri = "sip:100@127.0.0.1:" ++ integer_to_list(Port),
     Ports = [baresip:start(Folder(Tone), Tone, Uri, 11) || Tone <- Tones],
-    until(fun() -> length(members(<<"100">>)) =:= 3 end),
+    lobby_case:until(fun() -> length(members(<<"100">>)) =:= 3 end),
     timer:sleep(3000),
     [{ok, _} = lobby_room:update(<<"100">>, id_of(Tone), #{role => Role})
      || {Tone, Role} <- [{Agent, <<"agent">>}, {Coach, <<"coach">>}, {Customer, <<"customer">>}]],
@@ -703,7 +689,7 @@ baresips(Config) ->
     ?assertEqual([{Agent, [Coach, Customer]}, {Coach, [Agent, Customer]}, {Customer, [Agent]}], Heard({4.2, 5.5})),
     ?assertEqual([{Agent, [Coach]}, {Coach, [Agent]}, {Customer, []}], Heard({7.5, 8.5})),
     ok = file:del_dir_r(Temporary),
-    until(fun() -> members(<<"100">>) =:= [] end).
+    lobby_case:until(fun() -> members(<<"100">>) =:= [] end).
 
 id_of(Tone) ->
     Name = "tone" ++ integer_to_list(Tone),

@@ -21,10 +21,7 @@ init_per_testcase(_, Config) ->
     Config.
 
 end_per_testcase(_, Config) ->
-    _ = application:stop(lobby),
-    _ = application:stop(mnesia),
-    ok = application:unload(lobby),
-    gateway:kill_all(),
+    ok = lobby_case:stop(),
     Config.
 
 %%% Helpers.
@@ -36,19 +33,7 @@ run(Gateways, Options) ->
     Configs = [maps:merge(gateway:config(Name, G), Options) || {Name, G} <- Gateways],
     ok = application:set_env(lobby, gateways, Configs),
     {ok, _} = application:ensure_all_started(lobby),
-    until(fun() -> length(lobby_gateway:serving()) =:= length(Gateways) end).
-
-%% Waits until something holds, and says after how many milliseconds.
-%% Longer than it takes, for a busy machine.
-until(Holds) -> until(Holds, erlang:monotonic_time(millisecond), 15000).
-
-until(Holds, Start, Limit) ->
-    Passed = erlang:monotonic_time(millisecond) - Start,
-    case Holds() of
-        true -> Passed;
-        false when Passed < Limit -> timer:sleep(5), until(Holds, Start, Limit);
-        false -> error({not_within_ms, Limit})
-    end.
+    lobby_case:until(fun() -> length(lobby_gateway:serving()) =:= length(Gateways) end).
 
 media(Port) -> {{{127, 0, 0, 1}, Port}, pcmu}.
 
@@ -97,11 +82,11 @@ a_newcomer_enters_with_his_rules(_) ->
     caller:talk(Talker, To),
     Agent = caller:start(),
     {ok, _} = lobby_rooms:join(<<"100">>, agent, lobby_conference:member(agent, <<"agent">>, caller:media(Agent), sendrecv)),
-    until(fun() -> caller:heard(Agent) > 10 end),
+    lobby_case:until(fun() -> caller:heard(Agent) > 10 end),
     [begin
          Coach = caller:start(),
          {ok, _} = lobby_rooms:join(<<"100">>, {coach, N}, lobby_conference:member({coach, N}, <<"coach">>, caller:media(Coach), sendrecv)),
-         until(fun() -> caller:received(Coach) > 5 end),
+         lobby_case:until(fun() -> caller:received(Coach) > 5 end),
          ?assertEqual(0, caller:heard(Coach)),
          ok = lobby_room:leave(<<"100">>, {coach, N})
      end || N <- lists:seq(1, 20)].
@@ -196,7 +181,7 @@ begun_anew(First, Second) ->
     G1 = gateway:restart(G, Second),
     Other = "Add=${Media{LocalControl{Mode=Inactive},Remote{\nv=0\nc=IN IP4 127.0.0.1\nm=audio 9 RTP/AVP 0\n}}}",
     [gateway:ask("Context=${" ++ Other ++ "," ++ Other ++ "," ++ Other ++ "}", G1) || _ <- [1, 2]],
-    Took = until(fun() -> case lobby_gateway:serving() of [_] -> made_again(Locals, G1); [] -> false end end),
+    Took = lobby_case:until(fun() -> case lobby_gateway:serving() of [_] -> made_again(Locals, G1); [] -> false end end),
     ct:pal("made again ~b ms after the others", [Took]),
     ?assertEqual({error, lost}, lobby_gateway:request(Before, #{context => null, commands => [{audit, root, []}]})),
     ?assertEqual([{alice, carol}, {carol, alice}], heard(<<"100">>, #{<<"a">> => G1})).
@@ -223,9 +208,9 @@ one_that_was_out_of_reach_is_cleaned(_) ->
     ?assertEqual([Context], gateway:contexts([Context], Stopped)),
     gateway:stop(Stopped),
     spawn(fun() -> lobby_rooms:join(<<"200">>, carol, lobby_conference:member(carol, <<"member">>, media(40000), sendrecv)) end),
-    until(fun() -> maps:get(gateway, lobby_room:describe(<<"100">>)) =/= First end),
+    lobby_case:until(fun() -> maps:get(gateway, lobby_room:describe(<<"100">>)) =/= First end),
     gateway:continue(Stopped),
-    until(fun() -> length(lobby_gateway:serving()) =:= 2 end),
+    lobby_case:until(fun() -> length(lobby_gateway:serving()) =:= 2 end),
     ?assertEqual([sentinel(Stopped)], gateway:contexts(lists:seq(1, 60) ++ lists:seq(500, 560), Stopped)),
     ?assertEqual([{alice, bob}, {bob, alice}], heard(<<"100">>, Gs)).
 
@@ -234,10 +219,10 @@ a_room_waits_for_a_gateway(_) ->
     run([{<<"a">>, G}]),
     [join(<<"100">>, Id, <<"member">>) || Id <- [alice, bob]],
     gateway:stop(G),
-    until(fun() -> maps:get(gateway, lobby_room:describe(<<"100">>)) =:= none end),
+    lobby_case:until(fun() -> maps:get(gateway, lobby_room:describe(<<"100">>)) =:= none end),
     ?assertEqual({error, no_room}, lobby_rooms:join(<<"100">>, x, lobby_conference:member(x, <<"member">>, media(40000), sendrecv))),
     gateway:continue(G),
-    until(fun() -> maps:get(gateway, lobby_room:describe(<<"100">>)) =:= <<"a">> end),
+    lobby_case:until(fun() -> maps:get(gateway, lobby_room:describe(<<"100">>)) =:= <<"a">> end),
     ?assertEqual([{alice, bob}, {bob, alice}], heard(<<"100">>, #{<<"a">> => G})).
 
 %%% With a journal.
@@ -253,7 +238,7 @@ journaled(Returns, Others, Config) ->
     ok = lobby_rooms:create(<<"100">>, lobby_rules:isolate({member, bob})),
     [begin join(<<"100">>, Id, <<"member">>), yes = lobby_registry:register_name({member, Id}, self()) end || Id <- [alice, bob, carol]],
     [ok = supervisor_starts(gateway:config(Name, Other)) || {Name, Other} <- Others],
-    until(fun() -> length(lobby_gateway:serving()) =:= 1 + length(Others) end),
+    lobby_case:until(fun() -> length(lobby_gateway:serving()) =:= 1 + length(Others) end),
     ok = lobby_events:subscribe(),
     {G, Journal}.
 
@@ -287,7 +272,7 @@ one_with_a_journal_comes_back(Config) ->
         New = gateway:restart(Old, Journal),
         event({gateway, <<"a">>, returned}),
         event({gateway, <<"a">>, serving}),
-        until(fun() -> count(lobby_conferences_kept_total) =:= N end),
+        lobby_case:until(fun() -> count(lobby_conferences_kept_total) =:= N end),
         ?assertEqual([0, N, N, 0, 0], counts()),
         ?assertMatch([{Handle, _}], lobby_gateway:serving()),
         ?assertEqual(Before, lobby_room:describe(<<"100">>)),
@@ -307,7 +292,7 @@ one_that_comes_back_soon_is_not_missed(Config) ->
         ok = lobby_room:add_rules(<<"100">>, lobby_rules:isolate({member, bob})),
         New
     end, G, lists:seq(1, 10)),
-    until(fun() -> length(lobby_gateway:serving()) =:= 1 end),
+    lobby_case:until(fun() -> length(lobby_gateway:serving()) =:= 1 end),
     ?assertEqual(Before, lobby_room:describe(<<"100">>)),
     ?assertEqual([{alice, carol}, {carol, alice}], heard(<<"100">>, #{<<"a">> => G})),
     ?assertEqual(0, count(lobby_gateway_losses_total)).
@@ -323,7 +308,7 @@ one_that_comes_back_soon_is_seen(Config) ->
         timer:sleep(1500),
         ?assertEqual(N - 1, count(lobby_conferences_kept_total)),
         New = gateway:restart(Old, Journal),
-        until(fun() -> count(lobby_conferences_kept_total) =:= N end),
+        lobby_case:until(fun() -> count(lobby_conferences_kept_total) =:= N end),
         New
     end, G, [1, 2, 3]),
     timer:sleep(1500),
@@ -384,7 +369,7 @@ one_that_lost_its_journal_is_noticed(Config) ->
     gateway:ask("Context=${" ++ Other ++ "," ++ Other ++ "," ++ Other ++ "}", G1),
     event({gateway, <<"a">>, lost}),
     event({gateway, <<"a">>, serving}),
-    until(fun() -> not is_process_alive(Ours) andalso all_held(<<"100">>) end),
+    lobby_case:until(fun() -> not is_process_alive(Ours) andalso all_held(<<"100">>) end),
     ?assertEqual([], heard(<<"100">>, #{<<"a">> => G1})),
     ?assertEqual([1, 0, 0, 1, 0], counts()),
     ?assertEqual({2, 6}, {Context, length(gateway:topology(Context, G1))}).
@@ -400,7 +385,7 @@ one_that_comes_back_with_less_is_corrected(Config) ->
     ok = file:write_file(File, Copy),
     _ = gateway:restart(G, Journal),
     event({gateway, <<"a">>, returned}),
-    until(fun() -> count(lobby_conferences_made_again_total) =:= 1 andalso all_held(<<"100">>) end),
+    lobby_case:until(fun() -> count(lobby_conferences_made_again_total) =:= 1 andalso all_held(<<"100">>) end),
     ?assertEqual([{alice, dave}, {dave, alice}], heard(<<"100">>, #{<<"a">> => G})),
     ?assertEqual([0, 1, 0, 1, 0], counts()),
     ?assertEqual(2, length(gateway:contexts(lists:seq(1, 60), G))).
@@ -414,7 +399,7 @@ processes_fail(_) ->
     [join(<<"100">>, Id, <<"member">>) || Id <- [alice, bob, carol]],
     [begin
          Before = killed(Name),
-         until(fun() -> is_up(Name, Before) andalso length(lobby_gateway:serving()) =:= 1 andalso all_held(<<"100">>) end),
+         lobby_case:until(fun() -> is_up(Name, Before) andalso length(lobby_gateway:serving()) =:= 1 andalso all_held(<<"100">>) end),
          ?assertEqual([{alice, carol}, {carol, alice}], heard(<<"100">>, Gs)),
          [#{terminations := Used, contexts := Contexts}] = [Load || {_, Load} <- lobby_gateway:serving()],
          ?assertEqual({4, 2}, {Used, Contexts}),
@@ -454,7 +439,7 @@ a_room_fails_in_the_middle_of_a_request(_) ->
          exit(lobby_registry:whereis_name({room, Room}), kill),
          gateway:continue(G),
          timer:sleep(300),
-         until(fun() -> [{U, C} || {_, #{terminations := U, contexts := C}} <- lobby_gateway:serving()] =:= [{2, 2}] end),
+         lobby_case:until(fun() -> [{U, C} || {_, #{terminations := U, contexts := C}} <- lobby_gateway:serving()] =:= [{2, 2}] end),
          ?assertEqual(2, length(gateway:contexts(lists:seq(1, 60), G)))
      end || Room <- [<<"100">>, <<"200">>]].
 
@@ -472,7 +457,7 @@ somebody_else_changes_the_topology(_) ->
     ?assertEqual([{alice, carol}, {carol, alice}], heard(<<"100">>, #{<<"a">> => G})),
     %% Without being asked, too.
     gateway:ask(io_lib:format("Context=~b{Topology{*,*,Isolate}}", [Context]), G),
-    until(fun() -> heard(<<"100">>, #{<<"a">> => G}) =:= [{alice, carol}, {carol, alice}] end, erlang:monotonic_time(millisecond), 8000).
+    lobby_case:until(fun() -> heard(<<"100">>, #{<<"a">> => G}) =:= [{alice, carol}, {carol, alice}] end, 8000).
 
 %% A relay loses and doubles datagrams in both directions.
 lost_and_doubled_datagrams(_) ->
@@ -480,7 +465,7 @@ lost_and_doubled_datagrams(_) ->
     Relay = relay:start(gateway:address(G), #{lose => 0.15, double => 0.2, delay => 60}),
     ok = application:set_env(lobby, gateways, [#{name => <<"a">>, address => relay:address(Relay), tries => 12, quiet => 500}]),
     {ok, _} = application:ensure_all_started(lobby),
-    until(fun() -> length(lobby_gateway:serving()) =:= 1 end),
+    lobby_case:until(fun() -> length(lobby_gateway:serving()) =:= 1 end),
     ok = lobby_rooms:create(<<"100">>, []),
     [begin
          join(<<"100">>, N, <<"member">>),
@@ -526,7 +511,7 @@ anything_once(1, Gs) ->
     Gs#{Name := gateway:restart(maps:get(Name, Gs), ["--first-context", Numbers, "--first-termination", Numbers])};
 anything_once(2, Gs) ->
     exit(lobby_registry:whereis_name({room, <<"1">>}), kill),
-    until(fun() -> lobby_registry:whereis_name({room, <<"1">>}) =/= undefined end),
+    lobby_case:until(fun() -> lobby_registry:whereis_name({room, <<"1">>}) =/= undefined end),
     Gs;
 anything_once(K, Gs) when K < 40 ->
     Id = rand:uniform(8),
@@ -544,7 +529,7 @@ anything_once(_, Gs) ->
 
 %% As soon as the room has a gateway that is there.
 check(Room, Gs) ->
-    until(fun() -> agrees(Room, Gs) end).
+    lobby_case:until(fun() -> agrees(Room, Gs) end).
 
 agrees(Room, Gs) ->
     case lobby_room:describe(Room) of

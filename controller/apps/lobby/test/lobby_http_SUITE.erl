@@ -31,10 +31,7 @@ serving(Tries) when Tries > 0 ->
     end.
 
 end_per_testcase(_, Config) ->
-    _ = application:stop(lobby),
-    _ = application:stop(mnesia),
-    ok = application:unload(lobby),
-    gateway:kill_all(),
+    ok = lobby_case:stop(),
     Config.
 
 ask(Method, Path, Config) -> ask(Method, Path, "", ?OPERATOR, Config).

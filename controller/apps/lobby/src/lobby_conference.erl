@@ -35,6 +35,8 @@
 -record(conference, {members = [] :: [#member{}], rules = [] :: [lobby_rules:rule()],
                      context = new :: lobby_h248:context() | new, held = #{} :: #{id() => #held{}},
                      open = ?NO_FLOWS :: lobby_rules:flows(), leaving = [] :: [place()],
+                     %% Whether the open flows are those that the rules want. To find out takes a while in a large room.
+                     agreed = true :: boolean(),
                      %% Members to be moved here from other conferences on the same gateway.
                      arriving = #{} :: #{id() => {lobby_h248:context(), #held{}}}}).
 
@@ -63,8 +65,8 @@ member(Id, Role, Media, Direction) ->
 
 %% @doc Adds a member, or replaces one with the same id.
 -spec join(member(), conference()) -> conference().
-join(Member = #member{id = Id}, C = #conference{members = Members}) ->
-    C#conference{members = lists:keystore(Id, #member.id, Members, Member)}.
+join(Member = #member{id = Id}, C = #conference{members = Members, held = Held}) ->
+    agree(is_map_key(Id, Held), C#conference{members = lists:keystore(Id, #member.id, Members, Member)}).
 
 %% @doc Removes a member and the rules that name him.
 -spec leave(id(), conference()) -> conference().
@@ -86,7 +88,8 @@ update(Id, Change, C = #conference{members = Members}) ->
         false -> C;
         Member ->
             Changed = maps:fold(fun set/3, Member, Change),
-            C#conference{members = lists:keyreplace(Id, #member.id, Members, Changed)}
+            With = C#conference{members = lists:keyreplace(Id, #member.id, Members, Changed)},
+            agree(is_map_key(role, Change), With)
     end.
 
 set(media, Media, Member) -> Member#member{media = Media};
@@ -96,7 +99,7 @@ set(role, Role, Member) -> Member#member{role = Role}.
 
 -spec set_rules([lobby_rules:rule()], conference()) -> conference().
 set_rules(Rules, C) ->
-    C#conference{rules = Rules}.
+    agree(true, C#conference{rules = Rules}).
 
 %% @doc Takes a member out, with what the gateway has for him, so that another conference on the same gateway can move
 %% him.
@@ -126,7 +129,7 @@ drop({Context, #held{termination = T}}) -> [#{context => Context, commands => [{
 %% @doc Forgets what the gateway has: it was lost, or another one is to have the conference.
 -spec forget(conference()) -> conference().
 forget(C) ->
-    C#conference{context = new, held = #{}, open = ?NO_FLOWS, leaving = [], arriving = #{}}.
+    C#conference{context = new, held = #{}, open = ?NO_FLOWS, agreed = true, leaving = [], arriving = #{}}.
 
 -spec ids(conference()) -> [id()].
 ids(#conference{members = Members}) -> [Id || #member{id = Id} <- Members].
@@ -193,17 +196,13 @@ silence(C = #conference{context = Context, held = Held}) ->
     end.
 
 %% The gateway answers an action that has only a Topology in a way that isn't Megaco's, so an empty audit goes with it.
+connect(#conference{agreed = true}) ->
+    none;
 connect(C = #conference{context = Context, open = Open}) ->
     Ids = [Id || #member{id = Id} <- held_members(C)],
-    case lobby_topology:changes(Ids, Open, wanted(held_members(C), C)) of
-        [] -> none;
-        [Batch | _] -> {#{context => Context, topology => by_termination(Batch, C), commands => [audited(Ids, C)]},
-                        {connect, lobby_topology:after_batch(Ids, Open, Batch)}}
-    end.
-
-audited([Id | _], #conference{held = Held}) ->
-    #{Id := #held{termination = T}} = Held,
-    {audit, T, []}.
+    [Batch | _] = lobby_topology:changes(Ids, Open, wanted(held_members(C), C)),
+    {#{context => Context, topology => by_termination(Batch, C), commands => [{audit, termination(hd(Ids), C), []}]},
+     {connect, lobby_topology:after_batch(Ids, Open, Batch)}}.
 
 %% A member that enters a context is connected both ways with everyone there, so his Topology is in the same action.
 move(#conference{arriving = Arriving}) when map_size(Arriving) =:= 0 ->
@@ -281,6 +280,10 @@ held_members(#conference{members = Members, held = Held}) ->
 wanted(Members, #conference{rules = Rules}) ->
     lobby_rules:flows([{Id, Role} || #member{id = Id, role = Role} <- Members], Rules).
 
+%% Finds out whether the rules want the open flows, if that may have changed.
+agree(false, C) -> C;
+agree(true, C = #conference{open = Open}) -> C#conference{agreed = Open =:= wanted(held_members(C), C)}.
+
 by_termination(Triples, C) ->
     [{termination(A, C), termination(B, C), How} || {A, B, How} <- Triples].
 
@@ -300,7 +303,7 @@ done(Step, Reply = #{results := Results}, C) ->
         {none, {add, New, After}} -> added(New, After, Reply, C);
         {none, {settle, Ids}} -> changed(Ids, Results, C);
         {none, {modify, Modes}} -> kept(Results, C, fun() -> {[], lists:foldl(fun set_mode/2, C, Modes)} end);
-        {none, {connect, After}} -> kept(Results, C, fun() -> {[], C#conference{open = After}} end);
+        {none, {connect, After}} -> kept(Results, C, fun() -> {[], agree(true, C#conference{open = After})} end);
         {none, audit} -> compared(maps:get(topology, Reply, []), C);
         {none, inventory} -> found(Results, C);
         {_, _} -> lost(C)
@@ -333,7 +336,8 @@ set_mode({Id, Mode}, C = #conference{held = Held}) ->
 added(New, After, #{context := Context, results := Results}, C) ->
     {Events, Made} = lists:mapfoldl(fun added/2, C, lists:zip(New, Results)),
     Gone = [Id || {rejected, Id, _} <- Events],
-    {Events, ended(Made#conference{context = Context, open = lists:foldl(fun without/2, After, Gone)})}.
+    Added = ended(Made#conference{context = Context, open = lists:foldl(fun without/2, After, Gone)}),
+    {Events, agree(length(New) > 1, Added)}.
 
 added({{Id, Mode}, {add, T, #{local := Local}}}, C = #conference{members = Members, held = Held}) ->
     #member{media = Media} = lists:keyfind(Id, #member.id, Members),
@@ -379,12 +383,12 @@ compared(Triples, C = #conference{held = Held, open = Open}) ->
     Names = maps:from_list([{T, Id} || {Id, #held{termination = T}} <- maps:to_list(Held)]),
     Known = [{A, B, How} || {S, T, How} <- Triples, #{S := A, T := B} <- [Names]],
     Found = lobby_topology:from_triples(Known),
-    {[repaired || lists:sort(sets:to_list(Found)) =/= lists:sort(sets:to_list(Open))], C#conference{open = Found}}.
+    {[repaired || Found =/= Open], agree(true, C#conference{open = Found})}.
 
 %% @doc Takes all flows for open, so that `next/1' closes again whatever the rules close.
 -spec suspect(conference()) -> conference().
 suspect(C) ->
-    C#conference{open = lobby_topology:everyone([Id || #member{id = Id} <- held_members(C)])}.
+    agree(true, C#conference{open = lobby_topology:everyone([Id || #member{id = Id} <- held_members(C)])}).
 
 %% @doc A request for the terminations in the context, for a room that doesn't know whether its last request was run.
 %% The modes of a large conference might not fit into the reply.

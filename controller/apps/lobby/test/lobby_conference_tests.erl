@@ -198,6 +198,36 @@ several_are_added_inactive_test() ->
     {#{commands := Commands}, _} = lobby_conference:next(C),
     ?assertMatch([{add_optional, #{mode := inactive}}, {add_optional, #{mode := inactive}}], Commands).
 
+%% The customer alice and the coach bob, whom she doesn't hear.
+coached() ->
+    C = lobby_conference:set_rules(lobby_rules:preset(coaching), lobby_conference:join(bob(), lobby_conference:join(alice(), lobby_conference:new()))),
+    settled(C, model_gateway:new(1, 64)).
+
+settled(C, G) ->
+    case lobby_conference:next(C) of
+        settled -> C;
+        {Action, Step} ->
+            {Reply, G1} = model_gateway:run(Action, G),
+            {_, C1} = lobby_conference:done(Step, Reply, C),
+            settled(C1, G1)
+    end.
+
+what_is_suspected_is_closed_again_test() ->
+    {Action, _} = lobby_conference:next(lobby_conference:suspect(coached())),
+    ?assertMatch(#{topology := [{1, 2, oneway}]}, Action).
+
+a_member_who_is_replaced_gets_the_flows_of_his_role_test() ->
+    Agent = lobby_conference:member(alice, <<"agent">>, media(4000), sendrecv),
+    {Action, _} = lobby_conference:next(lobby_conference:join(Agent, coached())),
+    ?assertMatch(#{topology := [{1, 2, bothway}]}, Action).
+
+%% 210 pairs change, which takes two requests.
+changes_of_a_large_room_take_several_requests_test() ->
+    Ids = lists:seq(1, 30),
+    Rules = [{deny, {member, A}, {member, B}} || A <- Ids, B <- Ids, A < B, (A + B) rem 2 =:= 0],
+    ?assertEqual(210, length(Rules)),
+    run([{join, 1, Id, <<"agent">>, 4000} || Id <- Ids] ++ [{rules, 1, Rules}], 64).
+
 an_error_of_the_context_loses_it_test() ->
     C = lobby_conference:join(alice(), lobby_conference:new()),
     {_, Step} = lobby_conference:next(C),

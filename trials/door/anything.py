@@ -134,10 +134,13 @@ class World:
         """Prints what phones, the controller and the gateways know of each other."""
         gateways = {gateway.name: gateway for gateway in self.door.gateways}
         members = self.members()
+        for gateway in gateways.values():
+            print(f"  {gateway.name} said: {(self.door.folder / f'{gateway.name}.log').read_text()[-1000:]}")
         for phone in self.loop.phones:
             if phone.pitch in pitches:
                 room, member = members.get(phone.name, (None, {}))
-                print(f"  {phone.pitch}: {phone.state}, sends to {phone.remote}, listens on {phone.rtp.getsockname()}; {room}: {member}")
+                print(f"  {phone.pitch}: {phone.state}, sends to {phone.remote}, listens on {phone.rtp.getsockname()}, has just received "
+                      f"{len(phone.heard)} packets; {room}: {member}")
                 if room and "termination" in member:
                     about = self.door.ask("GET", f"/rooms/{room}")
                     print("   ", gateways[about["gateway"]].ask(f"Context={about['context']}{{AuditValue=RTP/{member['termination']}"

@@ -299,8 +299,7 @@ counted(Gateway, Context) ->
 silent_after() ->
     application:get_env(lobby, silent_after, 30000).
 
-settle(State) ->
-    published(settled(State)).
+settle(State) -> published(settled(State)).
 
 settled(State) ->
     save(tell(converge(State, ?MAX_REQUESTS))).

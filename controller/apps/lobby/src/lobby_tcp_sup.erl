@@ -2,7 +2,7 @@
 -module(lobby_tcp_sup).
 -behaviour(supervisor).
 
--export([start_link/1, start_connections/0, start_listener/1, init/1, listen/1]).
+-export([start_link/1, start_connections/0, init/1, listen/1]).
 
 %% Of all connections, and of those from one address.
 -define(MAX_CONNECTIONS, 1024).
@@ -14,18 +14,22 @@ start_link(Own) ->
 
 -spec start_connections() -> supervisor:startlink_ret().
 start_connections() ->
-    supervisor:start_link({local, lobby_connections}, ?MODULE, connections).
+    case supervisor:start_link({local, lobby_connections}, ?MODULE, connections) of
+        {error, {already_started, Old}} -> ended_before(Old), start_connections();
+        Started -> Started
+    end.
 
--spec start_listener({inet:ip4_address(), inet:port_number()}) -> {ok, pid()} | {error, term()}.
-start_listener(Own) ->
-    proc_lib:start_link(?MODULE, listen, [Own]).
+%% If its own supervisor was killed, it ends a little later.
+ended_before(Old) ->
+    Monitor = monitor(process, Old),
+    receive {'DOWN', Monitor, process, Old, _} -> ok end.
 
 -spec init({top, {inet:ip4_address(), inet:port_number()}} | connections) ->
           {ok, {supervisor:sup_flags(), [supervisor:child_spec()]}}.
 init({top, Own}) ->
     {ok, {#{strategy => rest_for_one, intensity => 10, period => 10}, [
         #{id => connections, start => {?MODULE, start_connections, []}, type => supervisor},
-        #{id => listener, start => {?MODULE, start_listener, [Own]}, shutdown => brutal_kill}]}};
+        #{id => listener, start => {proc_lib, start_link, [?MODULE, listen, [Own]]}, shutdown => brutal_kill}]}};
 init(connections) ->
     {ok, {#{strategy => simple_one_for_one},
           [#{id => connection, start => {lobby_tcp, start_link, []}, restart => temporary}]}}.
@@ -68,9 +72,7 @@ connected(Socket, Known) ->
                 true -> started(Socket, Peer, Known);
                 false -> ok = gen_tcp:close(Socket), Known
             end;
-        _ ->
-            ok = gen_tcp:close(Socket),
-            Known
+        _ -> ok = gen_tcp:close(Socket), Known
     end.
 
 started(Socket, Peer = {Address, _}, Known) ->

@@ -475,7 +475,7 @@ the_node_fails(Config) ->
         _ = peer:call(Peer, application, load, [lobby]),
         [ok = peer:call(Peer, application, set_env, [lobby, Key, Value])
          || {Key, Value} <- [{gateways, [gateway:config(<<"1">>, Gateway)]}, {sip, sip(Config)}, {http, gateway:free_address()}, {store, disc}]],
-        {ok, _} = peer:call(Peer, application, ensure_all_started, [lobby]),
+        {ok, _} = peer:call(Peer, application, ensure_all_started, [lobby], 30000),
         lobby_case:until(fun() -> length(peer:call(Peer, lobby_gateway, serving, [])) =:= 1 end),
         Peer
     end,

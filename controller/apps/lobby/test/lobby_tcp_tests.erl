@@ -33,3 +33,12 @@ too_long_test() ->
     ?assertEqual({error, too_long}, lobby_tcp:frame(message("Content-Length: 999999999\r\n", ""))),
     ?assertEqual({error, too_long}, lobby_tcp:frame(binary:copy(<<"a">>, 65536))),
     ?assertEqual(more, lobby_tcp:frame(binary:copy(<<"a">>, 65535))).
+
+%% Their supervisor was killed, and starts again before they have ended.
+connections_start_when_the_old_ones_have_ended_test() ->
+    Old = spawn(fun() -> receive stop -> timer:sleep(50) end end),
+    true = register(lobby_connections, Old),
+    Old ! stop,
+    {ok, New} = lobby_tcp_sup:start_connections(),
+    ?assertNot(is_process_alive(Old)),
+    gen_server:stop(New).

@@ -93,9 +93,16 @@ class Gateway:
     starts = 0
 
     def __init__(self, folder, name, slots=80, journal=False):
-        self.port, self.base = free_ports(slots)
         self.folder, self.name, self.slots, self.journal = folder, name, slots, journal
+        self.port, self.base = self.ports(slots)
         self.start()
+
+    def ports(self, slots):
+        """The control port, and the first port for media."""
+        return free_ports(slots)
+
+    def options(self):
+        return []
 
     def start(self):
         Gateway.starts += 1
@@ -106,7 +113,7 @@ class Gateway:
             first.write_text(number)
             options += ["--first-context", number, "--first-termination", number]
         command = [os.environ.get("BRIDGE", ROOT / "dist/mg_bridge"), "live", "--control-port", str(self.port),
-                   "--base-port", str(self.base), "--slots", str(self.slots), *options]
+                   "--base-port", str(self.base), "--slots", str(self.slots), *options, *self.options()]
         policy = ["chrt", "-f", "10"] if subprocess.run(["chrt", "-f", "10", "true"], stderr=subprocess.DEVNULL).returncode == 0 else []
         self.log = open(self.folder / f"{self.name}.log", "a")
         self.process = subprocess.Popen(policy + command, stdin=subprocess.DEVNULL, stdout=subprocess.PIPE, stderr=self.log, text=True)
@@ -144,12 +151,15 @@ class Door:
         self.gateways, self.process = [], None
         try:
             for n in range(gateways):
-                self.gateways.append(Gateway(self.folder, f"g{n}", slots, journal))
+                self.gateways.append(self.gateway(n, slots, journal))
             self.configure(slots, returns, options)
             self.start()
         except BaseException:
             self.__exit__()
             raise
+
+    def gateway(self, number, slots, journal):
+        return Gateway(self.folder, f"g{number}", slots, journal)
 
     def configure(self, slots, returns, options):
         self.sip, self.http, self.inside = free_addresses(3)

@@ -102,16 +102,16 @@ set_rules(Rules, C) ->
     agree(true, C#conference{rules = Rules}).
 
 %% @doc Takes a member out, with what the gateway has for him, so that another conference on the same gateway can move
-%% him.
+%% him. The rules that name him stay until `leave/2', because he may come back.
 -spec take(id(), conference()) -> {ok, member(), held(), conference()} | {error, no_member}.
-take(Id, C = #conference{members = Members, context = Context, held = Held, arriving = Arriving}) ->
+take(Id, C = #conference{members = Members, rules = Rules, context = Context, held = Held, arriving = Arriving}) ->
     case lists:keyfind(Id, #member.id, Members) of
         false ->
             {error, no_member};
         Member ->
             Taken = maps:merge(maps:map(fun(_, Has) -> {Context, Has} end, Held), Arriving),
-            Rest = C#conference{held = maps:remove(Id, Held), arriving = maps:remove(Id, Arriving)},
-            {ok, Member, maps:get(Id, Taken, none), ended(leave(Id, Rest))}
+            Rest = leave(Id, C#conference{held = maps:remove(Id, Held), arriving = maps:remove(Id, Arriving)}),
+            {ok, Member, maps:get(Id, Taken, none), ended(Rest#conference{rules = Rules})}
     end.
 
 %% @doc Lets in a member that another conference on the same gateway gave.

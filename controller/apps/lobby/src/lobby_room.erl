@@ -85,7 +85,8 @@ add_rules(Name, Rules) ->
 set_rules(Name, Rules) ->
     call(Name, {set_rules, Rules}).
 
-%% @doc Takes a member out, for another room.
+%% @doc Takes a member out, for another room. Until he leaves or is given back, the room stays, and so do rules that name
+%% him.
 -spec take(name(), id()) -> {ok, given()} | {error, error()}.
 take(Name, Id) ->
     call(Name, {take, Id}).
@@ -160,7 +161,7 @@ handle_call({set_rules, Rules}, _, State = #state{conference = C}) ->
     {reply, ok, change(lobby_conference:set_rules(Rules, C), State)};
 handle_call({take, Id}, _, State = #state{conference = C, gateway = Gateway}) ->
     case lobby_conference:take(Id, C) of
-        {ok, Member, Held, Rest} -> replied({ok, {Member, Held, Gateway}}, change(Rest, State));
+        {ok, Member, Held, Rest} -> {reply, {ok, {Member, Held, Gateway}}, change(Rest, State)};
         {error, Reason} -> replied({error, Reason}, State)
     end;
 handle_call(audit, _, State) ->

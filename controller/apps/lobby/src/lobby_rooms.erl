@@ -39,7 +39,8 @@ leave(Name, Id) ->
 update(Name, Id, Change) ->
     in_room(Name, fun() -> lobby_room:update(Name, Id, Change) end, ?TRIES).
 
-%% @doc Moves a member to another room. If that doesn't take him, he stays; with `no_member', he is in no room.
+%% @doc Moves a member to another room. If that doesn't take him, he stays, with his rules; with `no_member', he is in no
+%% room.
 -spec move(lobby_rules:id(), From :: lobby_room:name(), To :: lobby_room:name()) ->
           {ok, lobby_h248:media()} | {error, error()}.
 move(_, Name, Name) ->
@@ -48,7 +49,7 @@ move(Id, From, To) ->
     case lobby_room:take(From, Id) of
         {ok, Given} ->
             case in_room(To, fun() -> lobby_room:give(To, Id, Given) end, ?TRIES) of
-                {ok, Local} -> {ok, Local};
+                {ok, Local} -> ok = leave(From, Id), {ok, Local};
                 {error, Reason} ->
                     case in_room(From, fun() -> lobby_room:give(From, Id, Given) end, ?TRIES) of
                         {ok, _} -> {error, Reason};

@@ -76,7 +76,16 @@ step({move, Id}, W = #world{wanted = Wanted, rooms = Rooms}) ->
             {ok, Member, Held, Left} = lobby_conference:take(Id, maps:get(From, Rooms)),
             Entered = lobby_conference:give(Member, Held, maps:get(To, Rooms)),
             {Is, Others} = maps:take({From, Id}, Wanted),
-            forget_rules(From, Id, W#world{rooms = Rooms#{From := Left, To := Entered}, wanted = Others#{{To, Id} => Is}});
+            Rooms1 = Rooms#{From := lobby_conference:leave(Id, Left), To := Entered},
+            forget_rules(From, Id, W#world{rooms = Rooms1, wanted = Others#{{To, Id} => Is}});
+        [] -> W
+    end;
+%% Another room doesn't take him.
+step({come_back, Id}, W = #world{wanted = Wanted, rooms = Rooms}) ->
+    case [Room || {Room, I} <- maps:keys(Wanted), I =:= Id] of
+        [From] ->
+            {ok, Member, Held, Left} = lobby_conference:take(Id, maps:get(From, Rooms)),
+            W#world{rooms = Rooms#{From := lobby_conference:give(Member, Held, Left)}};
         [] -> W
     end;
 %% The gateway begins anew: the rooms hear of it, or find out by an audit.
@@ -172,6 +181,7 @@ step() ->
                                          #{role => <<"agent">>}])}},
                {2, {update, id(), ?BIND(D, oneof([sendrecv, sendonly, recvonly, inactive]), #{direction => D})}},
                {2, {move, id()}},
+               {1, {come_back, id()}},
                {1, {lose, oneof([told, untold])}},
                {1, {disturb, oneof([bothway, isolate])}}]).
 

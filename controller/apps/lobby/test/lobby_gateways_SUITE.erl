@@ -7,7 +7,7 @@
 -compile([export_all]).
 
 all() ->
-    [the_rules_hold_on_the_gateway, a_newcomer_enters_with_his_rules, mutes_and_holds_are_modes, members_move, refused_media,
+    [the_rules_hold_on_the_gateway, a_newcomer_enters_with_his_rules, mutes_and_holds_are_modes, members_move, a_move_that_fails_changes_nothing, refused_media,
      a_lecture_of_sixty, a_killed_gateway_is_replaced, one_that_begins_anew_is_noticed,
      one_that_begins_with_the_same_numbers_is_noticed, one_that_was_out_of_reach_is_cleaned,
      a_room_waits_for_a_gateway, one_with_a_journal_comes_back, one_that_comes_back_soon_is_not_missed, one_that_comes_back_soon_is_seen,
@@ -72,10 +72,12 @@ the_rules_hold_on_the_gateway(_) ->
     [lobby_room:leave(<<"100">>, Id) || Id <- [alice, bob]],
     ?assertEqual([], gateway:contexts([Context], G)).
 
-%% Heard with ears: a talker who never pauses, and a newcomer who must not hear him.
+%% Heard with ears: a talker who never pauses, and a newcomer who must not hear him. Datagrams take so long that the gateway
+%% sends packets between any two requests.
 a_newcomer_enters_with_his_rules(_) ->
     G = gateway:start(),
-    run([{<<"a">>, G}]),
+    Relay = relay:start(gateway:address(G), #{lose => 0.0, double => 0.0, delay => 60}),
+    run([{<<"a">>, G}], #{address => relay:address(Relay)}),
     ok = lobby_rooms:create(<<"100">>, [{deny, {role, <<"customer">>}, {role, <<"coach">>}}]),
     Talker = caller:start(),
     {ok, {To, _}} = lobby_rooms:join(<<"100">>, talker, lobby_conference:member(talker, <<"customer">>, caller:media(Talker), sendrecv)),
@@ -120,6 +122,18 @@ members_move(_) ->
     ?assertEqual(6, length(heard(<<"break">>, Gs))),
     ?assertEqual([<<"break">>], lobby_rooms:names()),
     ?assertEqual({error, no_member}, lobby_rooms:move(dave, <<"break">>, <<"main">>)).
+
+%% He is in his room as before: isolated, and in the second room alone.
+a_move_that_fails_changes_nothing(_) ->
+    G = gateway:start(),
+    run([{<<"a">>, G}]),
+    [join(<<"full">>, N, <<"member">>) || N <- lists:seq(1, 64)],
+    [join(Room, Id, <<"guest">>) || {Room, Id} <- [{<<"desk">>, alice}, {<<"desk">>, bob}, {<<"solo">>, carol}]],
+    [ok = lobby_room:add_rules(Room, lobby_rules:isolate({member, Id})) || {Room, Id} <- [{<<"desk">>, alice}, {<<"solo">>, carol}]],
+    [?assertEqual({error, room_full}, lobby_rooms:move(Id, Room, <<"full">>)) || {Room, Id} <- [{<<"desk">>, alice}, {<<"solo">>, carol}]],
+    join(<<"solo">>, dave, <<"guest">>),
+    [?assertEqual([], heard(Room, #{<<"a">> => G})) || Room <- [<<"desk">>, <<"solo">>]],
+    ?assertEqual([<<"desk">>, <<"full">>, <<"solo">>], lobby_rooms:names()).
 
 %% A Remote with the address 0.0.0.0 is taken, and one with port 0 isn't.
 refused_media(_) ->
@@ -478,7 +492,8 @@ lost_and_doubled_datagrams(_) ->
     ?assertEqual(lists:sort([{A, B} || A <- Others, B <- Others, A =/= B]), heard(<<"100">>, #{<<"a">> => G})),
     ?assertEqual(2, length(gateway:contexts(lists:seq(1, 60), G))).
 
-%% Random changes and failures on two gateways; whenever a change is done, the gateway's own answer equals the rules.
+%% Random changes and failures on two gateways; whenever a change is done, the gateway's own answer equals the rules, which
+%% the test knows from what it asked for.
 anything_for_some_seconds() -> [{timetrap, {hours, 3}}].
 
 anything_for_some_seconds(_) ->
@@ -491,51 +506,68 @@ anything_for_some_seconds(_) ->
     %% For as long as one likes: ANYTHING_SECONDS=3600.
     Seconds = list_to_integer(os:getenv("ANYTHING_SECONDS", "8")),
     End = erlang:monotonic_time(millisecond) + 1000 * Seconds,
-    Changes = anything(End, #{gateways => #{<<"a">> => A, <<"b">> => B}, changes => 0}),
+    Changes = anything(End, #{gateways => #{<<"a">> => A, <<"b">> => B}, changes => 0, rules => #{<<"1">> => [], <<"2">> => []}}),
     ct:pal("~b changes", [Changes]),
     ?assert(Changes > 200).
 
-anything(End, W = #{changes := N, gateways := Gs}) ->
+anything(End, W = #{changes := N}) ->
     case erlang:monotonic_time(millisecond) < End of
         false -> N;
         true ->
-            Gs1 = anything_once(rand:uniform(100), Gs),
-            [check(Room, Gs1) || Room <- [<<"1">>, <<"2">>]],
+            W1 = anything_once(rand:uniform(100), W),
+            [check(Room, W1) || Room <- [<<"1">>, <<"2">>]],
             N rem 10000 =:= 9999 andalso ct:pal("~b changes", [N + 1]),
-            anything(End, W#{changes := N + 1, gateways := Gs1})
+            anything(End, W1#{changes := N + 1})
     end.
 
-anything_once(1, Gs) ->
+anything_once(1, W = #{gateways := Gs}) ->
     Name = lists:nth(rand:uniform(2), [<<"a">>, <<"b">>]),
     Numbers = integer_to_list(10000 * rand:uniform(100000)),
-    Gs#{Name := gateway:restart(maps:get(Name, Gs), ["--first-context", Numbers, "--first-termination", Numbers])};
-anything_once(2, Gs) ->
+    W#{gateways := Gs#{Name := gateway:restart(maps:get(Name, Gs), ["--first-context", Numbers, "--first-termination", Numbers])}};
+anything_once(2, W) ->
     exit(lobby_registry:whereis_name({room, <<"1">>}), kill),
     lobby_case:until(fun() -> lobby_registry:whereis_name({room, <<"1">>}) =/= undefined end),
-    Gs;
-anything_once(K, Gs) when K < 40 ->
+    W;
+anything_once(K, W = #{rules := Rules}) when K < 40 ->
     Id = rand:uniform(8),
     case lists:append([[R || is_map_key(Id, maps:get(members, lobby_room:describe(R)))] || R <- [<<"1">>, <<"2">>]]) of
-        [] -> lobby_rooms:join(integer_to_binary(rand:uniform(2)), Id,
-                               lobby_conference:member(Id, lists:nth(rand:uniform(2), [<<"x">>, <<"y">>]), media(40000), sendrecv));
-        [Room] when K < 20 -> lobby_room:leave(Room, Id);
-        [Room] -> lobby_rooms:move(Id, Room, case Room of <<"1">> -> <<"2">>; <<"2">> -> <<"1">> end)
-    end,
-    Gs;
-anything_once(_, Gs) ->
+        [] ->
+            Room = integer_to_binary(rand:uniform(2)),
+            Role = lists:nth(rand:uniform(2), [<<"x">>, <<"y">>]),
+            case lobby_rooms:join(Room, Id, lobby_conference:member(Id, Role, media(40000), sendrecv)) of
+                {ok, _} -> W;
+                {error, no_room} -> W#{rules := forget(Id, Room, Rules)}
+            end;
+        [Room] ->
+            Left = case K < 20 of
+                true -> lobby_room:leave(Room, Id);
+                false -> lobby_rooms:move(Id, Room, case Room of <<"1">> -> <<"2">>; <<"2">> -> <<"1">> end)
+            end,
+            case Left of
+                {error, Reason} when Reason =/= no_member -> W;
+                _ -> W#{rules := forget(Id, Room, Rules)}
+            end
+    end;
+anything_once(_, W = #{rules := Rules}) ->
     Party = fun() -> lists:nth(rand:uniform(4), [everyone, {role, <<"x">>}, {role, <<"y">>}, {member, rand:uniform(8)}]) end,
-    ok = lobby_room:add_rules(integer_to_binary(rand:uniform(2)), [{lists:nth(rand:uniform(2), [allow, deny]), Party(), Party()}]),
-    Gs.
+    Room = integer_to_binary(rand:uniform(2)),
+    New = {_, From, To} = {lists:nth(rand:uniform(2), [allow, deny]), Party(), Party()},
+    ok = lobby_room:add_rules(Room, [New]),
+    W#{rules := Rules#{Room := [Rule || Rule = {_, F, T} <- maps:get(Room, Rules), {F, T} =/= {From, To}] ++ [New]}}.
+
+%% Rules that name a member end when he leaves.
+forget(Id, Room, Rules) ->
+    Rules#{Room := [Rule || Rule = {_, From, To} <- maps:get(Room, Rules), From =/= {member, Id}, To =/= {member, Id}]}.
 
 %% As soon as the room has a gateway that is there.
-check(Room, Gs) ->
-    lobby_case:until(fun() -> agrees(Room, Gs) end).
+check(Room, #{gateways := Gs, rules := Rules}) ->
+    lobby_case:until(fun() -> agrees(Room, maps:get(Room, Rules), Gs) end).
 
-agrees(Room, Gs) ->
+agrees(Room, Rules, Gs) ->
     case lobby_room:describe(Room) of
         #{members := Members} when map_size(Members) =:= 0 -> true;
         #{gateway := none} -> false;
-        About = #{members := Members, rules := Rules, gateway := Name, context := Context} when is_integer(Context) ->
+        About = #{members := Members, gateway := Name, context := Context} when is_integer(Context) ->
             G = maps:get(Name, Gs),
             Wanted = lists:sort([{A, B} || {A, #{role := RA}} <- maps:to_list(Members), {B, #{role := RB}} <- maps:to_list(Members),
                                            A =/= B, hears({B, RB}, {A, RA}, Rules)]),

@@ -11,15 +11,12 @@
 %% @doc The gateway with the most room for members, among those that have it for this many more and for a context.
 -spec choose(Members :: non_neg_integer(), [{Gateway, load()}]) -> {ok, Gateway} | {error, no_room}.
 choose(Members, Gateways) ->
-    Fitting = [{free(Load), Gateway} || {Gateway, Load} <- Gateways, free(Load) >= Members, has_context(Load)],
-    case Fitting of
+    Fitting = [{-free(Load), Gateway} || {Gateway, Load} <- Gateways, free(Load) >= Members, has_context(Load)],
+    case lists:keysort(1, Fitting) of
         [] -> {error, no_room};
-        [First | Rest] -> {ok, element(2, lists:foldl(fun freer/2, First, Rest))}
+        [{_, Gateway} | _] -> {ok, Gateway}
     end.
 
 free(#{terminations := Used, max_terminations := Max}) -> Max - Used.
 
 has_context(#{contexts := Used, max_contexts := Max}) -> Used < Max.
-
-freer(A = {FreeA, _}, {FreeB, _}) when FreeA > FreeB -> A;
-freer(_, B) -> B.

@@ -1,5 +1,6 @@
-"""Random joins, rules, roles, mutes, moves, holds and failures, on two gateways with journals. Every second, what the
-gateways themselves answer is compared with what the rooms' rules say, and with what each phone hears.
+"""Random joins, rules, roles, mutes, moves and failures, on two gateways with journals. Every second, what the gateways
+themselves answer is compared with what the rooms' rules say, and with what each phone hears. The trial keeps its own record
+of rules, roles and mutes. Only after a change that wasn't answered by 200, it reads them from the controller.
 
 usage: anything.py [MINUTES]
 """
@@ -17,20 +18,25 @@ PHONES, ROOMS, ROLES = 12, ["1", "2", "3"], ["customer", "agent", "coach"]
 RACES = (404, 409, 502, 503, 504)
 
 
+PRESETS = {"plain": [], "lecture": [(False, {"role": "listener"}, "everyone")],
+           "coaching": [(False, {"role": "coach"}, {"role": "customer"})], "monitored": [(False, {"role": "monitor"}, "everyone")]}
+
+
 def matches(party, member):
     return party == "everyone" or party.get("role") == member["role"] or party.get("member") == member["id"]
 
 
 def hears(listener, talker, rules):
-    """The last rule that matches decides."""
-    return next((rule["hears"] for rule in reversed(rules)
-                 if matches(rule["talker"], talker) and matches(rule["listener"], listener)), True)
+    """The last rule that matches decides. A rule: whether it is heard, the talker, the listener."""
+    return next((heard for heard, by, to in reversed(rules) if matches(by, talker) and matches(to, listener)), True)
 
 
 class World:
     def __init__(self, door):
         self.door, self.changes, self.failures, self.last = door, 0, 0, None
         self.loop = Phones(self.phone(n) for n in range(PHONES))
+        # By room: its rules. By phone: room, role, and whether it is muted. And whether a change may or may not be done.
+        self.rules, self.known, self.unsure = {room: [] for room in ROOMS}, {}, False
 
     def phone(self, n):
         return Phone(self.door, random.choice(ROOMS), 300 + 100 * n, 1500)
@@ -40,44 +46,84 @@ class World:
         return {name: (room, member) for room in ROOMS for name, member in self.door.members(room).items()}
 
     def ask(self, method, path, body=None):
+        """Returns whether it is done."""
         try:
             self.door.ask(method, path, body)
+            return True
         except urllib.error.HTTPError as error:
             if error.code not in RACES:
                 check(f"{method} {path} {body}: {error.code}", False)
+            self.unsure = True
+            return False
+
+    def add(self, room, *rules):
+        parties = [rule[1:] for rule in rules]
+        self.rules[room] = [rule for rule in self.rules[room] if rule[1:] not in parties] + list(rules)
+
+    def forget(self, room, member):
+        """Rules that name a member end when he leaves."""
+        self.rules[room] = [rule for rule in self.rules[room] if {"member": member["id"]} not in rule]
 
     def change(self):
         self.changes += 1
         phone = random.choice(self.loop.phones)
+        # A room that ended has no rules.
+        there = self.door.ask("GET", "/rooms")["rooms"]
+        self.rules = {room: self.rules[room] if room in there else [] for room in ROOMS}
         room, member = self.members().get(phone.name, (None, None))
         if member is None:
-            phone.number, phone.to_tag = 0, ""
-            phone.call_id, phone.room = f"{random.random()}@trial", random.choice(ROOMS)
-            phone.call()
-            self.loop.run(5, lambda: phone.state != "new")
+            self.call(phone)
             return
-        match random.choice(["isolate", "release", "oneway", "mute", "unmute", "role", "move", "rules", "preset", "hang_up", "bye", "lock"]):
+        own, act = {"member": member["id"]}, f"/members/{member['id']}"
+        match random.choice(["isolate", "release", "oneway", "mute", "role", "move", "rules", "preset", "hang_up", "bye", "lock"]):
+            case "isolate" | "release" as how:
+                if self.ask("POST", f"{act}/{how}"):
+                    self.add(room, (how == "release", own, "everyone"), (how == "release", "everyone", own))
             case "oneway":
                 others = [m for r, m in self.members().values() if r == room and m["id"] != member["id"]]
                 if others:
-                    self.ask("POST", f"/members/{member['id']}/oneway", {"listener": random.choice(others)["id"]})
+                    listener = random.choice(others)["id"]
+                    if self.ask("POST", f"{act}/oneway", {"listener": listener}):
+                        self.add(room, (True, own, {"member": listener}), (False, {"member": listener}, own))
+            case "mute":
+                muted = random.random() < 0.5
+                if self.ask("POST", f"{act}/{'mute' if muted else 'unmute'}"):
+                    self.known[phone.name]["muted"] = muted
             case "role":
-                self.ask("POST", f"/members/{member['id']}/role", {"role": random.choice(ROLES)})
+                role = random.choice(ROLES)
+                if self.ask("POST", f"{act}/role", {"role": role}):
+                    self.known[phone.name]["role"] = role
             case "move":
-                self.ask("POST", f"/members/{member['id']}/move", {"room": random.choice(ROOMS)})
+                to = random.choice(ROOMS)
+                if to != room and self.ask("POST", f"{act}/move", {"room": to}):
+                    self.forget(room, member)
+                    self.known[phone.name]["room"] = to
             case "rules":
-                party = lambda: random.choice(["everyone", {"role": random.choice(ROLES)}, {"member": member["id"]}])
-                self.ask("POST", f"/rooms/{room}/rules", {"rules": [{"hears": random.random() < 0.5, "talker": party(), "listener": party()}]})
+                heard, talker, listener = random.random() < 0.5, *(random.choice(["everyone", {"role": random.choice(ROLES)}, own]) for _ in "tl")
+                if self.ask("POST", f"/rooms/{room}/rules", {"rules": [{"hears": heard, "talker": talker, "listener": listener}]}):
+                    self.add(room, (heard, talker, listener))
             case "preset":
-                self.ask("PUT", f"/rooms/{room}", {"preset": random.choice(["plain", "lecture", "coaching", "monitored"])})
-            case "bye":
-                phone.hang_up()
-                self.loop.run(5, lambda: phone.state == "ended")
+                preset = random.choice(list(PRESETS))
+                if self.ask("PUT", f"/rooms/{room}", {"preset": preset}):
+                    self.rules[room] = PRESETS[preset]
             case "lock":
                 self.ask("POST", f"/rooms/{room}/lock")
                 self.ask("POST", f"/rooms/{room}/unlock")
-            case other:
-                self.ask("POST", f"/members/{member['id']}/{other}")
+            case "hang_up" | "bye" as how:
+                if how == "bye":
+                    phone.hang_up()
+                    self.loop.run(5, lambda: phone.state == "ended")
+                else:
+                    self.ask("POST", f"{act}/hang_up")
+                self.loop.run(5, lambda: phone.name not in self.members())
+                self.forget(room, member)
+
+    def call(self, phone):
+        phone.number, phone.to_tag = 0, ""
+        phone.call_id, phone.room = f"{random.random()}@trial", random.choice(ROOMS)
+        self.known[phone.name] = {"room": phone.room, "role": "member", "muted": False}
+        phone.call()
+        self.loop.run(5, lambda: phone.state != "new")
 
     def fail(self):
         """Ends a gateway or a process of the controller, or holds a gateway up."""
@@ -110,10 +156,17 @@ class World:
         pitches = {phone.name: phone.pitch for phone in self.loop.phones}
         for name in self.door.ask("GET", "/rooms")["rooms"]:
             room = self.door.ask("GET", f"/rooms/{name}")
+            if self.unsure:
+                self.rules[name] = [(rule["hears"], rule["talker"], rule["listener"]) for rule in room["rules"]]
+                self.known |= {m["caller"]: {"room": name, "role": m["role"], "muted": m["muted"]} for m in room["members"]}
+            for member in room["members"]:
+                member |= self.known[member["caller"]]
             pairs = [(talker, listener) for talker in room["members"] for listener in room["members"]
-                     if talker is not listener and hears(listener, talker, room["rules"])]
+                     if talker is not listener and hears(listener, talker, self.rules[name])]
             if not room["members"]:
                 continue
+            if any(member["room"] != name for member in room["members"]):
+                raise KeyError(name)
             rooms.append((room["gateway"], room["context"], {(a["termination"], b["termination"]) for a, b in pairs},
                           {m["termination"] for m in room["members"]}))
             for talker, listener in pairs:
@@ -157,6 +210,7 @@ class World:
             ears = self.loop.matrix()
             wrong = {pitch: (ears.get(pitch, set()), whom) for pitch, whom in self.heard.items() if ears.get(pitch, set()) != whom}
             if not wrong:
+                self.unsure = False
                 return took
         self.explain(set().union(*({pitch} | (ears ^ whom) for pitch, (ears, whom) in wrong.items())))
         check(f"after {self.last}, phones hear others (pitch: (hears, should hear)): {wrong}", False)
@@ -168,7 +222,7 @@ def main():
     minutes = float(sys.argv[1]) if len(sys.argv) > 1 else 60
     with Door(gateways=2, journal=True, returns=1000) as door:
         world = World(door)
-        end, times, shown = time.monotonic() + 60 * minutes, [], time.monotonic()
+        end, times, shown, unsure = time.monotonic() + 60 * minutes, [], time.monotonic(), 0
         while time.monotonic() < end:
             began = time.monotonic()
             for _ in range(random.randint(1, 6)):
@@ -176,15 +230,16 @@ def main():
             failing = random.random() < 0.1
             if failing:
                 world.fail()
+            unsure += world.unsure
             times.append(world.compare(10 if failing else 5))
             world.loop.run(max(0, 1 - (time.monotonic() - began)))
             if time.monotonic() - shown > 60:
                 shown = time.monotonic()
-                print(f"{world.changes} changes, {world.failures} failures, {len(times)} comparisons", flush=True)
+                print(f"{world.changes} changes, {world.failures} failures, {len(times)} comparisons, {unsure} of them unsure", flush=True)
         counts = {name: int(door.metric(f"lobby_{name}_total")) for name in
                   ("gateway_losses", "gateway_returns", "conferences_kept", "conferences_made_again", "topologies_repaired")}
         log = (door.folder / "log").read_text()
-        check(f"{world.changes} changes, {world.failures} failures, {len(times)} comparisons; the controller counts {counts}",
+        check(f"{world.changes} changes, {world.failures} failures, {len(times)} comparisons ({unsure} unsure); the controller counts {counts}",
               len(times) > 0)
         print(f"{log.count('CRASH REPORT')} crash reports in the controller's log")
     finish()

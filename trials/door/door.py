@@ -19,7 +19,6 @@ from loopback import free_ports, udp
 from tones import FRAME, RATE, SAMPLES
 
 ROOT = Path(__file__).resolve().parents[2]
-EBIN = Path(os.environ["REBAR_BASE_DIR"]) / "default/lib/lobby/ebin"
 TOKEN = "a-token-for-trials"
 SILENCE = bytes([0xFF]) * FRAME
 # Evaluates what it is sent, in the controller's node, for trials that look into it or end its processes.
@@ -180,8 +179,9 @@ class Door:
         shutil.rmtree(self.folder)
 
     def start(self):
+        built = Path(os.environ["REBAR_BASE_DIR"]) / "default/lib/lobby/ebin"
         self.process = subprocess.Popen(
-            ["erl", "-noinput", "+sbwt", "none", "-pa", EBIN, "-eval", INSIDE % self.inside, "-run", "lobby_app", "run", self.folder / "lobby.config"],
+            ["erl", "-noinput", "+sbwt", "none", "-pa", built, "-eval", INSIDE % self.inside, "-run", "lobby_app", "run", self.folder / "lobby.config"],
             stdin=subprocess.DEVNULL, stdout=open(self.folder / "log", "a"), stderr=subprocess.STDOUT, cwd=self.folder)
         if until(lambda: self.serving() == len(self.gateways), 20) is None:
             sys.exit(f"the controller doesn't start: {(self.folder / 'log').read_text()[-2000:]}")

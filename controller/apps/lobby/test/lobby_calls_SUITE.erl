@@ -111,30 +111,37 @@ a_repeated_invite_has_the_same_answer(Config) ->
     ?assertEqual(First, phone:recv(Phone1)),
     ?assertEqual(1, length(members(<<"100">>))).
 
+%% To the first INVITE and to a re-INVITE.
 the_answer_is_repeated_until_the_ack(Config) ->
-    Phone = phone:start(sip(Config)),
-    Phone1 = phone:invite(phone:sdp(Phone), Phone),
-    First = phone:recv(Phone1),
-    ?assertEqual(First, phone:recv(Phone1, 700)),
-    ?assert(phone:quiet(Phone1, 700)),
-    phone:ack(phone:learn(First, Phone1)),
-    ?assert(phone:quiet(Phone1, 1500)),
+    _ = lists:foldl(fun(_, Phone) ->
+        Phone1 = phone:invite(phone:sdp(Phone), Phone),
+        First = phone:recv(Phone1),
+        ?assertEqual(First, phone:recv(Phone1, 700)),
+        ?assert(phone:quiet(Phone1, 700)),
+        Phone2 = phone:learn(First, Phone1),
+        phone:ack(Phone2),
+        ?assert(phone:quiet(Phone2, 1500)),
+        Phone2
+    end, phone:start(sip(Config)), [1, 2]),
     ?assertEqual(1, length(members(<<"100">>))).
 
 without_an_ack_the_call_ends(Config) ->
     Phone = phone:start(sip(Config)),
     Phone1 = phone:invite(phone:sdp(Phone), Phone),
     Start = erlang:monotonic_time(millisecond),
-    Bye = until_bye(Phone1),
+    {Bye, Answers} = until_bye(0, Phone1),
     Took = erlang:monotonic_time(millisecond) - Start,
     ?assert(Took >= 1280 andalso Took < 1500),
+    %% After 20, 60, 140 and 300 ms, and then every 160 ms.
+    ?assert(Answers >= 8 andalso Answers =< 11),
     lobby_case:until(fun() -> members(<<"100">>) =:= [] end),
     phone:answer(200, Bye, Phone1),
     ?assert(phone:quiet(Phone1, 500)).
 
-until_bye(Phone) ->
+%% Our BYE, and how many 200s came before it.
+until_bye(Answers, Phone) ->
     Text = phone:recv(Phone),
-    case phone:status(Text) of "BYE" -> Text; 200 -> until_bye(Phone) end.
+    case phone:status(Text) of "BYE" -> {Text, Answers}; 200 -> until_bye(Answers + 1, Phone) end.
 
 hold_and_resume(Config) ->
     {Phone, First} = call(Config),

@@ -10,19 +10,22 @@
 -define(VIEWER, "viewer-token-000001").
 
 all() ->
-    [a_room_is_steered, rooms_are_created_and_closed, tokens, errors, what_the_gateway_says, metrics, the_page, everything_is_described, events, watchers_are_limited, a_watcher_that_does_not_read, supervisors_fail, anything].
+    [a_room_is_steered, rooms_are_created_and_closed, tokens, errors, what_the_gateway_says, what_the_gateway_refuses, metrics, the_page, everything_is_described, events, watchers_are_limited, a_watcher_that_does_not_read, supervisors_fail, anything].
 
-init_per_testcase(_, Config) ->
+init_per_testcase(Case, Config) ->
     {ok, _} = application:ensure_all_started(inets),
     ok = application:load(lobby),
     G = gateway:start(),
+    Relay = relay:start(gateway:address(G), #{lose => 0.0, double => 0.0, delay => 1}),
     [Sip, Http] = [gateway:free_address() || _ <- [sip, http]],
-    Env = [{gateways, [gateway:config(<<"a">>, G)]}, {sip, Sip}, {http, Http},
+    Direct = gateway:config(<<"a">>, G),
+    Gateway = case Case of what_the_gateway_refuses -> Direct#{address := relay:address(Relay)}; _ -> Direct end,
+    Env = [{gateways, [Gateway]}, {sip, Sip}, {http, Http},
            {tokens, [{<<?OPERATOR>>, operator}, {<<?VIEWER>>, viewer}]}],
     [ok = application:set_env(lobby, Key, Value) || {Key, Value} <- Env],
     {ok, _} = application:ensure_all_started(lobby),
     serving(100),
-    [{sip, Sip}, {http, Http}, {gateway, G} | Config].
+    [{sip, Sip}, {http, Http}, {gateway, G}, {relay, Relay} | Config].
 
 serving(Tries) when Tries > 0 ->
     case lobby_gateway:serving() of
@@ -197,6 +200,16 @@ what_the_gateway_says(Config) ->
     ?assertEqual(Flows, Repaired),
     ?assertEqual(2, flows("100", Config)),
     {200, #{<<"gateways">> := [#{<<"name">> := <<"a">>, <<"terminations">> := 3, <<"contexts">> := 2}]}} = ask(get, "/gateways", Config).
+
+%% The page shows what the gateway has, and not what it was asked for: somebody who is still heard isn't shown as isolated.
+what_the_gateway_refuses(Config) ->
+    [call("100", Config) || _ <- [1, 2]],
+    [A, _] = members("100", Config),
+    {200, #{<<"flows">> := Flows}} = ask(get, "/rooms/100", Config),
+    ok = relay:refuse(proplists:get_value(relay, Config), <<"TP{">>),
+    _ = ask(post, "/members/" ++ binary_to_list(A) ++ "/isolate", "", Config),
+    ?assertMatch({200, #{<<"audited">> := true, <<"rules">> := [_, _], <<"flows">> := Flows}}, ask(get, "/rooms/100", Config)),
+    ?assertEqual(2, flows("100", Config)).
 
 metrics(Config) ->
     call("100", Config),

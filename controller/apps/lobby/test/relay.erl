@@ -1,7 +1,7 @@
 %% A relay between a controller and a gateway that loses, doubles and delays datagrams in both directions.
 -module(relay).
 
--export([start/2, address/1]).
+-export([start/2, address/1, refuse/2]).
 
 start(Gateway, Faults) ->
     Parent = self(),
@@ -15,12 +15,20 @@ start(Gateway, Faults) ->
 
 address({_, Port}) -> {{127, 0, 0, 1}, Port}.
 
+%% From now on, requests with this text don't reach the gateway, and the answer to them is error 510.
+refuse({Pid, _}, Text) -> Pid ! {refuse, Text}, ok.
+
 %% Each controller has a socket of its own to the gateway.
 loop(Socket, Gateway = {GatewayAddress, GatewayPort}, Faults, Sockets) ->
     receive
+        {refuse, Text} ->
+            loop(Socket, Gateway, Faults#{refuse => Text}, Sockets);
         {udp, Socket, Address, Port, Datagram} ->
             {Out, Sockets1} = out({Address, Port}, Sockets),
-            faulty(Faults, {send, Out, GatewayAddress, GatewayPort, Datagram}),
+            faulty(Faults, case is_refused(Datagram, Faults) of
+                {match, [Number]} -> {send, Socket, Address, Port, io_lib:format("!/1 [127.0.0.1]:~b P=~s{ER=510{}}", [GatewayPort, Number])};
+                nomatch -> {send, Out, GatewayAddress, GatewayPort, Datagram}
+            end),
             loop(Socket, Gateway, Faults, Sockets1);
         {udp, Out, _, _, Datagram} ->
             #{Out := {Address, Port}} = Sockets,
@@ -30,6 +38,15 @@ loop(Socket, Gateway = {GatewayAddress, GatewayPort}, Faults, Sockets) ->
             ok = gen_udp:send(From, Address, Port, Datagram),
             loop(Socket, Gateway, Faults, Sockets)
     end.
+
+%% The transaction's number.
+is_refused(Request, #{refuse := Text}) ->
+    case binary:match(Request, Text) of
+        nomatch -> nomatch;
+        _ -> re:run(Request, "T=(\\d+)", [{capture, all_but_first, list}])
+    end;
+is_refused(_, _) ->
+    nomatch.
 
 out(Controller, Sockets) ->
     case Sockets of

@@ -32,6 +32,10 @@ class Baresip:
         self.process = subprocess.Popen([*prefix, "baresip", "-f", self.folder, "-n", host, "-e", f"/dial {uri}", "-t", str(seconds)],
                                         stdin=subprocess.DEVNULL, stdout=open(self.folder / "log", "w"), stderr=subprocess.STDOUT)
 
+    def said(self, text):
+        """Whether this is in its log."""
+        return text in (self.folder / "log").read_text()
+
     def heard(self, pitches, start, end):
         """Which of these pitches it heard between two times, in seconds of its recording. Negative ones count from its end."""
         file, = (self.folder / "recorded").glob("*dec.wav")

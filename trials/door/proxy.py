@@ -167,11 +167,13 @@ def main():
         first = door.ask("GET", "/rooms/100")["gateway"]
         door.gateways[int(first) - 1].kill()
         moved = until(lambda: door.ask("GET", "/rooms/100")["gateway"] not in (first, None), 20)
-        check(f"gateway {first} killed: the conference is on another one after {moved} s", moved is not None)
+        invited = until(lambda: all(phone.said("got re-INVITE") for phone in phones), 10)
+        check(f"gateway {first} killed: the conference is on another one after {moved} s; all phones are re-invited: {invited is not None}",
+              moved is not None and invited is not None)
         time.sleep(5)
         check("what a phone addresses to others than the controller reaches nobody", is_closed(door))
         door.ask("DELETE", "/rooms/100")
-        closed = until(lambda: all("session closed" in (phone.folder / "log").read_text() for phone in phones), 10)
+        closed = until(lambda: all(phone.said("session closed") for phone in phones), 10)
         check(f"hung up by HTTP: all phones have ended their calls after {closed} s", closed is not None)
         for phone in phones:
             phone.process.terminate()

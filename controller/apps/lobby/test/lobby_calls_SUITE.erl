@@ -116,7 +116,7 @@ the_answer_is_repeated_until_the_ack(Config) ->
     _ = lists:foldl(fun(_, Phone) ->
         Phone1 = phone:invite(phone:sdp(Phone), Phone),
         First = phone:recv(Phone1),
-        ?assertEqual(First, phone:recv(Phone1, 700)),
+        ?assertEqual(First, phone:recv(Phone1)),
         ?assert(phone:quiet(Phone1, 700)),
         Phone2 = phone:learn(First, Phone1),
         phone:ack(Phone2),

@@ -269,7 +269,7 @@ rtp_line_read port source bytes h d =
       rtp_read port source bytes h d,
     ) refl
 
-tick_read : event_of (codes "tick") ≡ Some (Some Tick)
+pub tick_read : event_of (codes "tick") ≡ Some (Some Tick)
 unfolding event_of
 tick_read = refl
 

@@ -1,5 +1,5 @@
 -- A script that is resumed: its lines, the bytes that they come in, and how far it was read.
-use Rattle.std.proofs.Common.{◌≡◌, ◌≢◌, ℕ, ◌+◌, ◌<◌, ◌≤◌, Bool, true, false, List, [], ◌∷◌, ◌++◌, length, eqb, get_or, take, drop, Option, Some, None, Result, Ok, Err, refl, sym, ap, subst, ◌∙◌, append_assoc, length-append, length-take, arith}
+use Rattle.std.proofs.Common.{◌≡◌, ◌≢◌, ℕ, ◌+◌, ◌<◌, ◌≤◌, Bool, true, false, List, [], ◌∷◌, ◌++◌, length, map, codes, eqb, get_or, take, drop, Option, Some, None, Result, Ok, Err, refl, sym, ap, subst, ◌∙◌, append_assoc, length-append, length-take, arith}
 use Rattle.std.proofs.lemmas.Bool.{eq-eqb, eqb-true, true≢false}
 use Rattle.std.proofs.lemmas.List.{append-nil, drop-drop, get_or-take}
 use Rattle.memchr.specs.Find.{IsFirstByte, is_byte}
@@ -10,6 +10,7 @@ use Rattle.mg_engine.specs.declared.config.Config.{Config}
 use Rattle.mg_engine.proofs.SkipLemmas.{iterate_last}
 use Rattle.mg_lines.specs.Lines.{without_return, lines_after, lines_of}
 use Rattle.mg_core.specs.declared.event.Event.{Event}
+use Rattle.mg_core.specs.declared.event.Event.TheVariants.{Tick}
 use Rattle.mg_core.specs.declared.fault.LineFault.{LineFault}
 use Rattle.mg_core.specs.declared.fault.LineFault.TheVariants as faults
 use Rattle.mg_core.specs.declared.fault.NoMemory.{NoMemory}
@@ -23,11 +24,13 @@ use Rattle.mg_core.specs.declared.state.CoreState.{CoreState}
 use Rattle.mg_core.specs.Resume.{FindsBadLine, IsResumed}
 use Rattle.mg_core.specs.Run.{HasBadAfter, HasRead}
 use Rattle.mg_core.specs.Script.{event_of, events_of}
-use Rattle.mg_core.specs.World.{World, StandsFor, start_of, world_after_tick, world_after_ticks}
+use Rattle.mg_core.specs.Step.{Packet}
+use Rattle.mg_core.specs.World.{World, StandsFor, packets_of, start_of, world_after_tick, world_after_ticks}
 use Rattle.mg_core.specs.aids.Resuming.{AllResumed, Awaits, BytesResumed, EndedResumed, EventResumed, LastResumed, LineResumed, LinesResumed}
 use Rattle.mg_core.specs.aids.Steps.{LeadsOn, run_fault_at_start, run_fault_of, script_fault_of}
 use Rattle.mg_core.proofs.HeadlineLemmas.{one_event}
 use Rattle.mg_core.proofs.LineLemmas.{one_line}
+use Rattle.mg_core.proofs.ReadBackLemmas.{tick_read}
 use Rattle.mg_core.proofs.RunLemmas.{events_both, on_ok, run_both, script_result}
 use Rattle.mg_core.proofs.SplitLemmas.{around, bad_later, last_line, line_feed, long_line, no_line, unbroken}
 
@@ -88,6 +91,16 @@ line_resumed number line event Old New is h w old =
     (next, event_resumed line event w next is done, new)
 
 -- ## A line that a line feed ends
+
+pub tick_ended : (count : ℕ) (old new : CoreState) (n m : ℕ) (partial part : List ℕ) → partial ≡ [] →
+    part ≡ codes "tick" → ((w : World) → Awaits old n w → Awaits new m (world_after_tick w)) →
+    LeadsOn {E = LineFault} (Awaits old n) (Awaits new m) (Ok tt)
+    (λ w next. EndedResumed count (partial ++ part) w next (Ok tt))
+tick_ended count old new n m partial part none is after = rw (none, is) (λ w h. (
+  world_after_tick w,
+  event_resumed (codes "tick") Tick w (world_after_tick w) tick_read (map Packet (packets_of w), (refl, refl)),
+  after w h,
+))
 
 pub ended_bad : (count counted : ℕ) (text line : List ℕ) (w next : World) (e : LineFault) → counted ≡ count →
     line ≡ without_return text → LineResumed (counted + 1) line w next (Err e) → EndedResumed count text w next (Err e)

@@ -24,10 +24,10 @@ use mg_text::{
 };
 use mg_words::SENDER_LIMIT;
 
-/// The maximum length, in bytes, of a reply together with the line feed before it.
+/// The maximum length, in bytes, of a reply and the line feed before it.
 pub const REPLY_ROOM: usize = 1 + REPLY_LIMIT;
 
-/// Returns the error with which a message is rejected, or `None` if memory ran out.
+/// Returns the error that rejects a message with this fault, or `None` if memory ran out.
 pub fn refusal_of(fault: ReadFault) -> Option<ErrorNumber>
     ensures value { result ≡ refusal_of fault }
 {
@@ -39,7 +39,7 @@ pub fn refusal_of(fault: ReadFault) -> Option<ErrorNumber>
     }
 }
 
-/// Writes the error with which a message is rejected as a whole.
+/// Writes the error that rejects a whole message.
 #[tactic(auto, using(crate::proofs::AnswerLemmas::totals))]
 pub fn put_error(config: &Config, number: ErrorNumber, answer: &mut Bytes)
     requires room { HEAD_LIMIT + ERROR_LIMIT ≤ answer.old.room }
@@ -61,7 +61,7 @@ pub fn items_of(body: &Body) -> &[MessageItem]
     }
 }
 
-/// Returns whether there is a request among the items.
+/// Returns whether any of the items is a request.
 pub fn has_requests(items: &[MessageItem]) -> bool
     ensures value { result ≡ has_requests items.now }
 {
@@ -70,7 +70,7 @@ pub fn has_requests(items: &[MessageItem]) -> bool
         .any(|item| matches!(item, MessageItem::Request(_)))
 }
 
-/// Writes a reply of at most 16,000 bytes. If the reply is longer, writes an error instead.
+/// Writes a reply or, if it exceeds 16,000 bytes, an error instead.
 #[tactic(auto, using(crate::proofs::ReplyLemmas::sending))]
 fn put_reply(reply: &mut Reply, answer: &mut Bytes)
     requires whole { IsWhole reply.old }
@@ -116,8 +116,8 @@ fn run_request(
     state.kept.keep(sender, request.number, text);
 }
 
-/// Writes the reply to a sender's request: the kept reply if the request is a retransmission; otherwise the reply that
-/// running it produces.
+/// Writes the reply to a sender's request: the kept reply if the request is a retransmission; otherwise the reply from
+/// running the request.
 fn put_request(
     state: &mut CoreState,
     source: &[u8],

@@ -5,10 +5,10 @@ ghost use Rattle.mg_core.specs.World.{result_place};
 use mg_engine::{DropCause, Taken};
 use mg_playout::Placed;
 
-/// The number of possible results of placing a frame.
+/// The number of results that placing a frame can have.
 const PLACINGS: usize = 5;
 
-/// The number of reasons why a datagram can be dropped.
+/// The number of reasons to drop a datagram.
 pub const DROP_CAUSES: usize = 6;
 
 /// The counters of a run. A counter that reaches its maximum stays there.
@@ -109,7 +109,7 @@ impl Counts {
     }
 }
 
-/// Returns the index of the counter for a result of placing a frame.
+/// Returns the index of the counter for frames placed with this result.
 fn placed_counter(placed: Placed) -> usize
     ensures value { result ≡ result_place (takens.Placed placed) }
     ensures below { result < 5 }
@@ -123,7 +123,7 @@ fn placed_counter(placed: Placed) -> usize
     }
 }
 
-/// Returns the index of the counter for a reason to drop a datagram.
+/// Returns the index of the counter for datagrams dropped for this reason.
 fn cause_counter(cause: DropCause) -> usize
     ensures value { 5 + result ≡ result_place (takens.Dropped cause) }
     ensures below { result < 6 }

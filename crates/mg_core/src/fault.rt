@@ -24,7 +24,7 @@ pub enum LineFault {
     NoMemory,
 }
 
-/// Why a script did not run to its end, although the gateway started.
+/// Why a script did not run to its end after the gateway had started.
 #[derive(Clone, Copy, Debug, PartialEq, Eq)]
 pub enum ScriptFault {
     /// The line with this number, counted from 1, is not a script line.

@@ -55,7 +55,7 @@ pub use crate::resuming::resume;
 pub use crate::running::run;
 pub use crate::script::DATAGRAM_LIMIT;
 pub use crate::shown::Shown;
-// A contract of another crate can name a core only if the type of its state is exported.
+// Contracts in other crates can name a core only if the type of the core's state is exported.
 #[doc(hidden)]
 pub use crate::state::CoreState;
 pub use mg_engine::{Config, Datagram, DropCause, Peer, Record, Rooms, StartFault, Stats, Taken};

@@ -2,7 +2,7 @@ ghost use Rattle.std.specs.Prelude.{◌≡◌, ◌+◌, ◌≤◌, ◌<◌, ◌^
 ghost use Rattle.mg_engine.specs.Config.{IsValidConfig};
 ghost use Rattle.mg_core.specs.aids.Resuming.{Awaits, EventResumed, LineResumed};
 ghost use Rattle.mg_core.specs.aids.Steps.{LeadsOn};
-ghost use Rattle.mg_core.specs.World.{World, StandsFor, start_of};
+ghost use Rattle.mg_core.specs.World.{World, StandsFor, start_of, world_after_tick};
 
 use crate::event::Event;
 use crate::fault::{LineFault, NoMemory};
@@ -16,7 +16,7 @@ use std::alloc::Global;
 #[derive(Drop)]
 pub struct LineResumer {
     pub core: Core,
-    /// How many ticks are still to be run. They follow everything that was run.
+    /// How many ticks have been counted but not run yet. They come after everything that was run.
     pub ticks: u64,
 }
 
@@ -32,7 +32,7 @@ impl LineResumer {
         Ok(LineResumer { core, ticks: 0 })
     }
 
-    /// Runs the ticks that have not been run yet, and reports their number.
+    /// Runs the ticks that were counted but not run yet, and reports how many there were.
     pub fn run_ticks<N: Remarks>(&mut self, remarks: &mut N)
         ensures value { (w : World) → Awaits self.old.core.state self.old.ticks w →
             StandsFor self.new.core.state w }
@@ -46,6 +46,16 @@ impl LineResumer {
         self.ticks = 0;
     }
 
+    /// Counts a tick, to be run later.
+    pub fn take_tick(&mut self)
+        requires few { self.old.ticks + 1 < 2 ^ 64 }
+        ensures value { (w : World) → Awaits self.old.core.state self.old.ticks w →
+            Awaits self.new.core.state self.new.ticks (world_after_tick w) }
+        ensures ticks { self.new.ticks ≡ self.old.ticks + 1 }
+    {
+        self.ticks += 1;
+    }
+
     /// Handles a control datagram. Its answer is dropped.
     fn take_control(&mut self, alloc: Global, source: Peer, bytes: &[u8]) -> Result<(), NoMemory>
         ensures value { LeadsOn (StandsFor self.old.core.state) (StandsFor self.new.core.state) result
@@ -56,7 +66,7 @@ impl LineResumer {
         Ok(())
     }
 
-    /// Runs an event. A tick is only counted, and run later.
+    /// Runs an event, or counts it if it is a tick.
     fn take_event<N: Remarks>(
         &mut self,
         alloc: Global,
@@ -71,7 +81,7 @@ impl LineResumer {
     {
         match event {
             Event::Tick => {
-                self.ticks += 1;
+                self.take_tick();
                 Ok(())
             }
             Event::Media(port, source, bytes) => {
@@ -86,7 +96,7 @@ impl LineResumer {
         }
     }
 
-    /// Runs a complete line with this number.
+    /// Runs a complete line, given with its number.
     pub fn take_line<N: Remarks>(
         &mut self,
         alloc: Global,

@@ -26,7 +26,7 @@ use std::io::Write;
 /// escape.
 const OUTPUT_LIMIT: usize = LINE_START + 2 * ANSWER_LIMIT;
 
-/// Makes the store of terminations that is needed to show changes. The gateway has no terminations yet.
+/// Makes the store of terminations, if changes are shown. The gateway has no terminations yet.
 fn watched_for(alloc: Global, shown: Shown) -> Result<Option<Watched>, AllocError>
     ensures value { (config : Config) → IfOk result (λ watched. AreKeptListeners shown watched (start_of config)) }
 {
@@ -181,7 +181,7 @@ impl LineRunner {
         }
     }
 
-    /// Runs a complete line with this number.
+    /// Runs a complete line, given with its number.
     pub fn take_line<W: Write>(
         &mut self,
         alloc: Global,

@@ -16,10 +16,10 @@ use std::marker::Model;
 pub struct KeptListener {
     pub number: u32,
     pub context: u32,
-    /// The UDP port on which it receives.
+    /// The UDP port that it receives on.
     pub port: u16,
     pub mode: Mode,
-    /// In order of their numbers.
+    /// In order of termination number.
     pub talkers: ArrayVec<u32, MEMBERS>,
 }
 
@@ -64,8 +64,8 @@ impl KeptListener {
     }
 }
 
-/// Returns the talkers whose speech flows to a listener. They are members of its context, so there is room for all of
-/// them.
+/// Returns the talkers whose speech flows to a listener. They are members of the listener's context, so there is room
+/// for all of them.
 fn talkers_of(core: &Core, listener: u32) -> ArrayVec<u32, MEMBERS>
     ensures value { (w : World) → StandsFor core.now.state w →
         result.items ≡ filter (λ n. flow w.gateway n listener) (numbers_of w.gateway) }

@@ -76,7 +76,8 @@ fn no_replies(alloc: Global) -> Result<(Kept, Reply, Bytes), AllocError>
 impl Core {
     /// Starts a gateway with this configuration.
     ///
-    /// It allocates all the memory that it keeps. Fails if the configuration is invalid or the allocation fails.
+    /// It allocates all the memory that the gateway keeps. Fails if the configuration is invalid or the allocation
+    /// fails.
     pub fn new(alloc: Global, config: Config) -> Result<Self, StartFault>
         ensures bad { (result ≡ Err StartFault.BadConfig) ↔ ¬ IsValidConfig config }
         ensures started { IfOk result (λ core. (core.answer ≡ []) × (core.outbox ≡ []) ×
@@ -268,7 +269,7 @@ impl Core {
         self.outbox.clear();
     }
 
-    /// Returns the packets of the last tick, in order of their terminations' numbers. There are none after a skip.
+    /// Returns the packets of the last tick, in order of termination number. There are none after a skip.
     pub fn outbox(&self) -> &[Datagram]
         ensures value { result.now ≡ self.now.outbox }
         ensures few { length result.now ≤ TERMINATIONS }
@@ -310,7 +311,7 @@ impl Core {
         self.state.engine.terminations()
     }
 
-    /// Returns the termination at an index, counted from 0 in order of their numbers.
+    /// Returns the termination at an index, counted from 0 in order of termination number.
     pub fn termination(&self, place: usize) -> Record
         requires there { place < length self.now.state.engine.rooms.terminations }
         ensures value { slice_get self.now.state.engine.rooms.terminations place ≡ Some result }
@@ -357,7 +358,7 @@ impl Core {
 
     /// Returns the counts of events: control datagrams, RTP datagrams by outcome, and ticks.
     ///
-    /// `lines`, `sent` and `failed` are 0, because the runner of the core counts them.
+    /// `lines`, `sent` and `failed` are 0, because the code that runs the core counts them.
     pub fn counts(&self) -> Counts
         ensures value { (w : World) → StandsFor self.now.state w → result ≡ counts_of w.tally }
     {

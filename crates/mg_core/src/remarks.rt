@@ -5,6 +5,6 @@ pub trait Remarks {
 
     /// Receives the number of ticks that were run since the last comment or message.
     ///
-    /// If there were ticks, this is called before the next line of another kind and at the end of the script.
+    /// If any ticks were run, this is called before the next line of another kind, or at the end of the script.
     fn ticks(&mut self, count: u64);
 }

@@ -1,4 +1,5 @@
-ghost use Rattle.std.specs.Prelude.{◌≡◌, ◌+◌, ◌*◌, ◌≤◌, ◌<◌, ◌^◌, ◌↔◌, ◌++◌, [], Err, length, IfErr, IfOk, OnErr, OnOk};
+ghost use Rattle.std.specs.Prelude.{◌≡◌, ◌+◌, ◌*◌, ◌≤◌, ◌<◌, ◌^◌, ◌↔◌, ◌++◌, [], true, codes, Err, length, IfErr, IfOk, OnErr, OnOk};
+ghost use Rattle.memchr.specs.Find.{IsFirstByte, is_byte};
 ghost use Rattle.mg_engine.specs.Config.{IsValidConfig};
 ghost use Rattle.mg_core.specs.aids.Resuming.{AllResumed, Awaits, BytesResumed, EndedResumed, LastResumed};
 ghost use Rattle.mg_core.specs.aids.Steps.{LeadsOn};
@@ -16,6 +17,23 @@ use mg_lines::{READ_SIZE, read_some, without_return};
 use mg_text::Bytes;
 use std::alloc::Global;
 use std::io::Read;
+
+/// Returns the index of the first line feed. Most lines of a journal are ticks, so it checks for those first.
+fn line_end(text: &[u8]) -> Option<usize>
+    ensures value { IsFirstByte (is_byte 10) text.now result }
+{
+    match text {
+        [b't', b'i', b'c', b'k', b'\n', ..] => Some(4),
+        _ => memchr(b'\n', text),
+    }
+}
+
+/// Returns whether a line, given in two parts, is a tick that arrived in one piece.
+fn is_tick(partial: &Bytes, part: &[u8]) -> bool
+    ensures value { result ≡ true → (partial.now.text ≡ []) × (part.now ≡ codes "tick") }
+{
+    part == b"tick".as_slice() && partial.as_slice().is_empty()
+}
 
 /// Runs a script on a gateway, without output. The script may arrive in pieces of any size.
 #[derive(Drop)]
@@ -61,7 +79,7 @@ impl Resumer {
         Ok(())
     }
 
-    /// Runs the line that consists of the partial line and this last part.
+    /// Runs the partial line, which this part completes.
     fn end_line<N: Remarks>(
         &mut self,
         alloc: Global,
@@ -77,6 +95,11 @@ impl Resumer {
             (Awaits self.new.runner.core.state self.new.runner.ticks) result (λ w next.
             EndedResumed self.old.lines (self.old.partial.text ++ part.now) w next result) }
     {
+        if is_tick(&self.partial, part) {
+            self.runner.take_tick();
+            self.lines += 1;
+            return Ok(());
+        }
         self.keep(part)?;
         let number = self.lines + 1;
         let line = without_return(self.partial.as_slice());
@@ -103,7 +126,7 @@ impl Resumer {
             result) }
     {
         let mut rest = bytes;
-        while let Some(end) = memchr(b'\n', rest) {
+        while let Some(end) = line_end(rest) {
             let (part, tail) = rest.split_at(end);
             self.end_line(alloc, part, remarks)?;
             let (_, next) = tail.split_at(1);

@@ -23,9 +23,9 @@ use std::io::{Read, Write};
 /// A fault says how much of the text read so far was run. The lines before the named line were run, and their output
 /// was written completely before any more input was read:
 /// - `Script`: the first bad line has this number, and the lines before it were run.
-/// - `Read`: the lines whose ends had been read were run, and no others. A run also ends with `Read` after
+/// - `Read`: the lines that had been read completely were run, and no others. A run also ends with `Read` after
 ///   4,294,967,295 reads.
-/// - `Write`: all lines up to some line were run, but the output of the last of them was written only in part.
+/// - `Write`: all lines up to some line were run, but that line's output was written only in part.
 /// - `NoMemory`: the lines before some line were run, and that line had no effect; or nothing was read.
 /// - `BadConfig`: returned if and only if the configuration is invalid. Nothing was read.
 pub fn run<R: Read, W: Write>(

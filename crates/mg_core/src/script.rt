@@ -127,7 +127,7 @@ fn spelling_of(key: &[u8]) -> Option<Spelling>
     }
 }
 
-/// Parses the last part of a line. The first word of the line says what form that part has.
+/// Parses the last part of a line, in the encoding that the first word selects.
 fn bytes_of(alloc: Global, key: &[u8], spelled: &[u8]) -> Result<Vec<u8>, ParseFault>
     ensures { Reads (λ bytes. bytes.items) result (bytes_of key.now spelled.now) }
 {

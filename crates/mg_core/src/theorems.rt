@@ -174,7 +174,8 @@ pub fn rtp_changes_no_flow()
     mg_commands::theorems::requests_are_consistent();
 }
 
-/// The lines that report an event's changes determine the event's outcome. If nothing changed, there are no such lines.
+/// The lines that report an event's changes determine the terminations, contexts, modes and flows after the event. If
+/// nothing changed, there are no such lines.
 pub fn changes_are_reported()
     ensures complete { ReportDeterminesOutcome }
     ensures exact { OnlyChangesAreReported }
@@ -198,9 +199,8 @@ pub fn recordings_are_read()
 ///
 /// The clauses `headline` and `packets` of a [`Core`](crate::Core) say that after any sequence of events, what the core
 /// returns and sends equals what is recomputed from the resulting world. This theorem states the rest. The events
-/// determine that world and the content of each packet. Packets are sent in order of the terminations' numbers. A
-/// rejected command changes nothing, not even a later packet. Nobody hears himself, and an isolated participant is not
-/// heard.
+/// determine that world and the content of each packet. Packets are sent in order of termination number. A rejected
+/// command changes nothing, not even a later packet. Nobody hears himself, and an isolated participant is not heard.
 pub fn headline()
     ensures world { EventsDetermineOutcome }
     ensures packets { PayloadsAreMixes }

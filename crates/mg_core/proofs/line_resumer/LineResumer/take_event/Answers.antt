@@ -4,7 +4,7 @@ use Rattle.mg_core.specs.declared.fault.NoMemory.{NoMemory}
 use Rattle.mg_core.specs.Step.{Packet}
 use Rattle.mg_core.specs.World.{packets_of, world_after_tick}
 use Rattle.mg_core.specs.aids.Resuming.{EventResumed}
-use Rattle.mg_core.proofs.ResumeLemmas.{after_awaited, awaits_tick}
+use Rattle.mg_core.proofs.ResumeLemmas.{after_awaited}
 use Rattle.mg_core.proofs.line_resumer.LineResumer.take_event.Goals as goal
 
 pub returns-in-Tick : goal.returns-in-Tick
@@ -12,9 +12,9 @@ returns-in-Tick g c = rw c.in-Tick.is (record {
   value = λ w h. (
     world_after_tick w,
     (map Packet (packets_of w), (refl, refl)),
-    awaits_tick c.args.self.now.core.state c.args.self.now.ticks w h,
+    c.take_tick.ensures.value w h,
   );
-  ticks = omega arith;
+  ticks = omega (arith, c.take_tick.ensures.ticks);
 })
 
 pub returns-in-Media : goal.returns-in-Media

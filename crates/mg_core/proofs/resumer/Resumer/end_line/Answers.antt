@@ -1,8 +1,15 @@
 use Rattle.std.proofs.Common.{◌≡◌, ◌++◌, ◌∙◌, ap}
 use Rattle.std.proofs.lemmas.Result.{err_from_is_err_and}
 use Rattle.mg_lines.specs.Lines.{without_return}
-use Rattle.mg_core.proofs.ResumeLemmas.{ended_bad, ended_long}
+use Rattle.mg_core.proofs.ResumeLemmas.{ended_bad, ended_long, tick_ended}
 use Rattle.mg_core.proofs.resumer.Resumer.end_line.Goals as goal
+
+pub returns-then-is_tick-clause-value : goal.returns-then-is_tick-clause-value
+returns-then-is_tick-clause-value g c =
+    let parts = c.is_tick.ensures.value c.if-is_tick.true in
+    tick_ended c.args.self.now.lines c.args.self.now.runner.core.state c.take_tick.new.self.core.state
+    c.args.self.now.runner.ticks c.take_tick.new.self.ticks c.args.self.now.partial.text c.args.part.now parts.0 parts.1
+    c.take_tick.ensures.value
 
 pub returns-in_err-keep-clause-value : goal.returns-in_err-keep-clause-value
 returns-in_err-keep-clause-value g c =

@@ -17,7 +17,7 @@ returns-in_err-end_line-clause-value g c =
     let p = err_from_is_err_and c.from_residual.result c.from_residual.ensures.1 in
     let rest = c.loop-end.rest.now in
     let n = c.in-Some.end in
-    let cut = cut_at_feed rest c.split_at.result.0.now (drop n rest) (drop 1 (drop n rest)) n c.in-Some.ensures
+    let cut = cut_at_feed rest c.split_at.result.0.now (drop n rest) (drop 1 (drop n rest)) n c.in-Some.ensures.value
     c.split_at.ensures.front refl refl in
     rw (p.1, p.2) (resumed_stop (Awaits c.args.self.now.runner.core.state c.args.self.now.runner.ticks)
     (Awaits c.loop-end.self.runner.core.state c.loop-end.self.runner.ticks)
@@ -32,7 +32,7 @@ loop-end-preserved g c =
     let rest = c.loop-end.rest.now in
     let part = c.split_at.result.0.now in
     let next = c.split_at-in-Some.result.1.now in
-    let cut = cut_at_feed rest part c.split_at.result.1.now next c.in-Some.end c.in-Some.ensures
+    let cut = cut_at_feed rest part c.split_at.result.1.now next c.in-Some.end c.in-Some.ensures.value
     c.split_at.ensures.front c.split_at.ensures.back c.split_at-in-Some.ensures.back in
     record {
       lines = omega (
@@ -57,4 +57,4 @@ returns-clause-value g c = rw (c.keep.ensures.runner, c.keep.ensures.lines) (res
     (Awaits c.loop-end.self.runner.core.state c.loop-end.self.runner.ticks) c.args.self.now.lines
     c.loop-end.self.lines c.args.self.now.partial.text c.args.bytes.now c.loop-end.self.partial.text c.loop-end.rest.now
     c.keep.new.self.partial.text c.keep.result c.loop-end.invariant.value
-    (no_feed c.loop-end.rest.now c.in_default.ensures) c.keep.ensures.kept c.keep.ensures.long)
+    (no_feed c.loop-end.rest.now c.in_default.ensures.value) c.keep.ensures.kept c.keep.ensures.long)

@@ -19,7 +19,7 @@ pub fn steps_due(polls: u64, now: u64) -> u64
     (u128::from(now) * u128::from(polls) / PERIOD) as u64
 }
 
-/// Returns the time from `now` until the step after the first `before` steps is due, or zero if it is already due.
+/// Returns the time from `now` until the next step after `before` steps is due, or zero if it is already due.
 #[tactic(auto, using(crate::proofs::DueLemmas::soon))]
 pub fn time_to_step(polls: u64, before: u64, now: u64) -> Duration
     requires some { 0 < polls }

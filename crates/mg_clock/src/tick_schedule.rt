@@ -16,7 +16,7 @@ const MAX_MESSAGES: u16 = 20;
 pub struct TickSchedule {
     /// How many ticks have begun.
     pub ticks: u64,
-    /// The maximum lateness, in ticks of 20 ms, at which a tick's packets are still sent.
+    /// How late a tick may be, in ticks of 20 ms, and still have its packets sent.
     pub allowed: u16,
     /// How many messages have been reported since the last tick began.
     pub messages: u16,
@@ -63,8 +63,8 @@ impl TickSchedule {
     }
 }
 
-/// Waits until a tick is due. Returns the first reading of the clock at which it is due, or `None` if a message arrived
-/// before that and `reports` is true.
+/// Waits until a tick is due. Returns the first clock reading that shows this, or `None` if `reports` is true and a
+/// message arrived first.
 fn wait_until_due<K: Watch>(
     tick: u64,
     reports: bool,

@@ -18,11 +18,11 @@ use mg_words::FRAME_MS;
 pub struct CommandParameters {
     /// The settings that the command changes.
     pub settings: Settings,
-    /// Whether it has an Audit descriptor.
+    /// Whether the command has an Audit descriptor.
     pub has_audit: bool,
-    /// Whether it audits the media.
+    /// Whether the command audits the media.
     pub audits_media: bool,
-    /// Whether it audits the statistics.
+    /// Whether the command audits the statistics.
     pub audits_statistics: bool,
 }
 

@@ -45,7 +45,7 @@ fn same_control(source: &[u8], a: &ControlPart, b: &ControlPart) -> bool
     }
 }
 
-/// Returns whether two parts are a forbidden repetition: the same word in the same stream.
+/// Returns whether one part repeats the other, which is not allowed: the same word in the same stream.
 fn is_same_part(source: &[u8], a: Part, b: Part) -> bool
     ensures value { result ≡ is_same_part source.now a b }
 {
@@ -60,7 +60,7 @@ fn is_same_part(source: &[u8], a: Part, b: Part) -> bool
     }
 }
 
-/// Returns the fault in a part: a repeated word, or content in a part that is not supported.
+/// Returns the fault in a part: a repeated word, or unsupported content.
 fn fault_of(appeared: bool, part: Part) -> Option<ErrorNumber>
     ensures value { result ≡ fault_of appeared part }
 {
@@ -85,7 +85,7 @@ fn is_single(source: &[u8], part: &ControlPart) -> bool
     }
 }
 
-/// Returns whether a part of a LocalControl occurred before.
+/// Returns whether a part of a LocalControl has already occurred.
 fn appeared_in_control(source: &[u8], part: &ControlPart, before: &[ControlPart]) -> bool
     ensures value { result ≡ list_any (same_control source.now part.now) before.now }
 {
@@ -123,7 +123,7 @@ fn appears_among(source: &[u8], part: &Part, stream: u32, parts: &[StreamPart]) 
         .any(|other| is_same_word(source, part, stream, other))
 }
 
-/// Returns whether a part of a stream occurs in a part of a Media descriptor.
+/// Returns whether a `MediaPart` contains this part of a stream.
 ///
 /// It compares the streams' numbers first, because a message can contain about 700 streams.
 fn appears_in(source: &[u8], part: &Part, stream: u32, other: &MediaPart) -> bool
@@ -138,7 +138,7 @@ fn appears_in(source: &[u8], part: &Part, stream: u32, other: &MediaPart) -> boo
     }
 }
 
-/// Returns whether a part of a stream occurs in the parts of a Media descriptor.
+/// Returns whether any of these `MediaPart`s contains this part of a stream.
 fn appears_in_media(source: &[u8], part: &Part, stream: u32, media: &[MediaPart]) -> bool
     ensures value { result ≡ list_any (appears_in source.now part.now stream) media.now }
 {
@@ -185,7 +185,7 @@ fn stream_fault(
     None
 }
 
-/// Returns whether a TerminationState occurs among parts of a Media descriptor.
+/// Returns whether any of these `MediaPart`s is a TerminationState.
 fn has_state(parts: &[MediaPart]) -> bool
     ensures value { result ≡ list_any is_state parts.now }
 {
@@ -194,7 +194,7 @@ fn has_state(parts: &[MediaPart]) -> bool
         .any(|part| matches!(part, MediaPart::TerminationState(_)))
 }
 
-/// Returns the first fault in a part of a Media descriptor.
+/// Returns the first fault in a `MediaPart`, given the parts before it.
 fn media_part_fault(source: &[u8], before: &[MediaPart], part: &MediaPart) -> Option<ErrorNumber>
     ensures value { result ≡ media_level source.now before.now part.now }
 {
@@ -207,7 +207,7 @@ fn media_part_fault(source: &[u8], before: &[MediaPart], part: &MediaPart) -> Op
     }
 }
 
-/// Returns the number of the stream that a part of a Media descriptor belongs to, or 0 if it belongs to none.
+/// Returns the stream number of a `MediaPart`, or 0 if it belongs to no stream.
 fn stream_of(part: &MediaPart) -> u32
     ensures value { result ≡ stream_of part.now }
 {
@@ -218,9 +218,9 @@ fn stream_of(part: &MediaPart) -> u32
     }
 }
 
-/// Returns the earlier parts of a Media descriptor that a part has to be compared with.
+/// Returns the earlier parts of a Media descriptor to compare a part with.
 ///
-/// There are none if its stream's number exceeds all earlier ones, so streams in ascending order are not compared.
+/// There are none if the part's stream number exceeds all earlier ones, so streams in ascending order are not compared.
 fn lookback<'a>(greatest: u32, before: &'a [MediaPart], part: &MediaPart) -> &'a [MediaPart]
     requires greatest { greatest ≡ greatest_stream before.now }
     ensures level { (source : List ℕ) → media_level source result.now part.now ≡
@@ -250,7 +250,7 @@ fn media_fault(source: &[u8], parts: &[MediaPart]) -> Option<ErrorNumber>
     None
 }
 
-/// Returns whether a descriptor's keyword occurred before.
+/// Returns whether a descriptor's keyword has already occurred.
 fn appeared_in_command(source: &[u8], word: Part, before: &[Descriptor]) -> bool
     ensures value { result ≡ list_any (is_same_descriptor source.now word) before.now }
 {
@@ -272,8 +272,7 @@ fn descriptor_fault(
     }
 }
 
-/// Returns the first fault in a command's descriptors: a repeated word, or content of a descriptor that is not
-/// supported.
+/// Returns the first fault in a command's descriptors: a repeated word, or unsupported content.
 #[tactic(auto, using(crate::proofs::FaultSteps::walking))]
 pub fn descriptors_fault(source: &[u8], descriptors: &[Descriptor]) -> Option<ErrorNumber>
     ensures value { result ≡ descriptors_fault source.now descriptors.now }

@@ -1,4 +1,4 @@
-//! The members on which a command for all members (`*`) is tried.
+//! The members that a command for all members (`*`) is tried on.
 
 ghost use Rattle.std.specs.Prelude.{◌≡◌, ◌≤◌, Ok, Err, MatchResult, IfOk, length, map, take};
 ghost use Rattle.mg_engine.specs.Gateway.{Gateway};
@@ -36,7 +36,7 @@ fn members_in(engine: &Engine, target: Target) -> &[u32]
     }
 }
 
-/// Returns the members on which a command for all members is tried (RFC 3525, section 6.2.2). There is at least one.
+/// Returns the members that a command for all members is tried on (RFC 3525, section 6.2.2). There is at least one.
 pub fn all_members(
     engine: &Engine,
     target: Target,

@@ -99,7 +99,7 @@ fn move_outcome(
     Ok(served_at(Target::Number(moved.context), number, parts))
 }
 
-/// Runs a Subtract (RFC 3525, section 7.2.3). It reports the state before the command.
+/// Runs a Subtract (RFC 3525, section 7.2.3). It reports the state as it was before the command.
 fn subtract_outcome(
     engine: &mut Engine,
     target: Target,
@@ -132,7 +132,7 @@ fn audit_termination(
     Ok(served_at(target, number, parts))
 }
 
-/// Runs an AuditValue on the gateway as a whole, which reports only that it exists.
+/// Runs an AuditValue on the gateway as a whole. It reports only that the gateway exists.
 fn audit_root(target: Target) -> Result<Served, ErrorNumber>
     ensures value { result ≡ audit_root target }
 {
@@ -167,7 +167,7 @@ fn audit_outcome(
     }
 }
 
-/// Runs a command for one name, after its text has been checked. A rejected command changes nothing.
+/// Runs a command for one name. The command's text has already been checked. A rejected command changes nothing.
 #[tactic(auto, unfolding(crate::specs::Outcome::outcome))]
 pub fn outcome(
     engine: &mut Engine,

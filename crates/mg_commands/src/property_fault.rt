@@ -49,7 +49,7 @@ fn property_fault(source: &[u8], part: Part) -> Option<ErrorNumber>
     }
 }
 
-/// Returns the first faulty property in a command's descriptors.
+/// Returns the first property fault in a command's descriptors.
 pub fn properties_fault(source: &[u8], descriptors: &[Descriptor]) -> Option<ErrorNumber>
     ensures value { result ≡ properties_fault source.now descriptors.now }
 {

@@ -8,10 +8,10 @@ ghost use Rattle.mg_commands.specs.Theorems.{RefusedNamesChangeNothing, RefusedC
 /// A rejection changes only the reply, which reports the error.
 ///
 /// The gateway, the action's context and the meaning of `$` are unchanged. This holds for a command on one termination,
-/// and for a command that cannot be tried at all. It also holds for an action that is rejected before its commands. If
-/// an action's topology is rejected, the effects of its commands remain. If a command for all members (`*`) is rejected
-/// for one of them, the others are still tried. So a request leaves the gateway unchanged if each command that was
-/// tried was rejected.
+/// and for a command that cannot be tried at all. It also holds for an action that is rejected before its commands are
+/// tried. If an action's topology is rejected, the effects of its commands remain. If a command for all members (`*`)
+/// is rejected for one member, the others are still tried. So a request leaves the gateway unchanged if each command
+/// that was tried was rejected.
 pub fn refused_commands_change_nothing()
     ensures names { RefusedNamesChangeNothing }
     ensures commands { RefusedCommandsChangeNothing }

@@ -97,7 +97,7 @@ fn put_refusal(source: &[u8], command: &Command, number: ErrorNumber, reply: &mu
     reply.put(Item::Command(command.word, term, Outcome::Failed(number)));
 }
 
-/// Tries a command for all members that its context has when the command starts, in order of entry.
+/// Tries a command for all members that the context has when the command starts, in order of entry.
 fn try_all(
     engine: &mut Engine,
     source: &[u8],
@@ -126,7 +126,7 @@ fn try_all(
     }
 }
 
-/// Tries a command of an action, for its name or, with `*`, for all members.
+/// Tries one command of an action: for the name that the command gives or, with `*`, for all members.
 ///
 /// Returns the progress of the action, and whether the command succeeded.
 fn try_command(
@@ -230,7 +230,7 @@ fn try_action(engine: &mut Engine, source: &[u8], action: &Action, reply: &mut R
     is_done
 }
 
-/// Tries actions, up to the first that is not completed.
+/// Tries actions in order, and stops after the first that is not completed.
 #[tactic(auto, using(crate::proofs::RunLemmas::propers))]
 fn try_actions(engine: &mut Engine, source: &[u8], actions: &[Action], reply: &mut Reply)
     requires proper { list_all (action_is_proper source.now) actions.now ≡ true }
@@ -248,8 +248,8 @@ fn try_actions(engine: &mut Engine, source: &[u8], actions: &[Action], reply: &m
 /// Empties the reply, runs a request from the message `source`, and puts the outcomes of its commands into the reply.
 ///
 /// Commands are tried in order, up to the first one that fails. A command for all members (`*`) is tried on all of
-/// them, and fails if it fails for any. If an optional command (`O-`) fails, the next commands are still tried. After
-/// its commands, an action's triples are applied, all or none, and then its audit is answered. An action that is
+/// them, and fails if it fails for any. If an optional command (`O-`) fails, the next commands are still tried. When an
+/// action's commands have run, its triples are applied, all or none, and then its audit is answered. An action that is
 /// rejected as a whole, before or after its commands, ends the request even if its commands are optional.
 pub fn transaction(engine: &mut Engine, source: &[u8], request: &Request, reply: &mut Reply)
     requires proper { request_is_proper source.now request.now ≡ true }

@@ -39,7 +39,7 @@ impl Date {
         Timestamp::from_millisecond(millis).ok()
     }
 
-    /// Returns an earlier time.
+    /// Returns the time this many milliseconds earlier.
     pub fn before(self, millis: u64) -> Date {
         Date {
             millis: self.millis.saturating_sub(millis),

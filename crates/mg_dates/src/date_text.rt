@@ -27,7 +27,7 @@ impl Model for DateText {
 }
 
 impl DateText {
-    /// Makes the text of a date, or nothing after the year 9999.
+    /// Makes the text of a date, or returns `None` if the date is after the year 9999.
     pub(crate) fn of(date: Date) -> Option<Self> {
         let timestamp = date.timestamp()?;
         let mut text = ArrayVec::new();
@@ -46,7 +46,7 @@ impl DateText {
     }
 }
 
-/// Returns the date in a comment line, if it is one.
+/// Returns the date in a comment line, if it has one.
 pub(crate) fn date_in(line: &[u8]) -> Option<Date> {
     let text = line.strip_prefix(b"# time ".as_slice())?;
     match str::from_utf8(text) {

@@ -18,16 +18,16 @@ const TOLERANCE: u64 = 1000;
 
 /// When the ticks of a journal happened: a date, and how many ticks followed it.
 ///
-/// Ticks are counted from the first date that the later dates agree with. So what one restart of the gateway loses to
-/// rounding, the next one makes up for.
+/// Ticks are counted from the first date that the later dates agree with. So if one restart of the gateway loses time
+/// to rounding, the next one makes up for it.
 #[derive(Clone, Copy, Debug, PartialEq, Eq)]
 pub struct Timeline {
     start: Option<Date>,
     ticks: u64,
 }
 
-/// Returns how many ticks were missed between a date and now, if `ticks` ticks followed the date. If the clock was set
-/// back since then, returns the number of ticks that a crash can lose.
+/// Returns how many ticks were missed between a date and now, if `ticks` ticks followed the date. If the clock has been
+/// set back since then, returns the number of ticks that a crash can lose.
 fn missed_ticks(date: Date, ticks: u64, now: Date) -> u64
     ensures value { result ≡ missed_ticks date.millis ticks now.millis }
 {
@@ -50,7 +50,7 @@ impl Timeline {
         }
     }
 
-    /// Returns how many ticks were missed since the journal's last line. Returns 0 if there is no date.
+    /// Returns how many ticks have been missed since the journal's last line. Returns 0 if there is no date.
     pub fn missed(&self, now: Date) -> u64 {
         match self.start {
             Some(start) => missed_ticks(start, self.ticks, now),
@@ -58,7 +58,7 @@ impl Timeline {
         }
     }
 
-    /// Returns whether a date is about when the next tick should happen.
+    /// Returns whether a date is close to when the next tick should happen.
     fn agrees(&self, date: Date) -> bool {
         let Some(start) = self.start else {
             return false;

@@ -12,7 +12,7 @@ use mg_words::{Peer, SAMPLES};
 /// An RTP packet to be sent.
 #[derive(Clone, Copy, Debug, PartialEq, Eq)]
 pub struct Datagram {
-    /// The media port from which the gateway sends the packet.
+    /// The media port that the gateway sends the packet from.
     pub from: u16,
     /// The destination.
     pub to: Peer,
@@ -50,7 +50,7 @@ impl Datagram {
     }
 }
 
-/// The packets of one tick, in order of their terminations' numbers.
+/// The packets of one tick, in order of termination number.
 pub type Outbox = ArrayVec<Datagram, TERMINATIONS>;
 
 /// Appends a packet with this payload to an outbox. The packet's header and addresses are set later.

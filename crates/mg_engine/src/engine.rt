@@ -76,7 +76,7 @@ pub struct Engine {
     ports: PortPool,
     /// The media of each slot.
     media: Vec<HeldMedia>,
-    /// The slots of terminations, in order of their numbers.
+    /// The slots of terminations, in order of termination number.
     held: ArrayVec<u8, TERMINATIONS>,
     /// Who hears whom, in terms of the members' places.
     flows: FlowTable,
@@ -190,7 +190,7 @@ impl Engine {
         self.held.len()
     }
 
-    /// Returns the termination at an index, counted from 0 in order of their numbers.
+    /// Returns the termination at an index, counted from 0 in order of termination number.
     pub fn termination(&self, place: usize) -> Record
         requires there { place < length self.now.rooms.terminations }
         ensures value { slice_get self.now.rooms.terminations place ≡ Some result }
@@ -297,7 +297,7 @@ impl Engine {
 
     /// Moves a termination to the action's context (RFC 3525, section 7.2.4).
     ///
-    /// The context that it leaves ends if it has no other member.
+    /// If the context that it leaves has no other member, that context ends.
     pub fn move_to(
         &mut self,
         target: Target,
@@ -352,8 +352,7 @@ impl Engine {
         }
     }
 
-    /// Returns the context to which the triples of an action would be applied, or the error if that context does not
-    /// exist.
+    /// Returns the context that an action's triples apply to, or the error if that context does not exist.
     ///
     /// Applying a topology without triples has the same result.
     pub fn topology_context(&self, target: Target) -> Result<u32, ErrorNumber>
@@ -514,7 +513,7 @@ impl Engine {
 
     /// Advances by 20 ms: advances each play list, and fills the outbox with a packet from each termination that sends.
     ///
-    /// Packets are in order of the terminations' numbers. Returns how many missing frames were concealed.
+    /// Packets are in order of termination number. Returns how many missing frames were concealed.
     pub fn tick(&mut self, outbox: &mut Outbox) -> usize
         ensures concealed { (w : Gateway) → StandsFor self.old w → result ≡ concealed_in_tick w }
         ensures sent { (w : Gateway) → StandsFor self.old w → outbox.new.items ≡ sent_in_tick w }
@@ -591,7 +590,7 @@ impl Engine {
         fill(self, count, outbox);
     }
 
-    /// Ends a tick for all terminations. Every packet that they send is already in the outbox.
+    /// Ends a tick for all terminations. Their packets are already in the outbox.
     fn end_all(&mut self)
         ensures after { (w : Gateway) → StandsFor self.old w → StandsFor self.new (all_ended w) }
         ensures sums { self.new.sums ≡ self.old.sums }
@@ -599,7 +598,7 @@ impl Engine {
         end_slots(&self.rooms, self.held.as_slice(), &mut self.media);
     }
 
-    /// Returns the slot of the i-th termination, in order of their numbers.
+    /// Returns the slot of the i-th termination, in order of termination number.
     fn held_at(&self, i: usize) -> u8
         requires there { i < length self.now.rooms.terminations }
         ensures value { result ≡ slice_index_or (map (λ r. r.slot) self.now.rooms.terminations) i 0 }
@@ -648,7 +647,7 @@ impl Engine {
         address_last(outbox, from, Peer { address, port }, header);
     }
 
-    /// Appends a packet whose payload is what is sent to a member. The packet's header and addresses are set later.
+    /// Appends a packet with the payload for a member. The packet's header and addresses are set later.
     ///
     /// In Loopback the payload is the member's own frame; otherwise it is the sum of the speech that flows to the
     /// member.
@@ -674,7 +673,7 @@ impl Engine {
         }
     }
 
-    /// Appends a packet whose payload is what the member at a place hears.
+    /// Appends a packet with what the member at a place hears.
     ///
     /// Listeners that hear the same talkers and use the same law share a payload, which is computed once.
     fn put_heard(&mut self, listener: &Record, place: Place, law: Law, outbox: &mut Outbox)
@@ -708,7 +707,7 @@ impl Engine {
         push_payload(outbox, &payload);
     }
 
-    /// Encodes a room's total, minus the frames of the listener and of the talkers silenced for it.
+    /// Encodes a room's total, minus the listener's frame and those of the talkers silenced for the listener.
     fn mix(&mut self, listener: &Record, place: Place, law: Law) -> [u8; SAMPLES]
         requires place { IsOnPlace self.old.rooms listener.now.number listener.now place }
         requires listens { IsTrue (listens listener.now.mode) }
@@ -727,7 +726,7 @@ impl Engine {
     }
 }
 
-/// Fills an outbox with a packet from each termination that sends, in order of their numbers.
+/// Fills an outbox with a packet from each termination that sends, in order of termination number.
 fn fill(engine: &mut Engine, count: usize, outbox: &mut Outbox)
     requires all { count ≡ length engine.old.rooms.terminations }
     requires few { count ≤ TERMINATIONS }
@@ -812,7 +811,7 @@ fn end_slot(rooms: &Rooms, media: &mut Vec<HeldMedia>, slot: u8)
     media[usize::from(slot)].end_tick(is_sent);
 }
 
-/// Ends a tick for the terminations in these slots. Every packet that they send is already in the outbox.
+/// Ends a tick for the terminations in these slots. Their packets are already in the outbox.
 fn end_slots(rooms: &Rooms, held: &[u8], media: &mut Vec<HeldMedia>)
     requires slots { EachIndex held.now (λ i. slice_index_or held.now i 0 < length media.old.items) }
     requires apart { AreApart held.now }

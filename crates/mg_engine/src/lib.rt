@@ -21,7 +21,7 @@
 //! RTP datagram costs none.
 //!
 //! [`Engine::skip`] runs many ticks without packets. Once all play lists are idle, the remaining ticks take one step.
-//! Its cost grows only with the number of terminations.
+//! The cost of that step grows only with the number of terminations.
 //!
 //! The engine keeps no history, so one state may represent several gateways. Its contracts hold for every `Gateway`
 //! (`specs/Gateway.antt`) that the state represents, before and after a call (`StandsFor` in `specs/Stands.antt`).

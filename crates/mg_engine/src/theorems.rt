@@ -50,7 +50,7 @@ pub fn isolated_are_not_heard()
     ensures packets { UnheardChangesNoPacket }
 {}
 
-/// The payload of a packet is the encoding of what its listener is sent.
+/// A packet's payload encodes its listener's mix.
 ///
 /// Except in Loopback, that is the sum of all speech that flows to the listener, saturated once.
 pub fn payloads_are_mixes()
@@ -64,8 +64,8 @@ pub fn triples_are_limited()
 
 /// The terminations and contexts of a new gateway are consistent, and each edit and RTP datagram preserves that.
 ///
-/// So they are consistent after any sequence of edits and datagrams. A proof can use this fact even if it has no
-/// engine.
+/// So they are consistent after any sequence of edits and datagrams. A proof can use this fact even where no
+/// `Engine` is in scope.
 pub fn worlds_are_consistent()
     ensures start { (config : Config) → IsValidConfig config → config.first_termination ≤ LAST_TERMINATION →
         IsConsistent (start_of config).rooms }
@@ -89,16 +89,16 @@ pub fn worlds_are_consistent()
 
 /// The order of two RTP datagrams at different ports does not matter.
 ///
-/// Each has the same outcome, and the gateway ends in the same state.
+/// In either order, each datagram has the same outcome, and the gateway ends in the same state.
 pub fn port_order_is_irrelevant()
     ensures theorem { ArrivalOrderIsIrrelevant }
 {}
 
 /// Neither an edit nor an RTP datagram affects other contexts.
 ///
-/// In each of them, these stay the same: the members, their order, records and media, who hears whom, the flows, and
-/// the total. An edit concerns only the action's context and the context of the termination that it names. A datagram
-/// concerns only the context of the termination with its port.
+/// In every other context, the members, their order, records and media, who hears whom, the flows, and the total stay
+/// the same. An edit concerns only the action's context and the context of the termination that it names. A datagram
+/// concerns only the context of the termination whose port it arrives at.
 ///
 /// The theorem uses the relations from two clauses: `outcome` of [`Engine::edit`](crate::Engine::edit) and `taken` of
 /// [`Engine::media`](crate::Engine::media). The gateways that an engine represents are consistent
@@ -108,9 +108,9 @@ pub fn other_contexts_are_unaffected()
     ensures media { DatagramsDoNotAffectOthers }
 {}
 
-/// Two gateways that agree outside some terminations still agree after the same edit, datagram or tick.
+/// Two gateways that agree except in some terminations still do after the same edit, datagram or tick.
 ///
-/// They also agree if only one of them receives an RTP datagram at a port of one of these terminations. Counters are
+/// They also agree if only one of them receives an RTP datagram at the port of one of these terminations. Counters are
 /// equal in both, except for received packets.
 pub fn agreement_lasts()
     ensures edits { SameEditsKeepAgreement }
@@ -123,7 +123,7 @@ pub fn agreement_lasts()
     one_reading(b"");
 }
 
-/// A packet depends only on what its listener hears and on the progress of the listener's packets.
+/// A packet depends only on what its listener hears and on the listener's ticks and packets so far.
 ///
 /// Take two gateways that differ only in some terminations, and a listener that hears none of them. In a tick, both
 /// gateways send this listener the same packet, byte for byte.

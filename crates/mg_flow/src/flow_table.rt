@@ -172,7 +172,7 @@ impl FlowTable {
         room.set_mode(usize::from(place.seat), talks, listens);
     }
 
-    /// Applies triples in the room, in order, so that the last one that mentions a pair counts.
+    /// Applies triples in the room, in order, so the last one to mention a pair wins.
     ///
     /// If the two sets of a Oneway triple share a seat, no triple is applied.
     pub fn on_triples(&mut self, room: u8, triples: &[Triple]) -> Result<(), Overlap>

@@ -25,7 +25,7 @@ const A_STARTS: [u8; LANES] = [4, 132, 132, 132, 132, 132, 132, 132, 0, 0, 0, 0,
 
 const A_FACTORS: [u8; LANES] = [2, 2, 4, 8, 16, 32, 64, 128, 0, 0, 0, 0, 0, 0, 0, 0];
 
-/// Decodes 16 bytes into `samples`, from index `at` on.
+/// Decodes 16 bytes into `samples`, starting at index `at`.
 pub fn decode_chunk(law: Law, chunk: &[u8; LANES], samples: &mut [i16], at: usize)
     requires within { at + LANES ≤ length samples.old }
     requires bytes { (j : ℕ) → j < LANES → slice_index chunk.now j < 256 }
@@ -38,7 +38,7 @@ pub fn decode_chunk(law: Law, chunk: &[u8; LANES], samples: &mut [i16], at: usiz
     }
 }
 
-/// Decodes 16 bytes of mu-law into `samples`, from index `at` on.
+/// Decodes 16 bytes of mu-law into `samples`, starting at index `at`.
 fn decode_mu(chunk: &[u8; LANES], samples: &mut [i16], at: usize)
     requires within { at + LANES ≤ length samples.old }
     requires bytes { (j : ℕ) → j < LANES → slice_index chunk.now j < 256 }
@@ -57,7 +57,7 @@ fn decode_mu(chunk: &[u8; LANES], samples: &mut [i16], at: usize)
         .copy_to_slice(&mut samples[at..]);
 }
 
-/// Decodes 16 bytes of A-law into `samples`, from index `at` on. The bits that A-law inverts include the sign.
+/// Decodes 16 bytes of A-law into `samples`, starting at index `at`. The bits that A-law inverts include the sign.
 fn decode_a(chunk: &[u8; LANES], samples: &mut [i16], at: usize)
     requires within { at + LANES ≤ length samples.old }
     requires bytes { (j : ℕ) → j < LANES → slice_index chunk.now j < 256 }

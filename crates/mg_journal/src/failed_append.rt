@@ -1,7 +1,7 @@
 use crate::append_fault::AppendFault;
 use std::io;
 
-/// An append that failed, and the error that caused this.
+/// A failed append, and the error that caused it.
 #[derive(Drop)]
 pub(crate) struct FailedAppend {
     pub(crate) fault: AppendFault,

@@ -51,7 +51,7 @@ impl<F: JournalFile> FileJournal<F> {
         &self.file
     }
 
-    /// Returns the file's error that caused the most recent failed append.
+    /// Returns the file error behind the most recent failed append.
     pub fn last_error(&self) -> Option<&io::Error> {
         self.last_error.as_ref()
     }

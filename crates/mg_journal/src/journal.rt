@@ -5,7 +5,7 @@ ghost use Rattle.mg_journal.specs.Journal.{JournalState, Appends};
 use crate::append_fault::AppendFault;
 use crate::durability::Durability;
 
-/// A text that consists of complete lines, and to which lines are appended.
+/// A text of complete lines that grows as lines are appended.
 pub trait Journal {
     /// What is known about the journal.
     ghost journal: { Self → JournalState };

@@ -1,4 +1,4 @@
-//! Journals: files to which lines are appended, all or none.
+//! Journals: files of lines. An append adds all of its lines or none.
 //!
 //! A program that appends a line before it acts on it can repeat its actions after a crash:
 //!

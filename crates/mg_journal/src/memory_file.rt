@@ -30,7 +30,7 @@ fn copy_front(from: &[u8], to: &mut [u8]) -> usize
 }
 
 impl MemoryFile {
-    /// Makes a file that holds these bytes, none of which is on the disk.
+    /// Makes a file that holds these bytes. None of them is on the disk yet.
     pub fn new(bytes: Vec<u8>, faults: Vec<InjectedFault>) -> Self
         ensures bytes { result.bytes.items ≡ bytes.items }
         ensures synced { result.synced ≡ 0 }
@@ -57,7 +57,7 @@ impl MemoryFile {
         &self.bytes.as_slice()[..self.synced]
     }
 
-    /// Begins a call. Returns the number of bytes after which it stops.
+    /// Begins a call. Returns the number of bytes after which the call stops.
     fn begin(&mut self, call: FileCall) -> io::Result<usize>
         ensures bytes { self.new.bytes ≡ self.old.bytes }
         ensures synced { self.new.synced ≡ self.old.synced }

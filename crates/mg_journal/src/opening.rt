@@ -132,7 +132,7 @@ impl<F: JournalFile> Opening<F> {
         self.file.read(0, &mut buffer[..most])
     }
 
-    /// Cuts off a partial last line. Returns the journal, to which lines can be appended.
+    /// Cuts off a partial last line. Returns the journal, ready for appends.
     pub fn accept(self) -> io::Result<FileJournal<F>>
     where
         F: Drop,
@@ -158,7 +158,7 @@ impl<F: JournalFile> Read for Opening<F> {
             return Ok(0);
         }
         match self.file.read(self.read, &mut buffer[..most]) {
-            // The file became shorter since it was measured.
+            // The file has become shorter since it was measured.
             Ok(0) => Err(io::Error::from(ErrorKind::UnexpectedEof)),
             Ok(n) => {
                 self.read += n as u64;

@@ -168,7 +168,7 @@ fn put_terminations<W: Write>(
     Ok(())
 }
 
-/// Writes a counter of each port.
+/// Writes a counter for each port.
 fn put_port_counter<W: Write>(
     counter: PortCounter,
     report: &TickReport<'_>,
@@ -184,7 +184,7 @@ fn put_port_counter<W: Write>(
     Ok(())
 }
 
-/// Writes for how long no packet has been accepted at each port.
+/// Writes how long each port has gone without an accepted packet.
 fn put_silences<W: Write>(
     report: &TickReport<'_>,
     ports: &[PortTotals],

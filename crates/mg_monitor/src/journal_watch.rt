@@ -20,7 +20,7 @@ impl JournalWatch {
     /// Takes the state after a tick. Returns a line for the operator if something changed.
     pub fn take(&mut self, report: &JournalReport) -> Option<&'static str> {
         let has_failed = report.failed > self.failed;
-        // Each tick is one more that the journal lacks, unless an append succeeded.
+        // Each tick adds one to the ticks that the journal lacks, unless an append succeeded.
         let has_worked = report.lacking <= self.lacking;
         let was_failing = self.is_failing;
         self.failed = report.failed;

@@ -9,7 +9,7 @@
 //! let counts = serve(alloc, &setup, None, &mut ports, &mut input, &mut output, &mut monitor)?;
 //! ```
 //!
-//! [`Loss`] counts the packets of an RTP stream that never arrived.
+//! [`Loss`] counts the RTP packets that never arrived.
 #![tactic(auto)]
 
 mod both;

@@ -4,11 +4,11 @@ use mg_rtp::{Header, read};
 /// How many sequence numbers are remembered.
 const WINDOW: u16 = 64;
 
-/// Counts the packets of RTP streams that never arrived, by their sequence numbers (RFC 3550, A.3).
+/// Counts RTP packets that never arrived, by their sequence numbers (RFC 3550, A.3).
 ///
-/// A packet is lost once a packet with a sequence number at least 64 higher has arrived, or once another stream begins:
-/// a packet with another SSRC, [`MAX_DROPOUT`] or more ahead, or more than [`MAX_MISORDER`] behind. So reordered
-/// packets aren't lost, and the count never falls.
+/// A packet counts as lost once a packet with a sequence number at least 64 higher has arrived, or once another stream
+/// begins: with a packet that has another SSRC, or is [`MAX_DROPOUT`] or more ahead, or more than [`MAX_MISORDER`]
+/// behind. So reordered packets don't count as lost, and the count never falls.
 #[derive(Clone, Copy, Debug, PartialEq, Eq)]
 pub struct Loss {
     ssrc: u32,
@@ -43,7 +43,7 @@ impl Loss {
         }
     }
 
-    /// Counts a packet that arrived, by its header.
+    /// Counts a packet that arrived, given its header.
     pub fn count(&mut self, header: Header) {
         let ahead = header.sequence.wrapping_sub(self.newest).cast_signed();
         let is_new = self.known == 0 || header.ssrc != self.ssrc;
@@ -56,7 +56,7 @@ impl Loss {
         }
     }
 
-    /// Begins a new stream. What is missing of the previous one is lost.
+    /// Begins a new stream. Packets still missing from the previous stream count as lost.
     fn restart(&mut self, header: Header) {
         for place in 0..self.known {
             self.lose_unless_arrived(place);
@@ -89,7 +89,7 @@ impl Loss {
         self.arrived <<= 1;
     }
 
-    /// Counts the packet at a place of the window as lost, unless it has arrived.
+    /// Counts the packet at a place in the window as lost, unless it has arrived.
     fn lose_unless_arrived(&mut self, place: u16) {
         if place < WINDOW && self.arrived & (1 << place) == 0 {
             self.lost = self.lost.saturating_add(1);

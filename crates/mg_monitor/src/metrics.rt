@@ -38,7 +38,7 @@ pub struct Metrics<'a, C: Clock, S: Sink + Drop> {
     ticks: u64,
     /// How late the ticks began.
     delays: Delays,
-    /// The longest poll and tick since the last text.
+    /// The longest time that a poll and its tick took since the last text.
     longest: Duration,
     /// Datagrams that were dropped at the control port because of their sender.
     control_strangers: u64,
@@ -72,7 +72,7 @@ impl<'a, C: Clock, S: Sink + Drop> Metrics<'a, C, S> {
         })
     }
 
-    /// Counts how late a tick begins. Ticks are counted from 1.
+    /// Records how late a tick begins. Ticks are counted from 1.
     fn count_delay(&mut self, tick: u64) {
         if let (Some(start), Some(began)) = (self.start, self.began) {
             let due = Duration::from_micros(tick.saturating_mul(TICK_MICROS));

@@ -14,7 +14,7 @@ pub struct PortCounts {
     lost_before: u64,
     /// The termination that had the port at the last report, if its caller was expected to send.
     expected: Option<u32>,
-    /// The tick of the last packet that a play list accepted, or of the report since which the caller has been expected
+    /// The tick of the last packet that a play list accepted, or of the report at which the caller was first expected
     /// to send, whichever is later.
     heard: u64,
 }
@@ -55,10 +55,10 @@ impl PortCounts {
         self.loss.lost().saturating_sub(self.lost_before)
     }
 
-    /// Returns for how many ticks an expected caller has been silent.
+    /// Returns how long an expected caller has been silent, in ticks.
     ///
     /// `expected` is the termination whose caller should send now. The silence starts at the last accepted packet, or
-    /// at the report since which that caller has been expected to send, whichever is later.
+    /// at the report at which that caller was first expected to send, whichever is later.
     pub fn silent_ticks(&mut self, expected: Option<u32>, ticks: u64) -> u64 {
         if self.expected != expected {
             self.expected = expected;

@@ -40,7 +40,7 @@ impl PortTotals {
         self.concealed = self.concealed.saturating_add(1);
     }
 
-    /// Returns for how many ticks no packet has been accepted.
+    /// Returns how long the port has gone without an accepted packet, in ticks.
     pub fn silent_ticks(&self, ticks: u64) -> u64 {
         ticks.saturating_sub(self.heard.unwrap_or(0))
     }

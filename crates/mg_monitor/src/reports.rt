@@ -52,8 +52,7 @@ impl<'a, E: Write> Reports<'a, E> {
         self.ports.get_mut(usize::from(socket).wrapping_sub(1))
     }
 
-    /// Counts the packets of a late tick. The number of packets that were too late is printed at the next tick that is
-    /// on time.
+    /// Counts the packets of a late tick. Their total is printed at the next tick that is on time.
     fn count_late(&mut self, timing: Timing, packets: u64) {
         if timing == Timing::Late {
             self.late = self.late.saturating_add(packets);
@@ -66,7 +65,7 @@ impl<'a, E: Write> Reports<'a, E> {
         }
     }
 
-    /// Prints a line if the journal began to fail or works again.
+    /// Prints a line if the journal has started to fail or is working again.
     fn watch_journal(&mut self, report: &JournalReport) {
         let Some(text) = self.journal.take(report) else {
             return;

@@ -20,9 +20,9 @@ const FLUSH_CHUNKS: u16 = 256;
 
 /// A writer that never waits for its reader.
 ///
-/// Written text joins a queue in memory, either all of it or none. [`flush`](Write::flush) passes on what it can
+/// A write adds all of its text to a queue in memory, or none of it. [`flush`](Write::flush) passes on what it can
 /// without waiting, in order. So does [`write`](Write::write), if 4,096 bytes are queued already. A flush passes on at
-/// most 1 MiB and a write at most 4,096 bytes, so that a reader that catches up doesn't cost much time at once, either.
+/// most 1 MiB and a write at most 4,096 bytes, so a reader that catches up doesn't delay the caller for long, either.
 ///
 /// If the other writer fails, each later call returns its error, and nothing more is written. If it was interrupted or
 /// would have waited, the outlet tries again later.

@@ -5,7 +5,7 @@ use thiserror::Error;
 /// Why an outlet couldn't be made.
 #[derive(Debug, Drop, Error)]
 pub enum OutletFault {
-    /// The system can't report when the descriptor is writable, for this reason. The descriptor may be closed.
+    /// The system can't report when the descriptor is writable; `error` says why. The descriptor may be closed.
     #[error("cannot watch file descriptor {descriptor}: {error}")]
     Watch { descriptor: RawFd, error: io::Error },
     /// There is no memory for a queue of this many bytes.

@@ -1,4 +1,4 @@
-/// Which text an outlet drops once a text doesn't fit into its queue.
+/// Which text an outlet drops once its queue has no room for a text.
 #[derive(Clone, Copy, Debug, PartialEq, Eq)]
 pub enum Overflow {
     /// Drops that text and all later text. The reader gets a prefix of everything that was written.

@@ -78,8 +78,8 @@ fn options_of(matches: &ArgMatches<'_>) -> Options
 
 /// Returns the options of the run that the arguments ask for. The arguments come without the program's name.
 ///
-/// If they ask for no run, the caller must report the error: a usage error, a request for help or the version, or lack
-/// of memory.
+/// If they don't ask for a run, the caller must report the error: a usage error, a request for help or the version, or
+/// lack of memory.
 pub fn requested_options<'a, S: AsStr>(alloc: Global, words: &'a [S]) -> Result<Options, Error>
     ensures requested { IfOk result (λ options. requested (map S.text words.now) ≡ Ok options) }
     ensures some { IfOk result (λ options. 0 < options.polls) }

@@ -20,7 +20,7 @@ fn report_left_out<E: Write>(left: u64, errors: &mut E)
     }
 }
 
-/// Writes what is due at a reading of the clock. Returns whether the last requested tick was written.
+/// Writes what is due at the time `now`. Returns whether the last requested tick was written.
 fn turn<W: Write, E: Write>(
     schedule: &mut Schedule,
     wanted: u64,

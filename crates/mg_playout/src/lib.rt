@@ -3,7 +3,7 @@
 //! It plays one frame in each tick of 20 ms.
 //!
 //! A [`Playout`] has a place for each of the next sequence numbers (RFC 3550, section 5.1); the number of places is its
-//! depth. A frame is placed by its sequence number, whenever it arrives. After a start the list waits for half as many
+//! depth. A frame is placed by its sequence number, no matter when it arrives. After a start the list waits for half as many
 //! ticks as it has places, so that late and reordered frames still find their place. Then each tick plays the next
 //! frame, until none is left. A missing frame is replaced by the previous one at half its level; if the next frame is
 //! missing too, silence is played for it.
@@ -41,7 +41,7 @@ mod turn;
 pub use mg_words::{FIRST_DEPTH, MAX_DEPTH, MIN_DEPTH};
 pub use phase::Phase;
 pub use placed::Placed;
-// A contract of another crate can name a play list only if the types of its fields are exported.
+// Contracts in other crates can name a play list only if the types of its fields are exported.
 #[doc(hidden)]
 pub use places::Places;
 pub use played::Played;

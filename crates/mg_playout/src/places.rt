@@ -16,7 +16,7 @@ use std::marker::Model;
 /// The frame played last, and the waiting frames by place. Place 0 is played next.
 ///
 /// The ring's first item is the last frame, followed by an item for each place. So a tick moves no frame in memory: the
-/// frame at place 0 becomes the last frame. In contracts, they appear as the record `KeptFrames` from
+/// frame at place 0 becomes the last frame. In contracts, the frames appear as the record `KeptFrames` from
 /// `specs/aids/Ring.antt`.
 #[derive(Drop)]
 pub struct Places {

@@ -3,12 +3,12 @@
 ghost use Rattle.std.specs.Prelude.{◌≡◌};
 ghost use Rattle.mg_playout.specs.Sequence.{distance_of};
 
-/// The minimum distance ahead of the next sequence number at which a packet restarts a play list.
+/// A packet this far or further ahead of the next sequence number restarts a play list.
 ///
 /// The name and the value are from RFC 3550, appendix A.1, whose algorithm waits for a second packet first.
 pub const MAX_DROPOUT: i16 = 3000;
 
-/// The maximum distance behind the next sequence number at which a packet is late and does not restart a play list.
+/// A packet at most this far behind the next sequence number is late, and does not restart a play list.
 ///
 /// The name and the value are from RFC 3550, appendix A.1, where a packet at exactly this distance counts as a jump.
 pub const MAX_MISORDER: i16 = 100;

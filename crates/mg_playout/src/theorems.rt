@@ -40,7 +40,8 @@ pub fn placed_frame_waits_under_its_number()
         frame_under (placed list ssrc sequence frame).0 sequence ≡ Some frame }
 {}
 
-/// The other frames keep their sequence numbers as long as there is room for them. They are all dropped at a start.
+/// The other frames keep their sequence numbers as long as there is room for them. When a play list starts, it drops
+/// them all.
 pub fn other_frames_keep_their_numbers()
     ensures stay { (list : PlayList) (ssrc sequence : ℕ) (frame : List ℤ) (after : Source) (other : ℕ) →
         IsValidList list → sequence < 65536 → other < 65536 → other ≢ sequence →
@@ -67,7 +68,7 @@ pub fn ticks_give_frames_in_order()
     ensures frames { (places : FramePlaces) (last : Option (List ℤ)) (place : ℕ) →
         frame_from_packet (given_at places last place) ≡ frame_at places place }
 
-    // The frame at a place waits under the next sequence number plus the place.
+    // The frame at a place has the sequence number `source.next + place`, modulo 65536.
     ensures numbers { (list : PlayList) (source : Source) (place : ℕ) →
         IsValidList list → list.source ≡ Some source → place < 65536 →
         frame_at list.places place ≡ frame_under list ((source.next + place) % 65536) }

@@ -46,8 +46,8 @@ fn receipt_of(
 }
 
 impl FakePorts {
-    /// Makes ports at which these datagrams are waiting, in this order at each socket. `failing` lists the numbers of
-    /// the receives and sends that fail, counted from 0 across all sockets.
+    /// Makes ports with these datagrams waiting, in this order at each socket. `failing` lists the numbers of the
+    /// receives and sends that fail, counted from 0 across all sockets.
     pub fn new(alloc: Global, waiting: Vec<Arrival>, failing: Vec<u64>) -> Self {
         FakePorts {
             alloc,

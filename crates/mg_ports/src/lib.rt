@@ -1,6 +1,6 @@
 //! The UDP sockets of a gateway, by number, and its journal.
 //!
-//! Socket 0 is the control socket, and socket s + 1 is the media socket of slot s of the pool.
+//! Socket 0 is the control socket, and socket s + 1 is the media socket of slot s in the pool.
 //!
 //! [`Ports`] is what a gateway needs from its sockets and its journal: to receive a datagram without blocking, to send
 //! one, to append lines to the journal, and to count the receives and sends that failed. [`FakePorts`] provides
@@ -14,7 +14,7 @@
 //! }
 //! ```
 //!
-//! Contracts describe ports by the calls on them (`specs/Calls.antt`) and by what these do to the journal
+//! Contracts describe ports by the calls on them (`specs/Calls.antt`) and by what those calls do to the journal
 //! (`specs/Journaled.antt`). Ports may log each receive with its result, each send with its arguments, and each append
 //! with both, in one list, which shows their order. The ports of an operating system log nothing.
 #![tactic(auto)]

@@ -13,7 +13,7 @@ use mg_journal::{AppendFault, Durability};
 use mg_words::Peer;
 
 /// The UDP sockets of a gateway, by number, and its journal. Socket 0 is the control socket, and socket s + 1 is the
-/// media socket of slot s of the pool.
+/// media socket of slot s in the pool.
 pub trait Ports {
     /// All calls so far, if they are known.
     ghost calls: { Self → Option (List Call) } = { λ _. None };
@@ -50,7 +50,7 @@ pub trait Ports {
         ensures logged { Logged (calls self.old) (calls self.new) (BeginTick timing ∷ []) }
         ensures journal { journal self.new ≡ journal self.old };
 
-    /// Appends all the lines to the journal or, unless the journal breaks, none of them. The last line must end in a
+    /// Appends either all of the lines to the journal or none, unless the journal breaks. The last line must end in a
     /// line feed. A comment with the time of day may precede the lines. Fails if there is no journal.
     fn append(&mut self, lines: &[u8], durability: Durability) -> Result<(), AppendFault>
         requires line_feed { EndsInLineFeed lines.now }

@@ -1,4 +1,4 @@
-/// Why a text is not an address that sockets can be bound to.
+/// Why a text is not an address to bind sockets to.
 #[derive(Clone, Copy, Debug, PartialEq, Eq)]
 pub enum BindAddressFault {
     /// It is not an IPv4 address in dotted decimal.

@@ -31,8 +31,8 @@ pub fn answers_heartbeat(message: &[u8]) -> bool {
     message.ends_with(REPLY)
 }
 
-/// Sends the heartbeat until it is answered, and acknowledges the answer. The error is the system's, or `TimedOut` if
-/// no answer arrives.
+/// Sends the heartbeat until it is answered, and acknowledges the answer. Fails with the system's error, or with
+/// `TimedOut` if no answer arrives.
 fn ask<N: Net>(net: &N, gateway: SocketAddrV4) -> io::Result<()> {
     let any = SocketAddrV4::new(Ipv4Addr::UNSPECIFIED, 0);
     let socket = UdpSocket::bind(net, any)?;
@@ -62,8 +62,8 @@ fn micros_since<C: Clock>(clock: &C, begun: io::Result<Duration>) -> u128 {
     }
 }
 
-/// Checks that a gateway answers a heartbeat. The heartbeat is sent at most three times, each time with a wait of at
-/// most one second for an answer. If an answer arrives, prints how long it took; otherwise the reason goes to `errors`.
+/// Checks that a gateway answers a heartbeat. It sends the heartbeat up to three times, and waits up to one second for
+/// each answer. If an answer arrives, prints how long it took; otherwise the reason goes to `errors`.
 pub fn check<N: Net, C: Clock, W: Write, E: Write>(
     net: &N,
     clock: &C,

@@ -26,7 +26,7 @@ impl Draws {
     }
 
     /// Draws the numbers, and returns the configuration with them (RFC 3550, sections 5.1 and 8). If the system has no
-    /// random numbers, the error is the system's.
+    /// random numbers, returns the system's error.
     pub fn draw<G: RandomSource>(self, random: &G, config: Config) -> io::Result<Config>
         ensures drawn { IfOk result (λ drawn. IsDrawn self config drawn) }
     {

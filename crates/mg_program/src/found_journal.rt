@@ -17,7 +17,7 @@ const TITLE_ROOM: usize = TITLE_LIMIT + 3;
 /// The number of ticks in a second.
 const TICKS: u64 = 50;
 
-/// The lines of a second's ticks.
+/// The lines for one second of ticks.
 const SECOND: &[u8] =
     b"tick\ntick\ntick\ntick\ntick\ntick\ntick\ntick\ntick\ntick\ntick\ntick\ntick\ntick\ntick\ntick\ntick\ntick\ntick\ntick\ntick\ntick\ntick\ntick\ntick\ntick\ntick\ntick\ntick\ntick\ntick\ntick\ntick\ntick\ntick\ntick\ntick\ntick\ntick\ntick\ntick\ntick\ntick\ntick\ntick\ntick\ntick\ntick\ntick\ntick\n";
 
@@ -41,7 +41,7 @@ fn append_title<F: JournalFile>(
     journal.append(line.as_slice(), Durability::Synced)
 }
 
-/// Appends ticks: those of whole seconds together, and the others one by one.
+/// Appends ticks: each whole second in one append, and the remaining ticks one by one.
 fn append_ticks<J: Journal>(ticks: u64, journal: &mut J) -> Result<(), AppendFault> {
     for _ in 0..ticks / TICKS {
         if let Err(fault) = journal.append(SECOND, Durability::Written) {
@@ -56,7 +56,7 @@ fn append_ticks<J: Journal>(ticks: u64, journal: &mut J) -> Result<(), AppendFau
     Ok(())
 }
 
-/// Returns the fault of an append that failed.
+/// Returns the fault for an append that failed.
 fn write_fault<F: JournalFile>(journal: &FileJournal<F>) -> JournalFault {
     let kind = match journal.last_error() {
         Some(error) => error.kind(),
@@ -66,7 +66,7 @@ fn write_fault<F: JournalFile>(journal: &FileJournal<F>) -> JournalFault {
 }
 
 impl<F: JournalFile> FoundJournal<F> {
-    /// Returns how many ticks were missed since the journal's end, according to the system's clock.
+    /// Returns how many ticks have been missed since the end of the journal, according to the system's clock.
     fn missed<C: Clock>(&self, clock: &C) -> u64 {
         let Some(timeline) = &self.timeline else {
             return 0;

@@ -14,7 +14,7 @@ use mg_journal::{JournalFile, Opening};
 use std::alloc::Global;
 use std::io::{self, ErrorKind};
 
-/// The title, with its line feed, must lie within this many bytes of the journal's start. A title has at most 512.
+/// The title and its line feed must fit into this many bytes at the journal's start. A title is at most 512 bytes long.
 const FRONT: usize = 1024;
 
 /// A gateway in the state that a journal's events lead to.
@@ -53,7 +53,7 @@ fn config_in<F: JournalFile>(
     }
 }
 
-/// Checks the configuration in a title, also against the options that are given.
+/// Checks that the configuration in a title is valid and agrees with the given options.
 fn check_config(given: &Given, wanted: &Config, config: &Config) -> Result<(), JournalFault>
     ensures sound { IfOk result (λ _. IsValidConfig config.now) }
     ensures agrees { IfOk result (λ _. Agrees given.now wanted.now config.now) }

@@ -2,7 +2,7 @@ use crate::draws::Draws;
 use crate::service::Service;
 use mg_core::{Config, Peer, Shown};
 
-/// A run that the program's arguments ask for.
+/// What the program's arguments ask it to do.
 #[derive(Drop)]
 pub enum Invocation {
     /// Run a script, and write for each event what the second field selects.

@@ -198,8 +198,8 @@ fn live_prepared<
     status_after(&Err(fault), &config, errors)
 }
 
-/// Checks that metrics can be written, if they are enabled. If not, returns the program's exit status, and the fault is
-/// reported to `errors`.
+/// Checks that metrics can be written, if they are enabled. If they can't, reports the fault to `errors` and returns
+/// the program's exit status.
 fn check_metrics<F: Files, E: Write>(
     files: &F,
     service: &Service,

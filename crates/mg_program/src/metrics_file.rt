@@ -4,7 +4,7 @@ use mg_monitor::Sink;
 use std::fs::{self, Files};
 use std::io::{self, Write};
 
-/// The maximum length of the path of a temporary file, in bytes.
+/// The maximum length of a temporary file's path, in bytes.
 const MAX_PATH: usize = 4095;
 
 /// The maximum length of an error line, in bytes: a path and the system's reason.
@@ -13,7 +13,7 @@ const LINE_ROOM: usize = 5000;
 /// A file for metrics. Each text is written to a temporary file next to it, which is then renamed, so a reader never
 /// sees a partial text.
 ///
-/// The first failure, and the first after a success, is reported to an operator.
+/// A failure is reported to an operator if it is the first one, or the first after a success.
 #[derive(Drop)]
 pub struct MetricsFile<'a, F: Files, E: Write> {
     files: &'a F,

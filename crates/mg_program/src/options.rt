@@ -253,7 +253,7 @@ fn draws_of(matches: &ArgMatches<'_>) -> Draws
     }
 }
 
-/// Returns the maximum lateness, in ticks, at which a tick's packets are still sent.
+/// Returns how late a tick may be, in ticks, and still have its packets sent.
 fn late_of(matches: &ArgMatches<'_>) -> u16
     ensures value { result ≡ number_or 65536 (codes "late") 5 (rows_of (found_of matches.now)) }
 {
@@ -468,8 +468,8 @@ fn run_in(name: &str, matches: &ArgMatches<'_>) -> Result<Invocation, &'static s
 
 /// Returns the run that the arguments ask for. The arguments come without the program's name.
 ///
-/// If they ask for no run, the caller must report the error: a usage error, a request for help or the version, or lack
-/// of memory.
+/// If they don't ask for a run, the caller must report the error: a usage error, a request for help or the version, or
+/// lack of memory.
 pub fn requested_run<'a, S: AsStr>(alloc: Global, words: &'a [S]) -> Result<Invocation, Error>
     ensures run { IfOk result (λ run. requested (map S.text words.now) ≡ Ok run) }
     ensures refused { IfErr result (λ error. IsRefused (requested (map S.text words.now)) (kind_of error)) }

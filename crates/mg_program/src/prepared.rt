@@ -19,7 +19,7 @@ use std::fs::Files;
 use std::io::Write;
 use std::random::RandomSource;
 
-/// A gateway and its journal, before its ports are bound and anything is appended.
+/// A gateway and its journal, before the ports are bound and before anything is appended.
 #[derive(Drop)]
 pub struct Prepared<F: JournalFile> {
     pub config: Config,

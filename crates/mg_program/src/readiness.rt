@@ -11,7 +11,7 @@ use std::marker::Model;
 use std::net::Net;
 use std::time::Duration;
 
-/// The number of sockets of a gateway: the control socket, and one media socket for each termination.
+/// The number of sockets that a gateway has: the control socket, and one media socket for each termination.
 pub const SOCKETS: usize = TERMINATIONS + 1;
 
 /// Which sockets may have a datagram, according to the system.

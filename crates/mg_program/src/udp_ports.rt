@@ -60,7 +60,7 @@ impl<'a, J: Journal, C: Clock> UdpPorts<'a, J, C> {
         }
     }
 
-    /// Counts why a datagram was not sent.
+    /// Counts a datagram that was not sent, by cause.
     fn count_cause(&mut self, cause: Unsent)
         ensures failures { self.new.failures ≡ self.old.failures }
         ensures journal { self.new.journal ≡ self.old.journal }

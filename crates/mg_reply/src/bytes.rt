@@ -47,7 +47,7 @@ impl Bytes {
         })
     }
 
-    /// Returns an empty buffer without room, with the allocator of another buffer. It does not allocate.
+    /// Returns a buffer without capacity that uses another buffer's allocator. It does not allocate.
     pub(crate) fn empty_like(other: &Bytes) -> Self
         ensures value { result ≡ record { text = []; room = 0 } }
     {

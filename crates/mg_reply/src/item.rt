@@ -14,7 +14,7 @@ pub enum Item {
     Triple(RtpName, RtpName, Association),
     /// A command that was tried, the termination that it names, and its outcome.
     Command(CommandWord, Term, Outcome),
-    /// The error with which an action is rejected or, if this is the only item, the whole request.
+    /// The error that rejects an action or, if this is the only item, the whole request.
     Fault(ErrorNumber),
     /// The end of an action in this context. The action consists of the items since the end of the previous action.
     /// They are written in the order topology, commands, errors, regardless of the order in which they were added.
@@ -22,7 +22,7 @@ pub enum Item {
 }
 
 impl Item {
-    /// Returns whether the item is written among the entries of this kind.
+    /// Returns whether the item is written as an entry of this kind.
     pub(crate) fn is_of(&self, kind: EntryKind) -> bool
         ensures value { result ≡ is_of kind self.now }
     {

@@ -82,7 +82,7 @@ impl Tables {
         }
     }
 
-    /// Returns the slot for one more termination.
+    /// Returns the slot for a new termination.
     pub(crate) fn new_slot(&self) -> Result<u8, ErrorNumber>
         ensures value { result ≡ new_slot self.now }
         ensures free { IfOk result (λ slot. free_slot self.now ≡ Some slot) }

@@ -6,8 +6,8 @@
 //! room to a context, and a seat to a member of a context. Slots, rooms and seats are small numbers that are reused, so
 //! that the crates above can use fixed-size tables. Termination and context numbers only go up, and none is used twice.
 //!
-//! Each command names the action's context as a [`Target`] and, except for an Add, a termination by its number. It
-//! either succeeds, or the first check that fails rejects it and nothing changes:
+//! Each command names the action's context as a [`Target`] and, except for an Add, a termination by its number. The
+//! command either succeeds, or is rejected by the first check that fails, and nothing changes:
 //!
 //! ```rust
 //! let mut rooms = Rooms::new(alloc, limits)?;
@@ -56,7 +56,7 @@ pub use moved::Moved;
 pub use record::Record;
 pub use rooms::Rooms;
 pub use target::Target;
-// A contract of another crate can name terminations and contexts only if the types of their fields are exported.
+// Contracts in other crates can name terminations and contexts only if the types of their fields are exported.
 #[doc(hidden)]
 pub use context::Context;
 #[doc(hidden)]

@@ -5,7 +5,7 @@ use mg_sdp::Sessions;
 pub enum MediaSetting {
     /// The content is blank, which removes the old setting.
     Clear,
-    /// The alternatives of the content. If there is none, the content is blank.
+    /// The alternatives of the content. If there are none, the content is blank.
     Offer(Sessions),
     /// The content is not a session description.
     Unreadable,

@@ -1,4 +1,4 @@
-/// The place where a termination enters.
+/// The place where a termination enters a context.
 #[derive(Clone, Copy)]
 pub struct EntryPlace {
     /// The number of the context.

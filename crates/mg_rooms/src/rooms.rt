@@ -18,8 +18,8 @@ use std::marker::Model;
 
 /// The terminations and contexts of a gateway.
 ///
-/// In contracts, they appear in order of their numbers, together with the next numbers (`specs/Registry.antt`).
-/// `IsConsistent` (`specs/Consistent.antt`) holds after any sequence of commands.
+/// In contracts, they appear in order of their numbers, together with the next numbers to assign
+/// (`specs/Registry.antt`). `IsConsistent` (`specs/Consistent.antt`) holds after any sequence of commands.
 #[derive(Drop)]
 pub struct Rooms {
     tables: Tables,
@@ -79,7 +79,7 @@ impl Rooms {
 
     /// Returns the room of a context, below [`CONTEXTS`](crate::CONTEXTS).
     ///
-    /// No other existing context has this number.
+    /// No other existing context has the same room.
     pub fn room(&self, context: u32) -> Option<u8>
         ensures value { result ≡ option_map (λ x. x.room) (context_at self.now context) }
     {
@@ -149,8 +149,8 @@ impl Rooms {
 
     /// Moves a termination to the action's context (RFC 3525, section 7.2.4).
     ///
-    /// The context that it leaves ends if it has no other member. Returns the termination as it was before and after
-    /// the move.
+    /// If the context that it leaves has no other member, that context ends. Returns the termination as it was before
+    /// and after the move.
     #[tactic(auto, using(crate::proofs::RoomsLemmas::rules))]
     pub fn move_to(
         &mut self,

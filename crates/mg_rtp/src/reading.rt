@@ -10,7 +10,7 @@ use crate::packet::Packet;
 use crate::rtp_fault::RtpFault;
 use byteorder::{BigEndian, ByteOrder};
 
-/// The size of a contributing source and of a word of the header extension, in bytes.
+/// The size, in bytes, of a contributing source and of a word in the header extension.
 const WORD_LEN: usize = 4;
 
 /// The padding bit of the first byte.
@@ -53,7 +53,7 @@ pub fn read(bytes: &[u8]) -> Result<Packet<'_>, RtpFault>
     Ok(Packet { header, payload })
 }
 
-/// Parses the fields of the twelve bytes of a header.
+/// Parses a header's fields from its twelve bytes.
 fn header_of(head: &[u8]) -> Header
     requires { length head.now ≡ HEADER_LEN }
     ensures fields { head.now ≡ slice_index head.now 0 ∷ field_bytes result }

@@ -28,7 +28,7 @@ pub fn word_len(bytes: &[u8]) -> usize
     bytes.iter().take_while(|b| is_word_byte(**b)).count()
 }
 
-/// Returns how many bytes a comment has before its line ends.
+/// Returns the length in bytes of a comment, up to its line end.
 fn comment_len(bytes: &[u8]) -> usize
     ensures in_range { result ≤ length bytes.now }
     ensures value { result ≡ position_or_len is_line_end bytes.now }
@@ -36,7 +36,7 @@ fn comment_len(bytes: &[u8]) -> usize
     bytes.iter().take_while(|b| !is_line_end(**b)).count()
 }
 
-/// Returns how many bytes of white space and comments come first.
+/// Returns the length in bytes of the white space and comments that the bytes start with.
 #[tactic(auto, using(crate::proofs::WhiteSteps::steps))]
 pub fn white_len(bytes: &[u8]) -> usize
     ensures in_range { result ≤ length bytes.now }

@@ -1,4 +1,4 @@
-/// Why a source has no further token.
+/// Why a source has no more tokens.
 #[derive(Clone, Copy, Debug, PartialEq, Eq)]
 pub enum ScanFault {
     /// A byte starts no token, or a session description contains a zero byte.

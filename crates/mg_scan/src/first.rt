@@ -78,7 +78,8 @@ fn octets_at(bytes: &[u8]) -> Option<Result<Found, ScanFault>>
     }))
 }
 
-/// Returns the token that the bytes start with, if the token before it may announce a session description.
+/// Returns the token that the bytes start with. `named` says whether the token before it announces a session
+/// description.
 #[tactic(auto, unfolding(crate::specs::Tokens::token_after))]
 pub fn token_after(named: bool, bytes: &[u8]) -> Option<Result<Found, ScanFault>>
     ensures { FindsAs bytes.now (token_after named bytes.now) result }

@@ -17,7 +17,7 @@ pub fn is_space_or_tab(b: u8) -> bool
     b == b' ' || b == b'\t'
 }
 
-/// Returns how many bytes of white space and line ends come first in the text.
+/// Returns how many bytes of white space and line ends the text starts with.
 fn white_len(text: &[u8]) -> usize
     ensures in_range { result ≤ length text.now }
     ensures value { result ≡ prefix_len (λ b. is_space_or_tab b || is_line_end b) text.now }
@@ -46,7 +46,7 @@ fn blanks_at_end(text: &[u8]) -> usize
         .count()
 }
 
-/// An iterator over the lines of a descriptor's content, without spaces and tabs at their ends and without empty lines.
+/// An iterator over the nonempty lines of a descriptor's content, trimmed of spaces and tabs.
 #[derive(Drop)]
 pub struct Lines<'a> {
     rest: &'a [u8],

@@ -90,7 +90,7 @@ impl Reader {
 /// Parses the session descriptions of a Local or Remote descriptor.
 ///
 /// Lines end at CR or LF. Spaces and tabs at both ends of a line are ignored, and so are empty lines. An alternative
-/// starts at the first line and at each later `v=` line. Blank content has no alternative.
+/// starts at the first line and at each later `v=` line. Blank content yields no alternatives.
 pub fn read_sessions(content: &[u8]) -> Result<Sessions, SdpFault>
     ensures alternatives { IsContentReading content.now result }
     ensures line { (result ≡ Err SdpFault.Line)

@@ -24,7 +24,7 @@ impl Model for Sessions {
 }
 
 impl Sessions {
-    /// Returns whether the content had no line, and so no alternative.
+    /// Returns whether the content had no lines, and so no alternatives.
     pub fn is_blank(&self) -> bool
         ensures value { IsTrue result ↔ (self.now ≡ []) }
     {

@@ -1,4 +1,4 @@
-/// The form in which a session is printed.
+/// The form of a session's output.
 #[derive(Clone, Copy, Debug, PartialEq, Eq)]
 pub enum Form {
     /// Lines for whoever drives the gateway.

@@ -1,7 +1,7 @@
-/// What a monitor learns about the journal. Without a journal all numbers are 0.
+/// What a monitor learns about the journal. Without a journal, all numbers are 0.
 #[derive(Clone, Copy, Debug, PartialEq, Eq)]
 pub struct JournalReport {
-    /// Ticks that have passed and are not in the journal yet.
+    /// Ticks that have passed but are not in the journal yet.
     pub lacking: u64,
     /// Appends that failed.
     pub failed: u64,

@@ -21,9 +21,9 @@ pub fn nothing_answered_is_forgotten()
 
 /// A crash loses speech and a few ticks, and nothing else.
 ///
-/// Running the journal's events leads to a world that agrees with the one before the crash, except for what was
-/// received and for the last ticks, which the journal lacked. A message that was announced but not handled is run, too;
-/// it had not been answered. The same holds each time a gateway resumes from its journal.
+/// Running the journal's events leads to a world that agrees with the one before the crash, except for the RTP that was
+/// received and for the last ticks, which the journal lacked. A message that was appended but not handled yet is run,
+/// too; it had not been answered. The same holds each time a gateway resumes from its journal.
 pub fn crashes_lose_speech_only()
     ensures crash { CrashesLoseSpeechOnly }
     ensures lives { LivesFollow }
@@ -34,12 +34,12 @@ pub fn crashes_lose_speech_only()
     crate::theorems::sessions_are_runs();
 }
 
-/// Wherever a journal is cut off, it describes a moment.
+/// A journal describes a moment, wherever it is cut off.
 ///
 /// If a journal is cut off after any byte, for example by a power cut, its complete lines say what had happened at an
-/// earlier moment, perhaps with a message that was announced then. A gateway that resumes from these lines is in the
-/// state of that moment, except for what was received. If messages are synced, that moment isn't earlier than the last
-/// answer.
+/// earlier moment, perhaps with a message that had been appended but not handled yet. A gateway that resumes from these
+/// lines is in the state of that moment, except for the RTP that was received. If messages are synced, that moment
+/// isn't earlier than the last answer.
 pub fn any_cut_is_a_moment()
     ensures cut { AnyCutIsAMoment }
     ensures resumes { CutsResumeAMoment }
@@ -53,8 +53,7 @@ pub fn any_cut_is_a_moment()
 
 /// A journal shows who could hear whom.
 ///
-/// For each moment before a crash, a run of the journal's events up to that moment ends in a world in which the same
-/// speech flows.
+/// If the journal's events are run up to any moment before a crash, the same speech flows as at that moment.
 pub fn journals_tell_who_hears()
     ensures theorem { JournalsTellWhoHears }
 {

@@ -19,7 +19,7 @@ use std::marker::Model;
 /// The maximum number of ticks in one append.
 const BATCH: usize = 1000;
 
-/// The lines for as many ticks as one append may hold.
+/// The lines of as many ticks as fit into one append.
 const TICK_LINES: [[u8; 5]; BATCH] = [*b"tick\n"; BATCH];
 
 /// How many ticks the journal may lack before they are appended: one second of ticks.
@@ -81,8 +81,8 @@ fn append_lines<P: Ports>(ports: &mut P, ticks: usize, failed: &mut u64) -> Resu
 }
 
 impl Journaling {
-    /// Begins with a journal that lacks no tick. Messages are appended with this durability; `None` means that there is
-    /// no journal. No other call allocates.
+    /// Starts with a journal that lacks no ticks. Messages are appended with this durability; `None` means that there
+    /// is no journal. No other call allocates.
     pub fn new(alloc: Global, durability: Option<Durability>) -> Result<Self, AllocError>
         ensures value { IfOk result (λ j. j ≡ record { durability = durability; lacking = 0 }) }
     {
@@ -94,7 +94,7 @@ impl Journaling {
         })
     }
 
-    /// Returns what a monitor learns about the journal, given how many messages were dropped because of it.
+    /// Returns what a monitor learns about the journal, given how many messages were dropped because an append failed.
     pub fn report(&self, unjournaled: u64) -> JournalReport
         ensures value { result.lacking ≡ self.now.lacking }
     {
@@ -105,7 +105,7 @@ impl Journaling {
         }
     }
 
-    /// Appends ticks that the journal lacks, at most 1,000, with one append.
+    /// Appends up to 1,000 of the ticks that the journal lacks, in one append.
     fn append_ticks<P: Ports>(&mut self, ports: &mut P) -> Result<(), AppendFault>
         requires journal { IsSome self.old.durability }
         requires some { 0 < self.old.lacking }
@@ -122,7 +122,7 @@ impl Journaling {
         Ok(())
     }
 
-    /// Appends all ticks that the journal lacks, up to the first append that fails.
+    /// Appends all ticks that the journal lacks, and stops if an append fails.
     fn append_all_ticks<P: Ports>(&mut self, ports: &mut P) -> Result<(), AppendFault>
         requires journal { IsSome self.old.durability }
         ensures few { self.new.lacking ≤ self.old.lacking }
@@ -138,8 +138,8 @@ impl Journaling {
         Ok(())
     }
 
-    /// Appends all ticks that the journal lacks, and then a message that is handled next. Fails if an append fails.
-    /// Does nothing without a journal.
+    /// Appends all ticks that the journal lacks, and then a message that is about to be handled. Fails if an append
+    /// fails. Does nothing without a journal.
     pub fn announce<P: Ports>(
         &mut self,
         ports: &mut P,
@@ -162,7 +162,7 @@ impl Journaling {
         append(ports, self.line.as_slice(), durability, &mut self.failed)
     }
 
-    /// Counts a tick that has passed. If the journal lacks a second or more, it tries one append.
+    /// Counts a tick that has passed. If the journal lacks a second of ticks or more, tries one append.
     pub fn end_tick<P: Ports>(&mut self, ports: &mut P)
         requires few { self.old.lacking + 1 < 2 ^ 64 }
         ensures few { self.new.lacking ≤ self.old.lacking + 1 }

@@ -33,7 +33,7 @@ mod tick_report;
 // A theorem can name a command in a contract only if the type is exported.
 #[doc(hidden)]
 pub use crate::command::Command;
-// The same is true of the form in which a session is printed.
+// The same is true of the output's form.
 #[doc(hidden)]
 pub use crate::form::Form;
 pub use crate::journal_report::JournalReport;

@@ -1,7 +1,7 @@
 use crate::tick_report::TickReport;
 use mg_core::{Core, Taken};
 
-/// Watches a server for its operator. Whatever a monitor does has no effect on the server.
+/// Watches a server for its operator. Nothing that a monitor does affects the server.
 pub trait Monitor {
     /// A poll begins.
     fn begin_poll(&mut self);

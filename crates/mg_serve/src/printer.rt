@@ -84,7 +84,7 @@ fn push_line(text: &[u8], out: &mut Bytes)
 }
 
 impl Printer {
-    /// Makes a printer for a form. No other call allocates.
+    /// Makes a printer for output in this form. No other call allocates.
     pub fn new(alloc: Global, form: Form) -> Result<Self, AllocError>
         ensures value { IfOk result (λ printer. printer ≡ record { form = form; has_failed = false }) }
     {

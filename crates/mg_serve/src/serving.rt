@@ -43,7 +43,7 @@ use std::io::{Read, Write};
 ///
 /// On return, with or without an error, the complete lines that it read and their effects form a session of the
 /// gateway. `Read` and `Write` mean that the input or the output failed; it also returns `Read` after 4,294,967,295
-/// reads without an end of input. It returns `NoMemory` only before it has read anything.
+/// reads without reaching the end of the input. It returns `NoMemory` only before it has read anything.
 pub fn serve<P: Ports, R: Read, W: Write, M: Monitor>(
     alloc: Global,
     setup: &Setup<'_>,

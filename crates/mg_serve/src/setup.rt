@@ -5,8 +5,8 @@ use mg_core::Config;
 use mg_journal::Durability;
 use std::marker::Model;
 
-/// The setup of a session: the configuration of its gateway, who may send it commands, from whom it accepts RTP, and
-/// whether it has a journal.
+/// The setup of a session: the gateway's configuration, who may send it commands, whose RTP it accepts, and whether it
+/// has a journal.
 #[derive(Drop)]
 pub struct Setup<'a> {
     config: Config,

@@ -9,8 +9,7 @@ use std::time::{Duration, Instant};
 
 const MS: u64 = 1_000_000;
 
-/// A clock that returns the given readings, and then fails. It records its waits, the first of which end with a
-/// message.
+/// A clock that returns the given readings, and then fails. It records how long it waits. Messages end its first waits.
 #[derive(Drop)]
 struct Script<'a> {
     times: &'a [u64],

@@ -59,14 +59,14 @@ fn dates_messages_and_old_ticks(rt: HostRuntime) -> Result<(), Fail> {
         millis: Cell::new(START),
     };
     let mut dated = DatedJournal::new(rt.alloc(), journal(rt.alloc(), &[])?, &clock)?;
-    // The first lines have a date: that of the first tick.
+    // The first lines get the date of their first tick.
     assert_eq!(rt; dated.append(b"tick\ntick\n", Durability::Written), Ok(()));
-    // Another second: the message has a date, and the next one of this second has none.
+    // In another second, the first message gets a date and the next one doesn't.
     clock.millis.set(START + 1_250);
     assert_eq!(rt; dated.append(MESSAGE, Durability::Written), Ok(()));
     clock.millis.set(START + 1_900);
     assert_eq!(rt; dated.append(MESSAGE, Durability::Written), Ok(()));
-    // Ticks have one only after a minute.
+    // Ticks get a date only after a minute.
     clock.millis.set(START + 61_240);
     assert_eq!(rt; dated.append(b"tick\n", Durability::Written), Ok(()));
     clock.millis.set(START + 61_250);

@@ -1,4 +1,4 @@
-//! Journals: files of lines to which lines are appended.
+//! Journals: files that lines are appended to.
 
 use mg_journal::{
     AppendFault, Durability, FaultEffect, FileCall, FileJournal, InjectedFault, Journal,
@@ -34,7 +34,7 @@ fn journal(alloc: Global, faults: &[InjectedFault]) -> io::Result<FileJournal<Me
     opening(alloc, b"tick\n", faults)?.accept()
 }
 
-/// Returns the kind of the last error of a journal.
+/// Returns the kind of a journal's last error.
 fn last_kind(journal: &FileJournal<MemoryFile>) -> Option<ErrorKind> {
     journal.last_error().map(|error| error.kind())
 }
@@ -78,7 +78,7 @@ fn appends_without_a_sync(rt: HostRuntime) -> Result<(), Fail> {
     Ok(())
 }
 
-/// A write that fails, also after a part of it, leaves nothing behind, and the next one succeeds.
+/// A write that fails, even partway, leaves nothing behind, and the next one succeeds.
 #[test]
 fn refuses_lines_that_cannot_be_written(rt: HostRuntime) -> Result<(), Fail> {
     let failures = [
@@ -254,7 +254,7 @@ fn reports_errors_at_opening(rt: HostRuntime) -> Result<(), Fail> {
     Ok(())
 }
 
-/// Returns the path of a temporary file, which doesn't exist.
+/// Returns the path of a temporary file that doesn't exist yet.
 fn temporary(rt: &HostRuntime, name: &str) -> io::Result<PathBuf> {
     let mut path = env::temp_dir(rt)?;
     path.push(name)?;

@@ -82,7 +82,7 @@ fn reports_a_usage_fault(rt: HostRuntime) {
     assert!(rt; !errors.is_empty());
 }
 
-/// Returns how a program that cannot print its help ends, and what it reports.
+/// Returns how a program ends if it cannot print its help, and what it reports.
 fn report_of_help(alloc: Global, unprinted: Status) -> (Status, Vec<u8>) {
     let mut full: [u8; 0] = [];
     let mut output: &mut [u8] = &mut full;

@@ -51,7 +51,7 @@ impl<'a> Write for Script<'a> {
     }
 }
 
-/// Gives these answers, and then always the last one.
+/// Gives the answers in `first`, and then `last` every time.
 #[derive(Drop)]
 struct Answers<'a> {
     first: &'a [bool],
@@ -70,7 +70,7 @@ impl<'a> Ready for Answers<'a> {
 
 type Scripted<'a> = Outlet<Script<'a>, Answers<'a>>;
 
-/// Makes an outlet in front of a writer that executes the steps. After the given answers it is ready.
+/// Makes an outlet in front of a writer that executes the steps. After the given answers, the writer is always ready.
 fn outlet<'a>(
     alloc: Global,
     steps: &'a [Step],
@@ -87,7 +87,7 @@ fn outlet<'a>(
     Outlet::new(alloc, script, answers, limit, overflow)
 }
 
-/// Returns the part from byte `from` to byte `to` of a text in which chunks that follow each other differ.
+/// Returns the bytes from `from` to `to` of a text in which adjacent chunks differ.
 fn text(alloc: Global, from: u32, to: u32) -> Result<Vec<u8>, AllocError> {
     let mut text = Vec::new(alloc);
     for i in from..to {
@@ -111,7 +111,7 @@ fn keeps_text_until_the_writer_is_ready(rt: HostRuntime) -> Result<(), Fail> {
     outlet.flush()?;
     assert_eq!(rt; outlet.queued(), 0);
     assert_eq!(rt; outlet.get_ref().written.as_slice(), b"one two".as_slice());
-    // The queue goes on at the start of its memory.
+    // The queue wraps around to the start of its memory.
     outlet.write_all(b"three four")?;
     outlet.flush()?;
     assert_eq!(rt;
@@ -238,7 +238,7 @@ fn keeps_the_error_of_the_writer(rt: HostRuntime) -> Result<(), Fail> {
     Ok(())
 }
 
-/// A write that passes on a chunk first returns the error of that, and accepts nothing.
+/// If a write has to pass on a chunk first and that fails, the write returns the error and accepts nothing.
 #[test]
 fn fails_at_a_write(rt: HostRuntime) -> Result<(), Fail> {
     let text = text(rt.alloc(), 0, 4096)?;
@@ -265,7 +265,7 @@ fn finishes_without_asking(rt: HostRuntime) -> Result<(), Fail> {
     Ok(())
 }
 
-/// Nobody reads from a pipe, whose end is blocking: all calls return. Then all arrives, in order.
+/// While nobody reads from a blocking pipe, every call still returns. Afterwards everything arrives, in order.
 #[test]
 fn never_waits_for_a_pipe(rt: HostRuntime) -> Result<(), Fail> {
     let mut first = text(rt.alloc(), 0, 5_000_000)?;

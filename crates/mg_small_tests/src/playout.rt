@@ -10,7 +10,7 @@ fn frame(sample: i16) -> Frame {
     [sample; 160]
 }
 
-/// Places frames of one source, whose samples are their sequence numbers.
+/// Places frames from one source. Each frame's samples equal its sequence number.
 fn place_all(rt: &impl Abort, playout: &mut Playout, wanted: &[(u16, Placed)]) {
     for (sequence, answer) in wanted {
         let placed = playout.place(1, *sequence, frame(sequence.cast_signed()));
@@ -231,7 +231,7 @@ fn start_forgets_the_last_frame(rt: HostRuntime) -> Result<(), Fail> {
         &[Played::Silence, Played::Silence, given(1)],
     );
 
-    // The frame that starts is pushed out, so the first frame of the source is missing.
+    // The frame that starts the list is pushed out, so the first frame of the source is missing.
     assert_eq!(rt; playout.place(2, 100, frame(100)), Placed::Started);
     assert_eq!(rt; playout.place(2, 110, frame(110)), Placed::Pushed);
     tick_all(&rt, &mut playout, &[Played::Silence; 3]);

@@ -138,7 +138,7 @@ fn is_append(
     }
 }
 
-/// Sends and appends appear in one list, in their order.
+/// Sends and appends appear in one list, in order.
 #[test]
 fn logs_appends_between_sends(rt: HostRuntime) -> Result<(), Fail> {
     let mut ports = with_journal(rt.alloc(), &[])?;

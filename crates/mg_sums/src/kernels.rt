@@ -1,4 +1,4 @@
-//! Vector kernels on slices of equal length: sum, difference and limiting of rows.
+//! Vector kernels on slices of equal length: they add, subtract and saturate rows.
 //!
 //! Samples have 16 bits, and sums have 32. A kernel processes eight elements at a time, and the rest one by one. These
 //! kernels do not count their calls.
@@ -33,7 +33,7 @@ pub fn add_row(total: &mut [i32], row: &[i16])
     }
 }
 
-// Adds eight samples to a total, from index `at` on.
+// Adds eight samples to a total, starting at index `at`.
 fn add_chunk(total: &mut [i32], at: usize, chunk: &[i16; LANES])
     requires within { at + 8 ≤ length total.old }
     requires samples { (j : ℕ) → j < 8 → FitsSigned w16 (sample chunk.now j) }
@@ -67,7 +67,7 @@ pub fn take_row(total: &mut [i32], row: &[i16])
     }
 }
 
-// Subtracts eight samples from a total, from index `at` on.
+// Subtracts eight samples from a total, starting at index `at`.
 fn take_chunk(total: &mut [i32], at: usize, chunk: &[i16; LANES])
     requires within { at + 8 ≤ length total.old }
     requires samples { (j : ℕ) → j < 8 → FitsSigned w16 (sample chunk.now j) }
@@ -103,7 +103,7 @@ pub fn difference(out: &mut [i32], total: &[i32], row: &[i16])
     }
 }
 
-// Writes the differences of eight sums and samples, from index `at` on.
+// Writes the differences of eight sums and samples, starting at index `at`.
 fn difference_chunk(out: &mut [i32], at: usize, total: &[i32; LANES], chunk: &[i16; LANES])
     requires within { at + 8 ≤ length out.old }
     requires samples { (j : ℕ) → j < 8 → FitsSigned w16 (sample chunk.now j) }
@@ -116,7 +116,7 @@ fn difference_chunk(out: &mut [i32], at: usize, total: &[i32; LANES], chunk: &[i
     rest.copy_to_slice(&mut out[at..]);
 }
 
-/// Limits each sum to the nearest 16-bit number.
+/// Saturates each sum to 16 bits.
 pub fn limit(samples: &mut [i16], sums: &[i32])
     requires same_length { length samples.old ≡ length sums.now }
     ensures limits { EachIndex samples.new (λ i.
@@ -132,7 +132,7 @@ pub fn limit(samples: &mut [i16], sums: &[i32])
     }
 }
 
-// Limits eight sums, from index `at` on.
+// Saturates eight sums, starting at index `at`.
 fn limit_chunk(samples: &mut [i16], at: usize, chunk: &[i32; LANES])
     requires within { at + 8 ≤ length samples.old }
     requires sums { (j : ℕ) → j < 8 → FitsSigned w32 (sample chunk.now j) }

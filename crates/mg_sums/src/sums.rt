@@ -81,7 +81,7 @@ impl Sums {
         self.totals[room.number()].add(frame, &mut self.work);
     }
 
-    /// Removes a row from its room, and its frame from the room's total.
+    /// Removes a row from its room, and the row's frame from the room's total.
     pub fn leave(&mut self, room: Room, row: Row)
         requires joined { room_of self.old row ≡ Some room }
         ensures left { self.new ≡ record self.old {

@@ -1,4 +1,4 @@
-//! How many ticks a gateway missed, by the dates in its journal.
+//! How many ticks a gateway missed, according to the dates in its journal.
 
 use mg_core::Remarks;
 use mg_dates::{Date, Timeline};
@@ -24,7 +24,7 @@ fn counts_missed_ticks(rt: HostRuntime) -> Result<(), Fail> {
     timeline.comment(b"");
     timeline.ticks(40);
     timeline.ticks(10);
-    // One second, of which all ticks were run; then a gap of 300 ms.
+    // One second in which every tick was run, then a gap of 300 ms.
     assert_eq!(rt; timeline.missed(after(1_000)), 0);
     assert_eq!(rt; timeline.missed(after(1_319)), 15);
     // The clock was set back.

@@ -29,7 +29,7 @@ fn caller(mode: Mode, local: &[u8], remote: &[u8]) -> Result<Settings, Fail> {
     })
 }
 
-/// Returns the settings of a Modify that names a mode, a depth, or neither.
+/// Returns the settings of a Modify that names a mode, a depth, both or neither.
 fn changed(mode: Option<Mode>, depth: Option<u16>) -> Settings {
     Settings {
         mode,
@@ -95,7 +95,7 @@ fn modify(engine: &mut Engine, number: u32, settings: &Settings) -> Result<(), F
     Ok(())
 }
 
-/// Changes the mode of a member of the first context.
+/// Changes a member's mode in the first context.
 fn set_mode(engine: &mut Engine, number: u32, mode: Mode) -> Result<(), Fail> {
     modify(engine, number, &changed(Some(mode), None))
 }
@@ -107,7 +107,7 @@ fn tick(engine: &mut Engine, outbox: &mut Outbox, ticks: usize) {
     }
 }
 
-/// Returns the first byte of each payload of an outbox.
+/// Returns the first byte of each payload in an outbox.
 fn payloads(alloc: Global, outbox: &Outbox) -> Result<Vec<u8>, Fail> {
     let mut bytes = Vec::new(alloc);
     for datagram in outbox {
@@ -145,7 +145,7 @@ fn set_byte(packet: &mut [u8], at: usize, byte: u8) {
     }
 }
 
-/// Returns the index of the first datagram that a port does not drop for the expected cause.
+/// Returns the index of the first datagram that a port accepts, or drops for a cause other than the expected one.
 fn first_wrong(
     engine: &mut Engine,
     port: u16,
@@ -369,7 +369,7 @@ fn lends_the_frames_and_totals(rt: HostRuntime) -> Result<(), Fail> {
     lend_frames_and_totals(&rt, &mut engine, &mut Outbox::new())
 }
 
-/// Ticks, packets and edits cost no more rows than their bounds.
+/// Ticks, packets and edits cost no more rows than their bounds allow.
 fn tick_at_a_price(rt: &impl Abort, engine: &mut Engine, outbox: &mut Outbox) -> Result<(), Fail> {
     speak(engine, outbox);
     assert!(rt; tick_rows(engine, outbox) <= 12);
@@ -429,7 +429,7 @@ fn lecture() -> [Mode; MEMBERS] {
     modes
 }
 
-/// Those who hear the same talker share a payload.
+/// Listeners that hear the same talker share a payload.
 fn share_a_payload(
     rt: &impl Abort,
     alloc: Global,
@@ -461,7 +461,7 @@ const EACH_MODE: [Mode; 5] = [
     Mode::Loopback,
 ];
 
-/// Starts an engine with a termination in each mode. The numbers of packets are about to wrap.
+/// Starts an engine with a termination in each mode. Sequence numbers and timestamps are about to wrap.
 fn engine_about_to_wrap(alloc: Global) -> Result<Engine, Fail> {
     let config = Config {
         sequence: 65530,
@@ -473,7 +473,7 @@ fn engine_about_to_wrap(alloc: Global) -> Result<Engine, Fail> {
     Ok(engine)
 }
 
-/// Starts an engine whose first and last termination have frames to play. The first lacks its third frame.
+/// Starts an engine whose first and last terminations have frames to play. The first lacks its third frame.
 fn engine_with_frames(alloc: Global) -> Result<Engine, Fail> {
     let mut engine = engine_about_to_wrap(alloc)?;
     for sequence in [1, 2, 4] {
@@ -509,13 +509,13 @@ fn go_on_alike(one: &mut Engine, other: &mut Engine) -> bool {
         .all(|number| one.stats(*number) == other.stats(*number))
 }
 
-/// From now on, each termination sends.
+/// Makes every termination send from now on.
 fn let_all_send(engine: &mut Engine) -> Result<(), Fail> {
     set_mode(engine, 3, Mode::SendReceive)?;
     set_mode(engine, 4, Mode::SendReceive)
 }
 
-/// A skip of some ticks leaves what the ticks leave.
+/// Skipping some ticks has the same result as running them.
 fn skip_and_tick(rt: &impl Abort, alloc: Global, count: u64) -> Result<(), Fail> {
     let mut skipped = engine_with_frames(alloc)?;
     let mut ticked = engine_with_frames(alloc)?;
@@ -536,7 +536,7 @@ fn a_skip_leaves_what_ticks_leave(rt: HostRuntime) -> Result<(), Fail> {
     Ok(())
 }
 
-/// Returns the first bytes of the first packet of the next tick: its flags, sequence number and timestamp.
+/// Returns the start of the next tick's first packet: its flags, sequence number and timestamp.
 fn next_numbers(engine: &mut Engine) -> Option<[u8; 8]> {
     let mut outbox = Outbox::new();
     engine.tick(&mut outbox);
@@ -549,7 +549,7 @@ fn sent_by(engine: &Engine, number: u32) -> Option<(u64, u64)> {
     Some((stats.ps, stats.os))
 }
 
-/// 2^32 ticks take the numbers of packets back to where they were. Counters stop at their maximum.
+/// After 2^32 ticks, sequence numbers and timestamps are back where they were. Counters stop at their maximum.
 fn skip_for_years(rt: &impl Abort, engine: &mut Engine) {
     let at_first = [128, 0, 255, 250, 255, 255, 250, 240];
     engine.skip(1 << 32);

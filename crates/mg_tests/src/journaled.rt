@@ -40,7 +40,7 @@ struct Case<'a> {
     lines: &'a [u8],
 }
 
-/// What a session left: its calls, its recording, the file of its journal, and the last report.
+/// What a session left behind: its calls, its recording, the file of its journal, and the last report.
 #[derive(Drop)]
 struct Outcome {
     call_log: String,
@@ -96,7 +96,7 @@ fn session(alloc: Global, case: &Case<'_>) -> io::Result<Outcome> {
     })
 }
 
-/// Returns the lines of a text that are comments, or those that aren't.
+/// Returns a text's comment lines, or its other lines.
 fn lines_of(alloc: Global, text: &[u8], comments: bool) -> Result<Vec<u8>, AllocError> {
     let mut kept = Vec::new(alloc);
     for line in text.split(|b| *b == b'\n') {
@@ -108,7 +108,7 @@ fn lines_of(alloc: Global, text: &[u8], comments: bool) -> Result<Vec<u8>, Alloc
     Ok(kept)
 }
 
-/// Returns the comments of a run over a script, which report its flows.
+/// Returns the comments that a run of a script writes to report its flows.
 fn flows_of(alloc: Global, script: &[u8]) -> Result<Vec<u8>, AllocError> {
     let mut input = script;
     let mut written = Vec::new(alloc);
@@ -192,7 +192,7 @@ fn appends_messages_without_a_sync(rt: HostRuntime) -> Result<(), Fail> {
     Ok(())
 }
 
-/// The second message's line can't be written. A caller goes on hearing, and the message is answered when it is
+/// The second message's line can't be written. A caller still gets packets, and the message is answered when it is
 /// repeated.
 #[test]
 fn answers_a_refused_message_when_it_is_repeated(rt: HostRuntime) -> Result<(), Fail> {
@@ -226,7 +226,7 @@ fn answers_a_refused_message_when_it_is_repeated(rt: HostRuntime) -> Result<(), 
     Ok(())
 }
 
-/// The sync of the second message fails. From then on no message is answered, and the packets are sent.
+/// The sync of the second message fails. From then on no message is answered, but packets are still sent.
 #[test]
 fn answers_nothing_once_the_journal_is_broken(rt: HostRuntime) -> Result<(), Fail> {
     let case = Case {
@@ -295,7 +295,7 @@ fn tries_again_at_each_tick(rt: HostRuntime) -> Result<(), Fail> {
     Ok(())
 }
 
-/// While appends fail, more ticks pass than one append holds. A message then appends them in two batches.
+/// While appends fail, more ticks pass than fit into one append. The next message appends them in two batches.
 #[test]
 fn appends_many_ticks_in_batches(rt: HostRuntime) -> Result<(), Fail> {
     let alloc = rt.alloc();

@@ -87,14 +87,14 @@ fn answers_messages(rt: HostRuntime) -> Result<(), Fail> {
     answer_in_turn(&rt, rt.alloc(), &mut core)
 }
 
-/// Returns whether a core answers a datagram that was read before with this text.
+/// Returns whether a core answers a datagram, which has already been read, with this text.
 fn runs(core: &mut Core, bytes: &[u8], parsed: &Parsed, text: &[u8]) -> bool
     requires reading { IsReadingOf bytes.now parsed.now }
 {
     core.run(CONTROLLER, bytes, parsed) == Answer::Send && core.answer() == text
 }
 
-/// A datagram is run when it is passed to `run`, in the world of that time, and not when it is read.
+/// A datagram is run when it is passed to `run`, in the world of that moment, and not when it is read.
 #[test]
 fn runs_what_was_read(rt: HostRuntime) -> Result<(), Fail> {
     let one_slot = Config {
@@ -112,7 +112,7 @@ fn runs_what_was_read(rt: HostRuntime) -> Result<(), Fail> {
     Ok(())
 }
 
-/// Returns the error with which a datagram is rejected, if it is.
+/// Returns the error that rejects a datagram, if it is rejected.
 fn refusal(alloc: Global, bytes: &[u8]) -> Result<Option<ErrorNumber>, NoMemory> {
     Ok(match Core::read(alloc, bytes)? {
         Parsed::Message(_) => None,
@@ -134,7 +134,7 @@ fn reads_messages_and_refusals(rt: HostRuntime) -> Result<(), Fail> {
     Ok(())
 }
 
-/// A datagram that is not a message is answered with its error, and counted.
+/// A datagram that is not a message is answered with an error, and counted.
 #[test]
 fn runs_a_refusal(rt: HostRuntime) -> Result<(), Fail> {
     let mut core = Core::new(rt.alloc(), Config::default())?;
@@ -531,7 +531,7 @@ fn context_numbers_end(rt: HostRuntime) -> Result<(), Fail> {
 const CALLER: &[u8] =
     b"!/1 [127.0.0.1]:2945 T=1{C=${A=${M{O{MO=SR},L{v=0\nc=IN IP4 $\nm=audio $ RTP/AVP 0\n},R{v=0\nc=IN IP4 127.0.0.1\nm=audio 40000 RTP/AVP 0\n}}}}}";
 
-/// Returns the header of the only packet of a tick.
+/// Returns the header of a tick's only packet.
 fn sent_header(core: &mut Core) -> Option<[u8; 12]> {
     core.tick();
     match core.outbox() {
@@ -574,7 +574,7 @@ fn numbers_of_packets_wrap(rt: HostRuntime) -> Result<(), Fail> {
     Ok(())
 }
 
-/// A skip counts its ticks and makes no packets. The last answer stays.
+/// A skip counts its ticks and makes no packets. The last answer is unchanged.
 fn skip_in_a_core(rt: &impl Abort, alloc: Global, core: &mut Core) -> Result<(), Fail> {
     assert!(rt; hand(alloc, core, CALLER)? == Answer::Send && sent_header(core).is_some());
     core.skip(1_000_000_000_000);

@@ -10,7 +10,7 @@ use std::io;
 use std::test::Fail;
 use std::time::{Clock, Duration};
 
-/// A clock that gains the same time at each reading.
+/// A clock that advances by the same time at each reading.
 #[derive(Drop)]
 struct SteadyClock {
     now: Cell<u64>,
@@ -65,8 +65,8 @@ fn packet(sequence: u8) -> [u8; 172] {
     packet
 }
 
-/// Returns ports at which a message, a caller's packets with these sequence numbers, and a message and a packet of a
-/// stranger are waiting.
+/// Returns ports with waiting datagrams: a message, a caller's packets with these sequence numbers, and a message and a
+/// packet from a stranger.
 fn busy_ports(alloc: Global, sequences: &[u8]) -> Result<FakePorts, AllocError> {
     let stranger = Peer {
         address: [127, 0, 0, 9],
@@ -103,8 +103,8 @@ struct Seen {
     reports: Vec<u8>,
 }
 
-/// Runs lines with these ports, with a report every second. Only 127.0.0.1 may send messages, and callers use symmetric
-/// RTP.
+/// Runs these lines over these ports, with a report every second. Only 127.0.0.1 may send messages, and callers use
+/// symmetric RTP.
 fn watch<C: Clock>(
     alloc: Global,
     clock: &C,

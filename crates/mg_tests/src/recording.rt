@@ -24,7 +24,7 @@ const LAST: Peer = Peer {
     port: 65535,
 };
 
-/// Returns the first bytes, as many as a datagram can have.
+/// Returns the first bytes, as many as a datagram can hold.
 fn sized(bytes: &[u8]) -> &[u8]
     ensures short { length result.now ≤ 65535 }
 {
@@ -140,7 +140,7 @@ fn frame(alloc: Global) -> Result<Vec<u8>, Fail> {
     media(alloc, 30000, CALLER, packet.as_slice())
 }
 
-/// Returns a recording of a termination that is made, and of a frame that it accepts.
+/// Returns a recording in which a termination is made and accepts a frame.
 fn recording(alloc: Global) -> Result<Vec<u8>, Fail> {
     let mut script = control(alloc, CONTROLLER, ADD)?;
     let frame = frame(alloc)?;

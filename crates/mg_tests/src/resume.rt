@@ -16,7 +16,7 @@ const CONTROLLER: Peer = Peer {
     port: 2945,
 };
 
-/// What a script says besides messages: comments, and numbers of ticks.
+/// What a script says besides messages: comments and tick counts.
 #[derive(Drop)]
 struct Notes {
     text: Vec<u8>,
@@ -58,7 +58,7 @@ fn resumed(
     resume_on(alloc, Config::default(), &mut reader, notes)
 }
 
-/// Returns the fault at which a resumption ends, if it does.
+/// Returns the fault that ends a resumption, if there is one.
 fn fault_of(alloc: Global, script: &[u8]) -> Option<RunFault> {
     let mut notes = Notes {
         text: Vec::new(alloc),
@@ -75,7 +75,7 @@ fn noted(alloc: Global, script: &[u8], piece: usize) -> Result<(u64, Vec<u8>), R
     Ok((core.counts().ticks, notes.text))
 }
 
-/// Returns whether a resumption, in pieces of any of some sizes, counts these ticks and notes this text.
+/// Returns whether a resumption counts these ticks and notes this text, for each of several piece sizes.
 fn is_noted(alloc: Global, script: &[u8], ticks: u64, text: &[u8]) -> Result<bool, RunFault> {
     let mut is_same = true;
     for piece in [1, 2, 5, 4096] {
@@ -171,7 +171,7 @@ const CONFERENCE: &[u8] = b"# a journal\n\
     say 127.0.0.1:2945 !/1 [127.0.0.1]:2945 T=2{C=1{TP{RTP/1,RTP/2,OW}}}\n\
     tick\n";
 
-/// Returns the conference's script, speech of both callers, and two ticks.
+/// Returns the conference's script, speech from both callers, and two ticks.
 fn conference(alloc: Global) -> Result<Vec<u8>, AllocError> {
     let mut script = Vec::from_slice(alloc, CONFERENCE)?;
     for (front, sample) in [

@@ -120,7 +120,7 @@ fn modify_fault(rooms: &mut Rooms, settings: &Settings) -> Option<ErrorNumber> {
     rooms.modify(Target::Number(1), 1, settings).err()
 }
 
-/// Media that are not supported change nothing.
+/// Unsupported media change nothing.
 fn refuse_settings(rt: &impl Abort, rooms: &mut Rooms) {
     let unserved = Settings {
         mode: Some(Mode::SendOnly),

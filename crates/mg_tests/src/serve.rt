@@ -20,7 +20,7 @@ pub const CALLER: Peer = Peer {
     port: 40000,
 };
 
-/// Makes context 1 with a termination that talks and listens, and whose caller is on port 40000.
+/// Makes context 1 with a termination that talks and listens, and has its caller on port 40000.
 pub const ADD: &[u8] = b"MEGACO/1 [127.0.0.1]:2945 Transaction=1{Context=${Add=${Media{\
     LocalControl{Mode=SendReceive},Local{v=0\nc=IN IP4 $\nm=audio $ RTP/AVP 0\n},\
     Remote{v=0\nc=IN IP4 127.0.0.1\nm=audio 40000 RTP/AVP 0\n}}}}}";
@@ -46,7 +46,7 @@ pub fn core(alloc: Global, config: Config) -> Result<Core, AllocError>
     }
 }
 
-/// Returns ports at which these datagrams are waiting, and at which the calls with these numbers fail.
+/// Returns ports with these datagrams waiting, where the calls with these numbers fail.
 pub fn ports(
     alloc: Global,
     waiting: &[(usize, &[u8])],
@@ -145,7 +145,7 @@ fn session(
     })
 }
 
-/// Returns whether these lines on a new gateway without datagrams print this text after `ready`.
+/// Returns whether a new gateway without datagrams, driven by these lines, prints this text after `ready`.
 fn prints(alloc: Global, lines: &[u8], wanted: &[u8]) -> Result<bool, AllocError> {
     let outcome = session(alloc, &[], &[], lines)?;
     Ok(outcome.result.is_ok() && outcome.printed.as_slice() == wanted)
@@ -280,7 +280,7 @@ fn is_counted(outcome: &Outcome) -> bool {
         && sends == counts.sent.saturating_add(lost)
 }
 
-/// Returns the first call, up to `calls`, whose failure is not counted as it should be.
+/// Returns the first call, up to `calls`, whose failure is not counted correctly.
 fn first_uncounted(alloc: Global, calls: u64) -> Result<Option<u64>, AllocError> {
     let waiting: [(usize, &[u8]); 4] = [(0, ADD), (0, HEARTBEAT), (1, b"x"), (2, b"x")];
     let lines: &[u8] = b"poll\ntick\npoll\ntick\ntick\n";
@@ -429,7 +429,7 @@ fn ends_where_a_print_fails(rt: HostRuntime) -> Result<(), Fail> {
     Ok(())
 }
 
-/// Returns ports at which these datagrams are waiting, each from an address of the loopback network.
+/// Returns ports with these datagrams waiting, each from an address in the loopback network.
 fn ports_of(alloc: Global, waiting: &[(usize, u8, &[u8])]) -> Result<FakePorts, AllocError> {
     let mut arrivals = Vec::new(alloc);
     for (socket, host, bytes) in waiting {
@@ -533,8 +533,7 @@ fn takes_packets_from_remotes_alone(rt: HostRuntime) -> Result<(), Fail> {
     Ok(())
 }
 
-/// A clock that reads 0, then 20 ms, then three times 80 ms, which is two ticks late, and then fails. Its waits take no
-/// time.
+/// A clock that reads 0, then 20 ms, then 80 ms three times (two ticks late), and then fails. Its waits take no time.
 #[derive(Drop)]
 struct LateClock {
     readings: usize,

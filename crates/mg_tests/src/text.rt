@@ -52,7 +52,7 @@ fn says(span: Span, text: &[u8]) -> bool {
     is_text(span, SOURCE, text)
 }
 
-/// Returns whether triples are the two expected ones, the second of which is a Oneway from a to b.
+/// Returns whether there are two triples, a Bothway and then a Oneway from a to b.
 fn are_triples(triples: &[NamedTriple]) -> bool {
     let [first, second] = triples else {
         return false;

@@ -5,7 +5,7 @@ use crate::fault::ReadFault;
 use crate::marks::{after_mark, is_kind, mark_at};
 use mg_scan::{Token, TokenKind};
 
-/// Skips the rest of a group whose opening brace was read.
+/// Skips the rest of a group whose opening brace has already been read.
 #[tactic(auto, using(crate::proofs::GroupSteps::steps))]
 pub fn after_group<'t>(source: &[u8], tokens: &'t [Token]) -> Result<&'t [Token], ReadFault>
     ensures { Agrees (λ x. x.now) result (after_group source.now 0 tokens.now) }

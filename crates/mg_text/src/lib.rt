@@ -2,7 +2,7 @@
 //!
 //! [`read`] parses the bytes of a datagram as a [`Message`], or returns why they are not a message. The tree refers to
 //! text by its span in the source, and copies no text. Replies are collected in a [`Reply`] and written by
-//! [`write_reply`] to [`Bytes`]; these are types of the crate `mg_reply`:
+//! [`write_reply`] to [`Bytes`]; these types are in the crate `mg_reply`:
 //!
 //! ```rust
 //! let source = b"MEGACO/1 [127.0.0.1]:2945 Transaction=1{Context=-{AuditValue=ROOT}}".as_slice();

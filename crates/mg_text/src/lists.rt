@@ -36,7 +36,7 @@ impl<W: FromWord> FromTokens for W {
     }
 }
 
-/// Parses items with commas between them, up to their closing brace.
+/// Parses comma-separated items, up to their closing brace.
 pub fn items_at<'t, T: FromTokens>(
     alloc: Global,
     source: &[u8],

@@ -38,7 +38,7 @@ pub fn mark_at<'t>(
     }
 }
 
-/// Skips a mark, if it is there.
+/// Skips a mark, or returns `None` if the tokens don't start with it.
 #[tactic(auto, unfolding(crate::specs::aids::Reading::after_mark))]
 pub fn after_mark(kind: TokenKind, tokens: &[Token]) -> Option<&[Token]>
     ensures { MatchOption result (after_mark kind tokens.now ≡ None) (λ x. after_mark kind tokens.now ≡ Some x.now) }

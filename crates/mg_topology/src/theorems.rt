@@ -99,7 +99,7 @@ pub fn each_member_has_a_seat()
     ensures { member_limit ≤ seat_limit }
 {}
 
-/// The list of a mask's seats has exactly the mask's seats, in ascending order.
+/// The list of a mask's seats has exactly those seats, in ascending order.
 ///
 /// Any test that agrees with the mask on each seat gives the same list.
 pub fn seats_are_listed()

@@ -83,7 +83,7 @@ impl Topology {
         self.held = mask::without_seat(self.held, seat);
     }
 
-    /// Applies triples in order, so that the last one that mentions a pair counts.
+    /// Applies triples in order, so the last one to mention a pair wins.
     ///
     /// If the two sets of a Oneway triple share a seat, no triple is applied.
     pub fn apply(&mut self, triples: &[Triple]) -> Result<(), Overlap>
@@ -147,7 +147,7 @@ impl Default for Topology {
     }
 }
 
-/// Returns whether there is a Oneway triple whose two sets share a seat.
+/// Returns whether any Oneway triple has two sets that share a seat.
 fn any_overlaps(triples: &[Triple]) -> bool
     ensures { result ≡ list_any overlaps triples.now }
 {

@@ -12,7 +12,7 @@ pub enum ContextId {
     Choose,
     /// `*`: every context.
     All,
-    /// A context with this number.
+    /// The context with this number.
     Number(u32),
 }
 

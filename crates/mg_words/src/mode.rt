@@ -3,8 +3,7 @@ ghost use Rattle.mg_words.specs.Mode.{mode_text, talks, listens};
 
 /// The direction of a termination's media stream, seen from outside the context (RFC 3525, section 7.1.7).
 ///
-/// A termination sends what it hears in the context to its peer, and says in the context what it receives from its
-/// peer.
+/// A termination sends its peer what it hears in the context, and says in the context what it receives from its peer.
 #[derive(Clone, Copy, Debug, Default, PartialEq, Eq)]
 pub enum Mode {
     /// Neither sends nor receives.
@@ -12,7 +11,7 @@ pub enum Mode {
     Inactive,
     /// Sends but does not receive: it hears the context but is not heard.
     SendOnly,
-    /// Receives but does not send: it is heard in the context but does not hear it.
+    /// Receives but does not send: it is heard in the context but does not hear the context.
     ReceiveOnly,
     /// Sends and receives.
     SendReceive,

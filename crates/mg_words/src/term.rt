@@ -63,14 +63,14 @@ impl Term {
         Term::new(b"ROOT").unwrap()
     }
 
-    /// Returns `$`, with which an Add requests a new termination.
+    /// Returns `$`, which an Add uses to request a new termination.
     pub fn choose() -> Self
         ensures value { result ≡ codes "$" }
     {
         Term::new(b"$").unwrap()
     }
 
-    /// Returns `*`, with which a command names all terminations of a context.
+    /// Returns `*`, which a command uses to name all terminations of a context.
     pub fn all() -> Self
         ensures value { result ≡ codes "*" }
     {

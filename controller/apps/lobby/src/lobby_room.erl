@@ -367,8 +367,8 @@ save(State = #state{name = Name, conference = C, gateway = Gateway, told = Told,
 audit_interval() ->
     application:get_env(lobby, room_audit, 5000).
 
-%% Tells members which address the gateway now receives them at, or that it no longer receives them. A member whose
-%% process is restarting is told the next time.
+%% Tells members at which address the gateway now receives them, or that it no longer does. If a member's process is
+%% restarting, the next call tells him.
 tell(State = #state{conference = C, told = Told, events = Events}) ->
     Ids = lobby_conference:ids(C),
     Now = maps:from_list([{Id, Local} || Id <- Ids, {ok, Local} <- [lobby_conference:local(Id, C)]]),

@@ -20,7 +20,7 @@ is_name(Text) ->
 create(Name, Rules) ->
     in_room(Name, fun() -> ok = lobby_room:keep(Name), lobby_room:set_rules(Name, Rules) end, ?TRIES).
 
-%% @doc Lets a member into a room, which is made if it isn't there.
+%% @doc Lets a member into a room. Creates the room if it doesn't exist.
 -spec join(lobby_room:name(), lobby_rules:id(), lobby_conference:member()) ->
           {ok, lobby_h248:media()} | {error, error()}.
 join(Name, Id, Member) ->

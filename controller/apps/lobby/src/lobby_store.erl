@@ -42,7 +42,7 @@ count(Key) ->
     _ = mnesia:dirty_update_counter(lobby_counters, Key, 1),
     ok.
 
-%% Tables that are there stay as they are: a process that starts again finds what it had.
+%% Leaves existing tables as they are, so a restarted process finds what it had.
 -spec init(config()) -> {ok, none}.
 init(#{store := Store}) ->
     Copies = case Store of memory -> ram_copies; disc -> disc_copies end,

@@ -20,7 +20,7 @@ start_link(Socket, Peer) ->
 send(Connection, Message) ->
     gen_server:cast(Connection, {send, Message}).
 
-%% @doc The first message of these bytes, and what follows it. Blank lines before a message keep connections open.
+%% @doc Splits off the first message in these bytes. Skips blank lines before it, which phones send as keep-alives.
 -spec frame(binary()) -> {ok, Message :: binary(), Rest :: binary()} | more | {error, too_long}.
 frame(<<"\r\n", Rest/binary>>) ->
     frame(Rest);

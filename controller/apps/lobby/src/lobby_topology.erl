@@ -36,8 +36,8 @@ changes(Ids, Before, After, Max) ->
         none -> batches(Triples, Max)
     end.
 
-%% All flows anew: what most pairs have, and then the others. Only if this fits into one request, because in between
-%% flows would be open that must not be.
+%% Triples that set all flows again: first for all pairs what most of them have, then the exceptions. They must fit into
+%% one request; split over several, they would briefly open flows that must stay closed.
 whole(Ids, After, Max) ->
     States = [state(A, B, After) || {A, B} <- pairs(Ids)],
     Candidates = [[{all, all, Most} | [State || State = {_, _, How} <- States, How =/= Most]]

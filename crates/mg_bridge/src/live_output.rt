@@ -1,8 +1,8 @@
 use mg_outlet::{Outlet, Ready};
 use std::io::{self, Write};
 
-/// A gateway's output, which never waits for its reader. If a slow reader makes the output end, this is reported once
-/// to an operator.
+/// A gateway's output, which never waits for its reader. If the output ends because its reader is too slow, the
+/// operator is notified once.
 #[derive(Drop)]
 pub struct LiveOutput<W, R, E> {
     outlet: Outlet<W, R>,
@@ -19,12 +19,12 @@ impl<W: Write, R: Ready, E: Write> LiveOutput<W, R, E> {
         }
     }
 
-    /// Passes on everything in the queue. Unlike the other calls, this one waits for the reader.
+    /// Writes everything in the queue. Unlike the other calls, this one waits for the reader.
     pub fn finish(&mut self) -> io::Result<()> {
         self.outlet.finish()
     }
 
-    /// Reports that the output has ended, if it ended since the last call.
+    /// Reports that the output has ended, if that happened since the last call.
     fn report_end(&mut self) {
         if self.outlet.has_ended() && !self.has_reported {
             self.has_reported = true;

@@ -24,7 +24,7 @@ use mg_program::{System, program};
 use std::io::{self, ErrorKind, Stderr, Write};
 use std::process::ExitCode;
 
-/// The maximum number of bytes queued for standard output: 14 seconds of a recording with 256 callers.
+/// The maximum number of bytes queued for standard output: enough for 14 seconds of a recording with 256 callers.
 const OUTPUT_LIMIT: usize = 64 << 20;
 
 /// The maximum number of bytes queued for standard error.
@@ -40,12 +40,12 @@ fn system_of(rt: &HostRuntime) -> System<'_, HostRuntime, HostRuntime, HostRunti
     }
 }
 
-/// Makes an outlet for lines on standard error.
+/// Creates an outlet for lines on standard error.
 fn error_outlet(rt: &HostRuntime) -> Result<Outlet<Stderr, SystemReady>, OutletFault> {
     Outlet::watching(rt, rt.alloc(), rt.stderr(), ERRORS_LIMIT, Overflow::Skip)
 }
 
-/// Returns a program's exit status: `code`, unless it succeeded but its last output couldn't be passed on.
+/// Returns a program's exit status: `code`, unless the program succeeded but its last output couldn't be written.
 fn status_at_end<E: Write>(code: u8, passed: &io::Result<()>, errors: &mut E) -> u8 {
     if code != Status::Done.code() || passed.is_ok() {
         return code;
@@ -54,7 +54,7 @@ fn status_at_end<E: Write>(code: u8, passed: &io::Result<()>, errors: &mut E) ->
     Status::Failed.code()
 }
 
-/// Returns the exit status of a gateway that can't make its outlets.
+/// Returns the exit status of a gateway that can't create its outlets.
 fn status_without_outlets(fault: &OutletFault) -> Status {
     match fault {
         OutletFault::Memory { .. } => Status::NoMemory,

@@ -1,6 +1,6 @@
 use thiserror::Error;
 
-/// A clock that can't be read.
+/// A clock couldn't be read.
 #[derive(Clone, Copy, Debug, PartialEq, Eq, Error)]
 #[error("cannot read the clock")]
 pub struct ClockFailed;

@@ -3,7 +3,7 @@ use crate::watch::Watch;
 use std::thread;
 use std::time::{Clock, Duration, Instant};
 
-/// The system's monotonic clock. It starts at its first reading, or when it is made. It can't detect messages.
+/// The system's monotonic clock. It starts at its first reading, or when it is created. It can't detect messages.
 #[derive(Drop)]
 pub struct SystemWatch<'a, C: Clock> {
     clock: &'a C,
@@ -11,12 +11,12 @@ pub struct SystemWatch<'a, C: Clock> {
 }
 
 impl<'a, C: Clock> SystemWatch<'a, C> {
-    /// Makes a clock that starts at its first reading.
+    /// Creates a clock that starts at its first reading.
     pub fn new(clock: &'a C) -> Self {
         SystemWatch { clock, start: None }
     }
 
-    /// Makes a clock that starts now.
+    /// Creates a clock that starts now.
     pub fn start_now(clock: &'a C) -> Result<Self, ClockFailed> {
         match Instant::now(clock) {
             Ok(start) => Ok(SystemWatch {

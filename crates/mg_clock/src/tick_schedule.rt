@@ -16,14 +16,14 @@ const MAX_MESSAGES: u16 = 20;
 pub struct TickSchedule {
     /// How many ticks have begun.
     pub ticks: u64,
-    /// How late a tick may be, in ticks of 20 ms, and still have its packets sent.
+    /// The maximum lateness, in ticks of 20 ms, at which a tick's packets are still sent.
     pub allowed: u16,
     /// How many messages have been reported since the last tick began.
     pub messages: u16,
 }
 
 impl TickSchedule {
-    /// Makes a schedule that begins at the start of a clock. A tick that is more than `allowed` ticks late is
+    /// Creates a schedule that begins at the start of a clock. A tick that is more than `allowed` ticks late is
     /// [`Timing::Late`].
     pub fn new(allowed: u16) -> Self
         ensures value { result ≡ record { ticks = 0; allowed = allowed; messages = 0 } }
@@ -38,8 +38,8 @@ impl TickSchedule {
     /// Waits until the next tick is due, and then begins it; returns early if a message arrives. After a delay, all
     /// missed ticks are due at once. At most 20 messages are reported before each tick.
     ///
-    /// [`ClockFailed`]: the clock can't be read, or 18,446,744,073,709,551,615 ticks have begun, or that many readings
-    /// in a row came before the tick was due.
+    /// Fails if the clock can't be read, if 18,446,744,073,709,551,615 ticks have begun, or if that many readings in a
+    /// row came before the tick was due.
     pub fn next_step<K: Watch>(&mut self, watch: &mut K) -> Result<Step, ClockFailed>
         ensures begins { IfOk result (λ step. StepBegins self.old
             (clock_seen (K.readings watch.old) (K.waits watch.old))
@@ -92,7 +92,7 @@ fn wait_until_due<K: Watch>(
     Err(ClockFailed)
 }
 
-/// Returns whether a tick that begins at the time `now` is late or on time.
+/// Returns whether a tick that begins at time `now` is on time or late.
 fn timing_of(tick: u64, allowed: u16, now: u64) -> Timing
     ensures value { result ≡ timing_of tick allowed now }
 {

@@ -1,4 +1,4 @@
-/// Whether a tick begins on time, that is, whether its packets are still worth sending.
+/// Whether a tick begins on time, so that its packets are still worth sending.
 #[derive(Clone, Copy, Debug, PartialEq, Eq)]
 pub enum Timing {
     OnTime,

@@ -28,7 +28,7 @@ abbrev pub mode_in : Part → Option Mode
 mode_in (Control n (controls.Mode mode)) = Some mode
 mode_in _ = None
 
--- the depth in frames of 20 ms that holds this many milliseconds
+-- the depth, in frames of 20 ms, of a play list that holds this many milliseconds
 abbrev pub frames_for : ℕ → ℕ
 frames_for jitter = (jitter + 19) / 20
 

@@ -1,6 +1,6 @@
--- What an action asks of its context, in addition to its commands (RFC 3525, sections 7.1.18 and
--- 8.2.1): a topology, and an audit of it. The error numbers and the order of the checks are this
--- project's own.
+-- What an action requests for its context, in addition to its commands (RFC 3525, sections 7.1.18
+-- and 8.2.1): a topology, and an audit of it. The error numbers and the order of the checks are
+-- this project's own.
 use Rattle.std.specs.Prelude.{ℕ, Bool, true, false, not, List, [], ◌∷◌, ◌++◌, map}
 use Rattle.std.specs.Prelude.{Option, Some, None, Result, Ok, if◌then◌else◌}
 use Rattle.std.specs.List.{list_any}
@@ -74,7 +74,7 @@ action_fault a =
 
 -- ## After the commands
 
--- The meaning of a name in a triple; $ is the termination that the action's first Add made.
+-- The meaning of a name in a triple; $ is the termination that the action's first Add created.
 abbrev pub term_of : Option ℕ → Name → TripleTerm
 term_of made names.Root = terms.Barred
 term_of (Some n) names.Choose = terms.Number n

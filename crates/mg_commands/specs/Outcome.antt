@@ -74,13 +74,13 @@ abbrev pub members_in : Gateway → Target → List ℕ
 members_in w (targets.Number c) = members_at w.rooms c
 members_in w _ = []
 
--- at least one must match
+-- the names that * matches, of which there must be at least one
 abbrev pub unless_empty : List Name → Result (List Name) ErrorNumber
 unless_empty [] = Err errors.WildcardMatchedNone
 unless_empty (x ∷ xs) = Ok (x ∷ xs)
 
--- The names that a command is tried on, in order. They are its own name or, for *, the names of the
--- members when the command starts (RFC 3525, section 6.2.2).
+-- The names that a command is tried on, in order: the name that it gives or, for *, the names of
+-- the members when the command starts (RFC 3525, section 6.2.2).
 abbrev pub names_for : Gateway → Target → CommandWord → Name → Result (List Name) ErrorNumber
 names_for w target word names.All =
     if takes_all word then unless_empty (map names.Number (members_in w target))
@@ -89,7 +89,7 @@ names_for w target word name = Ok (name ∷ [])
 
 -- ## Checks of the name
 
--- an Add makes a new termination, so it does not name one
+-- an Add creates a termination, so it does not name one
 abbrev pub check_new_name : Gateway → Name → Result (Unit {0}) ErrorNumber
 check_new_name w names.Choose = Ok tt
 check_new_name w (names.Number n) =
@@ -132,7 +132,7 @@ abbrev pub served_at : Target → List ℕ → Parts → Served
 served_at target term parts =
     record { target = target; made = None; term = term; parts = parts }
 
--- the same for a new termination
+-- what is reported about a new termination
 abbrev pub made_at : Target → ℕ → Parts → Served
 made_at target n parts = record (served_at target (rtp_name n) parts) { made = Some n }
 

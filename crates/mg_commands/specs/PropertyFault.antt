@@ -32,7 +32,7 @@ control_fault source (controls.Property name value) =
     if is_jitter source name && is_some (jitter_of source value) then None
     else Some PropertyNotServed
 
--- the same, or a stream other than 1
+-- the fault in a part: a stream other than 1, or a fault in a LocalControl
 abbrev pub property_fault : List ℕ → Part → Option ErrorNumber
 property_fault source (Stream n) = if n == 1 then None else Some NotServed
 property_fault source (Control n x) = control_fault source x

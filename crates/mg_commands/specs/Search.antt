@@ -7,7 +7,8 @@ unfoldable pub first_of : {X A : Type 0} → (X → Option A) → List X → Opt
 first_of f [] = None
 first_of f (x ∷ xs) = option_or (f x) (first_of f xs)
 
--- the first result for an element and those before it, starting after the elements `before`
+-- the first result for an element and all elements before it; the search starts after the elements
+-- `before`
 unfoldable pub first_after : {X A : Type 0} → (List X → X → Option A) → List X → List X → Option A
 first_after f before [] = None
 first_after f before (x ∷ xs) = option_or (f before x) (first_after f (before ++ x ∷ []) xs)

@@ -23,7 +23,7 @@ use Rattle.mg_commands.specs.Transaction.{with_action, closed}
 
 -- ## Rejections
 
--- a command that is rejected for a name adds the item with its error, and changes nothing
+-- a command that is rejected for a name adds an item with its error, and changes nothing else
 abbrev pub RefusedNamesChangeNothing : Type 0
 RefusedNamesChangeNothing =
     (source : List ℕ) (c : Command) (parameters : CommandParameters) (name : Name)

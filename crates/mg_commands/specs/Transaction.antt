@@ -25,7 +25,8 @@ use Rattle.mg_commands.specs.ContextProperties.{context_outcome, action_fault}
 use Rattle.mg_commands.specs.Outcome.{CommandOutcome, Trial, outcome, trial_of}
 
 -- The state of a transaction: the gateway, the action's context, the termination that the action's
--- first Add made, the items of the reply so far, and whether an error has stopped the transaction.
+-- first Add created, the items of the reply so far, and whether an error has stopped the
+-- transaction.
 pub record TransactionState : Type 0 where
   pub gateway : Gateway
   pub target : Target

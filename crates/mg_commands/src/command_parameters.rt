@@ -26,14 +26,14 @@ pub struct CommandParameters {
     pub audits_statistics: bool,
 }
 
-/// Returns the depth of a play list, in frames of 20 ms, that holds this many milliseconds.
+/// Returns the depth, in frames of 20 ms, of a play list that holds this many milliseconds.
 fn frames_for(jitter: u16) -> u16
     ensures value { result ≡ frames_for jitter }
 {
     jitter.div_ceil(FRAME_MS)
 }
 
-/// Returns the setting that the content of a Local or Remote denotes.
+/// Returns the setting requested by the content of a Local or Remote.
 fn setting_of(source: &[u8], text: Span) -> MediaSetting
     ensures value { result ≡ setting_of source.now text }
 {

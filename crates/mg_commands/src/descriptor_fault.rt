@@ -45,7 +45,7 @@ fn same_control(source: &[u8], a: &ControlPart, b: &ControlPart) -> bool
     }
 }
 
-/// Returns whether one part repeats the other, which is not allowed: the same word in the same stream.
+/// Returns whether two parts have the same word in the same stream, which is not allowed.
 fn is_same_part(source: &[u8], a: Part, b: Part) -> bool
     ensures value { result ≡ is_same_part source.now a b }
 {
@@ -125,7 +125,7 @@ fn appears_among(source: &[u8], part: &Part, stream: u32, parts: &[StreamPart]) 
 
 /// Returns whether a `MediaPart` contains this part of a stream.
 ///
-/// It compares the streams' numbers first, because a message can contain about 700 streams.
+/// The streams' numbers are compared first, because a message can contain about 700 streams.
 fn appears_in(source: &[u8], part: &Part, stream: u32, other: &MediaPart) -> bool
     ensures value { result ≡ appears_in source.now part.now stream other.now }
 {
@@ -218,7 +218,7 @@ fn stream_of(part: &MediaPart) -> u32
     }
 }
 
-/// Returns the earlier parts of a Media descriptor to compare a part with.
+/// Returns the earlier parts of a Media descriptor that a part has to be compared with.
 ///
 /// There are none if the part's stream number exceeds all earlier ones, so streams in ascending order are not compared.
 fn lookback<'a>(greatest: u32, before: &'a [MediaPart], part: &MediaPart) -> &'a [MediaPart]

@@ -23,7 +23,7 @@
 //! A command marked `O-` (section 8.2.2) is optional: if it fails, the reply reports its error, and the next commands
 //! are still tried. An action that is rejected as a whole always ends the request, even if its commands are optional.
 //!
-//! [`Kept`] keeps the replies that answer retransmissions.
+//! [`Kept`] stores the replies that answer retransmissions.
 #![tactic(auto)]
 
 mod action_fault;

@@ -1,4 +1,4 @@
-//! The members that a command for all members (`*`) is tried on.
+//! The members on which a command for all members (`*`) is tried.
 
 ghost use Rattle.std.specs.Prelude.{◌≡◌, ◌≤◌, Ok, Err, MatchResult, IfOk, length, map, take};
 ghost use Rattle.mg_engine.specs.Gateway.{Gateway};

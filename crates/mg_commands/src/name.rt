@@ -10,7 +10,7 @@ use mg_words::{after_prefix, number_of};
 pub enum Name {
     /// `ROOT`: the gateway as a whole.
     Root,
-    /// `$` or `RTP/$`: a new termination, which the gateway makes.
+    /// `$` or `RTP/$`: a new termination, which the gateway creates.
     Choose,
     /// `*` or `RTP/*`: all terminations of the context.
     All,

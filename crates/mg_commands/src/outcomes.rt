@@ -1,4 +1,4 @@
-//! The commands on one termination, and what a reply reports about them.
+//! Commands on one termination, and what a reply reports about each.
 
 ghost use Rattle.std.specs.Prelude.{◌≡◌, OnErr, if◌then◌else◌};
 ghost use Rattle.mg_words.specs.Term.{rtp_name};

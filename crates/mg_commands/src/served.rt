@@ -6,7 +6,7 @@ use mg_text::{Parts, Term};
 pub struct Served {
     /// The action's context after the command.
     pub target: Target,
-    /// The termination that the command made, if any.
+    /// The termination that the command created, if any.
     pub made: Option<u32>,
     /// The termination's name, as the reply spells it.
     pub term: Term,

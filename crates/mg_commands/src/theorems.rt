@@ -23,16 +23,16 @@ pub fn refused_commands_change_nothing()
 
 /// Every request preserves the consistency of terminations and contexts.
 ///
-/// So they are consistent after any sequence of requests. A proof can use this fact even if it has no engine.
+/// So they are consistent after any sequence of requests. A proof can use this fact even where no engine is in scope.
 pub fn requests_are_consistent()
     ensures theorem { RequestsAreConsistent }
 {
     mg_engine::theorems::worlds_are_consistent();
 }
 
-/// Two gateways that agree outside some terminations still agree after the same request.
+/// If two gateways agree outside some terminations, they still do after the same request.
 ///
-/// The replies differ at most in the counts of received packets and octets.
+/// The replies can differ only in the counts of received packets and octets.
 pub fn requests_keep_agreement()
     ensures theorem { RequestsKeepAgreement }
 {

@@ -1,5 +1,5 @@
 -- Isolation over time. In each tick, a listener's packet does not depend on anything ever received
--- from terminations that it does not hear then.
+-- from terminations that the listener does not hear in that tick.
 use Rattle.std.specs.Prelude.{◌≡◌, ℕ, ◌==◌, List, [], ◌∷◌, ◌++◌, filter, map, Option}
 use Rattle.std.specs.List.{AllByRecursion}
 use Rattle.mg_kept.specs.KeptReplies.{KeptReply}
@@ -85,8 +85,9 @@ DifferAtPortsOf some w (SecondOnly port source bytes ∷ xs) =
     IsPortAmong some w.gateway port × DifferAtPortsOf some w xs
 
 -- If two worlds agree outside some terminations, and receive events that differ only in RTP
--- datagrams at ports of these, they still agree afterwards. The next tick sends the same to each
--- listener who hears none of these terminations in that tick, whatever the listener heard before.
+-- datagrams at the ports of these, they still agree afterwards. The next tick sends the same packet
+-- to each listener that hears none of these terminations in that tick, whatever the listener heard
+-- before.
 abbrev pub UnheardChangesNothing : Type 0
 UnheardChangesNothing =
     (some : List ℕ) (port : ℕ) (a b x y : World) (xs : List Happening) (s t : List Sent)
@@ -94,7 +95,7 @@ UnheardChangesNothing =
     → Run a (to_first xs) s x → Run b (to_second xs) t y
     → AgreeOutside some x y × NextTickIsSame some port x y
 
--- This holds after two histories of gateways that started with the same configuration ..
+-- This holds after two histories of gateways that started with the same configuration.
 abbrev pub UnheardInHistories : Type 0
 UnheardInHistories =
     (some : List ℕ) (port : ℕ) (config : Config) (xs : List Happening) (s t : List Sent)
@@ -110,7 +111,8 @@ HasTickAfter config events sent w =
     (before after : List Sent) × Run (start_of config) events before w
     × (sent ≡ before ++ (map Packet (packets_of w) ++ after))
 
--- .. and in each tick of two scripts that were run to the end, whatever comes after the tick.
+-- The same holds in each tick of two scripts that were run to the end, whatever comes after the
+-- tick.
 abbrev pub UnheardInScripts : Type 0
 UnheardInScripts =
     (some : List ℕ) (port : ℕ) (config : Config) (xs : List Happening) (rest others : List Event)

@@ -42,8 +42,8 @@ RtpChangesSpeechOnly =
 abbrev pub depths_in : World → List ℕ
 depths_in w = map (λ s. depth_of s.play) w.gateway.media
 
--- So two worlds agree after two histories of gateways that started with the same configuration. And
--- their play lists have the same depths, since only commands set these.
+-- So the worlds agree after two such histories of gateways that started with the same
+-- configuration. Their play lists also have the same depths, because only commands set these.
 abbrev pub RtpChangesSpeechOnlyInHistories : Type 0
 RtpChangesSpeechOnlyInHistories =
     (config : Config) (events : List Event) (s t : List Sent) (v w : World)

@@ -52,7 +52,7 @@ is_same_mode a b = false
 
 -- ## Lines
 
--- each line reports something about a termination after this many ticks
+-- the start of each line: how many ticks have passed, and the termination that the line is about
 abbrev pub line_head : ℕ → ℕ → List ℕ
 line_head ticks n = codes "# " ++ (decimal ticks ++ (codes " ticks: RTP/" ++ decimal n))
 

@@ -26,7 +26,7 @@ EventsDetermineOutcome =
     (config : Config) (events : List Event) (s t : List Sent) (v w : World) (state : CoreState)
     → HasHistory config events s v state → HasHistory config events t w state → (s ≡ t) × (v ≡ w)
 
--- one more event arrived and these datagrams were sent for it, whatever happened before
+-- one more event arrived and these datagrams were sent in response, whatever happened before
 abbrev pub ExtendsHistory : CoreState → CoreState → Event → List Sent → Type 0
 ExtendsHistory old new event sent =
     (config : Config) (events : List Event) (before : List Sent) (w : World)
@@ -54,7 +54,7 @@ TotalIsRecomputed state context i answer =
     → HasHistory config events sent w state → answer ≡ total_at w.gateway context i
 
 -- After any sequence of events, the packets of a tick are exactly the recomputed ones, in order of
--- the terminations' numbers. Each byte of a payload encodes the sum, limited once, of everyone
+-- the terminations' numbers. Each byte of a payload encodes the sum, saturated once, of everyone
 -- whose flow to the listener is open.
 abbrev pub PacketsAreRecomputed : CoreState → List Datagram → Type 0
 PacketsAreRecomputed state outbox =

@@ -33,14 +33,15 @@ PortOrderIsIrrelevant =
     → IsStart config → AreSameToEachPort a b
     → Run (start_of config) a s v → Run (start_of config) b t w → (s ≡ t) × (v ≡ w)
 
--- The same holds for two gateways that started with the same configuration ..
+-- The same holds for two gateways that started with the same configuration.
 abbrev pub PortOrderInHistories : Type 0
 PortOrderInHistories =
     (config : Config) (a b : List Event) (s t : List Sent) (v w : World) (one other : CoreState)
     → IsStart config → AreSameToEachPort a b
     → HasHistory config a s v one → HasHistory config b t w other → (s ≡ t) × (v ≡ w)
 
--- .. and for two scripts that were run to the end, in either form: they write the same datagrams.
+-- The same holds for two scripts that were run to the end, in either form: they write the same
+-- datagrams.
 abbrev pub PortOrderInScripts : Type 0
 PortOrderInScripts =
     (config : Config) (first second : Shown) (one other : List ℕ) (counts more : Counts)

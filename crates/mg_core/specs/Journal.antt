@@ -1,5 +1,5 @@
 -- Control datagrams and ticks alone determine who could hear whom, and when. So a journal without
--- RTP datagrams says it.
+-- RTP datagrams shows this.
 use Rattle.std.specs.Prelude.{◌≡◌, ℕ, List, [], ◌∷◌, ◌++◌}
 use Rattle.mg_rooms.specs.Consistent.{IsConsistent}
 use Rattle.mg_engine.specs.declared.config.Config.{Config}
@@ -30,8 +30,8 @@ HistoriesHaveSameFlows =
 
 -- ## Reports
 
--- Events run one after another, and the text reports what each of them changed. It is the text that
--- `ReportsChanges` says, without the lines for the datagrams that are sent.
+-- Events run one after another, and the text reports what each of them changed. This is the text of
+-- `ReportsChanges` without the lines for the datagrams that are sent.
 abbrev pub ReportsOnlyChanges : World → List Event → List ℕ → World → Type 0
 ReportsOnlyChanges w [] text last = (text ≡ []) × (last ≡ w)
 ReportsOnlyChanges w (event ∷ events) text last =
@@ -39,8 +39,9 @@ ReportsOnlyChanges w (event ∷ events) text last =
     × Step w event sent next × ReportsOnlyChanges next events others last
     × (text ≡ changes_by w next ++ others)
 
--- Two worlds agree except for what was received, and their terminations and contexts are consistent.
--- Events change the same in both, even if only the first world receives the RTP datagrams.
+-- Two worlds agree except for what was received, and their terminations and contexts are
+-- consistent. Events cause the same changes in both, even if only the first world receives the RTP
+-- datagrams.
 abbrev pub AgreementHasSameReports : Type 0
 AgreementHasSameReports =
     (a b x y : World) (events : List Event) (s t : List ℕ)

@@ -1,4 +1,4 @@
--- The text of peers.
+-- How peers are written.
 use Rattle.std.specs.Prelude.{ℕ, List, ◌++◌, Option, Some, codes, decimal}
 use Rattle.mg_words.specs.Numbers.{port_of}
 use Rattle.mg_words.specs.OptionSteps.{◌>>=◌}

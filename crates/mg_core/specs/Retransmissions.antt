@@ -61,20 +61,19 @@ is_request_for sender number from (items.Request request) =
     (request.number == number) && str_eq_ignore_ascii_case sender from
 is_request_for sender number from (items.Acknowledgement ranges) = false
 
--- how many replies are kept for an item: one for a request that is run
+-- how many replies an item adds to those kept: one if it is a request that is run
 abbrev pub kept_for : List ℕ → MessageItem → World → ℕ
 kept_for from (items.Request request) w =
     if is_none (kept_text w.replies from request.number) then 1 else 0
 kept_for from (items.Acknowledgement ranges) w = 0
 
--- how many replies are kept for the items of a message, in order
+-- how many replies the items of a message add, in order
 abbrev pub kept_for_all : List ℕ → List ℕ → List MessageItem → World → ℕ
 kept_for_all source from [] w = 0
 kept_for_all source from (x ∷ xs) w =
     kept_for from x w + kept_for_all source from xs (item_replied source from [] x w).1
 
--- An event preserves a reply: it does not acknowledge the reply, and at most n other replies are
--- kept for the event.
+-- An event preserves a reply: it does not acknowledge the reply, and adds at most n other replies.
 abbrev pub PreservesReply : List ℕ → ℕ → World → Event → ℕ → Type 0
 PreservesReply sender number w (Control source bytes) n =
     (m : Message) → IsMessage bytes m
@@ -82,7 +81,7 @@ PreservesReply sender number w (Control source bytes) n =
     × (kept_for_all bytes (text_of bytes m.sender) (items_of m.body) (with_control w) ≤ n)
 PreservesReply sender number w _ n = Unit {0}
 
--- Events preserve a reply one after another, with at most n other replies kept for all of them.
+-- Events preserve a reply one after another, and add at most n other replies in total.
 abbrev pub AllPreserveReply : List ℕ → ℕ → World → List Event → ℕ → Type 0
 AllPreserveReply sender number w [] n = Unit {0}
 AllPreserveReply sender number w (event ∷ events) n =
@@ -109,14 +108,14 @@ NewReplyIsNewest =
     → kept_text w.replies sender request.number ≡ None
     → newer_than (request_replied source sender request w).1.replies sender request.number ≡ []
 
--- An acknowledgement that names a reply drops it ..
+-- An acknowledgement that names a reply drops it.
 abbrev pub AcknowledgedAreDropped : Type 0
 AcknowledgedAreDropped =
     (source sender from mark : List ℕ) (number : ℕ) (item : MessageItem) (w : World)
     → acknowledges sender number from item ≡ true
     → kept_text (item_replied source from mark item w).1.replies sender number ≡ None
 
--- .. and so does another request that is run while 31 replies are newer.
+-- Another request that is run while 31 replies are newer than a reply also drops that reply.
 abbrev pub EvictedAreDropped : Type 0
 EvictedAreDropped =
     (source sender from : List ℕ) (number : ℕ) (request : Request) (w : World)

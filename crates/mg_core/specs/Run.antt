@@ -55,7 +55,7 @@ abbrev pub IsShownText : Shown → World → List Event → List Sent → List �
 IsShownText shows.Sent w events sent text last = text ≡ lines_for sent
 IsShownText shows.SentAndFlows w events sent text last = ReportsChanges w events text last
 
--- the text of events that run in a world is determined, in each form
+-- in each form, a world and the events that run in it determine the text
 abbrev pub TextIsDetermined : Type 0
 TextIsDetermined =
     (shown : Shown) (w x y : World) (events : List Event) (s t : List Sent) (a b : List ℕ)

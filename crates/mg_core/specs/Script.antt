@@ -54,7 +54,7 @@ ok_of (Err e) = None
 abbrev pub datagram : List ℕ → Option (List ℕ)
 datagram bytes = if nat_le (length bytes) 65535 then Some bytes else None
 
--- how the first word of a line spells a datagram's bytes
+-- how a datagram's bytes are spelled, according to the first word of a line
 unfoldable pub spelling_of : List ℕ → Option Spelling
 spelling_of key =
     if bytes_eq key (codes "say") then Some Text

@@ -1,5 +1,5 @@
--- What a gateway does at each event and at a list of events: the datagrams that it sends, and the
--- world that results.
+-- What a gateway does for an event and for a list of events: the datagrams that it sends, and the
+-- resulting world.
 use Rattle.std.specs.Prelude.{◌≡◌, ℕ, List, [], ◌∷◌, ◌++◌, map, Option, Some, None}
 use Rattle.std.specs.Option.{option_map_or}
 use Rattle.mg_engine.specs.declared.datagram.Datagram.{Datagram}
@@ -26,8 +26,8 @@ abbrev pub reported : Answer → List ℕ → Option (List ℕ)
 reported Send text = Some text
 reported Silent text = None
 
--- In the world w, the gateway sends these datagrams in response to an event, in this order, and the
--- next world results. A control datagram is answered, an RTP datagram is handled, and a tick's
+-- In the world w, the gateway sends these datagrams, in this order, in response to an event, which
+-- leads to the next world. A control datagram is answered, an RTP datagram is handled, and a tick's
 -- packets are sent.
 abbrev pub Step : World → Event → List Sent → World → Type 0
 Step w (Control source bytes) sent next =

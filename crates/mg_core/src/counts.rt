@@ -5,7 +5,7 @@ ghost use Rattle.mg_core.specs.World.{result_place};
 use mg_engine::{DropCause, Taken};
 use mg_playout::Placed;
 
-/// The number of results that placing a frame can have.
+/// The number of possible results of placing a frame.
 const PLACINGS: usize = 5;
 
 /// The number of reasons to drop a datagram.

@@ -1,7 +1,7 @@
 use mg_engine::Peer;
 use mg_text::TreeList;
 
-/// An event of a gateway, as a script line spells it.
+/// An event of a gateway, as read from a script line.
 #[derive(Drop)]
 pub enum Event {
     /// A control datagram: its source and its bytes.

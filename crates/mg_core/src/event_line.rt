@@ -15,7 +15,7 @@ use std::marker::Model;
 /// The maximum number of hexadecimal digits in a datagram.
 const DIGITS_ROOM: usize = 2 * DATAGRAM_LIMIT;
 
-/// The maximum length, in bytes, of the text around a datagram's digits: a peer, a space and a line feed.
+/// The maximum length, in bytes, of what surrounds a datagram's digits: a peer, a space and a line feed.
 const DATAGRAM_START: usize = 2 + PEER_LIMIT;
 
 /// The maximum length of a line, in bytes: `rtp`, two spaces, a port, a peer, and the digits of a datagram.
@@ -57,7 +57,7 @@ fn push_datagram(source: Peer, bytes: &[u8], digits: &mut [u8], out: &mut Bytes)
 }
 
 impl EventLine {
-    /// Makes an empty line. Fails only if the allocation fails. No other call allocates.
+    /// Creates an empty line. Fails only if the allocation fails. No other call allocates.
     pub fn new(alloc: Global) -> Result<Self, AllocError>
         ensures value { IfOk result (λ line. line ≡ []) }
     {

@@ -11,7 +11,7 @@ pub struct NoMemory;
 #[derive(Clone, Copy, Debug, PartialEq, Eq)]
 pub enum EventFault {
     Write,
-    /// Memory ran out for a control datagram, and the event had no effect.
+    /// Memory ran out while a control datagram was read, and the event had no effect.
     NoMemory,
 }
 

@@ -21,7 +21,7 @@ pub struct LineResumer {
 }
 
 impl LineResumer {
-    /// Makes a runner with a new gateway.
+    /// Creates a runner with a new gateway.
     pub fn new(alloc: Global, config: Config) -> Result<Self, StartFault>
         ensures bad { (result ≡ Err StartFault.BadConfig) ↔ ¬ IsValidConfig config }
         ensures sound { OnOk result (IsValidConfig config) }

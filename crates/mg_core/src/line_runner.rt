@@ -26,7 +26,7 @@ use std::io::Write;
 /// escape.
 const OUTPUT_LIMIT: usize = LINE_START + 2 * ANSWER_LIMIT;
 
-/// Makes the store of terminations, if changes are shown. The gateway has no terminations yet.
+/// Creates the store of terminations if changes are shown. The gateway has no terminations yet.
 fn watched_for(alloc: Global, shown: Shown) -> Result<Option<Watched>, AllocError>
     ensures value { (config : Config) → IfOk result (λ watched. AreKeptListeners shown watched (start_of config)) }
 {
@@ -39,7 +39,7 @@ fn watched_for(alloc: Global, shown: Shown) -> Result<Option<Watched>, AllocErro
     }
 }
 
-/// Makes the buffers of a runner: one for the longest line, and one for the terminations.
+/// Creates the buffers of a runner: one for the longest line, and one for the terminations.
 ///
 /// Fails only if the allocation fails.
 fn outputs(alloc: Global, shown: Shown) -> Result<(Bytes, Option<Watched>), AllocError>
@@ -51,7 +51,7 @@ fn outputs(alloc: Global, shown: Shown) -> Result<(Bytes, Option<Watched>), Allo
     Ok((output, watched_for(alloc, shown)?))
 }
 
-/// Runs the lines of a script on a gateway.
+/// Runs the lines of a script on a gateway, and writes the output.
 #[derive(Drop)]
 pub struct LineRunner {
     pub core: Core,
@@ -64,7 +64,7 @@ pub struct LineRunner {
 }
 
 impl LineRunner {
-    /// Makes a runner with a new gateway.
+    /// Creates a runner with a new gateway.
     pub fn new(alloc: Global, config: Config, shown: Shown) -> Result<Self, StartFault>
         ensures bad { (result ≡ Err StartFault.BadConfig) ↔ ¬ IsValidConfig config }
         ensures sound { OnOk result (IsValidConfig config) }

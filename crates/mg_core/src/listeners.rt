@@ -29,7 +29,7 @@ impl Model for KeptListeners {
 }
 
 impl KeptListeners {
-    /// Makes an empty store. Fails only if the allocation fails. No other call allocates.
+    /// Creates an empty store. Fails only if the allocation fails. No other call allocates.
     pub fn new(alloc: Global) -> Result<Self, AllocError>
         ensures value { IfOk result (λ x. x ≡ []) }
     {

@@ -61,7 +61,7 @@ impl Model for Core {
     ghost invariant = { λ c. c.answer.room + length c.answer.text ≡ ANSWER_LIMIT };
 }
 
-/// Makes the store of kept replies, the reply under construction, and the buffer for answers.
+/// Creates the store of kept replies, the reply under construction, and the buffer for answers.
 ///
 /// Fails only if the allocation fails.
 fn no_replies(alloc: Global) -> Result<(Kept, Reply, Bytes), AllocError>

@@ -18,7 +18,7 @@ use mg_text::Bytes;
 use std::alloc::Global;
 use std::io::Read;
 
-/// Returns the index of the first line feed. Most lines of a journal are ticks, so it checks for those first.
+/// Returns the index of the first line feed. Most lines of a journal are ticks, so those are checked for first.
 fn line_end(text: &[u8]) -> Option<usize>
     ensures value { IsFirstByte (is_byte 10) text.now result }
 {
@@ -46,7 +46,7 @@ pub struct Resumer {
 }
 
 impl Resumer {
-    /// Makes a runner with a new gateway, at the start of a script.
+    /// Creates a runner with a new gateway, at the start of a script.
     pub fn new(alloc: Global, config: Config) -> Result<Self, StartFault>
         ensures bad { (result ≡ Err StartFault.BadConfig) ↔ ¬ IsValidConfig config }
         ensures sound { OnOk result (IsValidConfig config) }

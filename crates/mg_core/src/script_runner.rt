@@ -32,7 +32,7 @@ pub struct ScriptRunner {
 }
 
 impl ScriptRunner {
-    /// Makes a runner with a new gateway, at the start of a script.
+    /// Creates a runner with a new gateway, at the start of a script.
     pub fn new(alloc: Global, config: Config, shown: Shown) -> Result<Self, StartFault>
         ensures bad { (result ≡ Err StartFault.BadConfig) ↔ ¬ IsValidConfig config }
         ensures sound { OnOk result (IsValidConfig config) }

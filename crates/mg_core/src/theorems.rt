@@ -143,8 +143,8 @@ pub fn unheard_changes_nothing()
 /// RTP datagrams change only speech.
 ///
 /// Suppose two gateways receive the same control datagrams and ticks, but only one of them receives RTP datagrams. Then
-/// both have the same terminations, contexts and topology, and keep replies to the same requests. They differ only in
-/// play lists, current frames, and counters of received packets; and their play lists have the same depths.
+/// both have the same terminations, contexts and topology, and keep replies to the same requests. They can differ only
+/// in play lists, current frames, and counters of received packets; their play lists have the same depths.
 pub fn rtp_changes_speech_only()
     ensures worlds { RtpChangesSpeechOnly }
     ensures histories { RtpChangesSpeechOnlyInHistories }
@@ -159,7 +159,7 @@ pub fn rtp_changes_speech_only()
 /// RTP datagrams change no flow. So control datagrams and ticks alone determine who could hear whom, and when.
 ///
 /// Suppose two gateways receive the same control datagrams and ticks, but only one of them receives RTP datagrams. Then
-/// the same speech flows in both, and the reports of their changes are equal. So a journal doesn't need RTP datagrams.
+/// the same speech flows in both, and the reports of their changes are equal. So a journal can leave out RTP datagrams.
 pub fn rtp_changes_no_flow()
     ensures flows { AgreementHasSameFlows }
     ensures flows_in_histories { HistoriesHaveSameFlows }

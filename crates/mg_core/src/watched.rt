@@ -14,7 +14,7 @@ use std::io::Write;
 use std::marker::Model;
 use std::mem;
 
-/// The maximum length of the reported changes, in bytes, if every termination ends and as many new ones are made.
+/// The maximum length of the reported changes, in bytes, if every termination ends and as many new ones are created.
 const CHANGES_LIMIT: usize = TERMINATIONS * (ENDED_LIMIT + NEW_LIMIT);
 
 /// The terminations of a gateway after its last changes. In contracts, they appear as a list.
@@ -39,7 +39,7 @@ impl Model for Watched {
 }
 
 impl Watched {
-    /// Makes the store for a gateway without terminations. Fails only if the allocation fails. No other call allocates.
+    /// Creates a store without terminations. Fails only if the allocation fails. No other call allocates.
     pub fn new(alloc: Global) -> Result<Self, AllocError>
         ensures value { IfOk result (λ x. x ≡ []) }
     {

@@ -27,7 +27,7 @@ impl Model for DateText {
 }
 
 impl DateText {
-    /// Makes the text of a date, or returns `None` if the date is after the year 9999.
+    /// Creates the text of a date, or returns `None` if the date is after the year 9999.
     pub(crate) fn of(date: Date) -> Option<Self> {
         let timestamp = date.timestamp()?;
         let mut text = ArrayVec::new();

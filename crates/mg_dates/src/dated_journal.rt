@@ -19,7 +19,7 @@ const MARKS: usize = 3;
 /// The capacity of the buffer, in bytes.
 const TEXT_ROOM: usize = LINES_ROOM + TEXT_LIMIT + MARKS;
 
-/// The time, in milliseconds, after which lines get a date even if they contain no message.
+/// The age of the last date, in milliseconds, at which lines get a new date even if they contain no message.
 const MAX_AGE: u64 = 60_000;
 
 /// A journal that adds dates to its lines: to the first lines, to the first message of each second, and to ticks if the
@@ -73,7 +73,7 @@ fn needs_date(lines: &[u8], last: Option<Date>, now: Date) -> bool {
 }
 
 impl<'a, J: Journal, C: Clock> DatedJournal<'a, J, C> {
-    /// Makes a journal that adds dates. No other call allocates.
+    /// Creates a journal that adds dates. No other call allocates.
     pub fn new(alloc: Global, journal: J, clock: &'a C) -> Result<Self, AllocError>
     where
         J: Drop,
@@ -94,7 +94,7 @@ impl<'a, J: Journal, C: Clock> DatedJournal<'a, J, C> {
         &self.journal
     }
 
-    /// Returns the date that these lines need.
+    /// Returns the date that these lines need, if any.
     fn next_date(&self, lines: &[u8]) -> Option<Date> {
         let Ok(now) = Date::now(self.clock) else {
             return None;

@@ -5,7 +5,7 @@ use crate::date::Date;
 use crate::date_text::date_in;
 use mg_core::Remarks;
 
-/// The number of ticks that a crash can lose even if the journal works: one second of ticks, which are appended
+/// The number of ticks that a crash can lose even if the journal works: one second's worth, which are appended
 /// together.
 const LOST: u64 = 50;
 
@@ -42,7 +42,7 @@ fn missed_ticks(date: Date, ticks: u64, now: Date) -> u64
 }
 
 impl Timeline {
-    /// Makes a timeline that has not read any line of a journal yet.
+    /// Creates a timeline that hasn't read any of a journal's lines yet.
     pub fn new() -> Self {
         Timeline {
             start: None,

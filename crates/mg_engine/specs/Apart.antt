@@ -22,7 +22,7 @@ abbrev pub without_arrivals : TerminationMedia → TerminationMedia
 without_arrivals s =
     record s { play = first_list; frame = silence; stats = but_received s.stats }
 
--- the same, but only for the terminations in the list
+-- the media without arrivals for a termination in the list, and the media unchanged for any other
 abbrev pub unless_among : List ℕ → TerminationMedia → TerminationMedia
 unless_among some s = if has some s.number then without_arrivals s else s
 

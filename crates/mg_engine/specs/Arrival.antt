@@ -27,7 +27,7 @@ use Rattle.mg_engine.specs.Tick.{type_of}
 abbrev pub Arrived : Type 0
 Arrived = Result (Header × List ℤ) DropCause
 
--- the frame of a packet, if its payload is one frame of the law
+-- the frame of a packet, if its payload is one frame in this law
 abbrev pub decoded : Law → Header × List ℕ → Arrived
 decoded law p =
     if not (p.0.payload_type == type_of law) then Err causes.PayloadType
@@ -61,7 +61,7 @@ frame_placed header frame s =
       stats = received s.stats;
     }
 
--- the gateway after a termination got a frame or none, and what became of its datagram
+-- the gateway after a termination got a frame or none, and the outcome of the datagram
 abbrev pub taken_at : Gateway → ℕ → Arrived → Gateway × Taken
 taken_at w n (Ok p) = option_map_or (λ s. (
   record w { media = change (λ s. s.number) n (λ s. Some (frame_placed p.0 p.1 s)) w.media },

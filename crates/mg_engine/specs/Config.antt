@@ -5,7 +5,7 @@ use Rattle.mg_rooms.specs.declared.limits.Limits.{Limits}
 use Rattle.mg_rooms.specs.Limits.{AreValidLimits}
 use Rattle.mg_engine.specs.declared.config.Config.{Config}
 
--- a gateway on this machine, with all slots
+-- the configuration of a gateway on this machine, with all slots
 abbrev pub standard : Config
 standard = record {
   address = 127 ∷ 0 ∷ 0 ∷ 1 ∷ [];

@@ -32,7 +32,7 @@ may_hear (Apply first second association ∷ es) talker listener =
     then permits association (is_forward first second talker listener)
     else may_hear es talker listener
 
--- whether both are terminations, and different ones in the same context
+-- whether these are two different terminations in the same context
 abbrev pub share_context : Gateway → ℕ → ℕ → Bool
 share_context w a b =
     is_some (record_at w.rooms a)

@@ -13,9 +13,9 @@ use Rattle.mg_words.specs.declared.stats.Stats.{Stats}
 use Rattle.mg_words.specs.Stats.{no_packets}
 use Rattle.mg_sums.specs.Samples.{silence}
 
--- The media of one termination: its play list, the frame that this tick plays (160 samples), and
--- its counters. Then the number of its ticks, the number of packets it has sent, and whether its
--- last tick sent one.
+-- The media of one termination: its play list, the frame that this tick plays (160 samples), its
+-- counters, the number of its ticks, the number of packets it has sent, and whether its last tick
+-- sent one.
 pub record TerminationMedia : Type 0 where
   pub number : ℕ
   pub play : PlayList
@@ -32,8 +32,8 @@ pub data ContextEdit : Type 0 where
   Leave : (member : ℕ) → ContextEdit
   Apply : (first second : List ℕ) → (association : Association) → ContextEdit
 
--- The configuration; the terminations and contexts; and the media of each termination, in order of
--- their numbers. Then everything that happened to the members of all contexts, newest first.
+-- The configuration; the terminations and contexts; the media of each termination, in order of
+-- their numbers; and everything that happened to the members of all contexts, newest first.
 pub record Gateway : Type 0 where
   pub config : Config
   pub rooms : rooms.Registry
@@ -70,7 +70,7 @@ media_of w n = find (λ s. s.number == n) w.media
 abbrev pub stats_of : Gateway → ℕ → Option Stats
 stats_of w n = option_map (λ s. s.stats) (media_of w n)
 
--- ## The same for any number: one that names no termination is Inactive, in context 0, and silent
+-- ## Lookups by any number: one that names no termination is Inactive, in context 0, and silent
 
 abbrev pub mode_of : Gateway → ℕ → Mode
 mode_of w n = option_map_or (λ r. r.mode) (rooms.record_at w.rooms n) Inactive

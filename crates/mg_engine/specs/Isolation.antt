@@ -13,7 +13,7 @@ use Rattle.mg_engine.specs.Flow.{flow, mentions}
 use Rattle.mg_engine.specs.Mix.{mix, is_loopback}
 use Rattle.mg_engine.specs.Tick.{packet, packet_of}
 
--- nobody hears himself: no termination's speech flows to itself
+-- nobody hears himself: no termination's speech flows back to that termination
 abbrev pub NoneHearsItself : Type 0
 NoneHearsItself = (w : Gateway) (n : ℕ) → flow w n n ≡ false
 
@@ -28,8 +28,8 @@ with_frame w n frame = record w { media = map (replayed n frame) w.media }
 abbrev pub hears_itself : Gateway → ℕ → Bool
 hears_itself w n = is_loopback (mode_of w n)
 
--- Except in Loopback, no byte of a packet to a termination depends on what it says itself. (The
--- definition of flow says that its speech does not flow to itself; this is the consequence.)
+-- Except in Loopback, no byte of a packet to a termination depends on what it says itself. (By the
+-- definition of flow, its speech does not flow back to it; this is the consequence.)
 abbrev pub OwnSpeechChangesNoPacket : Type 0
 OwnSpeechChangesNoPacket =
     (w : Gateway) (frame : List ℤ) (r : Record) → hears_itself w r.number ≡ false
@@ -77,8 +77,8 @@ PacketsDependOnHeard =
     → (hears_itself a r.number ≡ true → frame_of a r.number ≡ frame_of b r.number)
     → packet_of a r ≡ packet_of b r
 
--- Whatever a talker says, a listener that does not get its speech is sent the same packet, byte for
--- byte. (In Loopback a termination is its own listener.)
+-- Whatever a talker says, a listener to which its speech does not flow is sent the same packet,
+-- byte for byte. (In Loopback a termination is its own listener.)
 abbrev pub UnheardChangesNoPacket : Type 0
 UnheardChangesNoPacket =
     (w : Gateway) (talker : ℕ) (frame : List ℤ) (r : Record) → flow w talker r.number ≡ false

@@ -1,5 +1,5 @@
 -- What is said in a context in this tick, and what each listener is sent. Totals are plain sums,
--- and a mix is limited once: this is the project's own rule.
+-- and a mix is saturated once: this is the project's own rule.
 use Rattle.std.specs.Prelude.{ℕ, ℤ, pos, Bool, true, false, List, map, ◌&&◌, nat_lt}
 use Rattle.std.specs.Prelude.{Option, Some, None, is_some, slice_index_or, if◌then◌else◌}
 use Rattle.std.specs.List.{range_with_len}
@@ -23,7 +23,7 @@ part_of_total w i n = if talks (mode_of w n) then played_sample w n i else pos 0
 abbrev pub total : Gateway → ℕ → ℕ → ℤ
 total w c i = sum_of (part_of_total w i) (members_at w.rooms c)
 
--- the same, if the context exists and a frame has this sample
+-- this sum, if the context exists and a frame has this sample
 abbrev pub total_at : Gateway → ℕ → ℕ → Option ℤ
 total_at w c i = if is_some (context_at w.rooms c) && nat_lt i 160 then Some (total w c i) else None
 
@@ -40,7 +40,7 @@ is_loopback Loopback = true
 is_loopback _ = false
 
 -- sample i of what a termination is sent: its own in Loopback, otherwise the sum of everyone whose
--- speech flows to it, limited once
+-- speech flows to it, saturated once
 abbrev pub mix : Gateway → ℕ → ℕ → ℤ
 mix w n i = if is_loopback (mode_of w n) then played_sample w n i else nearest_sample (heard w n i)
 

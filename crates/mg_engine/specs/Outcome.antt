@@ -87,7 +87,7 @@ existing_context w (targets.Number c) = do
   Ok c
 existing_context w _ = Err UnknownContext
 
--- all triples are applied to the current members, or none
+-- either all triples are applied to the current members, or none
 unfoldable pub apply_triples : Gateway → Target → List TopologyTriple
     → Result (Gateway × ℕ) ErrorNumber
 apply_triples w target xs = do

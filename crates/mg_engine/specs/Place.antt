@@ -1,4 +1,4 @@
--- The place of a member in the table of flows (this project's own).
+-- The place of a member in the table of flows (not from a standard).
 use Rattle.std.specs.Prelude.{◌≡◌, ℕ, Option, Some}
 use Rattle.std.specs.Option.{option_map}
 use Rattle.mg_rooms.specs.declared.record.Record.{Record}

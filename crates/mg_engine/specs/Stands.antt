@@ -17,8 +17,8 @@ use Rattle.mg_engine.specs.declared.share.Share.{Share}
 use Rattle.mg_sums.specs.Sums as sums
 
 -- The state of an engine: its configuration, the terminations and contexts, the media of each slot,
--- and the table of flows. Then the frame of each slot's row, and the rooms that rows are joined to.
--- Finally, by room, the packets of the last tick that share their payloads.
+-- the table of flows, the frame of each slot's row, the rooms that rows are joined to, and, by
+-- room, the packets of the last tick that share their payloads.
 pub record EngineState : Type 0 where
   pub config : Config
   pub rooms : rooms.Registry

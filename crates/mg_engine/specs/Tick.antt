@@ -27,7 +27,7 @@ use Rattle.mg_engine.specs.Mix.{mixed}
 
 -- ## Frames
 
--- the play list ticks, and what it plays is the frame of this tick
+-- the play list advances, and what it plays is the frame of this tick
 abbrev pub played : TerminationMedia → TerminationMedia
 played s =
     let after = play_lists.ticked s.play in
@@ -116,7 +116,7 @@ sent_in_tick w = packets (all_played w)
 abbrev pub after_ticks : ℕ → Gateway → Gateway
 after_ticks count w = iterate after_tick count w
 
--- how many frames they conceal
+-- how many missing frames this many ticks conceal
 abbrev pub concealed_in_ticks : ℕ → Gateway → ℕ
 concealed_in_ticks zero w = 0
 concealed_in_ticks (suc count) w =

@@ -1,4 +1,4 @@
--- What the stored frames and totals represent (this project's own).
+-- What the stored frames and totals represent (not from a standard).
 use Rattle.std.specs.Prelude.{◌≡◌, ℕ, ◌<◌, Some}
 use Rattle.mg_rooms.specs.declared.context.Context.{Context}
 use Rattle.mg_rooms.specs.declared.record.Record.{Record}

@@ -1,5 +1,5 @@
--- Which contexts an edit or an RTP datagram does not affect, and in what respects (this project's
--- own).
+-- Which contexts an edit or an RTP datagram does not affect, and in what respects (not from a
+-- standard).
 use Rattle.std.specs.Prelude.{◌≡◌, ℕ, Bool, true, false, List, Some, IsSome, Ok}
 use Rattle.mg_rooms.specs.declared.record.Record.{Record}
 use Rattle.mg_rooms.specs.declared.target.Target.{Target}
@@ -20,8 +20,8 @@ use Rattle.mg_engine.specs.Outcome.{outcome}
 abbrev pub is_member : Gateway → ℕ → ℕ → Bool
 is_member w c n = has (members_at w.rooms c) n
 
--- The context c is unchanged, including the order of its members. So are their records, their media
--- and their total, who hears whom among them regardless of modes, and which speech flows between
+-- The context c is unchanged, including the order of its members. So are the members' records,
+-- media and total, who hears whom among them regardless of modes, and which speech flows between
 -- them.
 pub record IsUnaffected (w next : Gateway) (c : ℕ) : Type 0 where
   pub context : context_at next.rooms c ≡ context_at w.rooms c

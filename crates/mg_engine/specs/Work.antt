@@ -1,5 +1,5 @@
 -- The cost of a tick and of an edit: how many rows of 160 samples are added, subtracted or written
--- (this project's own).
+-- (not from a standard).
 use Rattle.std.specs.Prelude.{◌≡◌, ℕ, ◌+◌, ◌*◌, ◌%◌, ◌^◌, ◌≤◌, length, is_some, sum_by, count_by}
 use Rattle.std.specs.Prelude.{if◌then◌else◌}
 use Rattle.mg_rooms.specs.declared.record.Record.{Record}

@@ -4,7 +4,7 @@ use mg_rooms::{Settings, Target};
 /// What a command asks the gateway to do. The target is the action's context (RFC 3525, section 7.2).
 #[derive(Debug, Drop)]
 pub enum Edit {
-    /// Makes a termination in the context.
+    /// Creates a termination in the context.
     Add {
         target: Target,
         settings: Settings,

@@ -107,7 +107,7 @@ impl Model for Engine {
         e.sums.rooms };
 }
 
-/// Makes idle media for `slots` slots. Fails only if the allocation fails.
+/// Creates idle media for `slots` slots. Fails only if the allocation fails.
 fn idle_media(alloc: Global, slots: u16) -> Result<Vec<HeldMedia>, AllocError>
     ensures value { IfOk result (λ media. media.items ≡ replicate slots idle) }
 {
@@ -118,7 +118,7 @@ fn idle_media(alloc: Global, slots: u16) -> Result<Vec<HeldMedia>, AllocError>
     Ok(media)
 }
 
-/// Makes the tables of a gateway without terminations.
+/// Creates the tables of a gateway without terminations.
 ///
 /// They hold the flows, the slots by place, the frames and totals, and the shared payloads. Fails only if the
 /// allocation fails.
@@ -262,7 +262,7 @@ impl Engine {
         }
     }
 
-    /// Makes a termination in the action's context, and makes that context too if it is new (RFC 3525, section 7.2.1).
+    /// Creates a termination in the action's context, and the context too if it is new (RFC 3525, section 7.2.1).
     pub fn add(&mut self, target: Target, settings: &Settings) -> Result<Record, ErrorNumber>
         ensures outcome { (w : Gateway) → StandsFor self.old w → IsOutcome self.new result (add w target settings.now) }
         ensures refused { OnErr result (self.new ≡ self.old) }

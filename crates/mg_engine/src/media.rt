@@ -42,7 +42,7 @@ impl HeldMedia {
     ghost use Rattle.mg_playout.specs.Played.{is_concealed, sound_of};
     ghost use Rattle.mg_sums.specs.Samples.{frame_or_silence};
 
-    /// Makes idle media. Fails only if the allocation fails.
+    /// Creates idle media. Fails only if the allocation fails.
     pub fn new(alloc: Global) -> Result<HeldMedia, AllocError>
         ensures value { IfOk result (λ media. media ≡ idle) }
     {

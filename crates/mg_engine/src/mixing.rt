@@ -14,7 +14,7 @@ use mg_sums::Row;
 use mg_topology::SEATS;
 use mg_topology::mask::{self, Mask};
 
-/// Returns the listener's own row if it talks, because it must not hear itself.
+/// Returns the listener's own row if the listener talks, because it must not hear itself.
 pub fn own_row(listener: &Record) -> Option<Row>
     requires slot { listener.now.slot < termination_limit }
     ensures value { result ≡ (if talks listener.now.mode then Some listener.now.slot else None) }
@@ -26,7 +26,7 @@ pub fn own_row(listener: &Record) -> Option<Row>
     }
 }
 
-/// Returns the rows of the members in some seats of a room.
+/// Returns the rows of the members in the given seats of a room.
 pub fn rows_on(seating: &Seating, room: u8, seats: Mask) -> ArrayVec<Row, SEATS>
     requires room { room < context_limit }
     requires slots { (seat : ℕ) → IsTrue (has_seat seats seat) →

@@ -28,7 +28,7 @@ impl Model for PortPool {
 }
 
 impl PortPool {
-    /// Makes the pool of ports. Fails only if the allocation fails.
+    /// Creates the pool of ports. Fails only if the allocation fails.
     pub fn new(alloc: Global, limits: Limits) -> Result<PortPool, AllocError>
         requires valid { AreValidLimits limits }
         ensures value { IfOk result (λ ports. ports ≡ limits) }

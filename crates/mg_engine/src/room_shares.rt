@@ -27,7 +27,7 @@ impl Model for RoomShares {
 }
 
 impl RoomShares {
-    /// Makes an empty list of shares.
+    /// Creates an empty list of shares.
     pub fn new() -> Self
         ensures value { result ≡ [] }
     {

@@ -29,7 +29,7 @@ impl Model for Shares {
 }
 
 impl Shares {
-    /// Makes an empty table of shares. Fails only if the allocation fails.
+    /// Creates an empty table of shares. Fails only if the allocation fails.
     pub fn new(alloc: Global) -> Result<Self, AllocError>
         ensures value { IfOk result (λ shares. shares ≡ replicate context_limit []) }
     {

@@ -35,7 +35,7 @@ pub fn are_idle(held: &[u8], media: &[HeldMedia], sums: &Sums) -> bool
     true
 }
 
-/// Counts several ticks for the termination in a slot, and their packets if it sends.
+/// Counts several ticks for the termination in a slot and, if it sends, as many packets.
 fn pass_slot(rooms: &Rooms, media: &mut Vec<HeldMedia>, slot: u8, count: u64)
     requires slot { slot < length media.old.items }
     ensures value { media.new.items ≡ slice_set media.old.items slot
@@ -45,7 +45,7 @@ fn pass_slot(rooms: &Rooms, media: &mut Vec<HeldMedia>, slot: u8, count: u64)
     media[usize::from(slot)].pass(count, is_sent);
 }
 
-/// Counts several ticks for the terminations in these slots, and their packets for those that send.
+/// Counts several ticks for the terminations in these slots and, for those that send, as many packets.
 pub fn pass_slots(rooms: &Rooms, held: &[u8], media: &mut Vec<HeldMedia>, count: u64)
     requires slots { EachIndex held.now (λ i. slice_index_or held.now i 0 < length media.old.items) }
     requires apart { AreApart held.now }

@@ -33,7 +33,7 @@ pub fn one_arrival(bytes: &[u8])
     one_reading(bytes);
 }
 
-/// Nobody hears himself: no termination's speech flows to itself.
+/// Nobody hears himself: no termination's speech flows back to that termination.
 ///
 /// Except in Loopback, what a termination says has no effect on what it is sent.
 pub fn none_hears_itself()
@@ -108,10 +108,10 @@ pub fn other_contexts_are_unaffected()
     ensures media { DatagramsDoNotAffectOthers }
 {}
 
-/// Two gateways that agree except in some terminations still do after the same edit, datagram or tick.
+/// If two gateways agree except in some terminations, they still do after the same edit, datagram or tick.
 ///
-/// They also agree if only one of them receives an RTP datagram at the port of one of these terminations. Counters are
-/// equal in both, except for received packets.
+/// They still agree even if only one of them receives an RTP datagram at the port of one of these terminations.
+/// Counters are equal in both, except for received packets.
 pub fn agreement_lasts()
     ensures edits { SameEditsKeepAgreement }
     ensures media { SameArrivalKeepsAgreement }

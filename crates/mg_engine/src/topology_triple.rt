@@ -16,7 +16,7 @@ pub struct TopologyTriple {
     pub association: Association,
 }
 
-/// Makes a triple that is not allowed, so an edit with it fails.
+/// The default is a triple that is not allowed, so an edit with it fails.
 impl Default for TopologyTriple {
     ghost use Rattle.std.specs.Prelude.{◌≡◌};
     ghost use Rattle.mg_engine.specs.Triples.{barred_triple};

@@ -1,4 +1,4 @@
-//! Converts triples of a topology to the seats of the members that their terms match.
+//! Converts a topology's triples to the seats of the members that their terms match.
 
 ghost use Rattle.std.specs.Prelude.{Any, ◌≡◌, ◌≤◌, [], ◌∷◌, length, Ok, Err, true, false, IfSome, IfNone, MatchResult, IsTrue, IsFalse};
 ghost use Rattle.mg_topology.specs.Triple.{Overlaps};

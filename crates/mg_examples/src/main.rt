@@ -1,4 +1,4 @@
-//! Runs each example and each rule's script on a new gateway, and compares the output with the stored one.
+//! Runs each example and each rule's script on a new gateway, and compares the output with the stored output.
 #![tactic(auto)]
 
 use anyhow::{Result, anyhow};
@@ -69,7 +69,7 @@ const SCRIPTS: [&str; 57] = [
     "rules/a_mover_is_heard_elsewhere",
 ];
 
-/// The scripts that also have a stored output with the changes after each event.
+/// The scripts for which an output with the changes after each event is also stored.
 const WITH_FLOWS: [&str; 3] = ["coaching", "recording", "journal"];
 
 /// Returns the output of a script on a gateway with the standard configuration.

@@ -19,7 +19,7 @@ abbrev pub apply_in_room : ℕ → List Triple → List FlowEdit → List FlowEd
 apply_in_room room [] es = es
 apply_in_room room (triple ∷ triples) es = apply_in_room room triples (Apply room triple ∷ es)
 
--- the edits of a room, with one more if it belongs to the room
+-- the edits of a room, with one more edit if that edit belongs to the room
 abbrev pub with_edit_if : Bool → topology.TopologyEdit → List topology.TopologyEdit →
     List topology.TopologyEdit
 with_edit_if is_here edit es = if is_here then edit ∷ es else es

@@ -1,4 +1,4 @@
--- Places of a gateway's members (this project's own).
+-- Places of a gateway's members (not from a standard).
 use Rattle.std.specs.Prelude.{ℕ, ◌<◌, Bool, not, ◌&&◌, ◌==◌}
 use Rattle.mg_words.specs.Limits.{context_limit}
 use Rattle.mg_topology.specs.Mask.{seat_limit}

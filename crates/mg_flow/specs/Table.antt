@@ -1,4 +1,4 @@
--- The state of a flow table, and which lists of edits it represents (this project's own).
+-- The state of a flow table, and which lists of edits it represents (not from a standard).
 use Rattle.std.specs.Prelude.{◌≡◌, ◌≢◌, ℕ, Bool, not, ◌&&◌, ◌==◌, if◌then◌else◌, List, [], ◌∷◌}
 use Rattle.std.specs.Prelude.{slice_index_or}
 use Rattle.mg_topology.specs.declared.triple.Triple.{Triple}
@@ -63,11 +63,12 @@ pub record StandsFor (table : List RoomFlows) (es : List FlowEdit) : Type 0 wher
 abbrev pub StandsForSome : List RoomFlows → Type 0
 StandsForSome table = ∥ ((es : List FlowEdit) × StandsFor table es) ∥₁
 
--- All rooms except this one are unchanged, and with them everything about their places.
+-- All rooms except this one are unchanged, and so is everything about their places.
 abbrev pub KeepsOthers : List RoomFlows → List RoomFlows → ℕ → Type 0
 KeepsOthers old new room = (other : ℕ) → other ≢ room → room_at new other ≡ room_at old other
 
--- The place is now held, talks and listens as the three flags say; every other place is unchanged.
+-- The three flags say whether the place is now held, talks and listens; every other place is
+-- unchanged.
 pub record SetsPlace (old new : List RoomFlows) (place : Place)
     (is_held does_talk does_listen : Bool) : Type 0 where
   pub held : (p : Place) →
@@ -77,7 +78,7 @@ pub record SetsPlace (old new : List RoomFlows) (place : Place)
   pub listeners : (p : Place) →
       listens_at new p ≡ (if is_same_place p place then does_listen else listens_at old p)
 
--- the same places are held, talk and listen as before
+-- the same places are held, talk and listen as before the call
 pub record KeepsPlaces (old new : List RoomFlows) : Type 0 where
   pub held : (p : Place) → holds new p ≡ holds old p
   pub talkers : (p : Place) → talks_at new p ≡ talks_at old p

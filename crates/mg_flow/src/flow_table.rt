@@ -43,7 +43,7 @@ impl FlowTable {
     ghost use Rattle.mg_flow.specs.Edits.{FlowEdit, Enter, Leave, SetMode, apply_in_room, is_held, hears_in, flows_in, is_silenced_in};
     ghost use Rattle.mg_flow.specs.Table.{StandsFor, StandsForSome, KeepsOthers, SetsPlace, KeepsPlaces, holds, hears, hears_after, flows, is_silenced};
 
-    /// Makes the table of a gateway whose rooms are all empty.
+    /// Creates the table of a gateway whose rooms are all empty.
     ///
     /// It allocates the memory for all rooms; no other call allocates. Fails only if the allocation fails.
     pub fn new(alloc: Global) -> Result<Self, AllocError>

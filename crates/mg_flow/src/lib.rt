@@ -1,4 +1,4 @@
-//! For each listener, the talkers that it hears and those that are silenced.
+//! Who hears whom in all rooms: each listener's open and silenced talkers.
 //!
 //! A gateway has [`CONTEXTS`] rooms, one for each context. A member of a context has a [`Place`]: the room and a seat
 //! in it. A [`FlowTable`] keeps a topology for each room. For each place it records whether the member talks and

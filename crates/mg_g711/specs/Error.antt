@@ -4,7 +4,7 @@ use Rattle.mg_g711.specs.declared.law.Law.{Law}
 use Rattle.mg_g711.specs.declared.law.Law.TheVariants.{Mu, A}
 use Rattle.mg_g711.specs.Law.{quantized_of}
 
--- the distance between a sample and its decoded code
+-- the distance between a sample and its value after encoding and decoding
 abbrev pub error_of : Law → ℤ → ℕ
 error_of law v = unsigned_abs (v -ℤ quantized_of law v)
 

@@ -8,9 +8,9 @@ use Rattle.mg_journal.specs.declared.durability.Durability.{Durability}
 use Rattle.mg_journal.specs.declared.durability.Durability.TheVariants.{Written, Synced}
 use Rattle.mg_journal.specs.Text.{whole_lines}
 
--- What is known about a journal: its text, which is the whole lines that a reader finds, oldest
--- first; the part of the text that a sync has put on the disk; and whether the journal is broken. A
--- text that is unknown stays unknown.
+-- What is known about a journal: its text, which is the complete lines that a reader finds, oldest
+-- first; the part of the text that a sync has put on the disk; and whether the journal is broken.
+-- An unknown text stays unknown.
 pub record JournalState : Type 0 where
   pub text : Option (List ℕ)
   pub synced : Option (List ℕ)
@@ -46,7 +46,8 @@ pub record Breaks (lines : List ℕ) (old new : JournalState) : Type 0 where
   }
   pub none : old.is_broken ≡ true → new ≡ old
 
--- The lines were appended, or nothing changed, or the journal is broken. A broken journal stays so.
+-- The lines were appended, or nothing changed, or the journal is broken. A broken journal stays
+-- broken.
 abbrev pub Appends : List ℕ → Durability → JournalState → JournalState
     → Result (Unit {0}) AppendFault → Type 0
 Appends lines durability old new (Ok done) =

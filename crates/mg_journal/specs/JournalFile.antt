@@ -5,8 +5,8 @@ use Rattle.std.specs.Option.{option_map}
 use Rattle.std.specs.Io.{StartsWith}
 use Rattle.std.specs.Io.KnownBytes.{append_known}
 
--- What is known about a file: its bytes, and those bytes that a sync has put on the disk. Bytes that
--- are unknown stay unknown.
+-- What is known about a file: its bytes, and those bytes that a sync has put on the disk. Unknown
+-- bytes stay unknown.
 pub record FileState : Type 0 where
   pub bytes : Option (List ℕ)
   pub synced : Option (List ℕ)
@@ -26,11 +26,11 @@ cut_to len file = record {
   synced = option_map (λ bytes. take len bytes) file.synced;
 }
 
--- a file all of which is on the disk
+-- a file that is entirely on the disk
 abbrev pub synced : FileState → FileState
 synced file = record file { synced = file.bytes }
 
--- the file has these bytes at this offset, and no bytes only if it ends there
+-- the file has these bytes at this offset; there are none only if the file ends there
 abbrev pub HasAt : FileState → ℕ → List ℕ → Type 0
 HasAt file at part =
     IfSome file.bytes (λ bytes. StartsWith (drop at bytes) part × (part ≡ [] → drop at bytes ≡ []))

@@ -1,4 +1,4 @@
--- The text of a journal: whole lines.
+-- The text of a journal: complete lines.
 use Rattle.std.specs.Prelude.{◌≡◌, ℕ, ◌-◌, Bool, ◌==◌, List, [], ◌∷◌, length, slice_index}
 use Rattle.std.specs.Prelude.{if◌then◌else◌}
 use Rattle.std.specs.List.{list_any}
@@ -7,13 +7,13 @@ use Rattle.std.specs.List.{list_any}
 abbrev pub has_line_feed : List ℕ → Bool
 has_line_feed bytes = list_any (λ b. b == 10) bytes
 
--- The whole lines of some bytes, which are the bytes up to the last line feed. What follows it is a
+-- The complete lines of some bytes: all bytes up to the last line feed. Anything after it is a
 -- partial line.
 unfoldable pub whole_lines : List ℕ → List ℕ
 whole_lines [] = []
 whole_lines (b ∷ bytes) = if has_line_feed (b ∷ bytes) then b ∷ whole_lines bytes else []
 
--- the last line is whole too
+-- the last line is complete too
 abbrev pub IsWhole : List ℕ → Type 0
 IsWhole bytes = whole_lines bytes ≡ bytes
 

@@ -31,7 +31,7 @@ impl<F: JournalFile> Model for FileJournal<F> {
 }
 
 impl<F: JournalFile> FileJournal<F> {
-    /// Makes a journal that continues a file of complete lines.
+    /// Creates a journal that continues a file of complete lines.
     pub(crate) fn new(file: F, len: u64) -> Self
         requires whole { IsJournal (F.file file) len false }
         ensures value { result ≡ journal_in (F.file file) false }

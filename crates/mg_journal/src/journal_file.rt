@@ -19,7 +19,7 @@ pub trait JournalFile {
     fn cut(&mut self, len: u64) -> io::Result<()>
         ensures value { Cuts len (file self.old) (file self.new) result };
 
-    /// Waits until all of the file is on the disk.
+    /// Waits until the whole file is on the disk.
     fn sync(&mut self) -> io::Result<()>
         ensures value { Syncs (file self.old) (file self.new) result };
 }

@@ -1,6 +1,6 @@
-//! Journals: files of lines. An append adds all of its lines or none.
+//! Journals: files of lines, to which each append adds all of its lines or none.
 //!
-//! A program that appends a line before it acts on it can repeat its actions after a crash:
+//! A program that appends each line before acting on it can repeat its actions after a crash:
 //!
 //! ```rust
 //! let mut opening = open_journal(&rt, "journal.txt")?;

@@ -30,7 +30,7 @@ fn copy_front(from: &[u8], to: &mut [u8]) -> usize
 }
 
 impl MemoryFile {
-    /// Makes a file that holds these bytes. None of them is on the disk yet.
+    /// Creates a file that holds these bytes. None of them is on the disk yet.
     pub fn new(bytes: Vec<u8>, faults: Vec<InjectedFault>) -> Self
         ensures bytes { result.bytes.items ≡ bytes.items }
         ensures synced { result.synced ≡ 0 }

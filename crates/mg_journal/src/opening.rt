@@ -91,7 +91,7 @@ fn cut_partial<F: JournalFile>(extent: Extent, file: &mut F) -> io::Result<()>
 }
 
 impl<F: JournalFile> Opening<F> {
-    /// Finds the complete lines of a file. Reads all of the file, and doesn't change it.
+    /// Finds the complete lines of a file. This reads the whole file, and doesn't change it.
     pub fn new(mut file: F) -> io::Result<Self>
     where
         F: Drop,

@@ -27,7 +27,8 @@ OthersStay =
     → length replies < kept_limit → is_reply_to sender number reply ≡ false
     → kept_text (with_reply reply replies) sender number ≡ kept_text replies sender number
 
--- At the limit, it changes nothing for other requests except the oldest.
+-- At the limit, keeping a reply changes nothing for other requests, except that the oldest reply is
+-- dropped.
 abbrev pub OnlyOldestIsDropped : Type 0
 OnlyOldestIsDropped =
     (oldest : KeptReply) (rest : List KeptReply) (reply : KeptReply) (sender : List ℕ) (number : ℕ)

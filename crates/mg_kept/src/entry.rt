@@ -36,7 +36,7 @@ fn is_same_name(a: &[u8], b: &[u8]) -> bool
 }
 
 impl Entry {
-    /// Makes a place without a reply. Fails only if the allocation fails.
+    /// Creates a place without a reply. Fails only if the allocation fails.
     pub(crate) fn new(alloc: Global) -> Result<Self, AllocError> {
         Ok(Entry {
             sender: ArrayVec::new(),

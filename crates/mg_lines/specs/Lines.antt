@@ -1,8 +1,8 @@
--- The lines of text.
+-- Lines of text.
 use Rattle.std.specs.Prelude.{ℕ, ◌-◌, Bool, ◌==◌, List, [], ◌∷◌, ◌++◌, length, take, slice_index}
 use Rattle.std.specs.Prelude.{if◌then◌else◌}
 
--- A line's text: without the line feed at its end, and without one carriage return before that.
+-- A line's text, without the line feed at its end and without one carriage return before that.
 abbrev pub without_return : List ℕ → List ℕ
 without_return line =
     if slice_index line (length line - 1) == 13 then take (length line - 1) line else line

@@ -2,7 +2,7 @@ use crate::seconds::Seconds;
 use std::io::{self, Write};
 use std::time::Duration;
 
-/// The upper limits of the buckets, in microseconds, and as Prometheus reads them, in seconds.
+/// The upper limits of the buckets: in microseconds, and in seconds, as Prometheus reads them.
 const BUCKETS: [(u64, &str); 9] = [
     (500, "0.0005"),
     (1_000, "0.001"),

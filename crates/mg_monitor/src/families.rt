@@ -32,7 +32,7 @@ fn contexts(core: &Core) -> usize {
     contexts
 }
 
-/// Writes the metrics of ticks.
+/// Writes the metrics about ticks.
 pub fn put_timing<W: Write>(
     ticks: u64,
     delays: &Delays,

@@ -18,7 +18,7 @@ const TICKS: u64 = 50;
 /// The length of a tick, in microseconds.
 const TICK_MICROS: u64 = 20_000;
 
-/// The number of ticks between two texts: five seconds.
+/// The number of ticks from one metrics text to the next: five seconds' worth.
 const EVERY: u64 = 5 * TICKS;
 
 /// The initial capacity for the text, in bytes: enough for 256 ports.
@@ -38,7 +38,7 @@ pub struct Metrics<'a, C: Clock, S: Sink + Drop> {
     ticks: u64,
     /// How late the ticks began.
     delays: Delays,
-    /// The longest time that a poll and its tick took since the last text.
+    /// The longest time that a poll and its tick have taken since the last metrics text.
     longest: Duration,
     /// Datagrams that were dropped at the control port because of their sender.
     control_strangers: u64,
@@ -49,7 +49,7 @@ pub struct Metrics<'a, C: Clock, S: Sink + Drop> {
 }
 
 impl<'a, C: Clock, S: Sink + Drop> Metrics<'a, C, S> {
-    /// Starts to measure. The first tick is due 20 ms from now.
+    /// Starts measuring. The first tick is due 20 ms from now.
     pub fn start_now(
         alloc: Global,
         clock: &'a C,
@@ -81,14 +81,14 @@ impl<'a, C: Clock, S: Sink + Drop> Metrics<'a, C, S> {
         }
     }
 
-    /// Measures the poll and the tick that end now.
+    /// Measures the poll and tick that have just ended.
     fn count_step(&mut self) {
         if let (Some(began), Ok(now)) = (self.began, self.clock.monotonic()) {
             self.longest = self.longest.max(now.saturating_sub(began));
         }
     }
 
-    /// Writes all metrics into the text. Fails only if memory runs out.
+    /// Writes all metrics to the text. Fails only if memory runs out.
     fn write(&mut self, report: &TickReport<'_>) -> io::Result<()> {
         let label = gateway_label(&report.config);
         let sending = sending(report.core, self.ports.as_slice(), self.ticks);

@@ -16,13 +16,13 @@ impl<'a, W: Write> Page<'a, W> {
         Page { writer, gateway }
     }
 
-    /// Begins a metric. Its samples follow.
+    /// Begins a metric, whose samples follow.
     pub fn begin(&mut self, name: &str, kind: &str, help: &str) -> io::Result<()> {
         writeln!(self.writer, "# HELP lobbysorrel_{name} {help}")?;
         writeln!(self.writer, "# TYPE lobbysorrel_{name} {kind}")
     }
 
-    /// Writes a sample without other labels.
+    /// Writes a sample without any other label.
     pub fn sample<V: Display>(&mut self, name: &str, value: &V) -> io::Result<()> {
         let gateway = self.gateway;
         writeln!(self.writer, "lobbysorrel_{name}{{{gateway}}} {value}")

@@ -16,15 +16,15 @@ type Text = ArrayVec<u8, 512>;
 
 /// Prints reports for an operator.
 ///
-/// Every `every` ticks it prints the totals since the start, and a line for each media port that has had trouble since
-/// the last report. After a stall it prints how many packets were too late to be sent. If the journal can't be written,
-/// or can be written again, it prints that at once. It skips what it can't print.
+/// At the given interval, it prints the totals since the start, and a line for each media port that has had trouble
+/// since the last report. After a stall, it prints how many packets were too late to be sent. If the journal can't be
+/// written, or can be written again, it says so at once. It skips what it can't print.
 #[derive(Drop)]
 pub struct Reports<'a, E: Write> {
     every: u64,
     /// How many ticks have passed.
     ticks: u64,
-    /// Packets from late ticks since the last tick that was on time.
+    /// The number of packets in late ticks since the last tick that was on time.
     late: u64,
     /// Datagrams that were dropped because of their sender.
     strangers: u64,
@@ -34,7 +34,7 @@ pub struct Reports<'a, E: Write> {
 }
 
 impl<'a, E: Write> Reports<'a, E> {
-    /// Makes reports at this interval, in seconds; 0 disables them.
+    /// Creates a monitor that prints reports at this interval, in seconds; 0 disables them.
     pub fn new(alloc: Global, seconds: u16, writer: &'a mut E) -> Result<Self, AllocError> {
         Ok(Reports {
             every: u64::from(seconds) * TICKS,

@@ -26,8 +26,8 @@ pub record ReportsOneError {A W : Type 0} (requested : Result A Kinds) (unprinte
   pub reported : ReportsError kind unprinted old new status
   pub quiet : status ≡ Done → silent
 
--- How a program ends, with its exit status: as the run that the arguments ask for, or with a
--- reported error.
+-- How a program ends, with its exit status: either the run that the arguments ask for took place,
+-- or an error was reported.
 pub record EndsWith {A W : Type 0} (Runs : A → Status → Type 0) (requested : Result A Kinds)
     (unprinted : Status) (left silent : Type 0) (old new : W) (code : ℕ) : Type 0 where
   pub status : Status

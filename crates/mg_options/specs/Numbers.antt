@@ -22,6 +22,6 @@ number_below limit text = let digits = without_leading_plus text in
 abbrev pub number_given : ℕ → Text → List Row → Option ℕ
 number_given limit name found = option_and_then (number_below limit) (one_of name found)
 
--- that number, or a default
+-- the number that was given for an option, or a default
 abbrev pub number_or : ℕ → Text → ℕ → List Row → ℕ
 number_or limit name otherwise found = unwrap_or (number_given limit name found) otherwise

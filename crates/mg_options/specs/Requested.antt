@@ -1,4 +1,4 @@
--- What the arguments ask of a program: a run, or no run and the kinds of errors that say why. A
+-- What the arguments request: a run or, if they request none, the kinds of errors that say why. A
 -- request for help or for the version counts as such an error.
 use Rattle.std.specs.Prelude.{◌≡◌, ◌⊎◌, [], ◌∷◌, IsErrAnd, Result, Err}
 use Rattle.clap.specs.Kinds.{Kinds, IsAmong}

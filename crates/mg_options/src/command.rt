@@ -11,7 +11,7 @@ pub const VERSION: &str = "0.2.0";
 /// The toolchain that proves and builds the programs: what `rt version` prints. `.ci/dist` compares the two.
 pub const TOOLCHAIN: &str = "rattle-kit-13f logic dac8208d650f15bf";
 
-/// Makes the command line of a program, to which options and subcommands are added.
+/// Creates the command line of a program, to which options and subcommands are added.
 ///
 /// Its arguments do not include the program's name. `--version` prints the name and the version, then the toolchain on
 /// a line of its own ([`report_error`](crate::report_error)).

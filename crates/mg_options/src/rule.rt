@@ -5,7 +5,7 @@ ghost use Rattle.mg_options.specs.Numbers.{number_rule};
 use clap::{Arg, value_parser};
 use std::alloc::Global;
 
-/// Makes an option that takes one 16-bit number.
+/// Creates an option that takes one 16-bit number.
 pub fn short_number<'a>(alloc: Global, name: &'a str) -> Arg<'a>
     ensures rule { rule_of result ≡ number_rule name.now 0 65535 }
 {
@@ -15,7 +15,7 @@ pub fn short_number<'a>(alloc: Global, name: &'a str) -> Arg<'a>
         .value_parser(value_parser!(u16))
 }
 
-/// Makes an option that takes one 32-bit number.
+/// Creates an option that takes one 32-bit number.
 pub fn long_number<'a>(alloc: Global, name: &'a str) -> Arg<'a>
     ensures rule { rule_of result ≡ number_rule name.now 0 4294967295 }
 {

@@ -42,7 +42,7 @@ module _ {W R : Type 0} where
   abbrev pub readiness : Outlet W R → R
   readiness o = o.ready
 
-  -- an outlet to which nothing was written
+  -- an outlet to which nothing has been written yet
   abbrev pub new_outlet : W → R → (limit : ℕ) → Overflow → Outlet W R
   new_outlet writer ready limit overflow = record {
     writer = writer;
@@ -65,7 +65,7 @@ module _ {W R : Type 0} where
   abbrev pub stream : (W → Option (List ℕ)) → Outlet W R → Option (List ℕ)
   stream contents o = append_known (contents (writer o)) (queued o)
 
-  -- Everything that was written begins with the stream, and is the stream until the outlet ends.
+  -- The stream is a prefix of everything that was written, and all of it until the outlet ends.
   pub record BeginsWithStream (contents : W → Option (List ℕ)) (all : List ℕ) (o : Outlet W R) : Type 0
     where
       pub passed : List ℕ
@@ -86,8 +86,8 @@ module _ {W R : Type 0} where
       pub same_limit : limit new ≡ limit old
       pub same_overflow : overflow new ≡ overflow old
 
-    -- Some of the queue was passed on, and `rest` is what was left of it. Then a text joined the queue,
-    -- or was dropped as a whole and counted.
+    -- Some of the queue was passed on, which left `rest`. Then a text joined the queue, or the
+    -- whole text was dropped and counted.
     pub record IsWritten (text : List ℕ) (old new : Outlet W R) : Type 0 where
       pub rest : List ℕ
       pub passed : PassesOn (queued old) rest (behind old) (behind new)

@@ -22,7 +22,7 @@ const FLUSH_CHUNKS: u16 = 256;
 ///
 /// A write adds all of its text to a queue in memory, or none of it. [`flush`](Write::flush) passes on what it can
 /// without waiting, in order. So does [`write`](Write::write), if 4,096 bytes are queued already. A flush passes on at
-/// most 1 MiB and a write at most 4,096 bytes, so a reader that catches up doesn't delay the caller for long, either.
+/// most 1 MiB and a write at most 4,096 bytes, so even a reader that catches up doesn't delay the caller for long.
 ///
 /// If the other writer fails, each later call returns its error, and nothing more is written. If it was interrupted or
 /// would have waited, the outlet tries again later.
@@ -38,7 +38,7 @@ pub struct Outlet<W, R> {
 }
 
 impl<W: Write + AsRawFd + Drop> Outlet<W, SystemReady> {
-    /// Makes an outlet for a descriptor, such as standard output. It asks the system whether a write would wait.
+    /// Creates an outlet for a descriptor, such as standard output. It asks the system whether a write would wait.
     ///
     /// A regular file or `/dev/null` is always ready: a write to it goes to the page cache. A terminal may report that
     /// it is ready with less than 4,096 bytes free, so a write to it can wait.
@@ -64,7 +64,7 @@ impl<W: Write + AsRawFd + Drop> Outlet<W, SystemReady> {
 }
 
 impl<W: Write, R: Ready> Outlet<W, R> {
-    /// Makes an outlet with an empty queue of at most `limit` bytes, which are allocated now.
+    /// Creates an outlet with an empty queue of at most `limit` bytes, which are allocated now.
     pub fn new(
         alloc: Global,
         writer: W,
@@ -109,7 +109,7 @@ impl<W: Write, R: Ready> Outlet<W, R> {
         self.dropped
     }
 
-    /// Returns whether the outlet drops everything that is written from now on, because a text didn't fit.
+    /// Returns whether the outlet has ended: a text didn't fit, so everything that is written from now on is dropped.
     pub fn has_ended(&self) -> bool
         ensures value { result ≡ has_ended self.now }
     {
@@ -144,7 +144,7 @@ impl<W: Write, R: Ready> Outlet<W, R> {
         self.keep(outcome)
     }
 
-    /// Returns the error of an earlier write to the other writer.
+    /// Returns the error of an earlier write to the other writer, if there was one.
     fn check(&self) -> io::Result<()>
         ensures fails { IfErr result (λ e. failure self.now ≡ Some e) }
         ensures works { OnOk result (failure self.now ≡ None) }
@@ -155,7 +155,7 @@ impl<W: Write, R: Ready> Outlet<W, R> {
         }
     }
 
-    /// Keeps an error for later calls.
+    /// Stores an error for later calls.
     fn keep(&mut self, outcome: io::Result<()>) -> io::Result<()>
         ensures value { result ≡ outcome }
         ensures fails { IfErr outcome (λ e. self.new ≡ record self.old { failure = Some e }) }

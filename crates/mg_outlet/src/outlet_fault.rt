@@ -2,7 +2,7 @@ use std::io;
 use std::os::fd::RawFd;
 use thiserror::Error;
 
-/// Why an outlet couldn't be made.
+/// Why an outlet couldn't be created.
 #[derive(Debug, Drop, Error)]
 pub enum OutletFault {
     /// The system can't report when the descriptor is writable; `error` says why. The descriptor may be closed.

@@ -1,4 +1,4 @@
--- The command line, as its parser sees it, and what the arguments ask of the program.
+-- The command line, as its parser sees it, and what the arguments request.
 use Rattle.std.specs.Prelude.{max, min, List, codes, Result, Ok}
 use Rattle.clap.specs.Walk.{Row, Text}
 use Rattle.clap.specs.Simple.{App, matches_of, with_rule}
@@ -23,7 +23,7 @@ options_in found = record {
   polls = max 1 (min 1000 (number_or 65536 (codes "polls") 4 found));
 }
 
--- What the arguments ask of the program: a run with options, or none.
+-- What the arguments request: a run with options, or none.
 unfoldable pub requested : List Text → Result Options Kinds
 requested words =
     requested_by (fault_of command_line words) (Ok (options_in (matches_of command_line words)))

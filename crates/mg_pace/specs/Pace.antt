@@ -1,5 +1,5 @@
--- Which of the due polls and ticks are written, and how long the waits are. Times are nanoseconds
--- since the start.
+-- Which of the due polls and ticks are written, and how long the waits are. Times are in
+-- nanoseconds since the start.
 use Rattle.std.specs.Prelude.{◌≡◌, ℕ, ◌+◌, ◌*◌, ◌/◌, ◌<◌, ◌≤◌, max, List, [], ◌∷◌}
 use Rattle.mg_clock.specs.Due.{IsTimeTo, steps_due}
 

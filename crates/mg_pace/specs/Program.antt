@@ -6,7 +6,7 @@ use Rattle.mg_pace.specs.declared.options.Options.{Options}
 use Rattle.mg_pace.specs.Status.{status_of}
 use Rattle.mg_pace.specs.Run.{Paced, Seen}
 
--- a run took place, as far as the status says
+-- a run took place, and the status says how it ended
 pub record Runs (options : Options) (failed silent : Type 0) (old new : Seen)
     (status : Status) : Type 0 where
   pub outcome : Result (Unit {0}) PaceFault

@@ -20,10 +20,10 @@ abbrev pub seen : Option (List ℕ) → Option (List ℕ) → Option (List ℕ) 
 seen readings waits written =
     record { readings = readings; waits = waits; written = written }
 
--- How a run ends at a pace. All lines up to it were written, including the last wanted tick. If the
--- clock failed or was read 2^64 - 1 times, the run ended no later than that tick. If the output was
--- closed, a prefix of these lines was written. A run that skipped no tick reports nothing, unless
--- the clock failed.
+-- How a run ends at a pace. All lines up to that pace were written, including the last requested
+-- tick. If the clock failed or was read 2^64 - 1 times, the run ended no later than that tick. If
+-- the output was closed, a prefix of these lines was written. A run that skipped no tick reports
+-- nothing, unless the clock failed.
 abbrev pub RunEnds : ℕ → Pace → (readings waits : ℕ) → (failed silent : Type 0) → Option (List ℕ)
     → Option (List ℕ) → Result (Unit {0}) PaceFault → Type 0
 RunEnds wanted p readings waits failed silent old new (Ok done) =

@@ -7,7 +7,7 @@ use Rattle.mg_pace.specs.Pace.{Pace}
 abbrev pub quit_line : List ℕ
 quit_line = codes "quit\n"
 
--- The lines that are written up to a pace. The line that ends the run follows the last wanted
+-- The lines that are written up to a pace. The line that ends the run follows the last requested
 -- tick.
 abbrev pub text_by : ℕ → Pace → List ℕ
 text_by wanted p =

@@ -20,7 +20,7 @@ pub struct Options {
     pub polls: u16,
 }
 
-/// Makes the option for the number of ticks.
+/// Creates the option for the number of ticks.
 fn ticks_option<'a>(alloc: Global) -> Arg<'a>
     ensures rule { rule_of result ≡ number_rule (codes "ticks") 0 4294967295 }
 {
@@ -29,7 +29,7 @@ fn ticks_option<'a>(alloc: Global) -> Arg<'a>
     )
 }
 
-/// Makes the option for the number of polls per 20 ms.
+/// Creates the option for the number of polls per 20 ms.
 fn polls_option<'a>(alloc: Global) -> Arg<'a>
     ensures rule { rule_of result ≡ number_rule (codes "polls") 1 1000 }
 {
@@ -40,7 +40,7 @@ fn polls_option<'a>(alloc: Global) -> Arg<'a>
         .help("Number of polls per 20 ms, 1–1000 [default: 4]")
 }
 
-/// Makes the program's command line.
+/// Creates the program's command line.
 fn command<'a>(alloc: Global) -> Result<Command<'a>, Error>
     ensures app { IfOk result (λ command. app_of command ≡ command_line) }
     ensures memory { IfErr result (λ error. kind_of error ≡ ErrorKind.OutOfMemory) }

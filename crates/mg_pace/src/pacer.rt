@@ -49,7 +49,8 @@ fn turn<W: Write, E: Write>(
 
 /// Writes polls and ticks when a clock says that they are due, until the requested number of ticks has been written.
 ///
-/// `Clock`: the clock cannot be read, or was read 18,446,744,073,709,551,615 times. `Closed`: the output is closed.
+/// Fails with `Clock` if the clock cannot be read or was read 18,446,744,073,709,551,615 times, and with `Closed` if
+/// the output is closed.
 pub fn pace<K: Watch, W: Write, E: Write>(
     options: Options,
     watch: &mut K,

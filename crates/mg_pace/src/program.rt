@@ -14,7 +14,7 @@ use std::alloc::Global;
 use std::convert::AsStr;
 use std::io::Write;
 
-/// Does one run, and reports an error if the clock fails.
+/// Runs the pacer once, and reports an error if the clock fails.
 fn run<K: Watch, W: Write, E: Write>(
     options: Options,
     watch: &mut K,
@@ -47,7 +47,7 @@ pub fn program<'a, S: AsStr, K: Watch, W: Write, E: Write>(
     errors: &mut E,
 ) -> u8
     ensures status { result ≤ 4 }
-    // The program did what the arguments ask for, as far as the status says.
+    // The status says whether the program did what the arguments request and, if not, why.
     ensures ends { EndsWith (λ options status. Runs options (K.Fails watch.new) (errors.new ≡ errors.old)
         (seen (K.readings watch.old) (K.waits watch.old) (W.contents output.old))
         (seen (K.readings watch.new) (K.waits watch.new) (W.contents output.new)) status)

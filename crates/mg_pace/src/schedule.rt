@@ -6,7 +6,7 @@ use mg_clock::{MAX_POLLS, steps_due, time_to_step};
 use std::marker::Model;
 use std::time::Duration;
 
-/// The maximum number of ticks that are written at once after a delay: those of one second. Older ones are skipped.
+/// The maximum number of ticks that are written at once after a delay: one second's worth. Older ones are skipped.
 const CATCH_UP: u64 = 50;
 
 /// The progress of a run. A step is a poll. The last poll in every 20 ms comes with a tick.
@@ -30,7 +30,7 @@ impl Model for Schedule {
 }
 
 impl Schedule {
-    /// Makes a schedule with this many polls per 20 ms. No step has been written yet.
+    /// Creates a schedule with this many polls per 20 ms. No step has been written yet.
     pub fn new(polls: u16) -> Self
         requires some { 0 < polls }
         requires few { polls ≤ MAX_POLLS }

@@ -13,7 +13,7 @@ pub fn all_ticks_are_accounted_for()
     ensures theorem { Accounted }
 {}
 
-/// After a delay at most 50 ticks are written at once.
+/// After a delay, at most 50 ticks are written at once.
 pub fn ticks_at_once_are_bounded()
     ensures theorem { Bounded }
 {}

@@ -1,4 +1,4 @@
--- The places of a play list, each of which may hold a frame (this project's own).
+-- The places of a play list, each of which may hold a frame (not from a standard).
 use Rattle.std.specs.Prelude.{ℕ, ◌-◌, ◌≤◌, min, ℤ, Bool, List, ◌∷◌, ◌++◌, length, take, drop}
 use Rattle.std.specs.Prelude.{replicate, slice_index_or, Option, Some, None, is_none, All, IfSome}
 use Rattle.std.specs.List.{list_all}

@@ -1,4 +1,4 @@
--- What a play list plays in a tick (this project's own).
+-- What a play list plays in a tick (not from a standard).
 use Rattle.std.specs.Prelude.{ℤ, Bool, true, false, List, map, Option, Some, None}
 use Rattle.mg_g711.specs.Frame.{halved}
 use Rattle.mg_playout.specs.declared.played.Played.{Played}

@@ -1,4 +1,4 @@
--- A play list, and what each call does to it (this project's own). It is the jitter buffer.
+-- A play list, which is the jitter buffer, and what each call does to it (not from a standard).
 use Rattle.std.specs.Prelude.{ℕ, ◌+◌, ◌-◌, ◌/◌, ◌%◌, ℤ, pos, neg_ℤ, nat_abs, int_lt, int_le, ◌||◌}
 use Rattle.std.specs.Prelude.{◌==◌, ◌≤◌, nat_le, if◌then◌else◌, Bool, true, false, not, List, length}
 use Rattle.std.specs.Prelude.{slice_set, Option, Some, None, is_some}

@@ -3,9 +3,9 @@
 pub enum Placed {
     /// The play list restarted with this frame, and dropped all others.
     Started,
-    /// The frame is at its place.
+    /// The frame was put at its place.
     Placed,
-    /// The frame is at the last place. Frames at the first places were dropped to make room.
+    /// The frame was put at the last place. Frames at the first places were dropped to make room.
     Pushed,
     /// A frame with this sequence number is already there. The new one was dropped.
     Again,

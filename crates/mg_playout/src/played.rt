@@ -26,7 +26,7 @@ impl Played {
         }
     }
 
-    /// Returns whether a frame replaces a missing one.
+    /// Returns whether this replaces a missing frame.
     pub fn is_concealed(&self) -> bool
         ensures { result ≡ is_concealed self.now }
     {

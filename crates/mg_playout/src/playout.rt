@@ -43,7 +43,7 @@ impl Playout {
     ghost use Rattle.mg_playout.specs.Played.{given, is_concealed, sound_of};
     ghost use Rattle.mg_playout.specs.Order.{IsValidList};
 
-    /// Makes an idle play list without a source, with a depth of four places.
+    /// Creates an idle play list without a source, with a depth of four places.
     ///
     /// It allocates memory for the maximum depth. Fails only if the allocation fails.
     pub fn new(alloc: Global) -> Result<Self, AllocError>
@@ -203,7 +203,7 @@ impl Playout {
         self.places.shift(usize::from(count));
     }
 
-    /// Plays place 0, and shifts by one.
+    /// Plays the frame at place 0, and shifts the others by one place.
     fn advance(&mut self) -> Played
         ensures list { self.new ≡ record (shifted self.old 1) { last = frame_at self.old.places 0 } }
         ensures value { result ≡ given (frame_at self.old.places 0) self.old.last }

@@ -1,4 +1,4 @@
--- The calls on some ports, and what is known about these calls.
+-- The calls on a gateway's ports, and what is known about these calls.
 use Rattle.std.specs.Prelude.{◌≡◌, ◌⊎◌, ℕ, ◌-◌, ◌^◌, ◌<◌, List, ◌++◌, take, Option, Some, None}
 use Rattle.std.specs.Prelude.{Result, Ok, Err}
 use Rattle.mg_words.specs.declared.peer.Peer.{Peer}
@@ -7,14 +7,14 @@ use Rattle.mg_ports.specs.declared.call.Call.{Call}
 use Rattle.mg_ports.specs.declared.receipt.Receipt.{Receipt}
 use Rattle.mg_ports.specs.declared.receipt.Receipt.TheVariants.{Delivered, Nothing, Failed}
 
--- The log grows by these calls. Ports may lose their log; if they have one in the end, they had it
--- all along.
+-- The log grows by these calls. Ports may lose their log; if they still have one at the end, they
+-- had it all along.
 abbrev pub Logged : Option (List Call) → Option (List Call) → List Call → Type 0
 Logged old None calls = Unit {0}
 Logged None (Some all) calls = ⊥
 Logged (Some before) (Some all) calls = all ≡ before ++ calls
 
--- a failure was counted, by a counter that stays at its maximum
+-- a failure was counted; a counter that reaches its maximum stays there
 abbrev pub IsCounted : ℕ → ℕ → Type 0
 IsCounted old new = (old < new) ⊎ (old ≡ 2 ^ 64 - 1)
 

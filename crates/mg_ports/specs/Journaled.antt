@@ -1,4 +1,4 @@
--- What the calls on some ports do to their journal.
+-- What the calls on a gateway's ports do to the journal.
 use Rattle.std.specs.Prelude.{◌≡◌, ◌≢◌, ◌⊎◌, ℕ, ◌≤◌, All, List, [], ◌∷◌, ◌++◌, length, codes}
 use Rattle.std.specs.Prelude.{Option, Result}
 use Rattle.mg_journal.specs.declared.append_fault.AppendFault.{AppendFault}
@@ -28,7 +28,7 @@ AppendsDated lines durability old new result =
     (comment : List ℕ) × ((comment ≡ []) ⊎ IsComment comment)
     × Appends (comment ++ lines) durability old new result
 
--- the journal after some calls: each append did its part, and no other call touched it
+-- the journal after some calls: each append changed it as defined, and no other call touched it
 abbrev pub JournalAfter : List Call → JournalState → JournalState → Type 0
 JournalAfter [] old new = new ≡ old
 JournalAfter (Append lines durability result ∷ calls) old new =

@@ -46,7 +46,7 @@ fn receipt_of(
 }
 
 impl FakePorts {
-    /// Makes ports with these datagrams waiting, in this order at each socket. `failing` lists the numbers of the
+    /// Creates ports with these datagrams waiting, in this order at each socket. `failing` lists the numbers of the
     /// receives and sends that fail, counted from 0 across all sockets.
     pub fn new(alloc: Global, waiting: Vec<Arrival>, failing: Vec<u64>) -> Self {
         FakePorts {
@@ -96,7 +96,7 @@ impl FakePorts {
         Ok(())
     }
 
-    /// Takes the first datagram that is waiting at a socket.
+    /// Removes and returns the first datagram that is waiting at a socket.
     fn take_next(
         &mut self,
         socket: usize,

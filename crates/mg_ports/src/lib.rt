@@ -1,4 +1,4 @@
-//! The UDP sockets of a gateway, by number, and its journal.
+//! A gateway's UDP sockets, which are numbered, and its journal.
 //!
 //! Socket 0 is the control socket, and socket s + 1 is the media socket of slot s in the pool.
 //!
@@ -16,7 +16,7 @@
 //!
 //! Contracts describe ports by the calls on them (`specs/Calls.antt`) and by what those calls do to the journal
 //! (`specs/Journaled.antt`). Ports may log each receive with its result, each send with its arguments, and each append
-//! with both, in one list, which shows their order. The ports of an operating system log nothing.
+//! with both, in one list, which shows their order. Ports on the operating system's sockets log nothing.
 #![tactic(auto)]
 
 mod arrival;

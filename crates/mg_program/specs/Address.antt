@@ -1,4 +1,4 @@
--- How the addresses of a gateway are spelled.
+-- How the addresses of a gateway are written.
 use Rattle.std.specs.Prelude.{ℕ, Bool, nat_le, List, [], ◌∷◌, slice_index, ok_or, Result, Ok, Err}
 use Rattle.std.specs.Prelude.{if◌then◌else◌}
 use Rattle.std.specs.Str.{bytes_eq}
@@ -15,7 +15,7 @@ abbrev pub is_multicast : List ℕ → Bool
 is_multicast address = nat_le 224 (slice_index address 0)
 
 -- The address that a string in dotted decimal names. It appears in session descriptions, or as the
--- gateway's name. So it isn't 0.0.0.0, and it is unicast.
+-- gateway's name. So it is a unicast address, and not 0.0.0.0.
 abbrev pub own_address : List ℕ → Result (List ℕ) AddressFault
 own_address text = do
   address ← ok_or (address_of text) Unreadable

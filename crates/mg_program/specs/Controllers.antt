@@ -14,6 +14,6 @@ all_named (text ∷ texts) = do
   addresses ← all_named texts
   Ok (address ∷ addresses)
 
--- at most eight
+-- the addresses of the controllers, of which there are at most eight
 abbrev pub controllers_of : List (List ℕ) → Result (List (List ℕ)) ControllerFault
 controllers_of texts = if nat_lt 8 (length texts) then Err TooMany else all_named texts

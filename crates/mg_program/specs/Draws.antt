@@ -3,7 +3,7 @@ use Rattle.std.specs.Prelude.{◌≡◌, false}
 use Rattle.mg_engine.specs.declared.config.Config.{Config}
 use Rattle.mg_program.specs.declared.draws.Draws.{Draws}
 
--- A configuration with the numbers that were drawn; everything else is as it was.
+-- A configuration with the numbers that were drawn; everything else is unchanged.
 pub record IsDrawn (draws : Draws) (config drawn : Config) : Type 0 where
   pub ssrc : draws.ssrc ≡ false → drawn.ssrc ≡ config.ssrc
   pub sequence : draws.sequence ≡ false → drawn.sequence ≡ config.sequence

@@ -1,4 +1,4 @@
--- Options of the configuration that are given beside a journal.
+-- Options of the configuration that are given in addition to a journal.
 use Rattle.std.specs.Prelude.{◌≡◌, true}
 use Rattle.mg_engine.specs.declared.config.Config.{Config}
 use Rattle.mg_program.specs.declared.given.Given.{Given}

@@ -1,4 +1,4 @@
--- The command line, as the parser of arguments sees it, and what the arguments ask of the program.
+-- The command line, as its parser sees it, and what the arguments request.
 use Rattle.std.specs.Prelude.{ℕ, Bool, true, false, if◌then◌else◌, List, [], ◌∷◌, Option, Some}
 use Rattle.std.specs.Prelude.{None, is_none, is_some, unwrap_or, option_and_then, Result, Ok, Err, codes}
 use Rattle.std.specs.Prelude.{fold}
@@ -78,7 +78,7 @@ gateway_rule = record (new_rule (codes "gateway")) { value_names = 1; required =
 abbrev pub check_line : App
 check_line = with_rule (new_app (codes "check")) gateway_rule
 
--- the subcommand that has a clock
+-- the subcommand that is driven by a clock
 abbrev pub live_line : App
 live_line =
     with_rule (with_rule (sockets_line (codes "live")) (number_rule (codes "late") 0 65535))
@@ -157,14 +157,14 @@ given_in found = record {
   timestamp = is_given (codes "timestamp") found;
 }
 
--- ## What the arguments ask of the program
+-- ## What the arguments request
 
 -- a string that doesn't name anything is a fault of the arguments
 abbrev pub valid : {A E : Type 0} → Result A E → Result A Kinds
 valid (Ok value) = Ok value
 valid (Err fault) = Err (ValueValidation ∷ [])
 
--- what the options ask of a gateway on sockets, including the seconds between reports
+-- what the options request for a gateway on sockets, including the seconds between reports
 abbrev pub service_in : List Row → Result Service Kinds
 service_in found = do
   controllers ← valid (controllers_in found)
@@ -184,7 +184,7 @@ service_in found = do
     given = given_in found;
   })
 
--- the numbers that no option gives, which a gateway in real time draws at random
+-- the numbers that no option sets, which a gateway in real time draws at random
 abbrev pub draws_of : List Row → Draws
 draws_of found = record {
   ssrc = is_none (number_given 4294967296 (codes "ssrc") found);

@@ -10,7 +10,7 @@ use Rattle.mg_core.specs.Run.{ScriptRan}
 use Rattle.mg_options.specs.declared.status.Status.{Status}
 use Rattle.mg_program.specs.Status.{status_of}
 
--- a script was run, as far as the status says
+-- a script was run, and the status says how the run ended
 pub record Replays (config : Config) (shown : Shown) (input rest old new : Option (List ℕ))
     (status : Status) : Type 0 where
   pub outcome : Result Counts RunFault

@@ -41,15 +41,15 @@ FailsToStart config Failed = Unit {0}
 FailsToStart config BadJournal = Unit {0}
 FailsToStart config status = ⊥
 
--- The configuration of a gateway, of the one that the options name. Numbers may be drawn; or a
--- journal has another configuration, which agrees with the options that are given.
+-- How the configuration of a gateway is chosen, given the one that the options name. Numbers may be
+-- drawn, or a journal has another configuration, which agrees with the options that are given.
 abbrev pub IsChosen : (journal : Option (List ℕ)) → Given → Draws → (config chosen : Config) → Type 0
 IsChosen None given draws config chosen = IsDrawn draws config chosen
 IsChosen (Some path) given draws config chosen =
     IsDrawn draws config chosen ⊎ Agrees given config chosen
 
 -- The world in which a gateway is resumed: nothing has happened or, with a journal, the events of
--- the journal have.
+-- the journal have happened.
 abbrev pub ResumesIn : (journal : Option (List ℕ)) → Config → World → Type 0
 ResumesIn None config w = w ≡ start_of config
 ResumesIn (Some path) config w =
@@ -74,7 +74,7 @@ pub record CanStart (journal : Option (List ℕ)) (config : Config) (state : Cor
   pub stands : StandsFor state world
   pub starts : StartsIn journal config world
 
--- the setup of a session, as the program makes it
+-- the setup of a session, as the program creates it
 abbrev pub setup_of : Config → Service → Setup
 setup_of config service = record {
   config = config;
@@ -96,7 +96,8 @@ pub record ServesOnPorts (config : Config) (service : Service)
   pub served : ServedSession (setup_of config service) start (title_if service.records config) input
       rest (ports_seen None before) (ports_seen None after) held written outcome
 
--- a gateway with this configuration ran, as far as the status says, or nothing was read or printed
+-- a gateway with this configuration ran, and the status says how the run ended; or nothing was read
+-- or printed
 abbrev pub ServesChosen : {R W : Type 0} → (R → Option (List ℕ)) → (W → Option (List ℕ)) → Config
     → Service → R → R → W → W → Status → Type 0
 ServesChosen remaining contents config service input rest old new status =
@@ -105,7 +106,7 @@ ServesChosen remaining contents config service input rest old new status =
     outcome)
     ⊎ (FailsToStart config status × (rest ≡ input) × (new ≡ old))
 
--- The configuration was chosen, and no number was drawn; or there is none.
+-- A configuration was chosen without drawing a number, or there is none.
 abbrev pub Serves : {R W : Type 0} → (R → Option (List ℕ)) → (W → Option (List ℕ)) → Config
     → Service → R → R → W → W → Status → Type 0
 Serves remaining contents config service input rest old new status =
@@ -135,7 +136,7 @@ ServesChosenByClock contents config service late old new status =
     × ServesByClockOnPorts config service late (contents old) (contents new) fault)
     ⊎ (FailsToStart config status × (new ≡ old))
 
--- The configuration was chosen, and some numbers were drawn; or there is none.
+-- A configuration was chosen, and perhaps some numbers were drawn; or there is none.
 abbrev pub ServesByClock : {W : Type 0} → (W → Option (List ℕ)) → Config → Service → Draws → ℕ → W
     → W → Status → Type 0
 ServesByClock contents config service draws late old new status =

@@ -20,8 +20,8 @@ pub struct ControlWatch<'a, C: Clock> {
 }
 
 impl<'a, C: Clock> ControlWatch<'a, C> {
-    /// Makes a clock that watches the control socket. The caller allocates the buffer for the system's reports, so this
-    /// call allocates nothing.
+    /// Creates a clock that watches the control socket. The caller allocates the buffer for the system's reports, so
+    /// this call allocates nothing.
     pub fn new<N: Net>(
         net: &N,
         watch: SystemWatch<'a, C>,

@@ -5,7 +5,7 @@ use mg_core::Config;
 use std::io;
 use std::random::RandomSource;
 
-/// Which of the initial numbers for RTP packets are drawn at random because no option gives them.
+/// Which of the initial numbers for RTP packets are drawn at random because no option sets them.
 #[derive(Clone, Copy, Debug, PartialEq, Eq)]
 pub struct Draws {
     pub ssrc: bool,

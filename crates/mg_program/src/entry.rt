@@ -46,7 +46,7 @@ pub fn program<
     reports: &mut T,
 ) -> u8
     ensures status { result ≤ 6 }
-    // The program did what the arguments ask for, as far as the status says.
+    // The status says whether the program did what the arguments request and, if not, why.
     ensures ends { EndsWith
         (Runs R.remaining W.contents (errors.new ≡ errors.old) input.old input.new output.old output.new)
         (requested (map S.text words.now)) Status.Failed (input.new ≡ input.old) (errors.new ≡ errors.old) output.old

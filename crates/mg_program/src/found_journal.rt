@@ -56,7 +56,7 @@ fn append_ticks<J: Journal>(ticks: u64, journal: &mut J) -> Result<(), AppendFau
     Ok(())
 }
 
-/// Returns the fault for an append that failed.
+/// Returns the fault for a failed append.
 fn write_fault<F: JournalFile>(journal: &FileJournal<F>) -> JournalFault {
     let kind = match journal.last_error() {
         Some(error) => error.kind(),

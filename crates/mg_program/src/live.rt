@@ -95,7 +95,7 @@ fn live_on_sockets<J: Journal, C: Clock, W: Write, M: Monitor>(
 ///
 /// The gateway is new, with some numbers drawn at random, or resumes from the journal.
 ///
-/// After a delay, all missed polls and ticks are executed in one go. If a tick is behind by more than `late` ticks, its
+/// After a delay, all missed polls and ticks are executed at once. If a tick is more than `late` ticks late, its
 /// packets are not sent. So callers hear a gap, and timestamps stay in step with the clock. `reports` receives the
 /// number of packets that weren't sent, and the periodic reports if they are enabled.
 pub fn live<N: Net, C: Clock, G: RandomSource, F: Files, W: Write, E: Write, T: Write>(
@@ -220,7 +220,7 @@ fn check_metrics<F: Files, E: Write>(
     }
 }
 
-/// Makes the monitor of a gateway: reports, and metrics if they are enabled.
+/// Creates the monitor of a gateway: reports, and metrics if they are enabled.
 fn monitor<'a, C: Clock, F: Files, E: Write, T: Write>(
     files: &'a F,
     clock: &'a C,

@@ -33,14 +33,14 @@ const NO_GATEWAY: &str =
 /// The error message if there is no journal to sync.
 const NO_JOURNAL: &str = "'--sync' needs '--journal <FILE>'";
 
-/// Makes an option that takes an IPv4 address. Its parser accepts any text.
+/// Creates an option that takes an IPv4 address. Its parser accepts any text.
 fn address_option<'a>(alloc: Global, name: &'a str) -> Arg<'a>
     ensures rule { rule_of result ≡ text_rule name.now }
 {
     Arg::new(alloc, name).long(name).value_name("ADDRESS")
 }
 
-/// Makes an option that takes the path of a file. Its parser accepts any text.
+/// Creates an option that takes the path of a file. Its parser accepts any text.
 fn file_option<'a>(alloc: Global, name: &'a str) -> Arg<'a>
     ensures rule { rule_of result ≡ text_rule name.now }
 {
@@ -84,7 +84,7 @@ fn with_options<'a>(alloc: Global, command: Command<'a>) -> Result<Command<'a>, 
     Ok(command)
 }
 
-/// Makes the option for a controller's IPv4 address, which can be given several times.
+/// Creates the option for a controller's IPv4 address, which can be given several times.
 fn controller_option<'a>(alloc: Global) -> Arg<'a>
     ensures rule { rule_of result ≡ controller_rule }
 {
@@ -95,14 +95,14 @@ fn controller_option<'a>(alloc: Global) -> Arg<'a>
         .help("IPv4 address of a controller, repeatable up to 8 times [default: any address]")
 }
 
-/// Makes a flag: an option without a value, which is set if it occurs.
+/// Creates a flag: an option without a value, which is set if it occurs.
 fn flag<'a>(alloc: Global, name: &'a str) -> Arg<'a>
     ensures rule { rule_of result ≡ flag_rule name.now }
 {
     Arg::new(alloc, name).long(name).action(ArgAction::SetTrue)
 }
 
-/// Makes a subcommand with the options of a gateway.
+/// Creates a subcommand with the options of a gateway.
 fn subcommand<'a>(alloc: Global, name: &'a str, about: &'a str) -> Result<Command<'a>, Error>
     ensures app { IfOk result (λ command. app_of command ≡ subcommand_line name.now) }
     ensures memory { IfErr result (λ error. kind_of error ≡ ErrorKind.OutOfMemory) }
@@ -110,7 +110,7 @@ fn subcommand<'a>(alloc: Global, name: &'a str, about: &'a str) -> Result<Comman
     with_options(alloc, Command::new(alloc, name).about(about))
 }
 
-/// Makes a subcommand for a gateway on sockets.
+/// Creates a subcommand for a gateway on sockets.
 fn on_sockets<'a>(alloc: Global, name: &'a str, about: &'a str) -> Result<Command<'a>, Error>
     ensures app { IfOk result (λ command. app_of command ≡ sockets_line name.now) }
     ensures memory { IfErr result (λ error. kind_of error ≡ ErrorKind.OutOfMemory) }
@@ -136,7 +136,7 @@ fn on_sockets<'a>(alloc: Global, name: &'a str, about: &'a str) -> Result<Comman
     Ok(command)
 }
 
-/// Makes the subcommand that runs a script.
+/// Creates the subcommand that runs a script.
 fn replay<'a>(alloc: Global) -> Result<Command<'a>, Error>
     ensures app { IfOk result (λ command. app_of command ≡ replay_line) }
     ensures memory { IfErr result (λ error. kind_of error ≡ ErrorKind.OutOfMemory) }
@@ -148,7 +148,7 @@ fn replay<'a>(alloc: Global) -> Result<Command<'a>, Error>
     Ok(command)
 }
 
-/// Makes the subcommand for a gateway in real time.
+/// Creates the subcommand for a gateway in real time.
 fn live<'a>(alloc: Global) -> Result<Command<'a>, Error>
     ensures app { IfOk result (λ command. app_of command ≡ live_line) }
     ensures memory { IfErr result (λ error. kind_of error ≡ ErrorKind.OutOfMemory) }
@@ -163,7 +163,7 @@ fn live<'a>(alloc: Global) -> Result<Command<'a>, Error>
     Ok(command)
 }
 
-/// Makes the argument that names the gateway to check.
+/// Creates the argument that names the gateway to check.
 fn gateway_argument<'a>(alloc: Global) -> Arg<'a>
     ensures rule { rule_of result ≡ gateway_rule }
 {
@@ -173,7 +173,7 @@ fn gateway_argument<'a>(alloc: Global) -> Arg<'a>
         .help("IPv4 address and control port of the gateway")
 }
 
-/// Makes the subcommand that checks a gateway.
+/// Creates the subcommand that checks a gateway.
 fn check<'a>(alloc: Global) -> Result<Command<'a>, Error>
     ensures app { IfOk result (λ command. app_of command ≡ check_line) }
     ensures memory { IfErr result (λ error. kind_of error ≡ ErrorKind.OutOfMemory) }
@@ -184,7 +184,7 @@ fn check<'a>(alloc: Global) -> Result<Command<'a>, Error>
     Ok(command)
 }
 
-/// Makes the program's command line.
+/// Creates the program's command line.
 fn command<'a>(alloc: Global) -> Result<Command<'a>, Error>
     ensures app { IfOk result (λ command. app_of command ≡ command_line) }
     ensures memory { IfErr result (λ error. kind_of error ≡ ErrorKind.OutOfMemory) }
@@ -242,7 +242,7 @@ fn config_at(address: [u8; 4], control_address: [u8; 4], matches: &ArgMatches<'_
     }
 }
 
-/// Returns which numbers are drawn at random because no option gives them.
+/// Returns which numbers are drawn at random because no option sets them.
 fn draws_of(matches: &ArgMatches<'_>) -> Draws
     ensures value { result ≡ draws_of (rows_of (found_of matches.now)) }
 {
@@ -253,7 +253,7 @@ fn draws_of(matches: &ArgMatches<'_>) -> Draws
     }
 }
 
-/// Returns how late a tick may be, in ticks, and still have its packets sent.
+/// Returns the maximum lateness, in ticks, at which a tick's packets are still sent.
 fn late_of(matches: &ArgMatches<'_>) -> u16
     ensures value { result ≡ number_or 65536 (codes "late") 5 (rows_of (found_of matches.now)) }
 {

@@ -52,7 +52,7 @@ impl<F: JournalFile> Prepared<F> {
     }
 }
 
-/// Makes a new gateway. If that fails, returns the program's exit status. A fault is reported to `errors`.
+/// Creates a new gateway. If that fails, returns the program's exit status. A fault is reported to `errors`.
 fn new_gateway<G: RandomSource, F: JournalFile, E: Write>(
     random: &G,
     alloc: Global,

@@ -34,7 +34,7 @@ impl Model for Readiness {
 }
 
 impl Readiness {
-    /// Makes a state in which no socket is watched and all count as ready. The caller allocates the buffer for the
+    /// Creates a state in which no socket is watched and all count as ready. The caller allocates the buffer for the
     /// system's reports, so this call allocates nothing.
     pub fn new<N: Net>(net: &N, events: Events) -> io::Result<Self> {
         Ok(Readiness {

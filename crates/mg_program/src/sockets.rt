@@ -134,7 +134,7 @@ impl Sockets {
         }
     }
 
-    /// Receives from a slot's socket, whether it is ready or not.
+    /// Receives from a slot's socket, whether or not it is ready.
     fn try_receive(
         &self,
         slot: usize,

@@ -30,7 +30,7 @@ fn is_unusable_destination(address: [u8; 4]) -> bool {
 }
 
 impl<'a, J: Journal, C: Clock> UdpPorts<'a, J, C> {
-    /// Makes ports from these sockets.
+    /// Creates ports from these sockets.
     pub fn new(sockets: Sockets, journal: Option<DatedJournal<'a, J, C>>) -> Self
         ensures fresh { result.failures ≡ 0 }
     {

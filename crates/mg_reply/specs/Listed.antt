@@ -6,7 +6,7 @@ unfoldable pub listed : List ℕ → List (List ℕ) → List ℕ
 listed mark [] = []
 listed mark (x ∷ xs) = mark ++ (x ++ listed (codes ",") xs)
 
--- the parts in braces with commas between them, or nothing if there is none
+-- the parts in braces with commas between them, or nothing if there are none
 abbrev pub grouped : List (List ℕ) → List ℕ
 grouped [] = []
 grouped (x ∷ xs) = listed (codes "{") (x ∷ xs) ++ codes "}"

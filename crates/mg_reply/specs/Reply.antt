@@ -4,8 +4,8 @@ use Rattle.std.specs.Prelude.{◌==◌, not, List, [], ◌∷◌, ◌++◌, if�
 use Rattle.mg_reply.specs.declared.item.Item.{Item}
 use Rattle.mg_reply.specs.declared.item.Item.TheVariants.{Fault, Action}
 
--- The number of the transaction, the items so far, and the room that remains. Then whether items
--- wait for the end of their action, and whether there was no room for an item.
+-- The number of the transaction, the items so far, the room that remains, whether items wait for
+-- the end of their action, and whether there was no room for an item.
 pub record Answered : Type 0 where
   pub number : ℕ
   pub items : List Item

@@ -18,8 +18,8 @@ head_text address port =
 abbrev pub action_text : ContextId → List Item → List ℕ
 action_text id items = codes "Context=" ++ (context_text id ++ grouped (entries_of items))
 
--- Actions with a mark before each. An action has the items since the previous action; `pending` has
--- the next action's items so far.
+-- Actions with a mark before each. An action consists of the items since the previous action;
+-- `pending` holds the next action's items so far.
 unfoldable pub actions_text : List ℕ → List Item → List Item → List ℕ
 actions_text mark pending [] = []
 actions_text mark pending (Action id ∷ xs) =

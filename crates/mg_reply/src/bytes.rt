@@ -37,7 +37,7 @@ fn write_at(bytes: &mut [u8], at: usize, name: &RtpName)
 }
 
 impl Bytes {
-    /// Makes an empty buffer with room for `room` bytes. Fails only if the allocation fails. No other call allocates.
+    /// Creates an empty buffer with room for `room` bytes. Fails only if the allocation fails. No other call allocates.
     pub fn new(alloc: Global, room: usize) -> Result<Self, AllocError>
         ensures value { IfOk result (λ bytes. bytes ≡ record { text = []; room = room }) }
     {

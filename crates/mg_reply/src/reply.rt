@@ -39,7 +39,7 @@ impl Model for Reply {
 }
 
 impl Reply {
-    /// Makes an empty reply to transaction 0. Fails only if the allocation fails. No other call allocates.
+    /// Creates an empty reply to transaction 0. Fails only if the allocation fails. No other call allocates.
     pub fn new(alloc: Global) -> Result<Self, AllocError>
         ensures value { IfOk result (λ reply. reply ≡ new_reply 0) }
     {

@@ -4,7 +4,7 @@ ghost use Rattle.mg_words.specs.Term.{rtp_name};
 use itoa::Buffer;
 use std::marker::Model;
 
-/// The number of bytes that a name is stored in.
+/// The number of bytes in which a name is stored.
 pub(crate) const NAME_ROOM: usize = 16;
 
 /// The name of a termination, `RTP/` and its number in decimal.

@@ -15,7 +15,7 @@ change key n f (x ∷ xs) = if key x == n then option_to_list (f x) ++ xs else x
 
 -- ## Terminations
 
--- the termination r is made, and the next number increases by one
+-- the termination r is created, and the next number increases by one
 abbrev pub inserted : Registry → Record → Registry
 inserted w r =
     record w { terminations = w.terminations ++ r ∷ []; next_termination = w.next_termination + 1 }
@@ -31,7 +31,7 @@ removed w n = record w { terminations = change (λ x. x.number) n (λ _. None) w
 
 -- ## Contexts
 
--- a context is made in a room, with n as its first member
+-- a context is created in a room, with n as its first member
 abbrev pub made : Registry → ℕ → ℕ → ℕ → Registry
 made w c room n =
     record w {
@@ -47,7 +47,7 @@ joined w c n =
           (λ x. Some (record x { members = x.members ++ n ∷ [] })) w.contexts;
     }
 
--- n enters a context that is made for it, or one that exists
+-- n enters a context that is created for it, or one that exists
 abbrev pub entered : Registry → EntryPlace → ℕ → Registry
 entered w place n =
     option_map_or (λ room. made w place.context room n) place.made (joined w place.context n)

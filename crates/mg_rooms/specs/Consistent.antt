@@ -1,4 +1,4 @@
--- The invariant of a gateway's terminations and contexts (this project's own).
+-- The invariant of a gateway's terminations and contexts (not from a standard).
 use Rattle.std.specs.Prelude.{◌≡◌, ℕ, ◌<◌, ◌≤◌, ◌+◌, ◌&&◌, ◌==◌, List, length}
 use Rattle.std.specs.List.{AllByRecursion, AllPairs, count_by}
 use Rattle.mg_rooms.specs.declared.record.Record.{Record}
@@ -18,8 +18,8 @@ pub record IsTermination (limits : Limits) (next : ℕ) (r : Record) : Type 0 wh
   pub min_depth : least_depth ≤ r.depth
   pub max_depth : r.depth ≤ greatest_depth
 
--- Each is within the limits, and they are in ascending order of number. No two terminations have
--- the same number, the same slot, or the same seat in a context.
+-- Each termination is within the limits, and they are in ascending order of number. No two
+-- terminations have the same number, the same slot, or the same seat in a context.
 pub record AreTerminations (limits : Limits) (next : ℕ) (rs : List Record) : Type 0 where
   pub each : AllByRecursion (IsTermination limits next) rs
   pub rising : AllPairs (λ r later. r.number < later.number) rs
@@ -35,8 +35,8 @@ pub record IsContext (limits : Limits) (next : ℕ) (x : Context) : Type 0 where
   pub some : 0 < length x.members
   pub few : length x.members ≤ member_limit
 
--- each is within the limits, and they are in ascending order of number; no two have the same number
--- or the same room
+-- each context is within the limits, and they are in ascending order of number; no two have the
+-- same number or the same room
 pub record AreContexts (limits : Limits) (next : ℕ) (xs : List Context) : Type 0 where
   pub each : AllByRecursion (IsContext limits next) xs
   pub rising : AllPairs (λ x later. x.number < later.number) xs

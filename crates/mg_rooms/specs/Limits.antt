@@ -1,4 +1,4 @@
--- The limits on a gateway's terminations and contexts (this project's own).
+-- The limits on a gateway's terminations and contexts (not from a standard).
 use Rattle.std.specs.Prelude.{◌≡◌, ℕ, ◌+◌, ◌-◌, ◌*◌, ◌%◌, ◌<◌, ◌≤◌}
 use Rattle.mg_words.specs.Limits.{termination_limit, last_context}
 use Rattle.mg_rooms.specs.declared.limits.Limits.{Limits}

@@ -1,4 +1,4 @@
--- A termination with the room of its context (this project's own).
+-- A termination with the room of its context (not from a standard).
 use Rattle.std.specs.Prelude.{◌≡◌, ℕ, Some}
 use Rattle.std.specs.Option.{option_map}
 use Rattle.mg_rooms.specs.declared.member.Member.{Member}

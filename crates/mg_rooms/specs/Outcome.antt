@@ -1,7 +1,8 @@
 -- The outcome of a command on one termination (RFC 3525, sections 7.2.1 to 7.2.4). It is the error
--- of the first check that fails, or else the registry after the command and the termination. The
--- termination has its new record, or the old one if it was subtracted. The order of the checks is
--- this project's own: the termination, the action's context, exhausted resources, the media.
+-- of the first check that fails or, if none fails, the termination and the registry after the
+-- command. The termination has its new record, or the old one if it was subtracted. The order of
+-- the checks is this project's own: the termination, the action's context, exhausted resources, the
+-- media.
 use Rattle.std.specs.Prelude.{◌≡◌, ℕ, Bool, false, not, ◌&&◌, length, Some, None, Result, Ok, Err}
 use Rattle.std.specs.Prelude.{◌==◌, nat_lt, nat_le, ok_or}
 use Rattle.mg_rooms.specs.declared.record.Record.{Record}
@@ -112,7 +113,7 @@ subtract w target n = do
   r ← member w target n
   Ok (left (removed w r.number) r.context r.number, r)
 
--- The call's result and the state after it are the outcome. A rejected call changes nothing.
+-- The outcome is the call's result and the state after the call. A rejected call changes nothing.
 abbrev pub Gives : {A : Type 0} → (A → Record) → Registry → Registry → Result A ErrorNumber
     → Result (Registry × Record) ErrorNumber → Type 0
 Gives record_of old new (Ok x) outcome = outcome ≡ Ok (new, record_of x)

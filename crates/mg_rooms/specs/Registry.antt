@@ -8,7 +8,8 @@ use Rattle.mg_rooms.specs.declared.context.Context.{Context}
 use Rattle.mg_rooms.specs.declared.limits.Limits.{Limits}
 use Rattle.mg_words.specs.Limits.{context_limit, member_limit}
 
--- terminations and contexts in order of their numbers, which is the order in which they were made
+-- terminations and contexts in order of their numbers, which is the order in which they were
+-- created
 pub record Registry : Type 0 where
   pub limits : Limits
   pub terminations : List Record
@@ -58,7 +59,7 @@ free_slot w =
 abbrev pub free_room : Registry → Option ℕ
 free_room w = least_below context_limit (λ room. not (list_any (λ x. x.room == room) w.contexts))
 
--- the lowest seat of the context that no termination has
+-- the lowest seat in the context that no termination holds
 abbrev pub free_seat : Registry → ℕ → Option ℕ
 free_seat w c =
     least_below member_limit (λ seat. not

@@ -24,7 +24,7 @@ impl Tables {
         self.next_termination as u32
     }
 
-    /// Makes a termination in a free slot.
+    /// Creates a termination in a free slot.
     pub(crate) fn insert(&mut self, fresh: Record)
         requires slot { free_slot self.old ≡ Some fresh.slot }
         requires number { fresh.number ≡ self.old.next_termination }
@@ -84,7 +84,7 @@ impl Tables {
         }
     }
 
-    /// Makes a context with its first member.
+    /// Creates a context with its first member.
     fn make(&mut self, context: u32, room: u8, member: u32)
         requires can { CanEnterAt self.old.contexts self.old.next_context context (Some room) }
         ensures value { self.new ≡ made self.old context room member }

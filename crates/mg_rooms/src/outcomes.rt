@@ -13,7 +13,7 @@ use crate::target::Target;
 use mg_words::ErrorNumber;
 
 impl Tables {
-    /// Makes a termination in the action's context.
+    /// Creates a termination in the action's context.
     #[tactic(auto, unfolding(crate::specs::Outcome::add))]
     pub(crate) fn add(&mut self, target: Target, settings: &Settings) -> Result<Record, ErrorNumber>
         ensures outcome { Gives (λ r. r) self.old self.new result (add self.old target settings.now) }

@@ -5,6 +5,6 @@ pub struct EntryPlace {
     pub context: u32,
     /// The seat of the termination in the context.
     pub seat: u8,
-    /// The room of the context, if the context is made for the termination.
+    /// The room of the context, if the context is created for the termination.
     pub made: Option<u8>,
 }

@@ -40,7 +40,7 @@ impl Model for Rooms {
 impl Rooms {
     ghost use Rattle.mg_rooms.specs.Consistent.{IsConsistent};
 
-    /// Makes a gateway without terminations or contexts.
+    /// Creates a gateway without terminations or contexts.
     ///
     /// Fails only if the allocation fails. No other call allocates.
     pub fn new(alloc: Global, limits: Limits) -> Result<Rooms, AllocError>
@@ -109,7 +109,7 @@ impl Rooms {
         self.tables.member(target, number)
     }
 
-    /// Makes a termination in the action's context, and makes that context too if it is new (RFC 3525, section 7.2.1).
+    /// Creates a termination in the action's context, and the context too if it is new (RFC 3525, section 7.2.1).
     ///
     /// Returns the new termination.
     #[tactic(auto, using(crate::proofs::RoomsLemmas::rules))]

@@ -14,8 +14,9 @@ use std::marker::Model;
 
 /// The terminations by slot and the contexts by room.
 ///
-/// In contracts, they appear in order of their numbers. The calls preserve only what the tables need. The invariant of
-/// [`Rooms`](crate::Rooms) says that the members of contexts agree with the contexts of terminations.
+/// In contracts, they appear in order of their numbers. The calls preserve only what the tables themselves need. The
+/// invariant of [`Rooms`](crate::Rooms) says that each context's members are exactly the terminations whose records
+/// name it.
 #[derive(Drop)]
 pub struct Tables {
     pub(crate) limits: Limits,
@@ -40,7 +41,7 @@ impl Model for Tables {
 }
 
 impl Tables {
-    /// Makes empty tables. Fails only if the allocation fails.
+    /// Creates empty tables. Fails only if the allocation fails.
     pub(crate) fn new(alloc: Global, limits: Limits) -> Result<Tables, AllocError>
         requires valid { AreValidLimits limits }
         ensures value { IfOk result (λ tables. tables ≡ start_of limits) }

@@ -36,7 +36,7 @@ pub fn exhausted_resources_are_refused()
 {}
 
 /// A new gateway is consistent, and every command preserves that. So it is consistent after any sequence of commands. A
-/// proof can use this fact even if it has no tables.
+/// proof can use this fact even where no tables are in scope.
 pub fn outcomes_are_consistent()
     ensures start { (limits : Limits) → AreValidLimits limits → limits.first_termination ≤ LAST_TERMINATION →
         IsConsistent (start_of limits) }

@@ -3,7 +3,7 @@ use Rattle.std.specs.Prelude.{ℕ, ◌+◌, ◌*◌, ◌^◌, ◌<◌, Bool, tru
 use Rattle.byteorder.specs.Endian.{big_bytes}
 use Rattle.mg_rtp.specs.declared.header.Header.{Header}
 
--- each field fits its bits
+-- each field fits in its bits
 pub record IsHeader (h : Header) : Type 0 where
   pub payload_type : h.payload_type < 2 ^ 7
   pub sequence : h.sequence < 2 ^ 16

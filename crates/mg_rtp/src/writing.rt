@@ -11,7 +11,7 @@ pub const PAYLOAD_LEN: usize = 160;
 /// The size of a written packet, in bytes: the header of 12 bytes and the payload.
 pub const PACKET_LEN: usize = HEADER_LEN + PAYLOAD_LEN;
 
-/// Makes a packet without padding, extension or contributing sources.
+/// Creates a packet without padding, extension or contributing sources.
 pub fn write(header: Header, payload: &[u8; PAYLOAD_LEN]) -> [u8; PACKET_LEN]
     requires seven_bits { header.payload_type < 128 }
     ensures bytes { result ≡ header_bytes plain header ++ payload.now }

@@ -74,7 +74,7 @@ content_len escaped [] = None
 content_len escaped (b ∷ bs) =
     if b == 125 && not escaped then Some 0 else option_map (λ n. 1 + n) (content_len (b == 92) bs)
 
--- whether a byte is 0
+-- whether any byte is 0
 abbrev pub has_null : List ℕ → Bool
 has_null bs = list_any (λ b. b == 0) bs
 
@@ -89,8 +89,8 @@ octets_closed bs (Some n) =
 abbrev pub octets_at : List ℕ → Option (Result TokenAndRest ScanFault)
 octets_at bs = octets_closed bs (content_len false bs)
 
--- the token that starts at the first byte, if the token before it may announce a session
--- description
+-- the token that starts at the first byte; the flag says whether the token before it announces a
+-- session description
 unfoldable pub token_after : Bool → List ℕ → Option (Result TokenAndRest ScanFault)
 token_after named [] = None
 token_after named (b ∷ bs) = if named && b == 123 then octets_at bs else token_at (b ∷ bs)
@@ -112,7 +112,7 @@ spelled Quoted text = 34 ∷ (text ++ 34 ∷ [])
 spelled Octets text = 123 ∷ (text ++ 125 ∷ [])
 spelled _ text = text
 
--- how many bytes close a token after its text
+-- how many bytes after a token's text close the token
 abbrev pub closing_len : TokenKind → ℕ
 closing_len Quoted = 1
 closing_len Octets = 1

@@ -30,7 +30,7 @@ impl<'a> Model for Scanner<'a> {
 }
 
 impl<'a> Scanner<'a> {
-    /// Makes a scanner at the start of a source.
+    /// Creates a scanner at the start of a source.
     pub fn new(source: &'a [u8]) -> Self
         ensures start { result ≡ record { source = source.now; at = 0; named = false } }
     {

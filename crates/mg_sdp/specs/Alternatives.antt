@@ -24,8 +24,8 @@ abbrev pub BeginsWithVersion : List (List ℕ) → Type 0
 BeginsWithVersion [] = ⊥
 BeginsWithVersion (line ∷ lines) = IsTrue (is_version line)
 
--- The alternatives are the lines, in order. Each alternative except the first starts with its v=
--- line.
+-- Together, the alternatives are the lines, in order. Each alternative except the first starts with
+-- its v= line.
 pub record AreAlternatives (lines : List (List ℕ))
     (alternatives : List (List (List ℕ))) : Type 0 where
   pub joined : flat_map (λ alternative. alternative) alternatives ≡ lines

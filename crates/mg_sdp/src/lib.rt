@@ -1,4 +1,4 @@
-//! Session descriptions (SDP) in Local and Remote descriptors: parsing, choice, writing.
+//! Session descriptions (SDP) in Local and Remote descriptors: parsing, choosing, writing.
 //!
 //! The formats follow RFC 4566 and RFC 3525, section 7.1.8.
 //!

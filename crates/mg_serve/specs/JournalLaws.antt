@@ -1,4 +1,4 @@
--- What a journal keeps of a session, whenever the gateway crashes.
+-- What a journal preserves of a session, whenever the gateway crashes.
 use Rattle.std.specs.Prelude.{◌≡◌, ◌⊎◌, ℕ, ◌≤◌, List, [], ◌∷◌, ◌++◌, replicate}
 use Rattle.std.specs.Prelude.{Some, IfSome, true}
 use Rattle.mg_journal.specs.declared.durability.Durability.{Durability}
@@ -23,7 +23,7 @@ use Rattle.mg_serve.specs.Session.{Session}
 use Rattle.mg_serve.specs.Setup.{Setup}
 use Rattle.mg_serve.specs.Trace.{TraceEntry, Called, Happened, calls_of, events_of_trace}
 
--- the lines of this text are all whole, and are a script of these events
+-- the lines of this text are all complete, and are a script of these events
 abbrev pub IsScriptOf : List ℕ → List Event → Type 0
 IsScriptOf text events = IsWhole text × (events_of (lines_of true text) ≡ Some events)
 
@@ -31,7 +31,7 @@ IsScriptOf text events = IsWhole text × (events_of (lines_of true text) ≡ Som
 abbrev pub TellsEvents : JournalState → List Event → Type 0
 TellsEvents journal events = IfSome journal.text (λ text. IsScriptOf text events)
 
--- A moment of a session that starts in the world w. At the start, the journal told the events
+-- A moment of a session that starts in the world w. At the start, the journal contained the events
 -- `told`. The entries `front` have happened, and the entries `rest` follow. The journal is in this
 -- state now.
 pub record IsMoment (setup : Setup) (durability : Durability) (w : World) (told : List Event)
@@ -46,8 +46,9 @@ pub record IsMoment (setup : Setup) (durability : Durability) (w : World) (told 
   pub tells : TellsEvents start told
   pub after : JournalAfter (calls_of front) start journal
 
--- Each part of a session's trace ends at a moment. The premises are fields of `Served`, the contract
--- of a server's run. The journal at the end of the run comes from the one at the moment.
+-- Each part of a session's trace ends at a moment. The premises are fields of `Served`, the
+-- contract of a server's run. The rest of the trace leads from the journal at the moment to the one
+-- at the end of the run.
 abbrev pub EachPartIsAMoment : Type 0
 EachPartIsAMoment =
     (setup : Setup) (durability : Durability) (commands : List Command) (w last : World)
@@ -61,8 +62,9 @@ EachPartIsAMoment =
 
 -- ## Answers
 
--- An answer is due to a peer: its message is what happened last. The journal tells everything that
--- has happened, except RTP datagrams. If messages are synced, all of its text is on the disk.
+-- An answer is due to a peer: that peer's message is what happened last. The journal contains
+-- everything that has happened, except RTP datagrams. If messages are synced, all of its text is on
+-- the disk.
 pub record IsKept (durability : Durability) (told : List Event) (front : List TraceEntry)
     (to : Peer) (journal : JournalState) : Type 0 where
   pub before : List TraceEntry
@@ -86,8 +88,8 @@ abbrev pub ticks_lacking : Progress → ℕ
 ticks_lacking (Lacks ticks) = ticks
 ticks_lacking (Announces source bytes) = 0
 
--- Of what happened, everything is kept but some last ticks, at most as many as the journal lacks. In
--- the end, the journal may announce a message that was not handled.
+-- Everything that happened is kept, except for the last few ticks, at most as many as the journal
+-- lacks. At its end, the journal may announce a message that was not handled.
 pub record LosesTicks (lacking : ℕ) (happened written : List Event) : Type 0 where
   pub kept : List Event
   pub ticks : ℕ
@@ -96,9 +98,10 @@ pub record LosesTicks (lacking : ℕ) (happened written : List Event) : Type 0 w
   pub wrote : (written ≡ kept)
       ⊎ ((source : Peer) × (bytes : List ℕ) × (written ≡ kept ++ events.Control source bytes ∷ []))
 
--- The same in terms of worlds. The gateway was in the world `now`. There is a world before the lost
--- ticks, and after these it agrees with `now` except for what was received. The gateway resumes in
--- that world, or in the one after a message that was announced, was not handled and got no answer.
+-- This loss in terms of worlds. The gateway was in the world `now`. There is a world before the
+-- lost ticks; once these have passed, it agrees with `now`, except for what was received. The
+-- gateway resumes in that world, or in the one after a message that was announced, was not handled
+-- and got no answer.
 pub record LosesSpeech (lacking : ℕ) (now resumed : World) : Type 0 where
   pub before : World
   pub ticks : ℕ
@@ -108,9 +111,9 @@ pub record LosesSpeech (lacking : ℕ) (now resumed : World) : Type 0 where
       ⊎ ((source : Peer) × (bytes : List ℕ) × (sent : List Sent)
       × Step before (events.Control source bytes) sent resumed)
 
--- A crash at a moment of a session, in the world `now`. The journal tells what it told at the start
--- and the events `written`. These are what happened, except for RTP datagrams and lost ticks. A run
--- of all that the journal tells ends in the world in which a gateway resumes.
+-- A crash at a moment of a session, in the world `now`. The journal contains what it contained at
+-- the start, and then the events `written`. These are what happened, except for RTP datagrams and
+-- lost ticks. A run of all events in the journal ends in the world in which a gateway resumes.
 pub record Survives (setup : Setup) (durability : Durability) (w : World) (told : List Event)
     (front : List TraceEntry) (journal : JournalState) : Type 0 where
   pub now : World
@@ -126,8 +129,8 @@ pub record Survives (setup : Setup) (durability : Durability) (w : World) (told 
       → LosesSpeech (ticks_lacking progress) now resumed
 
 -- A crash loses speech and a few ticks, and nothing else. The session may start in any world that
--- agrees, except for what was received, with the one to which the events of its journal lead. A crash
--- during an append leaves what a broken append leaves: some of the lines.
+-- agrees, except for what was received, with the one to which the events of its journal lead. A
+-- crash during an append leaves what a broken append leaves: some of the lines.
 abbrev pub CrashesLoseSpeechOnly : Type 0
 CrashesLoseSpeechOnly =
     (setup : Setup) (durability : Durability) (w v : World) (told : List Event) (others : List Sent)
@@ -137,9 +140,9 @@ CrashesLoseSpeechOnly =
     → Survives setup durability w told front journal
 
 -- So this holds in each life of a gateway. After a crash, it resumes in the world to which the
--- events of its journal lead. It passes the ticks that it missed, and appends them to the journal.
--- In the world that results, a session may start again: it is the one to which the events of the
--- journal lead, and it agrees with itself.
+-- events of its journal lead. It skips the ticks that it missed, and appends them to the journal.
+-- In the resulting world, a session may start again: this is the world to which the journal's
+-- events lead, and it agrees with itself.
 pub record IsNextLife (config : Config) (told : List Event) (w : World) : Type 0 where
   pub sent : List Sent
   pub run : Run (start_of config) told sent w
@@ -163,7 +166,7 @@ WereTold told front first =
     ⊎ ((source : Peer) × (bytes : List ℕ)
     × (first ≡ (told ++ without_rtp (events_of_trace past)) ++ events.Control source bytes ∷ []))))
 
--- If the text of a journal is cut after any byte, its whole lines are a script of the first of its
+-- If the text of a journal is cut after any byte, its complete lines are a script of its first
 -- events. These are what had happened at some moment.
 abbrev pub AnyCutIsAMoment : Type 0
 AnyCutIsAMoment =
@@ -197,9 +200,9 @@ CutsResumeAMoment =
     → WereTold told front first
     → ((more : List Event) × (told ≡ first ++ more)) ⊎ ResumesAt setup.config w front first
 
--- If messages are synced, nothing answered is forgotten even if the machine loses its power. An
--- answer was sent at an earlier moment. The disk has the synced text, and perhaps more of the text, up
--- to any byte. Its whole lines still tell everything that had happened when the answer was sent.
+-- If messages are synced, nothing answered is forgotten even if the machine loses power. An answer
+-- was sent at an earlier moment. The disk has the synced text, and perhaps more of the text, up to
+-- any byte. Its complete lines still contain everything that had happened when the answer was sent.
 abbrev pub PowerLossesForgetNoAnswer : Type 0
 PowerLossesForgetNoAnswer =
     (setup : Setup) (w : World) (told : List Event) (front later rest : List TraceEntry) (to : Peer)
@@ -217,9 +220,9 @@ abbrev pub HaveSameFlows : World → World → Type 0
 HaveSameFlows a b =
     (talker listener : ℕ) → flow a.gateway talker listener ≡ flow b.gateway talker listener
 
--- A moment before the crash, in the world `then`. The first events of what the journal tells are
--- those up to this moment, except for RTP datagrams and lost ticks. They lead to a world in which the
--- same speech flows.
+-- A moment before the crash, in the world `then`. The journal's first events are those up to this
+-- moment, except for RTP datagrams and lost ticks. They lead to a world in which the same speech
+-- flows.
 pub record TellsFlows (config : Config) (w : World) (told written : List Event)
     (past : List TraceEntry) (lacking : ℕ) : Type 0 where
   pub then : World
@@ -234,7 +237,8 @@ pub record TellsFlows (config : Config) (w : World) (told written : List Event)
   pub flows : (u : World) (all : List Sent)
       → Run (start_of config) (told ++ first) all u → HaveSameFlows then u
 
--- A journal tells who heard whom, at each moment before a crash. `survives` is what the crash leaves.
+-- A journal shows who heard whom, at each moment before a crash. `survives` is what the crash
+-- leaves.
 abbrev pub JournalsTellWhoHears : Type 0
 JournalsTellWhoHears =
     (setup : Setup) (durability : Durability) (w v : World) (told : List Event) (others : List Sent)

@@ -22,19 +22,19 @@ is_append (Append lines durability result) = true
 abbrev pub tick_lines : ℕ → List ℕ
 tick_lines count = flat_map event_line (replicate count events.Tick)
 
--- How far the journal is from the events. It lacks this many ticks; or it has everything, and its
--- last line announces a message that is handled next.
+-- How far the journal lags behind the events. It lacks this many ticks; or it has everything, and
+-- its last line announces a message that is handled next.
 pub data Progress : Type 0 where
   Lacks : (ticks : ℕ) → Progress
   Announces : (source : Peer) (bytes : List ℕ) → Progress
 
--- the progress after an append that did or did not succeed
+-- the progress after an append, whether or not it succeeded
 abbrev pub after_append : Result (Unit {0}) AppendFault → (appended before : Progress) → Progress
 after_append (Ok done) appended before = appended
 after_append (Err fault) appended before = before
 
--- An append of ticks that the journal lacks, or, if it lacks none, of the line for a message that can
--- arrive.
+-- An append of ticks that the journal lacks, or, if it lacks none, of the line for a message that
+-- can arrive.
 abbrev pub AppendsLines : Durability → ℕ → List ℕ → Durability → Result (Unit {0}) AppendFault
     → Progress → Type 0
 AppendsLines durable lacking lines durability result next =
@@ -44,8 +44,8 @@ AppendsLines durable lacking lines durability result next =
     × (lines ≡ event_line (events.Control source bytes)) × (durability ≡ durable)
     × (next ≡ after_append result (Announces source bytes) (Lacks 0)) × IsDatagram source bytes)
 
--- The progress after an entry of a trace. A message is handled only after it was announced, and then
--- at once. Every tick is one more that the journal lacks.
+-- The progress after an entry of a trace. A message is handled only after it was announced, and
+-- then at once. Every tick is one more that the journal lacks.
 abbrev pub Advances : Durability → Progress → TraceEntry → Progress → Type 0
 Advances durable (Announces source bytes) entry next =
     (entry ≡ Happened (events.Control source bytes)) × (next ≡ Lacks 0)
@@ -60,8 +60,8 @@ Journals durable old [] new = new ≡ old
 Journals durable old (entry ∷ trace) new =
     (next : Progress) × Advances durable old entry next × Journals durable next trace new
 
--- A session without a journal appends nothing. Otherwise messages are appended with this durability.
--- The numbers are how many ticks the journal lacks, before and after.
+-- A session without a journal appends nothing. Otherwise messages are appended with this
+-- durability. The numbers are how many ticks the journal lacks, before and after.
 abbrev pub IsJournaled : Option Durability → ℕ → List TraceEntry → ℕ → Type 0
 IsJournaled None lacking trace left =
     (list_any is_append (calls_of trace) ≡ false) × (left ≡ lacking)

@@ -43,7 +43,7 @@ Exits form (Err faults.BadConfig) ended text lines others left = (lines ≡ []) 
 Exits form (Err (faults.Script number)) ended text lines others left = ⊥
 
 -- Text was read. The commands come from its lines before the first `quit` or, if printing failed,
--- from the first of these lines.
+-- from only some of these, starting with the first.
 pub record ReadCommands {T : Type 0} (form : Form) (old new : Option (List ℕ))
     (result : Result T RunFault) (commands : List Command) : Type 0 where
   pub text : List ℕ
@@ -63,7 +63,7 @@ step_commands (steps.Tick timing) = Poll ∷ Tick timing ∷ []
 abbrev pub commands_of : List Step → List Command
 commands_of steps = flat_map step_commands steps
 
--- Why a clock stops after these steps, which led to a schedule, and after these commands.
+-- Why a clock stops after these steps and commands; the steps led to this schedule.
 abbrev pub ClockExits : Form → RunFault → (fails : Type 0) → List Step → TickSchedule → List Command
     → (now new : ClockSeen) → Type 0
 -- the clock can't be read, or will never reach the next tick, or this many steps were taken

@@ -51,12 +51,13 @@ abbrev pub event_at : Setup → ℕ → Peer → List ℕ → Event
 event_at setup zero source bytes = events.Control source bytes
 event_at setup (suc s) source bytes = events.Media (setup.config.base_port + 2 * s) source bytes
 
--- If there is no memory to read a control datagram, it is not an event, and this is noted.
+-- If there is not enough memory to read a control datagram, the datagram is not an event, and this
+-- is noted.
 abbrev pub LacksMemory : World → List TraceEntry → World → Type 0
 LacksMemory w trace next =
     (trace ≡ Noted (codes "no memory for a control datagram") ∷ []) × (next ≡ w)
 
--- an append that succeeded; `Advances` says of what
+-- a successful append; `Advances` says what was appended
 abbrev pub IsAppended : TraceEntry → Type 0
 IsAppended (Called (Append lines durability (Ok done))) = Unit {0}
 IsAppended entry = ⊥
@@ -136,8 +137,8 @@ Ticks setup timing w trace next =
     × (trace ≡ Called (BeginTick timing) ∷ (happening ++ appends))
     × HandlesEvent setup events.Tick w happening next × MayAppend appends
 
--- `poll` is a turn of the control socket and then of each media socket in ascending order. `tick`
--- is one tick. `stats` prints text that is not specified here.
+-- `poll` gives a turn to the control socket, and then to each media socket in ascending order.
+-- `tick` is one tick. `stats` prints text that is not specified here.
 abbrev pub Performs : Setup → Command → World → List TraceEntry → World → Type 0
 Performs setup Poll w trace next =
     Each (SocketTurn setup) (range_with_len 0 (setup.config.slots + 1)) w trace next

@@ -29,8 +29,8 @@ abbrev pub is_remote : Option Chosen → Peer → Bool
 is_remote remote peer =
     option_map_or (λ to. bytes_eq to.address peer.address && to.port == peer.port) remote false
 
--- Whether a datagram from this peer is accepted at a socket: 0 is the control socket. With symmetric
--- RTP (RFC 4961), a media socket accepts packets only from the Remote of its termination.
+-- Whether a datagram from this peer is accepted at a socket: 0 is the control socket. With
+-- symmetric RTP (RFC 4961), a media socket accepts packets only from the Remote of its termination.
 abbrev pub is_admitted : Setup → World → ℕ → Peer → Bool
 is_admitted setup w zero peer = may_command setup.controllers peer.address
 is_admitted setup w (suc slot) peer =

@@ -8,8 +8,8 @@ use Rattle.mg_ports.specs.declared.call.Call.{Call}
 use Rattle.mg_serve.specs.declared.form.Form.{Form}
 use Rattle.mg_serve.specs.declared.form.Form.TheVariants.{Plain, Recording}
 
--- It calls its ports, an event happens, or it prints text for whoever drives it. Or it notes text
--- that is printed only in a recording.
+-- The gateway calls its ports, an event happens, the gateway prints text for whoever drives it, or
+-- it notes text that is printed only in a recording.
 pub data TraceEntry : Type 0 where
   Called : (call : Call) → TraceEntry
   Happened : (event : Event) → TraceEntry
@@ -30,7 +30,7 @@ events_of_trace (_ ∷ trace) = events_of_trace trace
 abbrev pub one_line : List ℕ → List ℕ
 one_line text = take 1000 (filter (λ b. not (b == 10)) text)
 
--- What is printed. In plain form, the text for whoever drives the gateway. In a recording, a script
+-- What is printed: in plain form, the text for whoever drives the gateway; in a recording, a script
 -- line for each event, and comments.
 abbrev pub printed_text : Form → TraceEntry → List ℕ
 printed_text Plain (Printed text) = one_line text ++ codes "\n"

@@ -26,7 +26,7 @@ pub struct ClockDriver<'a, M: Monitor> {
 }
 
 impl<'a, M: Monitor> ClockDriver<'a, M> {
-    /// Makes a driver for a gateway, before the first tick. A tick may be at most `allowed` ticks late.
+    /// Creates a driver for a gateway, before the first tick. A tick may be at most `allowed` ticks late.
     pub fn new(
         alloc: Global,
         core: Core,

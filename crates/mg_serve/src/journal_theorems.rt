@@ -1,4 +1,4 @@
-//! What a journal preserves of every session. The functions do nothing: their contracts are the theorems.
+//! What a journal preserves about every session. The functions do nothing: their contracts are the theorems.
 
 ghost use Rattle.mg_serve.specs.JournalLaws.{EachPartIsAMoment, NothingAnsweredIsForgotten, CrashesLoseSpeechOnly, LivesFollow, AnyCutIsAMoment, CutsResumeAMoment, PowerLossesForgetNoAnswer, JournalsTellWhoHears};
 

@@ -19,10 +19,10 @@ use std::marker::Model;
 /// The maximum number of ticks in one append.
 const BATCH: usize = 1000;
 
-/// The lines of as many ticks as fit into one append.
+/// The lines of as many ticks as fit in one append.
 const TICK_LINES: [[u8; 5]; BATCH] = [*b"tick\n"; BATCH];
 
-/// How many ticks the journal may lack before they are appended: one second of ticks.
+/// How many ticks the journal may lack before they are appended: one second's worth.
 const SECOND: u64 = 50;
 
 /// The state of a session's journal, if it has one: how many ticks the journal lacks.
@@ -62,7 +62,7 @@ fn append<P: Ports>(
     result
 }
 
-/// Appends the lines of ticks, at least one.
+/// Appends the lines for one or more ticks.
 fn append_lines<P: Ports>(ports: &mut P, ticks: usize, failed: &mut u64) -> Result<(), AppendFault>
     requires some { 0 < ticks }
     requires few { ticks ≤ BATCH }
@@ -162,7 +162,7 @@ impl Journaling {
         append(ports, self.line.as_slice(), durability, &mut self.failed)
     }
 
-    /// Counts a tick that has passed. If the journal lacks a second of ticks or more, tries one append.
+    /// Counts a tick that has passed. If the journal lacks at least one second's worth of ticks, tries one append.
     pub fn end_tick<P: Ports>(&mut self, ports: &mut P)
         requires few { self.old.lacking + 1 < 2 ^ 64 }
         ensures few { self.new.lacking ≤ self.old.lacking + 1 }

@@ -28,7 +28,7 @@ pub struct LineDriver<'a, M: Monitor> {
 }
 
 impl<'a, M: Monitor> LineDriver<'a, M> {
-    /// Makes a driver for a gateway, before the first line.
+    /// Creates a driver for a gateway, before the first line.
     pub fn new(
         alloc: Global,
         core: Core,

@@ -14,7 +14,7 @@ use std::alloc::{AllocError, Global};
 use std::io::Write;
 use std::marker::Model;
 
-/// The maximum length of printed text, in bytes. Longer text is cut.
+/// The maximum length of printed text, in bytes. Longer text is truncated.
 const PRINTED_LIMIT: usize = 1000;
 
 /// The maximum length of a text line, in bytes: the comment mark, the text, and a line feed.
@@ -84,7 +84,7 @@ fn push_line(text: &[u8], out: &mut Bytes)
 }
 
 impl Printer {
-    /// Makes a printer for output in this form. No other call allocates.
+    /// Creates a printer for output in this form. No other call allocates.
     pub fn new(alloc: Global, form: Form) -> Result<Self, AllocError>
         ensures value { IfOk result (λ printer. printer ≡ record { form = form; has_failed = false }) }
     {

@@ -35,9 +35,10 @@ use std::io::{Read, Write};
 /// control datagram that was dropped because memory ran out or an append failed. `run` from `mg_core` runs such a
 /// script again. If printing fails, the current input line is still executed in full, and nothing more is printed.
 ///
-/// With a journal, a control message is appended to it before it is handled, and is dropped if the append fails. Ticks
-/// are appended before the next message, and otherwise once a second. A tick's packets are sent whether appends work or
-/// not. The journal's text contains the session's events, except for RTP datagrams and for ticks that it still lacks.
+/// If there is a journal, each control message is appended to the journal before the message is handled, and is dropped
+/// if the append fails. Ticks are appended before the next message, and otherwise once a second. A tick's packets are
+/// sent whether or not appends work. The journal's text contains the session's events, except for RTP datagrams and for
+/// ticks that it still lacks.
 ///
 /// It reports datagrams and ticks to the monitor.
 ///
@@ -104,12 +105,12 @@ fn drive<P: Ports, R: Read, W: Write, M: Monitor>(
 /// Runs a gateway on the given ports in real time. The gateway is new, or was resumed from a journal.
 ///
 /// It prints `ready`. Then, every 20 ms by the clock, it executes what [`serve`] executes for the lines `poll` and
-/// `tick`. If the clock sees a message in between, it also executes what [`serve`] executes for `poll`, up to 20 times
-/// before each tick.
+/// `tick`. If a message arrives in between, it also executes what [`serve`] executes for `poll`, up to 20 times before
+/// each tick.
 ///
 /// The k-th tick begins when a reading of the clock first shows that it is due: `k * 20 ms` after the clock's start.
-/// After a delay, all missed ticks are executed in one go. If a tick is behind by more than `allowed` ticks, its
-/// packets are not sent.
+/// After a delay, all missed ticks are executed at once. If a tick is more than `allowed` ticks late, its packets are
+/// not sent.
 ///
 /// It ends only on a fault: `Read` if the clock can't be read, `Write` if printing failed, or `NoMemory` before
 /// anything is executed.

@@ -23,9 +23,9 @@ impl<'a> Model for Setup<'a> {
 }
 
 impl<'a> Setup<'a> {
-    /// Makes the setup of a session with this configuration. Only these IPv4 addresses may send control messages; if
+    /// Creates the setup of a session with this configuration. Only these IPv4 addresses may send control messages; if
     /// there are none, any address may. With symmetric RTP (RFC 4961), a termination's packets are accepted only from
-    /// the address and port of its Remote. With a journal, messages are appended to it with this durability.
+    /// the address and port of its Remote. If there is a journal, messages are appended to it with this durability.
     pub fn new(
         config: Config,
         controllers: &'a [[u8; 4]],

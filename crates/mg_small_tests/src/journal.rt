@@ -1,4 +1,4 @@
-//! Journals: files that lines are appended to.
+//! Journals: files to which lines are appended.
 
 use mg_journal::{
     AppendFault, Durability, FaultEffect, FileCall, FileJournal, InjectedFault, Journal,
@@ -29,7 +29,7 @@ fn opening(
     Opening::new(MemoryFile::new(text.to_vec(alloc)?, faults.to_vec(alloc)?))
 }
 
-/// Makes a journal in a file that holds the line `tick`, with these faults.
+/// Creates a journal in a file that holds the line `tick`, with these faults.
 fn journal(alloc: Global, faults: &[InjectedFault]) -> io::Result<FileJournal<MemoryFile>> {
     opening(alloc, b"tick\n", faults)?.accept()
 }

@@ -51,7 +51,7 @@ impl<'a> Write for Script<'a> {
     }
 }
 
-/// Gives the answers in `first`, and then `last` every time.
+/// Returns the answers in `first`, and `last` from then on.
 #[derive(Drop)]
 struct Answers<'a> {
     first: &'a [bool],
@@ -70,7 +70,7 @@ impl<'a> Ready for Answers<'a> {
 
 type Scripted<'a> = Outlet<Script<'a>, Answers<'a>>;
 
-/// Makes an outlet in front of a writer that executes the steps. After the given answers, the writer is always ready.
+/// Creates an outlet in front of a writer that executes the steps. After the given answers, the writer is always ready.
 fn outlet<'a>(
     alloc: Global,
     steps: &'a [Step],
@@ -87,7 +87,7 @@ fn outlet<'a>(
     Outlet::new(alloc, script, answers, limit, overflow)
 }
 
-/// Returns the bytes from `from` to `to` of a text in which adjacent chunks differ.
+/// Returns bytes `from..to` of a text whose adjacent chunks differ.
 fn text(alloc: Global, from: u32, to: u32) -> Result<Vec<u8>, AllocError> {
     let mut text = Vec::new(alloc);
     for i in from..to {
@@ -355,7 +355,7 @@ impl Write for Closed {
     }
 }
 
-/// Returns the text of the fault, if an outlet can't be made.
+/// Returns the text of the fault if an outlet can't be created.
 fn fault<W: Drop>(
     alloc: Global,
     made: Result<Outlet<W, SystemReady>, OutletFault>,

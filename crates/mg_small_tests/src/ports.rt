@@ -14,7 +14,7 @@ const CALLER: Peer = Peer {
     port: 40000,
 };
 
-/// Returns ports where `one` and `two` are waiting at socket 0 and `three` at socket 2.
+/// Returns ports with `one` and `two` waiting at socket 0, and `three` at socket 2.
 fn ports(alloc: Global, failing: &[u64]) -> Result<FakePorts, AllocError> {
     let waiting: [(usize, &[u8]); 3] = [(0, b"one"), (2, b"three"), (0, b"two")];
     let mut arrivals = Vec::new(alloc);

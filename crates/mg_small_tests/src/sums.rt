@@ -181,7 +181,7 @@ fn mix(
     Ok(first)
 }
 
-/// Makes three rows joined to a room: two with mu-law's largest sample, and one with its smallest.
+/// Creates three rows joined to a room: two with mu-law's largest sample, and one with its smallest.
 fn conference(rt: &HostRuntime, room: Room) -> Result<Sums, Fail> {
     let mut sums = Sums::new(rt.alloc())?;
     let frames: [Frame; 3] = [

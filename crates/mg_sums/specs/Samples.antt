@@ -1,4 +1,4 @@
--- Rows of numbers and their sums (this project's own).
+-- Rows of numbers and their sums (not from a standard).
 use Rattle.std.specs.Prelude.{ℕ, ℤ, pos, negsuc, ◌+ℤ◌, List, [], ◌∷◌, slice_index_or, Option, Some}
 use Rattle.std.specs.Prelude.{None, replicate}
 use Rattle.std.specs.Int.{int_min, int_max}

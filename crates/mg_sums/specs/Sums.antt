@@ -1,5 +1,5 @@
 -- The frames of rows, the rooms that rows are joined to, and the sums of a room's frames. A total
--- is never limited, and a mix is limited once: this is the project's own rule.
+-- is never saturated, and a mix is saturated once: this is the project's own rule.
 use Rattle.std.specs.Prelude.{◌≡◌, ◌≢◌, ℕ, ◌+◌, ◌%◌, ◌^◌, ◌<◌, ℤ, Bool, false, not, ◌==◌, Option}
 use Rattle.std.specs.Prelude.{Some, None, List, [], ◌∷◌, length, map, filter, replicate}
 use Rattle.std.specs.Prelude.{slice_index_or, AllPairs, Contains, IsTrue, IfSome, All}
@@ -8,7 +8,7 @@ use Rattle.mg_words.specs.Limits.{context_limit, termination_limit}
 use Rattle.mg_g711.specs.Frame.{IsFrame}
 use Rattle.mg_sums.specs.Samples.{sample, sum_of, nearest_sample, silence}
 
--- The state: for each row its frame and the room that it is joined to, if any. Then the number of
+-- The state: for each row, its frame and the room that it is joined to, if any; and the number of
 -- calls to row kernels, modulo 2^32.
 pub record SumsState : Type 0 where
   pub frames : List (List ℤ)
@@ -64,7 +64,7 @@ heard_rows rooms room out = filter (λ row. not (is_among out row)) (joined_rows
 abbrev pub heard_of : SumsState → ℕ → List ℕ → ℕ → ℤ
 heard_of kept room out i = sum_of (sample_in kept.frames i) (heard_rows kept.rooms room out)
 
--- a mix: what is heard, each sample limited once
+-- a mix: what is heard, each sample saturated once
 unfoldable pub mix_of : SumsState → ℕ → List ℕ → List ℤ
 mix_of kept room out = map (λ i. nearest_sample (heard_of kept room out i)) (range_with_len 0 160)
 
@@ -78,7 +78,7 @@ pub record AreOfRoom (rooms : List (Option ℕ)) (room : ℕ) (rows : List ℕ) 
   pub joined : All (λ row. IsTrue (is_joined rooms room row)) rows
   pub different : AllPairs (λ a b. a ≢ b) rows
 
--- they are all of the rows joined to the room
+-- these rows are all the rows joined to the room
 pub record AreAllOfRoom (rooms : List (Option ℕ)) (room : ℕ) (rows : List ℕ) : Type 0 where
   pub are : AreOfRoom rooms room rows
   pub all : (row : ℕ) → IsTrue (is_joined rooms room row) → Contains rows row

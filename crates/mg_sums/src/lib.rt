@@ -26,8 +26,8 @@
 //! through [`Sums::frame`] and [`Sums::total`].
 //!
 //! [`Sums::new`] allocates all memory; no other call allocates. `specs/Sums.antt` defines totals and mixes, and
-//! [`theorems`] states the consequences. The vector code is in [`kernels`]; [`ranges`] gives proofs the ranges that a
-//! kernel requires.
+//! [`theorems`] states the consequences. The vector code is in [`kernels`]; [`ranges`] supplies proofs with the ranges
+//! that a kernel requires.
 #![tactic(auto)]
 
 pub mod kernels;

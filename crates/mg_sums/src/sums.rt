@@ -48,7 +48,7 @@ impl Model for Sums {
 impl Sums {
     ghost use Rattle.mg_sums.specs.Sums.{first_sums, frame_of_row, room_of, total_of, mix_of, heard_of, AreOfRoom, AreValidSums};
 
-    /// Makes silent rows that are joined to no room.
+    /// Creates silent rows that are joined to no room.
     ///
     /// Fails only if the allocation fails. No other call allocates.
     pub fn new(alloc: Global) -> Result<Self, AllocError>

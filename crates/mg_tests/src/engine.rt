@@ -71,7 +71,7 @@ fn add(engine: &mut Engine, target: Target, settings: &Settings) -> Result<Targe
     Ok(Target::Number(added.context))
 }
 
-/// Makes a conference of the first callers.
+/// Creates a conference of the first callers.
 fn add_callers(engine: &mut Engine, callers: usize) -> Result<(), Fail> {
     let mut target = Target::New;
     for remote in REMOTES.iter().take(callers) {

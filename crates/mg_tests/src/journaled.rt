@@ -57,7 +57,7 @@ fn ports_for(alloc: Global, case: &Case<'_>) -> io::Result<FakePorts> {
     Ok(ports(alloc, case.waiting, case.failing)?.with_journal(journal))
 }
 
-/// Runs a session, which is recorded.
+/// Runs and records a session.
 fn session(alloc: Global, case: &Case<'_>) -> io::Result<Outcome> {
     let config = config();
     let core = core(alloc, config)?;
@@ -295,7 +295,7 @@ fn tries_again_at_each_tick(rt: HostRuntime) -> Result<(), Fail> {
     Ok(())
 }
 
-/// While appends fail, more ticks pass than fit into one append. The next message appends them in two batches.
+/// While appends fail, more ticks pass than fit in one append. The next message appends them in two batches.
 #[test]
 fn appends_many_ticks_in_batches(rt: HostRuntime) -> Result<(), Fail> {
     let alloc = rt.alloc();

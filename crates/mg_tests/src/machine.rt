@@ -318,7 +318,7 @@ const DROPPED: [&[u8]; 6] = [
     b"rtp 30000 127.0.0.1:5004 800000010000000000000063\n",
 ];
 
-/// Makes a termination without a Local, on port 30006.
+/// Creates a termination without a Local, on port 30006.
 const NO_LOCAL: &[u8] = b"say 127.0.0.1:2945 !/1 [127.0.0.1]:2945 T=2{C=1{A=$}}\n";
 
 /// Appends a frame of the first caller, in hexadecimal, this many times.
@@ -486,7 +486,7 @@ fn answers_each(
 
 /// Returns whether a new core answers each message from the controller with the text given for it.
 ///
-/// It is false if the configuration is invalid.
+/// Returns false if the configuration is invalid.
 fn answers_all(
     alloc: Global,
     config: Config,

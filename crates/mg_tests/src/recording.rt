@@ -129,7 +129,7 @@ fn runs_control_datagrams(rt: HostRuntime) -> Result<(), Fail> {
     Ok(())
 }
 
-/// Makes a termination on port 30000 that accepts mu-law from any address.
+/// Creates a termination on port 30000 that accepts mu-law from any address.
 const ADD: &[u8] = b"!/1 [127.0.0.1]:2945 T=1{C=${\
     A=${M{O{MO=SR},L{v=0\nc=IN IP4 $\nm=audio $ RTP/AVP 0\n}}}}}";
 
@@ -140,7 +140,7 @@ fn frame(alloc: Global) -> Result<Vec<u8>, Fail> {
     media(alloc, 30000, CALLER, packet.as_slice())
 }
 
-/// Returns a recording in which a termination is made and accepts a frame.
+/// Returns a recording in which a termination is created and accepts a frame.
 fn recording(alloc: Global) -> Result<Vec<u8>, Fail> {
     let mut script = control(alloc, CONTROLLER, ADD)?;
     let frame = frame(alloc)?;

@@ -32,7 +32,7 @@ const CROWDED: Limits = Limits {
     ..LIMITS
 };
 
-/// Makes a context and fills it.
+/// Creates a context and fills it.
 fn fill_context(rt: &impl Abort, rooms: &mut Rooms, context: u32) {
     let first = rooms.add(Target::New, &Settings::default());
     assert_eq!(rt; first.map(|member| member.record.context), Ok(context));
@@ -79,7 +79,7 @@ fn slots_and_contexts_fill_up(rt: HostRuntime) -> Result<(), Fail> {
     Ok(())
 }
 
-/// The first termination when it is made.
+/// The first termination when it is created.
 const FRESH: Record = Record {
     number: 1,
     context: 1,

@@ -20,7 +20,7 @@ pub const CALLER: Peer = Peer {
     port: 40000,
 };
 
-/// Makes context 1 with a termination that talks and listens, and has its caller on port 40000.
+/// Creates context 1 with a termination that talks and listens, and whose caller is on port 40000.
 pub const ADD: &[u8] = b"MEGACO/1 [127.0.0.1]:2945 Transaction=1{Context=${Add=${Media{\
     LocalControl{Mode=SendReceive},Local{v=0\nc=IN IP4 $\nm=audio $ RTP/AVP 0\n},\
     Remote{v=0\nc=IN IP4 127.0.0.1\nm=audio 40000 RTP/AVP 0\n}}}}}";
@@ -36,7 +36,7 @@ pub fn config() -> Config {
     }
 }
 
-/// Makes a gateway with this configuration, which is valid.
+/// Creates a gateway with this configuration, which is valid.
 pub fn core(alloc: Global, config: Config) -> Result<Core, AllocError>
     ensures sound { OnOk result (IsValidConfig config) }
 {
@@ -46,7 +46,7 @@ pub fn core(alloc: Global, config: Config) -> Result<Core, AllocError>
     }
 }
 
-/// Returns ports with these datagrams waiting, where the calls with these numbers fail.
+/// Returns ports with these datagrams waiting. The calls with these numbers fail.
 pub fn ports(
     alloc: Global,
     waiting: &[(usize, &[u8])],
@@ -64,9 +64,9 @@ pub fn ports(
     Ok(FakePorts::new(alloc, arrivals, failing.to_vec(alloc)?))
 }
 
-/// Returns a letter and a socket for a receive or a send. At this socket a datagram `c`ame in, `n`one did, or the
-/// receive `f`ailed. An `a`nswer or a `p`acket was sent from it. For an append to the journal, returns a letter and the
-/// number of lines, which were `w`ritten, `s`ynced or `r`efused, or `b`roke the journal.
+/// For a receive or a send, returns a letter and the socket: a datagram `c`ame in, `n`one did, or the receive `f`ailed;
+/// an `a`nswer or a `p`acket was sent. For an append to the journal, returns a letter and the number of lines, which
+/// were `w`ritten, `s`ynced or `r`efused, or `b`roke the journal.
 fn letter(call: &Call) -> Option<(char, usize)> {
     match call {
         Call::Receive(socket, Receipt::Delivered(_, _)) => Some(('c', *socket)),

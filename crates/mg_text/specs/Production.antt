@@ -2,7 +2,7 @@
 use Rattle.std.specs.Prelude.{◌≡◌, ◌⊎◌, List}
 use Rattle.mg_scan.specs.declared.token.Token.{Token}
 
--- what tokens start with: a relation between tokens and those that follow the part
+-- what some tokens start with: a relation between the tokens and those that follow this part
 abbrev pub Production : Type 1
 Production = List Token → List Token → Type 0
 

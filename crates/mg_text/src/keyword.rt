@@ -163,7 +163,7 @@ impl Keyword {
 
 /// Compares two words of equal length, ignoring case.
 ///
-/// It is a separate function from [`same_word`], because the lengths of most words differ.
+/// This is separate from [`same_word`], because most words differ in length.
 #[inline(never)]
 #[tactic(auto, using(crate::proofs::KeywordLemmas::exact))]
 fn same_letters(a: &[u8], b: &[u8]) -> bool
@@ -270,7 +270,7 @@ fn word_among(words: &[Keyword], text: &[u8]) -> Option<Keyword>
 
 /// Returns the keyword that the text spells, in either form.
 ///
-/// It compares only forms that have the text's first letter and its length.
+/// Only forms with the text's first letter and length are compared.
 pub fn keyword_of(text: &[u8]) -> Option<Keyword>
     ensures value { result ≡ keyword_of text.now }
 {

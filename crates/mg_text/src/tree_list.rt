@@ -17,7 +17,7 @@ impl<T> Model for TreeList<T> {
 }
 
 impl<T> TreeList<T> {
-    /// Makes a list from a vector.
+    /// Creates a list from a vector.
     pub fn new(items: Vec<T>) -> Self
         ensures value { result ≡ items.items }
     {

@@ -1,4 +1,4 @@
--- A set of seats as the bits of a number (this project's own).
+-- A set of seats as the bits of a number (not from a standard).
 use Rattle.std.specs.Prelude.{ℕ, ◌<◌, Bool, ◌==◌, bit_and, List, length, IsTrue, IsFalse}
 use Rattle.std.specs.Int.{bit_at}
 use Rattle.std.specs.List.{filter, range_with_len}

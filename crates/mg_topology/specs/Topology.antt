@@ -1,4 +1,4 @@
--- The state of a topology, and which lists of edits it represents (this project's own).
+-- The state of a topology, and which lists of edits it represents (not from a standard).
 use Rattle.std.specs.Prelude.{◌≡◌, ℕ, Bool, not, ◌&&◌, ◌==◌, nat_lt, List, slice_index}
 use Rattle.mg_topology.specs.Mask.{seat_limit, has_seat}
 use Rattle.mg_topology.specs.Edits.{TopologyEdit, is_held, hears_in}

@@ -19,7 +19,7 @@ pub struct Triple {
     pub association: Association,
 }
 
-/// Makes a triple that mentions no pair.
+/// The default is a triple that mentions no pair.
 impl Default for Triple {
     ghost use Rattle.std.specs.Prelude.{◌≡◌};
     ghost use Rattle.mg_topology.specs.Triple.{empty_triple};

@@ -8,7 +8,7 @@ use crate::number::number_of;
 pub enum ContextId {
     /// `-`: the null context, which holds the terminations that are in no other context.
     Null,
-    /// `$`: a new context, which the gateway makes.
+    /// `$`: a new context, which the gateway creates.
     Choose,
     /// `*`: every context.
     All,

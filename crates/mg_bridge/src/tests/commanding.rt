@@ -9,8 +9,8 @@ use std::time::{Clock, Duration};
 
 const MESSAGE: &[u8] = b"MEGACO/2";
 
-/// A stranger and a controller. Each sends messages once the gateway is running: at its first read of the input, or at
-/// its first wait. The stranger sends before and after the controller.
+/// A stranger and a controller. Each sends messages once the gateway is running: when the gateway first reads its
+/// input, or when it first waits. The stranger sends before and after the controller.
 #[derive(Drop)]
 struct Senders<'a> {
     stranger: &'a UdpSocket,

@@ -12,7 +12,7 @@ use std::net::{IpAddr, Ipv4Addr, SocketAddr, UdpSocket};
 use std::process::Abort;
 use std::test::Fail;
 
-/// Makes two terminations that talk and listen, with callers on ports 29510 and 29512.
+/// Creates two terminations that talk and listen, with callers on ports 29510 and 29512.
 const TWO_CALLERS: &[u8] = b"MEGACO/1 [127.0.0.1]:29510 Transaction=1{Context=${\
     Add=${Media{LocalControl{Mode=SendReceive},Local{v=0\nc=IN IP4 $\nm=audio $ RTP/AVP 0\n},\
     Remote{v=0\nc=IN IP4 127.0.0.1\nm=audio 29510 RTP/AVP 0\n}}},\
@@ -24,7 +24,7 @@ const ANSWER: &[u8] =
     c=IN IP4 127.0.0.1\r\nm=audio 29502 RTP/AVP 0\r\na=ptime:20\r\n}}}},Add=RTP/2{Media{Stream=1{Local{v=0\r\n\
     c=IN IP4 127.0.0.1\r\nm=audio 29504 RTP/AVP 0\r\na=ptime:20\r\n}}}}}}";
 
-/// Makes two terminations that send: the first to an address that is not allowed, the second to port 29612.
+/// Creates two terminations that send: the first to an address that is not allowed, the second to port 29612.
 const ONE_UNREACHABLE: &[u8] = b"MEGACO/1 [127.0.0.1]:29612 Transaction=1{Context=${\
     Add=${Media{LocalControl{Mode=SendOnly},\
     Remote{v=0\nc=IN IP4 255.255.255.255\nm=audio 29610 RTP/AVP 0\n}}},\
@@ -60,7 +60,7 @@ fn caller(rt: &HostRuntime, port: u16) -> io::Result<UdpSocket> {
     Ok(socket)
 }
 
-/// Returns a PCMU packet whose samples all have this byte.
+/// Returns a PCMU packet in which each sample is this byte.
 fn speech(sample: u8) -> [u8; 172] {
     let mut packet = [sample; 172];
     packet[..12].copy_from_slice(b"\x80\0\0\x01\0\0\0\0\0\0\0c");
@@ -77,7 +77,7 @@ fn lines(alloc: Global) -> Result<String, AllocError> {
     Ok(lines)
 }
 
-/// Runs a gateway on these ports, driven by these lines. Returns its counts, and what it printed.
+/// Runs a gateway on these ports, driven by these lines. Returns its counts and its output.
 fn serve_lines<P: Ports>(
     alloc: Global,
     config: Config,
@@ -176,7 +176,7 @@ fn loses_only_the_packets_that_cannot_be_sent(rt: HostRuntime) -> Result<(), Fai
     lose_packets(&rt, rt.alloc(), config, &mut ports, &caller)
 }
 
-/// Makes terminations that send to 0.0.0.0, to a multicast address, and to port 28712.
+/// Creates terminations that send to 0.0.0.0, to a multicast address, and to port 28712.
 const HELD: &[u8] = b"MEGACO/1 [127.0.0.1]:28712 Transaction=1{Context=${\
     Add=${Media{LocalControl{Mode=SendOnly},Remote{v=0\nc=IN IP4 0.0.0.0\nm=audio 28712 RTP/AVP 0\n}}},\
     Add=${Media{LocalControl{Mode=SendOnly},Remote{v=0\nc=IN IP4 224.0.0.1\nm=audio 28712 RTP/AVP 0\n}}},\

@@ -30,7 +30,7 @@ impl Clock for ShortClock {
     }
 }
 
-/// Random bytes that count up from 1, or none.
+/// A random source whose bytes count up from 1, or that has none.
 #[derive(Drop)]
 struct Counting {
     works: bool,

@@ -9,12 +9,12 @@ use std::{env, fs, io};
 
 const MS: u64 = 1_000_000;
 
-/// Makes a termination that sends to a caller on port 28912.
+/// Creates a termination that sends to a caller on port 28912.
 const ONE_CALLER: &[u8] = b"MEGACO/1 [127.0.0.1]:28912 Transaction=1{Context=${\
     Add=${Media{LocalControl{Mode=SendOnly},Remote{v=0\nc=IN IP4 127.0.0.1\nm=audio 28912 RTP/AVP 0\n}}}}}";
 
-/// A clock that advances only when it waits. During its first wait a caller requests a termination, and the wait that
-/// ends at 100 ms is two seconds too long. The clock fails after 400 readings.
+/// A clock that advances only when it waits. During its first wait, a caller requests a termination, and the wait that
+/// should end at 100 ms takes two seconds longer. The clock fails after 400 readings.
 #[derive(Drop)]
 struct StallingClock<'a> {
     now: Cell<u64>,

@@ -38,7 +38,7 @@ fn new_path(rt: &HostRuntime, name: &str) -> Result<PathBuf, Fail> {
     Ok(path)
 }
 
-/// Runs the program with these words. A message is sent to this port before the first line is read.
+/// Runs the program with these arguments. A message is sent to this port before the first line is read.
 fn run_with(
     rt: &HostRuntime,
     words: &[&str],
@@ -127,7 +127,7 @@ fn goes_on_from_a_journal(rt: HostRuntime) -> Result<(), Fail> {
     Ok(())
 }
 
-/// Runs a gateway whose journal has this text. Also returns the text that the journal has afterwards.
+/// Runs a gateway whose journal contains this text. Also returns the journal's text after the run.
 fn run_on(rt: &HostRuntime, text: &[u8], option: &str) -> Result<(Outcome, Vec<u8>), Fail> {
     let path = new_path(rt, "mg_bridge_refuses.txt")?;
     fs::write(rt, path.as_str(), text)?;

@@ -1,4 +1,4 @@
--- A request that runs in two gateways which differ only in what some terminations received.
+-- A request that runs in two gateways, which differ only in what some terminations received.
 use Rattle.std.specs.Prelude.{◌≡◌, ℕ, List, map}
 use Rattle.std.specs.Option.{option_map}
 use Rattle.mg_reply.specs.declared.item.Item.{Item}
@@ -19,15 +19,15 @@ abbrev pub outcome_but_received : Outcome → Outcome
 outcome_but_received (Failed e) = Failed e
 outcome_but_received (Done parts) = Done (parts_but_received parts)
 
--- an item of a reply, without the received packets in its statistics
+-- an item of a reply, without the counts of received packets in its statistics
 abbrev pub item_but_received : Item → Item
 item_but_received (Triple a b association) = Triple a b association
 item_but_received (Command word term outcome) = Command word term (outcome_but_received outcome)
 item_but_received (Fault e) = Fault e
 item_but_received (Action id) = Action id
 
--- If two gateways agree outside some terminations, they also agree after the same request. The
--- replies are equal, item by item, except for the received packets in statistics.
+-- If two gateways agree outside some terminations, they still do after the same request. The
+-- replies are equal, item by item, except for the counts of received packets in statistics.
 abbrev pub RequestsKeepAgreement : Type 0
 RequestsKeepAgreement =
     (some : List ℕ) (source : List ℕ) (request : Request) (a b : Gateway) → AgreeOutside some a b

@@ -26,7 +26,7 @@ use Rattle.mg_commands.specs.Transaction.{target_of, id_of}
 -- ## Commands
 
 -- The state of an action: the gateway, the action's context, the termination that its first Add
--- made, and the items of the reply so far.
+-- created, and the items of the reply so far.
 pub record ActionState : Type 0 where
   pub gateway : Gateway
   pub target : Target
@@ -80,7 +80,7 @@ with_command source c run = with_trial source c run (trial_of source run.gateway
 abbrev pub unless_optional : Command → ActionState × Bool → ActionState × Bool
 unless_optional c (run, is_done) = (run, c.is_optional || is_done)
 
--- the rest, unless a command failed
+-- the rest is run, unless a command failed
 abbrev pub continue_with : (ActionState → ActionState × Bool) → ActionState × Bool
     → ActionState × Bool
 continue_with rest (run, true) = rest run
@@ -133,7 +133,7 @@ with_action source a s =
     option_map_or (refusal a s) (action_fault a)
     (after_commands source a.properties (with_commands source a.commands (action_start a s)))
 
--- the rest, unless an action was not completed
+-- the rest is run, unless an action was not completed
 abbrev pub continue_after_action : (ActionsState → ActionsState) → ActionsState × Bool
     → ActionsState
 continue_after_action rest (s, true) = rest s

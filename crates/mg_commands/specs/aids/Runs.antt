@@ -1,5 +1,6 @@
--- The program's state in an action and in a transaction, and which states of the definitions it
--- represents. The engine represents the gateway, and the reply has the items that were put into it.
+-- The program's state in an action and in a transaction, and which states in the definitions it
+-- represents. The engine represents the gateway, and the reply contains the items that were put
+-- into it.
 use Rattle.std.specs.Prelude.{◌≡◌, ℕ, ◌*◌, Bool, true, false, List, Result, Ok, Err}
 use Rattle.mg_words.specs.ResultSteps.{◌>>=◌}
 use Rattle.mg_words.specs.declared.error_number.ErrorNumber.{ErrorNumber}

@@ -1,4 +1,4 @@
--- How far a run got at each fault of a script, in the form in which a run proves it.
+-- How far a run got before each fault of a script, in the form that the run's proof uses.
 use Rattle.std.specs.Prelude.{◌≡◌, ℕ, ◌+◌, ◌<◌, Bool, true, false, List, [], ◌∷◌, ◌++◌, length}
 use Rattle.std.specs.Prelude.{Option, Some}
 use Rattle.std.specs.Io.KnownBytes.{Appends}

@@ -16,7 +16,7 @@ use Rattle.mg_core.specs.Script.{event_of, events_of}
 use Rattle.mg_core.specs.Step.{Sent, Step, Run}
 use Rattle.mg_core.specs.World.{World, StandsFor, world_after_ticks}
 
--- the state represents a world that leads to this one, by this many ticks
+-- this many ticks lead to this world from one that the state represents
 abbrev pub Awaits : CoreState → ℕ → World → Type 0
 Awaits state ticks w = (v : World) × StandsFor state v × (w ≡ world_after_ticks ticks v)
 
@@ -47,8 +47,8 @@ EndedResumed count text w next (Err (stops.Bad number)) =
 EndedResumed count text w next (Err stops.Write) = ⊥
 EndedResumed count text w next (Err stops.NoMemory) = Unit {0}
 
--- Lines were run, and their bytes are a partial line and all bytes but the rest. The next line has a
--- part already, whatever follows. Otherwise, there was a bad line, or memory ran out.
+-- The partial line and the bytes before the rest consist of lines that were run and a new partial
+-- line, whatever follows. Otherwise, there was a bad line, or memory ran out.
 abbrev pub BytesResumed : ℕ → ℕ → List ℕ → List ℕ → List ℕ → List ℕ → World → World
     → Result (Unit {0}) LineFault → Type 0
 BytesResumed count counted partial bytes left rest w next (Ok done) =
@@ -68,7 +68,7 @@ abbrev pub LastResumed : ℕ → List ℕ → World → World → Result (Unit {
 LastResumed count [] w next result = (result ≡ Ok tt) × (next ≡ w)
 LastResumed count (b ∷ bs) w next result = LineResumed (count + 1) (b ∷ bs) w next result
 
--- the whole script was run, or the first bad line was found, or reading or memory failed
+-- the whole script was run, the first bad line was found, reading failed, or memory ran out
 abbrev pub AllResumed : Config → (input rest : Option (List ℕ)) → CoreState
     → Result (Unit {0}) ScriptFault → Type 0
 AllResumed config input rest state (Ok done) = IsResumed config input rest state

@@ -55,7 +55,7 @@ refusal_of (readings.Version n) = Some numbers.Version
 refusal_of readings.TooMany = Some numbers.NotServed
 refusal_of readings.NoMemory = None
 
--- a counter after these datagrams were sent; it stays at the largest 64-bit value
+-- a counter after these datagrams were sent; if it reaches the largest 64-bit value, it stays there
 unfoldable pub after_sent : ℕ → List Sent → ℕ
 after_sent n [] = n
 after_sent n (s ∷ sent) = after_sent (capped (n + 1)) sent
@@ -86,7 +86,7 @@ EventRan shown event w next n m old new (Ok done) = EventDone shown event w next
 EventRan shown event w next n m old new (Err events.Write) = EventCut shown event w next old new
 EventRan shown event w next n m old new (Err events.NoMemory) = Keeps old new × (next ≡ w)
 
--- The changes of an event were written, if changes are shown, or a prefix of their text was.
+-- If changes are shown, an event's changes were written, or only a prefix of their text was.
 abbrev pub ChangesWritten : Shown → World → World → Option (List ℕ) → Option (List ℕ)
     → Result (Unit {0}) EventFault → Type 0
 ChangesWritten shows.Sent w next old new result = (result ≡ Ok tt) × Keeps old new
@@ -169,7 +169,7 @@ pub record AllRanCounted (config : Config) (shown : Shown) (script : List ℕ) (
   pub stands : StandsFor state last
   pub lines : count ≡ length (lines_of true script)
 
--- the same for a whole input, or how far it was run
+-- a whole input was run, or the result says how far it was run
 abbrev pub AllRan : Config → Shown → (input rest : Option (List ℕ)) → CoreState → ℕ → ℕ
     → (old new : Option (List ℕ)) → Result (Unit {0}) ScriptFault → Type 0
 AllRan config shown input rest state count n old new (Ok done) =

@@ -31,7 +31,7 @@ initial_media_at timestamp sequence =
 abbrev pub initial_media : Config → SlotMedia
 initial_media config = initial_media_at config.timestamp config.sequence
 
--- the media with the depth that a command names
+-- the media with the depth that a command specifies
 abbrev pub slot_tuned : Option ℕ → SlotMedia → SlotMedia
 slot_tuned depth m = record m { play = play_after depth m.play }
 
@@ -41,7 +41,7 @@ slot_placed m header frame =
     let after = play_lists.placed m.play header.ssrc header.sequence frame in
     (record m { play = after.0; stats = received m.stats }, after.1)
 
--- the play list ticks
+-- the play list advances
 abbrev pub slot_played : SlotMedia → SlotMedia
 slot_played m =
     record m {
@@ -80,7 +80,7 @@ slot_ended false m = record m { is_sending = false }
 
 -- ## Ticks, one after another
 
--- a tick in which a packet was sent or none
+-- a tick in which a packet was or was not sent
 abbrev pub slot_ticked : Bool → SlotMedia → SlotMedia
 slot_ticked is_sent m = slot_ended is_sent (slot_played m)
 

@@ -20,7 +20,7 @@ AreApart slots =
     (a b : ℕ) → a < length slots → b < length slots
     → slice_index_or slots a 0 ≡ slice_index_or slots b 0 → a ≡ b
 
--- the play list of a slot has ticked, and what it plays is in the slot's row
+-- the play list of a slot has advanced, and what it plays is in the slot's row
 pub record IsPlayed (old new : List media.SlotMedia) (frames : List (List ℤ)) (slot : ℕ)
     : Type 0 where
   pub ticked : media_at new slot ≡ media_steps.slot_played (media_at old slot)
@@ -32,7 +32,7 @@ pub record IsIdleSlot (kept : List media.SlotMedia) (frames : List (List ℤ)) (
   pub idle : IsTrue (is_idle (media_at kept slot).play.phase)
   pub silent : slice_index_or frames slot [] ≡ silence
 
--- this many ticks were counted for a slot, and their packets if its termination sends
+-- this many ticks were counted for a slot, and as many packets if its termination sends
 abbrev pub HasPassed : rooms.Registry → ℕ → List media.SlotMedia → List media.SlotMedia → ℕ
     → Type 0
 HasPassed w count old new slot = media_at new slot

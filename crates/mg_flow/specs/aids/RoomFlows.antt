@@ -11,7 +11,8 @@ pub record IsVacant (room : RoomFlows) : Type 0 where
   pub talks : IsEmpty room.talks
   pub listens : IsEmpty room.listens
 
--- The seat is now held, talks and listens as the three flags say; every other seat is unchanged.
+-- The three flags say whether the seat is now held, talks and listens; every other seat is
+-- unchanged.
 pub record SetsSeat (old new : RoomFlows) (seat : ℕ)
     (is_held does_talk does_listen : Bool) : Type 0 where
   pub held : (s : ℕ) →
@@ -34,7 +35,7 @@ is_blocked_for topology talks talker listener =
     && (holds topology listener
     && (not (talker == listener) && not (hears topology talker listener))))
 
--- the masks hold, for each listener, whose speech flows to it and who is silenced for it
+-- for each listener, the masks say whose speech flows to it and who is silenced for it
 pub record AreMasks (room : RoomFlows) (open_masks silenced_masks : List ℕ) : Type 0 where
   pub flows : (talker listener : ℕ) → listener < seat_limit →
       has_seat (slice_index open_masks listener) talker

@@ -1,4 +1,4 @@
--- A journal on a file.
+-- A journal in a file.
 use Rattle.std.specs.Prelude.{◌≡◌, ℕ, ◌≤◌, Bool, true, false, List, length, take, Result, Ok, Err}
 use Rattle.std.specs.Prelude.{IfSome, if◌then◌else◌}
 use Rattle.std.specs.Option.{option_map}
@@ -18,15 +18,15 @@ journal_in file is_broken = record {
   is_broken = is_broken;
 }
 
--- Unless the journal is broken, its file holds whole lines of this length, and no more of them are
--- on the disk.
+-- Unless the journal is broken, its file holds complete lines of this total length, and at most
+-- that many bytes are on the disk.
 abbrev pub IsJournal : FileState → ℕ → Bool → Type 0
 IsJournal file len true = Unit {0}
 IsJournal file len false =
     IfSome file.bytes (λ bytes. IsWhole bytes × (length bytes ≡ len))
     × IfSome file.synced (λ bytes. length bytes ≤ len)
 
--- a text was written whole, or only its front
+-- a whole text was written, or only a prefix of it
 abbrev pub Writes : {E : Type 0} → List ℕ → FileState → FileState → Result (Unit {0}) E → Type 0
 Writes text old new (Ok done) = new ≡ grown old text
 Writes text old new (Err error) = (n : ℕ) × (new ≡ grown old (take n text))
@@ -36,7 +36,7 @@ abbrev pub CutsBack : ℕ → FileState → FileState → AppendFault → Type 0
 CutsBack len old new Refused = new ≡ cut_to len old
 CutsBack len old new Broken = new ≡ old
 
--- the front of a text was written, and was cut off or not
+-- a prefix of a text was written, and was then cut off or not
 abbrev pub Leaves : List ℕ → ℕ → FileState → FileState → AppendFault → Type 0
 Leaves text len old new Refused = (n : ℕ) × (new ≡ cut_to len (grown old (take n text)))
 Leaves text len old new Broken = (n : ℕ) × (new ≡ grown old (take n text))

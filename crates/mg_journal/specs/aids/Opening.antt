@@ -4,19 +4,19 @@ use Rattle.mg_journal.specs.declared.extent.Extent.{Extent}
 use Rattle.mg_journal.specs.Text.{whole_lines}
 use Rattle.mg_journal.specs.JournalFile.{FileState}
 
--- the length of these bytes, and of their whole lines
+-- the length of these bytes, and of their complete lines
 abbrev pub IsExtent : Extent → List ℕ → Type 0
 IsExtent extent bytes = (extent.whole ≡ length (whole_lines bytes)) × (extent.all ≡ length bytes)
 
 abbrev pub HasExtent : FileState → Extent → Type 0
 HasExtent file extent = IfSome file.bytes (λ bytes. IsExtent extent bytes)
 
--- this extent is that of a front of the file
+-- this is the extent of a prefix of the file
 abbrev pub HasFront : FileState → Extent → Type 0
 HasFront file extent =
     IfSome file.bytes (λ bytes. (extent.all ≤ length bytes) × IsExtent extent (take extent.all bytes))
 
--- a front of the file is all of it, or a longer one was measured
+-- the measured prefix is the whole file, or a longer prefix was measured
 abbrev pub Measures : {E : Type 0} → FileState → Extent → Result (Option Extent) E → Type 0
 Measures file extent (Ok None) = HasFront file extent → HasExtent file extent
 Measures file extent (Ok (Some longer)) = HasFront file extent → HasFront file longer

@@ -14,7 +14,8 @@ abbrev pub WritesSteps : ℕ → ℕ → ℕ → Option (List ℕ) → Option (L
 WritesSteps polls from to old new result =
     (lines : List ℕ) × (text polls to ≡ text polls from ++ lines) × Writes lines old new result
 
--- the same with the line that ends the run
+-- The lines of the steps after `from`, up to `to`, were written, and then the line that ends the
+-- run.
 abbrev pub WritesLast : ℕ → ℕ → ℕ → Option (List ℕ) → Option (List ℕ)
     → Result (Unit {0}) WriteFailed → Type 0
 WritesLast polls from to old new result =

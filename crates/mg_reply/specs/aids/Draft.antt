@@ -4,7 +4,8 @@ use Rattle.std.specs.Prelude.{Option, Some, None, if◌then◌else◌}
 use Rattle.mg_words.specs.Limits.{reply_limit}
 use Rattle.mg_reply.specs.Bytes.{Written, appended}
 
--- the text before the reply with its room, and the reply so far unless it is too long
+-- the text before the reply and the room after that text; and the reply so far, unless it is too
+-- long
 pub record Drafted : Type 0 where
   pub front : List ℕ
   pub room : ℕ

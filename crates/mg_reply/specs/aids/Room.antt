@@ -11,8 +11,8 @@ abbrev pub action_id : Item → Option ContextId
 action_id (Action id) = Some id
 action_id _ = None
 
--- The room that items need, where some may wait for the end of their action. Each needs one place,
--- except for the end of an action that has items.
+-- The room that items need; the flag says whether earlier items wait for the end of their action.
+-- Each item needs one place, except for the end of an action that has items.
 abbrev pub places_of : Bool → List Item → ℕ
 places_of waits [] = 0
 places_of waits (Action id ∷ xs) = (if waits then 0 else 1) + places_of false xs

@@ -1,5 +1,4 @@
--- When items fit into a reply: the steps of the rule that a reply that is too long is replaced by
--- an error.
+-- When items fit in a reply: steps toward the rule that an error replaces a reply that is too long.
 use Rattle.std.specs.Prelude.{◌≡◌, ℕ, Bool, true, false, ◌||◌, nat_le, nat_lt, List, [], length}
 use Rattle.std.specs.List.{list_all}
 use Rattle.mg_reply.specs.declared.item.Item.{Item}
@@ -21,8 +20,9 @@ is_wide (Action id) = nat_le 9 (length (action_text id []))
 abbrev pub is_too_long : Answered → Bool
 is_too_long r = r.is_long || nat_lt reply_limit (length (reply_text r.number r.items))
 
--- Complete items, put into a new reply, make it too long if and only if their whole text exceeds
--- the limit, including items for which there was no room. Otherwise, all of them are in the reply.
+-- If complete items are put into a new reply, the reply is too long if and only if the text of all
+-- of them, including those for which there was no room, exceeds the limit. Otherwise, all of them
+-- are in the reply.
 abbrev pub TooLongByText : Type 0
 TooLongByText =
     (n : ℕ) (xs : List Item) → list_all is_wide xs ≡ true

@@ -20,7 +20,7 @@ CanEnterAt contexts next c None =
 abbrev pub CanEnter : Registry → EntryPlace → Type 0
 CanEnter w place = CanEnterAt w.contexts w.next_context place.context place.made
 
--- n enters at a place; `room` is the room of a context made for it, if any
+-- n enters at a place; `room` is the room of a context created for it, if any
 abbrev pub entered_at : Registry → EntryPlace → ℕ → Option ℕ → Registry
 entered_at w place n room =
     option_map_or (λ room. made w place.context room n) room (joined w place.context n)

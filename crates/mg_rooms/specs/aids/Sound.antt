@@ -12,7 +12,7 @@ use Rattle.mg_rooms.specs.Consistent.{IsConsistent, IsTermination, IsContext}
 pub record IsSound (w : Registry) : Type 0 where
   pub consistent : IsConsistent w
   pub few : length w.terminations ≤ w.limits.slots
-  -- a lookup finds the number that it asks for, with fields within the limits
+  -- a lookup returns the number that was asked for, with fields within the limits
   pub termination : (n : ℕ) (r : Record) → record_at w n ≡ Some r
       → (r.number ≡ n) × IsTermination w.limits w.next_termination r
   pub context : (c : ℕ) (x : Context) → context_at w c ≡ Some x

@@ -6,7 +6,7 @@ use Rattle.mg_scan.specs.declared.fault.ScanFault.{ScanFault}
 use Rattle.mg_scan.specs.declared.found.Found.{Found}
 use Rattle.mg_scan.specs.Tokens.{TokenAndRest, token_and_rest, closing_len}
 
--- the code found the token that is wanted, by positions in the bytes
+-- the code found the wanted token, given by positions in the bytes
 pub record Places (bytes : List ℕ) (want : Option (Result TokenAndRest ScanFault))
     (x : Found) : Type 0 where
   pub start : x.start ≤ x.end

@@ -1,4 +1,4 @@
--- Steps of a session's journal, as its ports and its view of the journal see them.
+-- Steps of a session's journal, as seen by the ports and by the session's own view of the journal.
 use Rattle.std.specs.Prelude.{◌≡◌, ◌⊎◌, ℕ, ◌+◌, All, List, [], ◌∷◌, ◌++◌, Option, Some, None, Result, Ok, Err}
 use Rattle.mg_journal.specs.declared.append_fault.AppendFault.{AppendFault}
 use Rattle.mg_journal.specs.declared.durability.Durability.{Durability}
@@ -21,7 +21,7 @@ lacking_after_tick (Some durability) lacking = lacking + 1
 abbrev pub with_tick : JournalView → JournalView
 with_tick view = record view { lacking = lacking_after_tick view.durability view.lacking }
 
--- some calls, as ports see them
+-- some calls, as seen by the ports
 pub record LogsCalls (old new : PortsSeen) (calls : List Call) : Type 0 where
   pub logged : Logged old.calls new.calls calls
   pub journaled : JournalAfter calls old.journal new.journal
@@ -40,7 +40,7 @@ abbrev pub IsLineOf : (followed : List TraceEntry) → List ℕ → Type 0
 IsLineOf (Happened event ∷ followed) lines = lines ≡ event_line event
 IsLineOf followed lines = ⊥
 
--- some appends, of which only the last one may have failed: with the error, if there is one
+-- some appends; if one failed, it was the last, with this error
 abbrev pub AreAppends : (followed : List TraceEntry) → Result (Unit {0}) AppendFault
     → List TraceEntry → Type 0
 AreAppends followed (Ok done) trace = All IsAppended trace

@@ -14,8 +14,8 @@ pub record JournalView : Type 0 where
   pub durability : Option Durability
   pub lacking : ℕ
 
--- a server as seen from outside: its ports, the content of its writer, its printer, and how far its
--- journal is
+-- a server as seen from outside: its ports, the content of its writer, its printer, and the
+-- progress of its journal
 pub record Outside : Type 0 where
   pub ports : PortsSeen
   pub written : Option (List ℕ)

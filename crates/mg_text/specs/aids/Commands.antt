@@ -46,7 +46,7 @@ other_at source word ts = do
   content ← content_at source ts
   Ok (descriptors.Other word content.0, content.1)
 
--- a descriptor after its keyword, or the place of that word
+-- a descriptor after its keyword, or the position of that word
 abbrev pub descriptor_named : List ℕ → Keyword → ℕ → List Token → Result (Descriptor × List Token) ℕ
 descriptor_named source keywords.Media place ts =
     braced_at source (media_part_at source) ts >>= λ items. Ok (descriptors.Media items.0, items.1)

@@ -79,7 +79,7 @@ control_at source ts = do
   name ← word_at source ts
   control_named source (keyword_of (text_of source name.0)) name.0 name.1
 
--- a part of a stream after its keyword, or the place of that word
+-- a part of a stream after its keyword, or the position of that word
 abbrev pub stream_named : List ℕ → Keyword → ℕ → List Token → Result (StreamPart × List Token) ℕ
 stream_named source keywords.Local place ts =
     span_at source Octets ts >>= λ text. Ok (streams.Local text.0, text.1)

@@ -55,7 +55,7 @@ emergency_at source ts =
     (λ rest. word_at source rest >>= λ word. Ok (properties.Emergency (Some word.0), word.1))
     (Ok (properties.Emergency None, ts))
 
--- a property after its keyword, or the place of that word
+-- a property after its keyword, or the position of that word
 abbrev pub property_named : List ℕ → Keyword → ℕ → List Token
     → Result (ContextProperty × List Token) ℕ
 property_named source keywords.Topology place ts =
@@ -138,7 +138,7 @@ answer_at source ts = do
   rest ← group_at source number.1
   Ok (None, rest)
 
--- an item after its keyword, or the place of that word
+-- an item after its keyword, or the position of that word
 abbrev pub item_named : List ℕ → Keyword → ℕ → List Token
     → Result (Option MessageItem × List Token) ℕ
 item_named source keywords.Transaction place ts = request_at source ts

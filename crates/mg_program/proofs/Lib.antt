@@ -4,3 +4,4 @@ pub mod RequestedRows
 pub mod ControllerLemmas
 pub mod EndLemmas
 pub mod ReadinessLemmas
+pub mod JournalLemmas

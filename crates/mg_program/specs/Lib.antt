@@ -8,5 +8,6 @@ pub mod Title
 pub mod Draws
 pub mod Given
 pub mod FilePath
+pub mod Journal
 pub mod Serve
 pub mod Program

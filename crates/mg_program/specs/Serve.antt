@@ -1,6 +1,6 @@
 -- What the program does as a server.
 use Rattle.std.specs.Prelude.{◌≡◌, ◌≢◌, ◌⊎◌, ℕ, ◌+◌, ◌*◌, ◌<◌, ⊤, List, Option, Some, None, Result}
-use Rattle.std.specs.Prelude.{Err}
+use Rattle.std.specs.Prelude.{Err, IsSome, false}
 use Rattle.std.specs.Option.{option_map}
 use Rattle.mg_clock.specs.Ticks.{clock_seen}
 use Rattle.mg_engine.specs.declared.config.Config.{Config}
@@ -68,11 +68,13 @@ pub record CanResume (journal : Option (List ℕ)) (config : Config) (state : Co
   pub stands : StandsFor state world
   pub resumes : ResumesIn journal config world
 
--- a core in a world in which the gateway starts
-pub record CanStart (journal : Option (List ℕ)) (config : Config) (state : CoreState) : Type 0 where
+-- a core in a world in which the gateway starts, and its journal, which works if one is wanted
+pub record CanStart (journal : Option (List ℕ)) (config : Config) (state : CoreState)
+    (before : JournalState) : Type 0 where
   pub world : World
   pub stands : StandsFor state world
   pub starts : StartsIn journal config world
+  pub works : IsSome journal → before.is_broken ≡ false
 
 -- the setup of a session, as the program creates it
 abbrev pub setup_of : Config → Service → Setup
@@ -93,6 +95,7 @@ pub record ServesOnPorts (config : Config) (service : Service)
   pub starts : StartsIn service.journal config start
   pub before : JournalState
   pub after : JournalState
+  pub works : IsSome service.journal → before.is_broken ≡ false
   pub served : ServedSession (setup_of config service) start (title_if service.records config) input
       rest (ports_seen None before) (ports_seen None after) held written outcome
 
@@ -124,6 +127,7 @@ pub record ServesByClockOnPorts (config : Config) (service : Service) (late : �
   pub starts : StartsIn service.journal config start
   pub before : JournalState
   pub after : JournalState
+  pub works : IsSome service.journal → before.is_broken ≡ false
   pub served : ServedByClock (setup_of config service) start (title_if service.records config) late
       (clock_seen None None) (clock_seen None None) ⊤ (ports_seen None before) (ports_seen None after)
       held written fault

@@ -1,4 +1,6 @@
-ghost use Rattle.std.specs.Prelude.{◌≡◌, IfErr, OnOk};
+ghost use Rattle.std.specs.Prelude.{◌≡◌, IfErr, IfOk, IsSome, OnOk};
+ghost use Rattle.std.specs.Option.{option_map_or};
+ghost use Rattle.mg_journal.specs.Journal.{no_journal};
 ghost use Rattle.mg_program.specs.Serve.{CanResume, CanStart, FailsToStart};
 
 use crate::found_journal::FoundJournal;
@@ -25,7 +27,9 @@ pub fn begin_journal<'a, F: JournalFile, C: Clock, E: Write>(
 where
     F: Drop,
     requires resumed { CanResume service.now.journal config.now core.old.state }
-    ensures started { CanStart service.now.journal config.now core.new.state }
+    requires found { IsSome service.now.journal → IsSome found }
+    ensures started { IfOk result (λ journal. CanStart service.now.journal config.now core.new.state
+        (option_map_or (λ j. j) journal no_journal)) }
     ensures quiet { OnOk result (errors.new ≡ errors.old) }
     ensures ends { IfErr result (FailsToStart config.now) }
 {

@@ -1,5 +1,8 @@
-ghost use Rattle.std.specs.Prelude.{ℕ};
-ghost use Rattle.mg_core.specs.World.{World, StandsFor, world_after_ticks};
+ghost use Rattle.std.specs.Prelude.{◌≡◌, ◌<◌, ◌≤◌, ◌+◌, ◌++◌, ℕ, length, IfOk, OnOk};
+ghost use Rattle.mg_journal.specs.Journal.{Appends, appended};
+ghost use Rattle.mg_journal.specs.Opening.{text_in};
+ghost use Rattle.mg_program.specs.Journal.{Begins, PassesTicks, title_before, title_line};
+ghost use Rattle.mg_serve.specs.Journaled.{tick_lines};
 
 use crate::journal_fault::JournalFault;
 use crate::title::{TITLE_LIMIT, title_of};
@@ -7,19 +10,21 @@ use arrayvec::ArrayVec;
 use mg_core::{Config, Core};
 use mg_dates::{Date, DatedJournal, Timeline};
 use mg_journal::{AppendFault, Durability, FileJournal, Journal, JournalFile, Opening};
-use std::alloc::Global;
+use std::alloc::{AllocError, Global};
 use std::io::{self, ErrorKind};
 use std::time::Clock;
 
 /// The maximum length of a title's line, in bytes.
 const TITLE_ROOM: usize = TITLE_LIMIT + 3;
 
-/// The number of ticks in a second.
-const TICKS: u64 = 50;
+/// A title's line, with its line feed.
+type TitleLine = ArrayVec<u8, TITLE_ROOM>;
 
-/// The lines for one second of ticks.
-const SECOND: &[u8] =
-    b"tick\ntick\ntick\ntick\ntick\ntick\ntick\ntick\ntick\ntick\ntick\ntick\ntick\ntick\ntick\ntick\ntick\ntick\ntick\ntick\ntick\ntick\ntick\ntick\ntick\ntick\ntick\ntick\ntick\ntick\ntick\ntick\ntick\ntick\ntick\ntick\ntick\ntick\ntick\ntick\ntick\ntick\ntick\ntick\ntick\ntick\ntick\ntick\ntick\ntick\n";
+/// The maximum number of ticks in one append.
+const BATCH: usize = 1000;
+
+/// The lines for as many ticks as one append may hold.
+const TICK_LINES: [[u8; 5]; BATCH] = [*b"tick\n"; BATCH];
 
 /// A journal before anything is appended to it.
 #[derive(Drop)]
@@ -29,29 +34,56 @@ pub struct FoundJournal<F: JournalFile> {
     pub timeline: Option<Timeline>,
 }
 
-/// Appends the title of a new journal.
-fn append_title<F: JournalFile>(
-    config: &Config,
-    journal: &mut FileJournal<F>,
-) -> Result<(), AppendFault> {
-    let mut line = ArrayVec::<u8, TITLE_ROOM>::new();
-    let _ = line.try_extend_from_slice(b"# ");
-    let _ = line.try_extend_from_slice(title_of(config).as_slice());
-    let _ = line.try_push(b'\n');
-    journal.append(line.as_slice(), Durability::Synced)
+/// Appends bytes to a title's line.
+fn push(line: &mut TitleLine, text: &[u8])
+    requires room { length line.old.items + length text.now ≤ TITLE_ROOM }
+    ensures value { line.new.items ≡ line.old.items ++ text.now }
+{
+    let _ = line.try_extend_from_slice(text);
 }
 
-/// Appends ticks: each whole second in one append, and the remaining ticks one by one.
-fn append_ticks<J: Journal>(ticks: u64, journal: &mut J) -> Result<(), AppendFault> {
-    for _ in 0..ticks / TICKS {
-        if let Err(fault) = journal.append(SECOND, Durability::Written) {
+/// Returns the first line of a new journal.
+fn title_line(config: &Config) -> TitleLine
+    ensures value { result.items ≡ title_line config.now }
+{
+    let title = title_of(config);
+    let mut line = TitleLine::new();
+    push(&mut line, b"# ");
+    push(&mut line, title.as_slice());
+    push(&mut line, b"\n");
+    line
+}
+
+/// Appends the title of a new journal.
+fn append_title<J: Journal>(config: &Config, journal: &mut J) -> Result<(), AppendFault>
+    ensures value { Appends (title_line config.now) Durability.Synced (J.journal journal.old) (J.journal journal.new)
+        result }
+{
+    journal.append(title_line(config).as_slice(), Durability::Synced)
+}
+
+/// Appends ticks with one append.
+fn append_batch<J: Journal>(ticks: usize, journal: &mut J) -> Result<(), AppendFault>
+    requires some { 0 < ticks }
+    requires few { ticks ≤ BATCH }
+    ensures value { Appends (tick_lines ticks) Durability.Written (J.journal journal.old) (J.journal journal.new) result }
+{
+    let lines = TICK_LINES;
+    journal.append(lines[..ticks].as_flattened(), Durability::Written)
+}
+
+/// Appends ticks.
+fn append_ticks<J: Journal>(ticks: u64, journal: &mut J) -> Result<(), AppendFault>
+    ensures value { OnOk result (J.journal journal.new ≡ appended (tick_lines ticks) Durability.Written
+        (J.journal journal.old)) }
+{
+    let mut left = ticks;
+    while left > 0 {
+        let batch = left.min(BATCH as u64);
+        if let Err(fault) = append_batch(batch as usize, journal) {
             return Err(fault);
         }
-    }
-    for _ in 0..ticks % TICKS {
-        if let Err(fault) = journal.append(b"tick\n", Durability::Written) {
-            return Err(fault);
-        }
+        left -= batch;
     }
     Ok(())
 }
@@ -87,8 +119,9 @@ impl<F: JournalFile> FoundJournal<F> {
     ) -> Result<DatedJournal<'a, FileJournal<F>, C>, JournalFault>
     where
         F: Drop,
-        ensures passed { (w : World) → StandsFor core.old.state w →
-            (missed : ℕ) × StandsFor core.new.state (world_after_ticks missed w) }
+        ensures passed { (missed : ℕ) × PassesTicks missed core.old.state core.new.state
+            × IfOk result (λ journal.
+            Begins (title_before self.timeline config.now) missed (text_in self.opening.file) journal) }
     {
         let missed = self.missed(clock);
         core.skip(missed);
@@ -103,9 +136,9 @@ impl<F: JournalFile> FoundJournal<F> {
         if append_ticks(missed, &mut journal).is_err() {
             return Err(write_fault(&journal));
         }
-        let Ok(dated) = DatedJournal::new(alloc, journal, clock) else {
-            return Err(JournalFault::NoMemory);
-        };
-        Ok(dated)
+        match DatedJournal::new(alloc, journal, clock) {
+            Ok(dated) => Ok(dated),
+            Err(AllocError) => Err(JournalFault::NoMemory),
+        }
     }
 }

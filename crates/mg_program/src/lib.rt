@@ -39,6 +39,7 @@ mod metrics_file;
 mod options;
 mod prepared;
 mod readiness;
+mod ready;
 mod replay;
 mod serve;
 mod service;

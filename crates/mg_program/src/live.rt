@@ -1,18 +1,19 @@
-ghost use Rattle.std.specs.Prelude.{◌≡◌, ◌≢◌, ◌⊎◌, IfErr};
+ghost use Rattle.std.specs.Prelude.{◌≡◌, ◌≢◌, ◌⊎◌, IfErr, IsSome};
+ghost use Rattle.std.specs.Option.{option_map_or};
 ghost use Rattle.mg_clock.specs.Ticks.{clock_seen};
 ghost use Rattle.mg_engine.specs.Config.{IsValidConfig};
+ghost use Rattle.mg_journal.specs.Journal.{no_journal};
 ghost use Rattle.mg_core.specs.World.{World, StandsFor};
 ghost use Rattle.mg_ports.specs.Journaled.{ports_seen};
 ghost use Rattle.mg_serve.specs.Serve.{ServedByClock};
 ghost use Rattle.mg_program.specs.Serve.{CanResume, CanStart, ServesByClock, ServesByClockOnPorts, ServesChosenByClock, setup_of};
 ghost use Rattle.mg_program.specs.Title.{title_if};
 
-use crate::begin_journal::begin_journal;
 use crate::control_watch::ControlWatch;
 use crate::draws::Draws;
-use crate::metrics_file::{MetricsFile, can_write_metrics};
+use crate::metrics_file::MetricsFile;
 use crate::prepared::{Prepared, prepare};
-use crate::serve::bind;
+use crate::ready::{Ready, make_ready};
 use crate::service::Service;
 use crate::sockets::Sockets;
 use crate::status::status_after;
@@ -70,23 +71,32 @@ fn live_on<P: Ports, K: Watch, W: Write, M: Monitor>(
 }
 
 /// Runs a gateway on UDP ports, driven by a clock that watches the control port.
-fn live_on_sockets<J: Journal, C: Clock, W: Write, M: Monitor>(
+fn live_on_sockets<J: Journal + Drop, C: Clock, W: Write, M: Monitor>(
     alloc: Global,
-    config: Config,
-    core: Core,
+    ready: Ready<'_, J, C>,
     service: &Service,
-    ports: &mut UdpPorts<'_, J, C>,
     watch: &mut ControlWatch<'_, C>,
     late: u16,
     output: &mut W,
     monitor: &mut M,
 ) -> RunFault
-    requires sound { IsValidConfig config }
-    requires start { CanStart service.now.journal config core.state }
-    ensures value { ServesByClockOnPorts config service.now late (W.contents output.old) (W.contents output.new) result }
+    requires sound { IsValidConfig ready.config }
+    requires start { CanStart service.now.journal ready.config ready.core.state
+        (option_map_or (λ j. j) ready.journal no_journal) }
+    ensures value { ServesByClockOnPorts ready.entry.config service.now late (W.contents output.old) (W.contents output.new)
+        result }
 {
+    let mut ports = UdpPorts::new(ready.sockets, ready.journal);
     live_on(
-        alloc, config, core, service, ports, watch, late, output, monitor,
+        alloc,
+        ready.config,
+        ready.core,
+        service,
+        &mut ports,
+        watch,
+        late,
+        output,
+        monitor,
     )
 }
 
@@ -147,44 +157,59 @@ fn live_prepared<
     errors: &mut E,
     reports: &mut T,
 ) -> Status
-    requires sound { IsValidConfig prepared.config }
     requires resumed { CanResume service.now.journal prepared.config prepared.core.state }
+    requires found { IsSome service.now.journal → IsSome prepared.journal }
     ensures value { ServesChosenByClock W.contents prepared.config service.now late output.old output.new result }
 {
     prepared.tell(service, reports);
-    let config = prepared.config;
-    let mut core = prepared.core;
-    let mut sockets = match bind(system.net, alloc, &config, service.bind_address, errors) {
-        Ok(sockets) => sockets,
-        Err(status) => return status,
-    };
-    if let Err(status) = check_metrics(system.files, service, errors) {
-        return status;
+    match make_ready(system, alloc, prepared, service, errors) {
+        Ok(ready) => live_ready(system, alloc, ready, service, late, output, errors, reports),
+        Err(status) => status,
     }
-    let journal = match begin_journal(
-        alloc,
-        &config,
-        service,
+}
+
+/// Runs a gateway whose ports are bound, driven by the system's clock.
+fn live_ready<
+    N: Net,
+    C: Clock,
+    G: RandomSource,
+    F: Files,
+    J: Journal + Drop,
+    W: Write,
+    E: Write,
+    T: Write,
+>(
+    system: &System<'_, N, C, G, F>,
+    alloc: Global,
+    ready: Ready<'_, J, C>,
+    service: &Service,
+    late: u16,
+    output: &mut W,
+    errors: &mut E,
+    reports: &mut T,
+) -> Status
+    requires sound { IsValidConfig ready.config }
+    requires start { CanStart service.now.journal ready.config ready.core.state
+        (option_map_or (λ j. j) ready.journal no_journal) }
+    ensures value { ServesChosenByClock W.contents ready.entry.config service.now late output.old output.new result }
+{
+    let config = ready.config;
+    let mut ready = ready;
+    let mut watch = match watch_control(
+        system.net,
         system.clock,
-        prepared.journal,
-        &mut core,
+        alloc,
+        &mut ready.sockets,
         errors,
     ) {
-        Ok(journal) => journal,
-        Err(status) => return status,
-    };
-    let mut watch = match watch_control(system.net, system.clock, alloc, &mut sockets, errors) {
         Ok(watch) => watch,
         Err(status) => return status,
     };
-    let mut ports = UdpPorts::new(sockets, journal);
     let fault = match monitor(system.files, system.clock, alloc, service, errors, reports) {
         Ok(mut monitor) => live_on_sockets(
             alloc,
-            config,
-            core,
+            ready,
             service,
-            &mut ports,
             &mut watch,
             late,
             output,
@@ -196,28 +221,6 @@ fn live_prepared<
         }
     };
     status_after(&Err(fault), &config, errors)
-}
-
-/// Checks that metrics can be written, if they are enabled. If they can't, reports the fault to `errors` and returns
-/// the program's exit status.
-fn check_metrics<F: Files, E: Write>(
-    files: &F,
-    service: &Service,
-    errors: &mut E,
-) -> Result<(), Status>
-    ensures ends { IfErr result (λ status. status ≡ Status.Failed) }
-{
-    let Some(path) = &service.metrics else {
-        return Ok(());
-    };
-    match can_write_metrics(files, path) {
-        Ok(()) => Ok(()),
-        Err(error) => {
-            let path = path.as_str();
-            let _ = writeln!(errors, "cannot write {path}: {error}");
-            Err(Status::Failed)
-        }
-    }
 }
 
 /// Creates the monitor of a gateway: reports, and metrics if they are enabled.

@@ -1,4 +1,4 @@
-ghost use Rattle.std.specs.Prelude.{◌≡◌, None, IfErr, IfOk, OnOk};
+ghost use Rattle.std.specs.Prelude.{◌≡◌, IfErr, IfOk, IsSome, OnOk};
 ghost use Rattle.mg_engine.specs.Config.{IsValidConfig};
 ghost use Rattle.mg_core.specs.World.{StandsFor, start_of};
 ghost use Rattle.mg_program.specs.Draws.{IsDrawn};
@@ -66,7 +66,7 @@ where
     ensures sound { IfOk result (λ p. IsValidConfig p.config) }
     ensures drawn { IfOk result (λ p. IsDrawn draws config p.config) }
     ensures start { IfOk result (λ p. StandsFor p.core.state (start_of p.config)) }
-    ensures journal { IfOk result (λ p. opening ≡ None → p.journal ≡ None) }
+    ensures journal { IfOk result (λ p. IsSome opening → IsSome p.journal) }
     ensures quiet { OnOk result (errors.new ≡ errors.old) }
     ensures ends { IfErr result (FailsToStart config) }
 {
@@ -114,6 +114,7 @@ pub fn prepare<G: RandomSource, F: Files, E: Write>(
     ensures sound { IfOk result (λ p. IsValidConfig p.config) }
     ensures chosen { IfOk result (λ p. IsChosen service.now.journal service.now.given draws config p.config) }
     ensures resumed { IfOk result (λ p. CanResume service.now.journal p.config p.core.state) }
+    ensures found { IfOk result (λ p. IsSome service.now.journal → IsSome p.journal) }
     ensures quiet { OnOk result (errors.new ≡ errors.old) }
     ensures ends { IfErr result (FailsToStart config) }
 {

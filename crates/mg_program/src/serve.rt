@@ -1,16 +1,18 @@
-ghost use Rattle.std.specs.Prelude.{◌≡◌, ◌≢◌, Err, IfErr, OnOk};
+ghost use Rattle.std.specs.Prelude.{◌≡◌, ◌≢◌, Err, IfErr, IsSome, OnOk};
+ghost use Rattle.std.specs.Option.{option_map_or};
 ghost use Rattle.mg_engine.specs.Config.{IsValidConfig};
+ghost use Rattle.mg_journal.specs.Journal.{no_journal};
 ghost use Rattle.mg_core.specs.World.{World, StandsFor};
 ghost use Rattle.mg_ports.specs.Journaled.{ports_seen};
 ghost use Rattle.mg_serve.specs.Serve.{ServedSession};
 ghost use Rattle.mg_program.specs.Serve.{CanResume, CanStart, FailsToStart, Serves, ServesChosen, ServesOnPorts, setup_of};
 ghost use Rattle.mg_program.specs.Title.{title_if};
 
-use crate::begin_journal::begin_journal;
 use crate::config_fault::ConfigFault;
 use crate::draws::Draws;
 use crate::prepared::{Prepared, prepare};
 use crate::readiness::SOCKETS;
+use crate::ready::{Ready, make_ready};
 use crate::service::Service;
 use crate::sockets::Sockets;
 use crate::status::status_after;
@@ -95,22 +97,31 @@ fn serve_on<P: Ports, R: Read, W: Write, M: Monitor>(
 }
 
 /// Runs a gateway on UDP ports, driven by input lines.
-fn serve_on_sockets<J: Journal, C: Clock, R: Read, W: Write, M: Monitor>(
+fn serve_on_sockets<J: Journal + Drop, C: Clock, R: Read, W: Write, M: Monitor>(
     alloc: Global,
-    config: Config,
-    core: Core,
+    ready: Ready<'_, J, C>,
     service: &Service,
-    ports: &mut UdpPorts<'_, J, C>,
     input: &mut R,
     output: &mut W,
     monitor: &mut M,
 ) -> Result<Counts, RunFault>
-    requires sound { IsValidConfig config }
-    requires start { CanStart service.now.journal config core.state }
-    ensures value { ServesOnPorts config service.now (R.remaining input.old) (R.remaining input.new)
+    requires sound { IsValidConfig ready.config }
+    requires start { CanStart service.now.journal ready.config ready.core.state
+        (option_map_or (λ j. j) ready.journal no_journal) }
+    ensures value { ServesOnPorts ready.entry.config service.now (R.remaining input.old) (R.remaining input.new)
         (W.contents output.old) (W.contents output.new) result }
 {
-    serve_on(alloc, config, core, service, ports, input, output, monitor)
+    let mut ports = UdpPorts::new(ready.sockets, ready.journal);
+    serve_on(
+        alloc,
+        ready.config,
+        ready.core,
+        service,
+        &mut ports,
+        input,
+        output,
+        monitor,
+    )
 }
 
 /// Runs a gateway on UDP ports, driven by input lines. The gateway is new, or resumes from the journal. A fault is
@@ -168,45 +179,41 @@ fn serve_prepared<
     errors: &mut E,
     reports: &mut T,
 ) -> Status
-    requires sound { IsValidConfig prepared.config }
     requires resumed { CanResume service.now.journal prepared.config prepared.core.state }
+    requires found { IsSome service.now.journal → IsSome prepared.journal }
     ensures value { ServesChosen R.remaining W.contents prepared.config service.now input.old input.new output.old
         output.new result }
     ensures quiet { result ≡ Status.Done → errors.new ≡ errors.old }
 {
     prepared.tell(service, reports);
-    let config = prepared.config;
-    let mut core = prepared.core;
-    let sockets = match bind(system.net, alloc, &config, service.bind_address, errors) {
-        Ok(sockets) => sockets,
-        Err(status) => return status,
-    };
-    let journal = match begin_journal(
-        alloc,
-        &config,
-        service,
-        system.clock,
-        prepared.journal,
-        &mut core,
-        errors,
-    ) {
-        Ok(journal) => journal,
-        Err(status) => return status,
-    };
+    match make_ready(system, alloc, prepared, service, errors) {
+        Ok(ready) => serve_ready(alloc, ready, service, input, output, errors, reports),
+        Err(status) => status,
+    }
+}
+
+/// Runs a gateway whose ports are bound, driven by input lines.
+fn serve_ready<J: Journal + Drop, C: Clock, R: Read, W: Write, E: Write, T: Write>(
+    alloc: Global,
+    ready: Ready<'_, J, C>,
+    service: &Service,
+    input: &mut R,
+    output: &mut W,
+    errors: &mut E,
+    reports: &mut T,
+) -> Status
+    requires sound { IsValidConfig ready.config }
+    requires start { CanStart service.now.journal ready.config ready.core.state
+        (option_map_or (λ j. j) ready.journal no_journal) }
+    ensures value { ServesChosen R.remaining W.contents ready.entry.config service.now input.old input.new output.old
+        output.new result }
+    ensures quiet { result ≡ Status.Done → errors.new ≡ errors.old }
+{
+    let config = ready.config;
     let Ok(mut monitor) = Reports::new(alloc, service.report, reports) else {
         let _ = writeln!(errors, "{}", RunFault::NoMemory);
         return Status::NoMemory;
     };
-    let mut ports = UdpPorts::new(sockets, journal);
-    let outcome = serve_on_sockets(
-        alloc,
-        config,
-        core,
-        service,
-        &mut ports,
-        input,
-        output,
-        &mut monitor,
-    );
+    let outcome = serve_on_sockets(alloc, ready, service, input, output, &mut monitor);
     status_after(&outcome, &config, errors)
 }

@@ -33,6 +33,7 @@ impl<'a, J: Journal, C: Clock> UdpPorts<'a, J, C> {
     /// Creates ports from these sockets.
     pub fn new(sockets: Sockets, journal: Option<DatedJournal<'a, J, C>>) -> Self
         ensures fresh { result.failures ≡ 0 }
+        ensures journal { result.journal ≡ journal.entry }
     {
         UdpPorts {
             sockets,

@@ -32,7 +32,10 @@ fn line_end(text: &[u8]) -> Option<usize>
 fn is_tick(partial: &Bytes, part: &[u8]) -> bool
     ensures value { result ≡ true → (partial.now.text ≡ []) × (part.now ≡ codes "tick") }
 {
-    part == b"tick".as_slice() && partial.as_slice().is_empty()
+    match part {
+        [b't', b'i', b'c', b'k'] => partial.as_slice().is_empty(),
+        _ => false,
+    }
 }
 
 /// Runs a script on a gateway, without output. The script may arrive in pieces of any size.

@@ -1,10 +1,11 @@
 -- The whole lines of a text.
-use Rattle.std.proofs.Common.{◌≡◌, ◌≤◌, ℕ, ◌+◌, ◌-◌, Bool, true, false, ◌||◌, List, [], ◌∷◌, ◌++◌, length, get_or, take, drop, refl, subst, ap, sym, ◌∙◌, append-nil, length-append, arith}
+use Rattle.std.proofs.Common.{◌≡◌, ◌≤◌, ℕ, suc, ◌+◌, ◌-◌, Bool, true, false, ◌||◌, List, [], ◌∷◌, ◌++◌, length, get_or, take, drop, refl, subst, ap, sym, ◌∙◌, append-nil, length-append, arith}
 use Rattle.std.proofs.Math.Seq.{get_or-append_seam}
 use Rattle.std.proofs.lemmas.Bool.Decides.{nat_tests}
-use Rattle.std.proofs.lemmas.List.{take_all, take_more}
+use Rattle.std.proofs.lemmas.List.{get_or-drop, length-drop, length-take-le, take_all, take_more, take-append-drop}
 use Rattle.std.proofs.lemmas.List.Folds.{list_any-append}
 use Rattle.std.specs.Prelude.{◌==◌}
+use Rattle.memchr.specs.Find.{NoneAfter, Nowhere, Passes, is_byte}
 use Rattle.mg_journal.specs.Text.{has_line_feed, whole_lines, EndsInLineFeed, IsWhole}
 
 or_true : (b : Bool) → (b || true) ≡ true
@@ -107,19 +108,38 @@ length_more text part some =
     ap length (whole_before text part (some_as part (has_line_feed part) refl some))
     ∙ length-append text (whole_lines part)
 
-other_byte : (b : ℕ) → (b ≡ 10 → ⊥) → (b == 10) ≡ false
-other_byte b other = grind (arith, nat_tests, other)
+unfed_as : (b : ℕ) (bytes : List ℕ) (fed : Bool) → (b == 10) ≡ fed → Nowhere (Passes (is_byte 10) (b ∷ bytes)) 0 (length (b ∷ bytes))
+    → has_line_feed bytes ≡ false → has_line_feed (b ∷ bytes) ≡ false
+unfed_as b bytes true feed none unfed = absurd (none 0 (omega arith) (omega arith) feed)
+unfed_as b bytes false other none unfed = rw other unfed
 
--- one more byte
-pub length_line : (text : List ℕ) (b : ℕ) → b ≡ 10 → length (whole_lines (text ++ b ∷ [])) ≡ length text + 1
-length_line text b feed =
-    ap (λ (c : ℕ). length (whole_lines (text ++ c ∷ []))) feed
-    ∙ (ap length (whole_line text) ∙ length-append text (10 ∷ []))
+-- bytes none of which is a line feed
+unfed : (bytes : List ℕ) → Nowhere (Passes (is_byte 10) bytes) 0 (length bytes) → has_line_feed bytes ≡ false
+unfed [] none = refl
+unfed (b ∷ bytes) none =
+    unfed_as b bytes (b == 10) refl none (unfed bytes (λ k low high feed. none (suc k) (omega arith) (omega (arith, high)) feed))
 
-pub length_byte : (text : List ℕ) (b : ℕ) → (b ≡ 10 → ⊥) → length (whole_lines (text ++ b ∷ [])) ≡ length (whole_lines text)
-length_byte text b other =
-    let unfed : has_line_feed (b ∷ []) ≡ false = rw (other_byte b other) refl in
-    ap length (whole_same text (b ∷ []) unfed)
+-- the byte that passes is a line feed
+pub feed_of : (b : ℕ) → (b == 10) ≡ true → b ≡ 10
+feed_of b passes = grind (arith, nat_tests, passes)
+
+pub length_none : (text : List ℕ) → Nowhere (Passes (is_byte 10) text) 0 (length text) → 0 ≡ length (whole_lines text)
+length_none text none = sym (ap length (whole_none text (unfed text none)))
+
+-- the last line feed of a text ends its last whole line
+pub length_last : (text : List ℕ) (i : ℕ) → NoneAfter (Passes (is_byte 10) text) 0 (length text) i → get_or text i 0 ≡ 10
+    → i + 1 ≡ length (whole_lines text)
+length_last text i last feed =
+    let rest = drop (i + 1) text in
+    let none : Nowhere (Passes (is_byte 10) rest) 0 (length rest) = λ k low high passes.
+    last.after (i + 1 + k) (omega arith) (omega (arith, high, length-drop (i + 1) text))
+    (ap (λ (b : ℕ). b == 10) (sym (get_or-drop (i + 1) text k 0)) ∙ passes) in
+    let front : take (i + 1) text ≡ take i text ++ 10 ∷ [] =
+    take_more text i 0 last.high ∙ ap (λ (b : ℕ). take i text ++ b ∷ []) feed in
+    let whole : whole_lines text ≡ take i text ++ 10 ∷ [] =
+    ap whole_lines (sym (take-append-drop (i + 1) text)) ∙ whole_same (take (i + 1) text) rest (unfed rest none)
+    ∙ ap whole_lines front ∙ whole_line (take i text) in
+    sym (ap length whole ∙ length-append (take i text) (10 ∷ []) ∙ ap (λ (n : ℕ). n + 1) (length-take-le i text (omega (arith, last.high))))
 
 -- ## Whole lines of whole lines
 

@@ -2,6 +2,8 @@ ghost use Rattle.std.specs.Prelude.{◌≡◌, ℕ, ◌++◌, [], List, length, 
 ghost use Rattle.mg_journal.specs.Text.{whole_lines};
 ghost use Rattle.mg_journal.specs.aids.Opening.{IsExtent};
 
+use memchr::memrchr;
+
 /// The lengths of a text and of its complete lines, in bytes.
 #[derive(Clone, Copy)]
 pub(crate) struct Extent {
@@ -36,11 +38,8 @@ impl Extent {
 fn whole_len(text: &[u8]) -> usize
     ensures value { result ≡ length (whole_lines text.now) }
 {
-    let mut len = 0;
-    for (i, b) in text.iter().enumerate() {
-        if *b == b'\n' {
-            len = i + 1;
-        }
+    match memrchr(b'\n', text) {
+        Some(i) => i + 1,
+        None => 0,
     }
-    len
 }

@@ -1,35 +1,11 @@
-use Rattle.std.proofs.Common.{take, length, get_or, ap, sym, arith}
-use Rattle.std.proofs.lemmas.List.{take_more, length-take-le}
-use Rattle.mg_journal.proofs.TextLemmas.{length_line, length_byte, whole_nil}
+use Rattle.std.proofs.Common.{get_or}
+use Rattle.mg_journal.proofs.TextLemmas.{feed_of, length_last, length_none}
 use Rattle.mg_journal.proofs.extent.whole_len.Goals as goal
-use Rattle.mg_journal.proofs.extent.whole_len.Goals.{then-b-eq10, else-b-eq10}
 
-pub loop-i-init : goal.loop-i-init
-loop-i-init c = record { within = omega arith; whole = sym (ap length whole_nil) }
+pub returns-in-Some : goal.returns-in-Some
+returns-in-Some c = record {
+  value = length_last c.args.text.now c.in-Some.i c.in-Some.ensures.0 (feed_of (get_or c.args.text.now c.in-Some.i 0) c.in-Some.ensures.1);
+}
 
-pub loop-i-preserved : goal.loop-i-preserved
-loop-i-preserved c =
-    let i = c.loop-i.i in
-    let text = c.args.text.now in
-    let more = take_more text i 0 c.loop-i-test.true in
-    elim c.if-b-eq10.branch [
-      | then-b-eq10 w ↦ record {
-        within = omega (arith, w.len-is);
-        whole = rw more (omega (
-          arith,
-          w.len-is,
-          c.loop-i.auto.i-end,
-          length_line (take i text) (get_or text i 0) w.if-b-eq10.true,
-          length-take-le i text c.loop-i.auto.i-end,
-        ));
-      }
-      | else-b-eq10 w ↦ record {
-        within = omega (arith, w.len-is, c.loop-i.invariant.within);
-        whole = rw more (omega (
-          arith,
-          w.len-is,
-          c.loop-i.invariant.whole,
-          length_byte (take i text) (get_or text i 0) w.if-b-eq10.false,
-        ));
-      }
-    ]
+pub returns-in-None : goal.returns-in-None
+returns-in-None c = record { value = length_none c.args.text.now c.in-None.ensures }

@@ -15,7 +15,8 @@ use crate::context_audit::put_pairs;
 use crate::name::{Name, name_of};
 use crate::named_member::named_members;
 use crate::progress::Progress;
-use mg_engine::{Engine, TopologyTriple, TopologyTriples, TripleTerm};
+use arrayvec::ArrayVec;
+use mg_engine::{Engine, FEW_TRIPLES, TRIPLES, TopologyTriple, TripleTerm};
 use mg_text::{ContextProperty, ErrorNumber, Item, NamedTriple, Reply};
 
 /// Returns the meaning of a name in a triple.
@@ -40,11 +41,17 @@ fn triple_of(source: &[u8], made: Option<u32>, triple: &NamedTriple) -> Topology
     }
 }
 
-fn triples_of(source: &[u8], made: Option<u32>, triples: &[NamedTriple]) -> TopologyTriples
-    requires few { length triples.now ≤ triple_limit }
+/// Converts at most `N` triples.
+fn triples_of<const N: usize>(
+    source: &[u8],
+    made: Option<u32>,
+    triples: &[NamedTriple],
+) -> ArrayVec<TopologyTriple, N>
+    requires small { N ≤ triple_limit }
+    requires few { length triples.now ≤ N }
     ensures value { result.items ≡ map (topology_triple_of source.now made) triples.now }
 {
-    let mut topology = TopologyTriples::new();
+    let mut topology = ArrayVec::new();
     for triple in triples {
         topology.push(triple_of(source, made, triple));
     }
@@ -81,8 +88,12 @@ fn apply_topology(
     if triples.is_empty() {
         return engine.topology_context(progress.target);
     }
-    let by_number = triples_of(source, progress.made, triples);
-    engine.apply_triples(progress.target, &by_number)
+    if triples.len() <= FEW_TRIPLES {
+        let by_number = triples_of::<FEW_TRIPLES>(source, progress.made, triples);
+        return engine.apply_triples(progress.target, by_number.as_slice());
+    }
+    let by_number = triples_of::<TRIPLES>(source, progress.made, triples);
+    engine.apply_triples(progress.target, by_number.as_slice())
 }
 
 /// Answers the action's ContextAudit, if it has one.

@@ -54,7 +54,7 @@ use crate::share::Share;
 use crate::shares::Shares;
 use crate::skipping::{are_idle, pass_slots};
 use crate::taken::{DropCause, Taken};
-use crate::topology_triple::TopologyTriples;
+use crate::topology_triple::{FEW_TRIPLES, TRIPLES, TopologyTriple};
 use crate::triples::{TopologyRoom, triples_of};
 use arrayvec::ArrayVec;
 use mg_flow::{FlowTable, Place};
@@ -256,7 +256,7 @@ impl Engine {
                 Ok(Done::Termination(gone))
             }
             Edit::Triples { target, triples } => {
-                let context = self.apply_triples(*target, triples)?;
+                let context = self.apply_triples(*target, triples.as_slice())?;
                 Ok(Done::Topology(context))
             }
         }
@@ -337,15 +337,36 @@ impl Engine {
     pub fn apply_triples(
         &mut self,
         target: Target,
-        triples: &TopologyTriples,
+        triples: &[TopologyTriple],
     ) -> Result<u32, ErrorNumber>
+        requires few { length triples.now ≤ TRIPLES }
         ensures outcome { (w : Gateway) → StandsFor self.old w →
-            IsOutcome self.new result (apply_triples w target triples.now.items) }
+            IsOutcome self.new result (apply_triples w target triples.now) }
+        ensures refused { OnErr result (self.new ≡ self.old) }
+        ensures work { self.new.sums.work ≡ self.old.sums.work }
+    {
+        if triples.len() <= FEW_TRIPLES {
+            self.apply_up_to::<FEW_TRIPLES>(target, triples)
+        } else {
+            self.apply_up_to::<TRIPLES>(target, triples)
+        }
+    }
+
+    /// Applies at most `N` triples.
+    fn apply_up_to<const N: usize>(
+        &mut self,
+        target: Target,
+        triples: &[TopologyTriple],
+    ) -> Result<u32, ErrorNumber>
+        requires small { N ≤ TRIPLES }
+        requires few { length triples.now ≤ N }
+        ensures outcome { (w : Gateway) → StandsFor self.old w →
+            IsOutcome self.new result (apply_triples w target triples.now) }
         ensures refused { OnErr result (self.new ≡ self.old) }
         ensures work { self.new.sums.work ≡ self.old.sums.work }
     {
         let at = topology_room(&self.rooms, target)?;
-        let by_seats = triples_of(&self.rooms, &self.flows, at, triples.as_slice())?;
+        let by_seats = triples_of::<N>(&self.rooms, &self.flows, at, triples)?;
         match self.flows.on_triples(at.room, by_seats.as_slice()) {
             Ok(()) => Ok(at.context),
             Err(Overlap) => Err(ErrorNumber::IllegalCombination),

@@ -60,7 +60,7 @@ pub use crate::engine::Engine;
 pub use crate::fault::StartFault;
 pub use crate::seated_member::SeatedMember;
 pub use crate::taken::{DropCause, Taken};
-pub use crate::topology_triple::{TRIPLES, TopologyTriple, TopologyTriples};
+pub use crate::topology_triple::{FEW_TRIPLES, TRIPLES, TopologyTriple, TopologyTriples};
 pub use crate::triple_term::TripleTerm;
 pub use mg_rooms::{
     ErrorNumber, Limits, MediaSetting, Mode, Record, Rooms, Settings, Target, mode_listens,

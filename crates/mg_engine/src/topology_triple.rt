@@ -5,6 +5,9 @@ use mg_words::Association;
 /// The maximum number of triples in an edit. A control datagram cannot hold more, as `read` in `mg_text` ensures.
 pub const TRIPLES: usize = 1200;
 
+/// A number of triples that most edits don't exceed. They take less time, as no large array is made.
+pub const FEW_TRIPLES: usize = 16;
+
 /// Who hears whom among the members that two terms match (RFC 3525, section 7.1.18).
 #[derive(Clone, Copy, Debug, PartialEq, Eq)]
 pub struct TopologyTriple {

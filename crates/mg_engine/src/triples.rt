@@ -4,13 +4,12 @@ ghost use Rattle.std.specs.Prelude.{Any, ◌≡◌, ◌≤◌, [], ◌∷◌, le
 ghost use Rattle.mg_topology.specs.Triple.{Overlaps};
 ghost use Rattle.mg_rooms.specs.Registry.{members_at};
 ghost use Rattle.mg_rooms.specs.aids.Sound.{IsSound};
-ghost use Rattle.mg_engine.specs.declared.topology_triple.TheConstants.{TRIPLES};
 ghost use Rattle.mg_engine.specs.Flow.{has};
 ghost use Rattle.mg_engine.specs.Triples.{is_barred, names_others, matched, check_triple, check_triples};
 ghost use Rattle.mg_engine.specs.aids.Members.{HasMembers};
 ghost use Rattle.mg_engine.specs.aids.Triples.{IsRoomOf, Matches, IsMatched, AreMatched};
 
-use crate::topology_triple::{TRIPLES, TopologyTriple};
+use crate::topology_triple::TopologyTriple;
 use crate::triple_term::TripleTerm;
 use arrayvec::ArrayVec;
 use mg_flow::FlowTable;
@@ -106,14 +105,14 @@ fn triple_of(
     Ok(by_seats)
 }
 
-/// Converts the triples of an edit to seats, in order, or returns the first error in them.
-pub fn triples_of(
+/// Converts at most `N` triples to seats, in order, or returns the first error in them.
+pub fn triples_of<const N: usize>(
     rooms: &Rooms,
     flows: &FlowTable,
     at: TopologyRoom,
     triples: &[TopologyTriple],
-) -> Result<ArrayVec<Triple, TRIPLES>, ErrorNumber>
-    requires few { length triples.now ≤ TRIPLES }
+) -> Result<ArrayVec<Triple, N>, ErrorNumber>
+    requires few { length triples.now ≤ N }
     requires sound { IsSound rooms.now }
     requires room { IsRoomOf rooms.now at.context at.room }
     requires members { HasMembers rooms.now flows.now }

@@ -8,7 +8,7 @@ use Rattle.mg_engine.proofs.TripleLemmas.{checked_to, matched_to, none_overlaps}
 use Rattle.mg_engine.proofs.triples.triples_of.Goals as goal
 
 pub loop-triple-preserved : goal.loop-triple-preserved
-loop-triple-preserved c =
+loop-triple-preserved g c =
     let w = c.args.rooms.now in
     let at = c.args.at.context in
     let members = members_at w at in

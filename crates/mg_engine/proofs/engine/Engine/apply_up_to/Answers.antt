@@ -8,11 +8,11 @@ use Rattle.mg_engine.specs.Triples.{check_triples, with_triples}
 use Rattle.mg_engine.specs.aids.Triples.{AreMatched}
 use Rattle.mg_engine.specs.Stands.{EngineState, StandsFor}
 use Rattle.mg_engine.proofs.TripleLemmas.{refused_there, refused_triples, done_triples, err_is, ok_is, has_still, hears_triples, words_stand}
-use Rattle.mg_engine.proofs.engine.Engine.apply_triples.Goals.{in-Ok, in-Err}
-use Rattle.mg_engine.proofs.engine.Engine.apply_triples.Goals as goal
+use Rattle.mg_engine.proofs.engine.Engine.apply_up_to.Goals.{in-Ok, in-Err}
+use Rattle.mg_engine.proofs.engine.Engine.apply_up_to.Goals as goal
 
 pub returns-in_err-at-clause-outcome : goal.returns-in_err-at-clause-outcome
-returns-in_err-at-clause-outcome c w h =
+returns-in_err-at-clause-outcome g c w h =
     let k : EngineState = record {
       config = c.self.inside.config;
       rooms = c.self.inside.rooms;
@@ -23,11 +23,11 @@ returns-in_err-at-clause-outcome c w h =
     } in
     let stands = subst (λ (x : EngineState). StandsFor x w) (sym c.self.view_is) h in
     err_is c.args.self.now c.from_residual.result _ c.in_err-at.field-0.0 (search rules)
-    (refused_there k w c.args.target c.args.triples.now.items c.in_err-at.field-0.0 stands
+    (refused_there k w c.args.target c.args.triples.now c.in_err-at.field-0.0 stands
     c.in_err-at.ensures.value)
 
 pub returns-in_err-by_seats-clause-outcome : goal.returns-in_err-by_seats-clause-outcome
-returns-in_err-by_seats-clause-outcome c w h =
+returns-in_err-by_seats-clause-outcome g c w h =
     let k : EngineState = record {
       config = c.self.inside.config;
       rooms = c.self.inside.rooms;
@@ -38,11 +38,11 @@ returns-in_err-by_seats-clause-outcome c w h =
     } in
     let stands = subst (λ (x : EngineState). StandsFor x w) (sym c.self.view_is) h in
     err_is c.args.self.now c.from_residual-in_err-by_seats.result _ c.in_err-by_seats.field-0.0 (search rules)
-    (refused_triples k w c.args.target c.args.triples.now.items c.in_ok-at.at.context c.in_err-by_seats.field-0.0
-    stands c.in_ok-at.ensures.value.0 (rw (sym c.as_slice.ensures.value) c.in_err-by_seats.ensures.value))
+    (refused_triples k w c.args.target c.args.triples.now c.in_ok-at.at.context c.in_err-by_seats.field-0.0
+    stands c.in_ok-at.ensures.value.0 (c.in_err-by_seats.ensures.value))
 
 pub invariant_of-self : goal.invariant_of-self
-invariant_of-self c = record {
+invariant_of-self g c = record {
   sound = c.self.invariant.sound;
   limits = c.self.invariant.limits;
   ports = c.self.invariant.ports;
@@ -57,7 +57,7 @@ invariant_of-self c = record {
 }
 
 pub returns-clause-outcome : goal.returns-clause-outcome
-returns-clause-outcome c w h =
+returns-clause-outcome g c w h =
     let k : EngineState = record {
       config = c.self.inside.config;
       rooms = c.self.inside.rooms;
@@ -68,11 +68,11 @@ returns-clause-outcome c w h =
     } in
     let stands = subst (λ (x : EngineState). StandsFor x w) (sym c.self.view_is) h in
     let at = c.in_ok-at.at in
-    let xs = c.args.triples.now.items in
+    let xs = c.args.triples.now in
     let ys = c.in_ok-by_seats.by_seats.items in
     let members = members_at k.rooms at.context in
     let parts : (check_triples members xs ≡ Ok tt) × AreMatched k.rooms at.context members xs ys × ¬ Any Overlaps ys =
-    rw (sym c.as_slice.ensures.value) c.in_ok-by_seats.ensures.value in
+    c.in_ok-by_seats.ensures.value in
     let (checked, matched, none) = parts in
     let es = with_triples (members_at k.rooms at.context) xs w.edits in
     elim c.match-on_triples.branch [
@@ -81,11 +81,11 @@ returns-clause-outcome c w h =
           c.self.invariant.sound.one_room c.self.invariant.sound.one_seat c.in_ok-at.ensures.value.1 matched
           c.self.invariant.members c.on_triples.ensures.others
           (λ t l same together. b.in-Ok.ensures.hears t l same together ∙
-          ap (λ (zs : List Triple). hears_after zs t.seat l.seat (hears k.flows t l)) c.as_slice-2.ensures.value)
+          ap (λ (zs : List Triple). hears_after zs t.seat l.seat (hears k.flows t l)) c.as_slice.ensures.value)
           stands.hears in
           ok_is _ c.match-on_triples.result _ at.context (record w { edits = es }) b.result-is
           (done_triples k w c.args.target xs at.context stands c.in_ok-at.ensures.value.0 checked)
           (words_stand k c.on_triples.new.self w es stands heard))
-      | in-Err b ↦ absurd (none (subst (λ (zs : List Triple). Any Overlaps zs) c.as_slice-2.ensures.value
+      | in-Err b ↦ absurd (none (subst (λ (zs : List Triple). Any Overlaps zs) c.as_slice.ensures.value
           (b.in-Err.ensures.overlap.0 refl)))
     ]

@@ -1,19 +1,19 @@
--- A script that is resumed: its lines, the bytes that they come in, and how far it was read.
-use Rattle.std.proofs.Common.{◌≡◌, ◌≢◌, ℕ, ◌+◌, ◌<◌, ◌≤◌, Bool, true, false, List, [], ◌∷◌, ◌++◌, length, map, codes, eqb, get_or, take, drop, Option, Some, None, Result, Ok, Err, refl, sym, ap, subst, ◌∙◌, append_assoc, length-append, length-take, arith}
+-- A script that is resumed: its notes, the bytes that they come in, and how far it was read.
+use Rattle.std.proofs.Common.{◌≡◌, ◌≢◌, ℕ, zero, suc, ◌+◌, ◌<◌, ◌≤◌, Bool, true, false, List, [], ◌∷◌, ◌++◌, length, codes, eqb, get_or, replicate, take, drop, Option, Some, None, Result, Ok, Err, refl, sym, ap, subst, ◌∙◌, append_assoc, length-append, length-take, arith}
 use Rattle.std.proofs.lemmas.Bool.{eq-eqb, eqb-true, true≢false}
-use Rattle.std.proofs.lemmas.List.{append-nil, drop-drop, get_or-take}
+use Rattle.std.proofs.lemmas.List.{append-nil, drop-drop, get_or-take, replicate_more}
 use Rattle.memchr.specs.Find.{IsFirstByte, is_byte}
 use Rattle.std.proofs.KnownBytes.{Consumes-nil, Consumes-trans, Consumes-kept}
 use Rattle.std.specs.Io.KnownBytes.{Keeps, Consumes, IsAtEnd}
+use Rattle.std.specs.Option.{option_map}
 use Rattle.std.specs.Prelude.{IfErr, OnOk}
 use Rattle.mg_engine.specs.declared.config.Config.{Config}
-use Rattle.mg_engine.proofs.SkipLemmas.{iterate_last}
 use Rattle.mg_lines.specs.Lines.{without_return, lines_after, lines_of}
+use Rattle.mg_words.specs.OptionSteps.{◌>>=◌}
 use Rattle.mg_core.specs.declared.event.Event.{Event}
 use Rattle.mg_core.specs.declared.event.Event.TheVariants.{Tick}
 use Rattle.mg_core.specs.declared.fault.LineFault.{LineFault}
 use Rattle.mg_core.specs.declared.fault.LineFault.TheVariants as faults
-use Rattle.mg_core.specs.declared.fault.NoMemory.{NoMemory}
 use Rattle.mg_engine.specs.declared.fault.StartFault.{StartFault}
 use Rattle.mg_engine.specs.declared.fault.StartFault.TheVariants as starts
 use Rattle.mg_core.specs.declared.fault.RunFault.{RunFault}
@@ -21,91 +21,197 @@ use Rattle.mg_core.specs.declared.fault.RunFault.TheVariants as runs
 use Rattle.mg_core.specs.declared.fault.ScriptFault.{ScriptFault}
 use Rattle.mg_core.specs.declared.fault.ScriptFault.TheVariants as scripts
 use Rattle.mg_core.specs.declared.state.CoreState.{CoreState}
+use Rattle.mg_core.specs.Follow.{HasRun, IsFollowed, ticks_of}
+use Rattle.mg_core.specs.Headline.{ExtendsByTicks, ExtendsHistory, HasHistory}
+use Rattle.mg_core.specs.Note.{Note, Comment, Happened, NotesHaveEvents, events_in, noted, notes_of}
 use Rattle.mg_core.specs.Resume.{FindsBadLine, IsResumed}
-use Rattle.mg_core.specs.Run.{HasBadAfter, HasRead}
-use Rattle.mg_core.specs.Script.{event_of, events_of}
-use Rattle.mg_core.specs.Step.{Packet}
-use Rattle.mg_core.specs.World.{World, StandsFor, packets_of, start_of, world_after_tick, world_after_ticks}
-use Rattle.mg_core.specs.aids.Resuming.{AllResumed, Awaits, BytesResumed, EndedResumed, EventResumed, LastResumed, LineResumed, LinesResumed}
-use Rattle.mg_core.specs.aids.Steps.{LeadsOn, run_fault_at_start, run_fault_of, script_fault_of}
-use Rattle.mg_core.proofs.HeadlineLemmas.{one_event}
-use Rattle.mg_core.proofs.LineLemmas.{one_line}
+use Rattle.mg_core.specs.Run.{HasRead}
+use Rattle.mg_core.specs.Script.{event_of, events_of, then_all}
+use Rattle.mg_core.specs.Step.{Sent}
+use Rattle.mg_core.specs.World.{World}
+use Rattle.mg_core.specs.aids.Resuming.{Adds, AllResumed, BytesBad, BytesResumed, BytesRun, EndedResumed, KeepsUp, LastResumed, LineResumed, LinesResumed, Resumes, StartsBad}
+use Rattle.mg_core.specs.aids.Steps.{run_fault_at_start, run_fault_of, script_fault_of}
 use Rattle.mg_core.proofs.ReadBackLemmas.{tick_read}
-use Rattle.mg_core.proofs.RunLemmas.{events_both, on_ok, run_both, script_result}
+use Rattle.mg_core.proofs.RunLemmas.{script_result}
 use Rattle.mg_core.proofs.SplitLemmas.{around, bad_later, last_line, line_feed, long_line, no_line, unbroken}
 
--- ## Ticks that have not been run
+-- ## The notes of lines
 
-pub awaits_none : (state : CoreState) (n : ℕ) (w : World) → n ≡ 0 → StandsFor state w → Awaits state n w
-awaits_none state n w none h = subst (λ (k : ℕ). Awaits state k w) (sym none) (w, h, refl)
+line_has_event : (line : List ℕ) (event : Option (Option Event)) (notes : Option (List Note)) →
+    option_map events_in (option_map (noted line) event >>= λ note. notes >>= λ l. Some (note ∷ l)) ≡
+    (event >>= λ e. option_map events_in notes >>= λ l. Some (then_all e l))
+line_has_event line None notes = refl
+line_has_event line (Some e) None = refl
+line_has_event line (Some None) (Some l) = refl
+line_has_event line (Some (Some e)) (Some l) = refl
 
-pub awaits_tick : (state : CoreState) (n : ℕ) (w : World) → Awaits state n w → Awaits state (n + 1) (world_after_tick w)
-awaits_tick state n w h = (h.0, h.1, ap world_after_tick h.2 ∙ sym (iterate_last world_after_tick n h.0))
+pub notes_have_events : NotesHaveEvents
+unfolding notes_of events_of
+notes_have_events [] = refl
+notes_have_events (line ∷ lines) = line_has_event line (event_of line) (notes_of lines)
+    ∙ ap (λ (o : Option (List Event)). event_of line >>= λ e. o >>= λ l. Some (then_all e l)) (notes_have_events lines)
 
-pub awaited : (old new : CoreState) (n : ℕ) →
-    ((w : World) → StandsFor old w → StandsFor new (world_after_ticks n w)) → (w : World) → Awaits old n w →
-    StandsFor new w
-awaited old new n skip w h = subst (λ (v : World). StandsFor new v) (sym h.2) (skip h.0 h.1)
+events_of_notes : (lines : List (List ℕ)) (notes : List Note) → notes_of lines ≡ Some notes →
+    events_of lines ≡ Some (events_in notes)
+events_of_notes lines notes are = sym (notes_have_events lines) ∙ ap (option_map events_in) are
 
--- a step after the ticks
-pub after_awaited : {E : Type 0} (old mid new : CoreState) (n m : ℕ) (r : Result (Unit {0}) E)
-    (R : World → World → Type 0) → ((w : World) → Awaits old n w → StandsFor mid w) → m ≡ 0 →
-    LeadsOn (StandsFor mid) (StandsFor new) r R → LeadsOn (Awaits old n) (Awaits new m) r R
-after_awaited old mid new n m r R flush none step w h =
-    let (next, comes, stands) = step w (flush w h) in
-    (next, comes, on_ok r (awaits_none new m next none) stands)
+abbrev notes_are : List Note → Option (List Note)
+notes_are notes = Some notes
+
+same_notes : (a b : List Note) → notes_are a ≡ notes_are b → a ≡ b
+same_notes a b h = cc h
+
+notes_step : (o : Option Note) (p all : Option (List Note)) (a b : List Note) →
+    (o >>= λ note. p >>= λ l. Some (note ∷ l)) ≡ Some a → ((l : List Note) → p ≡ Some l → all ≡ Some (l ++ b)) →
+    (o >>= λ note. all >>= λ l. Some (note ∷ l)) ≡ Some (a ++ b)
+notes_step None p all a b h k = absurd (cc h)
+notes_step (Some note) None all a b h k = absurd (cc h)
+notes_step (Some note) (Some l) all a b h k =
+    rw (k l refl) (ap notes_are (ap (λ (x : List Note). x ++ b) (same_notes (note ∷ l) a h)))
+
+notes_both : (xs ys : List (List ℕ)) (a b : List Note) → notes_of xs ≡ Some a → notes_of ys ≡ Some b →
+    notes_of (xs ++ ys) ≡ Some (a ++ b)
+unfolding notes_of
+notes_both [] ys a b h k = k ∙ ap (λ (x : List Note). notes_are (x ++ b)) (same_notes [] a h)
+notes_both (x ∷ xs) ys a b h k = notes_step (option_map (noted x) (event_of x)) (notes_of xs) (notes_of (xs ++ ys)) a b h
+    (λ l is. notes_both xs ys l b is k)
+
+one_note : (line : List ℕ) (e : Option Event) → event_of line ≡ Some e → notes_of (line ∷ []) ≡ Some (noted line e ∷ [])
+unfolding notes_of
+one_note line e is = rw is refl
+
+-- ## The events of notes
+
+events_in_both : (a b : List Note) → events_in (a ++ b) ≡ events_in a ++ events_in b
+events_in_both [] b = refl
+events_in_both (Comment line ∷ a) b = events_in_both a b
+events_in_both (Happened event ∷ a) b = ap (λ (l : List Event). event ∷ l) (events_in_both a b)
+
+events_in_ticks : (n : ℕ) → events_in (ticks_of n) ≡ replicate n Tick
+events_in_ticks zero = refl
+events_in_ticks (suc n) = ap (λ (l : List Event). Tick ∷ l) (events_in_ticks n)
+
+-- a gateway at which these events arrived
+abbrev HasRunEvents : Config → CoreState → List Event → Type 0
+HasRunEvents config state events = (sent : List Sent) × (w : World) × HasHistory config events sent w state
+
+run_event : (config : Config) (old new : CoreState) (event : Event) (sent : List Sent) (notes : List Note) →
+    ExtendsHistory old new event sent → HasRun config notes old → HasRun config (notes ++ Happened event ∷ []) new
+run_event config old new event sent notes extends (before, w, history) =
+    let (next, after) = extends config (events_in notes) before w history in
+    subst (HasRunEvents config new) (sym (events_in_both notes (Happened event ∷ [])))
+    (before ++ sent, next, after)
+
+run_ticks : (config : Config) (old new : CoreState) (n : ℕ) (notes : List Note) → ExtendsByTicks old new n →
+    HasRun config notes old → HasRun config (notes ++ ticks_of n) new
+run_ticks config old new n notes extends (before, w, history) =
+    let (sent, next, after) = extends config (events_in notes) before w history in
+    subst (HasRunEvents config new)
+    (sym (events_in_both notes (ticks_of n) ∙ ap (λ (l : List Event). events_in notes ++ l) (events_in_ticks n)))
+    (before ++ sent, next, after)
+
+run_comment : (config : Config) (state : CoreState) (line : List ℕ) (notes : List Note) → HasRun config notes state →
+    HasRun config (notes ++ Comment line ∷ []) state
+run_comment config state line notes run =
+    subst (HasRunEvents config state) (sym (events_in_both notes (Comment line ∷ []) ∙ append-nil (events_in notes))) run
+
+-- ## A follower and ticks that wait
+
+module _ (config : Config) where
+  pub up_to_date : (state : CoreState) (n : ℕ) (Follows : List Note → Type 0) (notes : List Note) → n ≡ 0 →
+      HasRun config notes state → Follows notes → KeepsUp config state n Follows notes
+  up_to_date state n Follows notes none run follows = record {
+    past = notes;
+    parts = sym (append-nil notes) ∙ ap (λ (k : ℕ). notes ++ ticks_of k) (sym none);
+    run = run;
+    follows = follows;
+  }
+
+  caught_up : (state : CoreState) (Follows : List Note → Type 0) (notes : List Note) →
+      KeepsUp config state 0 Follows notes → HasRun config notes state × Follows notes
+  caught_up state Follows notes h =
+      let same = sym (h.parts ∙ append-nil h.past) in
+      (subst (λ (l : List Note). HasRun config l state) same h.run, subst Follows same h.follows)
+
+  pub tick_added : (old new : CoreState) (n m : ℕ) (Follows : List Note → Type 0) → new ≡ old → m ≡ n + 1 →
+      Adds (KeepsUp config old n Follows) (KeepsUp config new m Follows) (Happened Tick ∷ [])
+  tick_added old new n m Follows same more notes h = record {
+    past = h.past;
+    parts = ap (λ (l : List Note). l ++ Happened Tick ∷ []) h.parts
+        ∙ append_assoc h.past (ticks_of n) (Happened Tick ∷ [])
+        ∙ ap (λ (l : List Note). h.past ++ l) (replicate_more n (Happened Tick) ∙ ap ticks_of (sym more));
+    run = subst (λ (state : CoreState). HasRun config h.past state) (sym same) h.run;
+    follows = h.follows;
+  }
+
+  pub ticks_followed : (old new : CoreState) (n : ℕ) (Old New : List Note → Type 0) (notes : List Note) →
+      ((past : List Note) → Old past → HasRun config past old → New (past ++ ticks_of n)) → ExtendsByTicks old new n →
+      KeepsUp config old n Old notes → KeepsUp config new 0 New notes
+  ticks_followed old new n Old New notes tell extends h =
+      up_to_date new 0 New notes refl
+      (subst (λ (l : List Note). HasRun config l new) (sym h.parts) (run_ticks config old new n h.past extends h.run))
+      (subst New (sym h.parts) (tell h.past h.follows h.run))
+
+  pub datagram_followed : (old mid new : CoreState) (n m : ℕ) (Old Mid New : List Note → Type 0) (event : Event)
+      (sent : List Sent) →
+      ((notes : List Note) → KeepsUp config old n Old notes → KeepsUp config mid 0 Mid notes) →
+      ExtendsHistory mid new event sent → m ≡ 0 →
+      ((notes : List Note) → Mid notes → HasRun config (notes ++ Happened event ∷ []) new →
+      New (notes ++ Happened event ∷ [])) →
+      Adds (KeepsUp config old n Old) (KeepsUp config new m New) (Happened event ∷ [])
+  datagram_followed old mid new n m Old Mid New event sent flush extends none tell notes h =
+      let (run, follows) = caught_up mid Mid notes (flush notes h) in
+      let after = run_event config mid new event sent notes extends run in
+      up_to_date new m New (notes ++ Happened event ∷ []) none after (tell notes follows after)
+
+  pub comment_followed : (old new : CoreState) (n m : ℕ) (Old Mid New : List Note → Type 0) (line : List ℕ) →
+      ((notes : List Note) → KeepsUp config old n Old notes → KeepsUp config new 0 Mid notes) → m ≡ 0 →
+      ((notes : List Note) → Mid notes → New (notes ++ Comment line ∷ [])) →
+      Adds (KeepsUp config old n Old) (KeepsUp config new m New) (Comment line ∷ [])
+  comment_followed old new n m Old Mid New line flush none tell notes h =
+      let (run, follows) = caught_up new Mid notes (flush notes h) in
+      up_to_date new m New (notes ++ Comment line ∷ []) none (run_comment config new line notes run)
+      (tell notes follows)
 
 -- ## Lines
 
-no_lines : (w : World) → LinesResumed w [] w
-unfolding events_of
-no_lines w = record { events = []; sent = []; are = refl; run = (refl, refl) }
+pub resumes_err : (s : Bool) (A B : Type 0) (P Q : ℕ → Type 0) (e : LineFault) → ((k : ℕ) → P k → Q k) →
+    Resumes s A P (Err e) → Resumes s B Q (Err e)
+resumes_err s A B P Q (faults.Bad k) f h = f k h
+resumes_err s A B P Q faults.Write f h = h
+resumes_err s A B P Q faults.NoMemory f h = tt
 
-lines_then : (w v u : World) (xs ys : List (List ℕ)) → LinesResumed w xs v → LinesResumed v ys u →
-    LinesResumed w (xs ++ ys) u
-lines_then w v u xs ys h k = record {
-  events = h.events ++ k.events;
-  sent = h.sent ++ k.sent;
-  are = events_both xs ys h.events k.events h.are k.are;
-  run = run_both w v u h.events k.events h.sent k.sent h.run k.run;
+no_lines : (Old : List Note → Type 0) → LinesResumed Old Old []
+unfolding notes_of
+no_lines Old =
+    record { notes = []; are = refl; adds = λ notes old. subst Old (sym (append-nil notes)) old }
+
+lines_then : (Old Mid New : List Note → Type 0) (xs ys : List (List ℕ)) → LinesResumed Old Mid xs →
+    LinesResumed Mid New ys → LinesResumed Old New (xs ++ ys)
+lines_then Old Mid New xs ys h k = record {
+  notes = h.notes ++ k.notes;
+  are = notes_both xs ys h.notes k.notes h.are k.are;
+  adds = λ notes old. subst New (append_assoc notes h.notes k.notes)
+      (k.adds (notes ++ h.notes) (h.adds notes old));
 }
 
-pub comment_resumed : (line : List ℕ) (w : World) → event_of line ≡ Some None → LinesResumed w (line ∷ []) w
-comment_resumed line w is = record { events = []; sent = []; are = one_line line None is; run = (refl, refl) }
-
-pub event_resumed : (line : List ℕ) (event : Event) (w next : World) → event_of line ≡ Some (Some event) →
-    EventResumed event w next (Ok tt) → LinesResumed w (line ∷ []) next
-event_resumed line event w next is h = record {
-  events = event ∷ [];
-  sent = h.0;
-  are = one_line line (Some event) is;
-  run = one_event w next event h.0 h.1;
-}
-
-pub line_resumed : (number : ℕ) (line : List ℕ) (event : Event) (Old New : World → Type 0) →
-    event_of line ≡ Some (Some event) →
-    LeadsOn {E = NoMemory} Old New (Ok tt) (λ w next. EventResumed event w next (Ok tt)) →
-    LeadsOn {E = LineFault} Old New (Ok tt) (λ w next. LineResumed number line w next (Ok tt))
-line_resumed number line event Old New is h w old =
-    let (next, done, new) = h w old in
-    (next, event_resumed line event w next is done, new)
+pub line_resumed : (Old New : List Note → Type 0) (line : List ℕ) (e : Option Event) → event_of line ≡ Some e →
+    Adds Old New (noted line e ∷ []) → LinesResumed Old New (line ∷ [])
+line_resumed Old New line e is adds =
+    record { notes = noted line e ∷ []; are = one_note line e is; adds = adds }
 
 -- ## A line that a line feed ends
 
-pub tick_ended : (count : ℕ) (old new : CoreState) (n m : ℕ) (partial part : List ℕ) → partial ≡ [] →
-    part ≡ codes "tick" → ((w : World) → Awaits old n w → Awaits new m (world_after_tick w)) →
-    LeadsOn {E = LineFault} (Awaits old n) (Awaits new m) (Ok tt)
-    (λ w next. EndedResumed count (partial ++ part) w next (Ok tt))
-tick_ended count old new n m partial part none is after = rw (none, is) (λ w h. (
-  world_after_tick w,
-  event_resumed (codes "tick") Tick w (world_after_tick w) tick_read (map Packet (packets_of w), (refl, refl)),
-  after w h,
-))
+pub tick_ended : (Old New : List Note → Type 0) (partial part : List ℕ) → partial ≡ [] → part ≡ codes "tick" →
+    Adds Old New (Happened Tick ∷ []) → LinesResumed Old New (without_return (partial ++ part) ∷ [])
+tick_ended Old New partial part none is adds =
+    rw (none, is) (line_resumed Old New (codes "tick") (Some Tick) tick_read adds)
 
-pub ended_bad : (count counted : ℕ) (text line : List ℕ) (w next : World) (e : LineFault) → counted ≡ count →
-    line ≡ without_return text → LineResumed (counted + 1) line w next (Err e) → EndedResumed count text w next (Err e)
-ended_bad count counted text line w next (faults.Bad k) same is h = (
-  λ more. record {
+pub ended_bad : (count counted k : ℕ) (text line : List ℕ) → counted ≡ count → line ≡ without_return text →
+    (k ≡ counted + 1) × (event_of line ≡ None) →
+    (more : List ℕ) → StartsBad count (lines_after true text (10 ∷ more)) k
+ended_bad count counted k text line same is h more = (
+  record {
     bad = without_return text;
     others = lines_after true [] more;
     parts = line_feed true text more;
@@ -113,12 +219,10 @@ ended_bad count counted text line w next (faults.Bad k) same is h = (
   },
   h.0 ∙ ap (λ n. n + 1) same,
 )
-ended_bad count counted text line w next faults.Write same is h = h
-ended_bad count counted text line w next faults.NoMemory same is h = h
 
-pub ended_long : (count : ℕ) (text : List ℕ) (w next : World) → 140002 ≤ length text →
-    EndedResumed count text w next (Err (faults.Bad (count + 1)))
-ended_long count text w next le = (λ more. long_line text (10 ∷ more) le, refl)
+pub ended_long : (count : ℕ) (text : List ℕ) → 140002 ≤ length text →
+    (more : List ℕ) → StartsBad count (lines_after true text (10 ∷ more)) (count + 1)
+ended_long count text le more = (long_line text (10 ∷ more) le, refl)
 
 -- ## The bytes of lines
 
@@ -153,249 +257,204 @@ at_cut rest part next cut ended left more =
     ∙ ap (lines_after ended left) (append_assoc part (10 ∷ next) more)
     ∙ unbroken part cut.plain ended left (10 ∷ (next ++ more))
 
-bytes_start : (n : ℕ) (partial bytes : List ℕ) (w : World) → BytesResumed n n partial bytes partial bytes w w (Ok tt)
-bytes_start n partial bytes w = ([], λ ended more. refl, omega arith, no_lines w)
+pub bytes_start : (n : ℕ) (partial bytes : List ℕ) (Old : List Note → Type 0) →
+    BytesRun n n partial bytes partial bytes Old Old
+bytes_start n partial bytes Old = record {
+  lines = [];
+  split = λ ended more. refl;
+  number = omega arith;
+  resumed = no_lines Old;
+}
 
-bytes_feed : (n m : ℕ) (partial bytes left rest part next : List ℕ) (w v u : World) →
-    BytesResumed n m partial bytes left rest w v (Ok tt) → IsCut rest part next →
-    EndedResumed m (left ++ part) v u (Ok tt) → BytesResumed n (m + 1) partial bytes [] next w u (Ok tt)
-bytes_feed n m partial bytes left rest part next w v u h cut line =
+pub bytes_feed : (n m : ℕ) (partial bytes left rest part next : List ℕ) (Old Mid New : List Note → Type 0) →
+    BytesRun n m partial bytes left rest Old Mid → IsCut rest part next →
+    LinesResumed Mid New (without_return (left ++ part) ∷ []) → BytesRun n (m + 1) partial bytes [] next Old New
+bytes_feed n m partial bytes left rest part next Old Mid New h cut line =
     let text = without_return (left ++ part) in
-    let split : (ended : Bool) (more : List ℕ) →
-    lines_after ended partial (bytes ++ more) ≡ (h.0 ++ text ∷ []) ++ lines_after ended [] (next ++ more) =
-    λ ended more. h.1 ended more ∙
-    ap (λ (l : List (List ℕ)). h.0 ++ l) (at_cut rest part next cut ended left more
-    ∙ line_feed ended (left ++ part) (next ++ more)) ∙
-    sym (append_assoc h.0 (text ∷ []) (lines_after ended [] (next ++ more))) in (
-      h.0 ++ text ∷ [],
-      split,
-      omega (arith, length-append h.0 (text ∷ []), h.2),
-      lines_then w v u h.0 (text ∷ []) h.3 line,
-    )
+    record {
+      lines = h.lines ++ text ∷ [];
+      split = λ ended more. h.split ended more ∙
+          ap (λ (l : List (List ℕ)). h.lines ++ l) (at_cut rest part next cut ended left more
+          ∙ line_feed ended (left ++ part) (next ++ more)) ∙
+          sym (append_assoc h.lines (text ∷ []) (lines_after ended [] (next ++ more)));
+      number = omega (arith, length-append h.lines (text ∷ []), h.number);
+      resumed = lines_then Old Mid New h.lines (text ∷ []) h.resumed line;
+    }
 
 -- a bad line after the lines so far
-bad_after : (n m k : ℕ) (partial bytes left rest other last : List ℕ) (w v : World)
-    (h : BytesResumed n m partial bytes left rest w v (Ok tt)) →
-    ((more : List ℕ) → HasBadAfter [] (lines_after true left (rest ++ more))) → k ≡ m + 1 →
-    BytesResumed n m partial bytes other last w v (Err (faults.Bad k))
-bad_after n m k partial bytes left rest other last w v h bad number = (
-  h.0,
-  λ more. record {
-    bad = (bad more).bad;
-    others = (bad more).others;
-    parts = h.1 true more ∙ ap (λ (l : List (List ℕ)). h.0 ++ l) (bad more).parts;
-    is_bad = (bad more).is_bad;
-  },
-  omega (arith, number, h.2),
-  h.3,
-)
+bad_after : (n m k : ℕ) (partial bytes left rest : List ℕ) (Old Mid : List Note → Type 0) →
+    BytesRun n m partial bytes left rest Old Mid →
+    ((more : List ℕ) → StartsBad m (lines_after true left (rest ++ more)) k) → BytesBad n partial bytes k
+bad_after n m k partial bytes left rest Old Mid h bad = record {
+  lines = h.lines;
+  bad = λ more. record {
+    bad = (bad more).0.bad;
+    others = (bad more).0.others;
+    parts = h.split true more ∙ ap (λ (l : List (List ℕ)). h.lines ++ l) (bad more).0.parts;
+    is_bad = (bad more).0.is_bad;
+  };
+  number_is = omega (arith, (bad []).1, h.number);
+  notes = h.resumed.notes;
+  are = h.resumed.are;
+}
 
-bytes_stop : (n m p : ℕ) (partial bytes left rest part next other last : List ℕ) (w v u : World) (e : LineFault) →
-    BytesResumed n m partial bytes left rest w v (Ok tt) → IsCut rest part next →
-    EndedResumed m (left ++ part) v u (Err e) → BytesResumed n p partial bytes other last w v (Err e)
-bytes_stop n m p partial bytes left rest part next other last w v u (faults.Bad k) h cut line =
-    bad_after n m k partial bytes left rest other last w v h
-    (λ more. subst (λ (l : List (List ℕ)). HasBadAfter [] l) (sym (at_cut rest part next cut true left more))
-    (line.0 (next ++ more))) line.1
-bytes_stop n m p partial bytes left rest part next other last w v u faults.Write h cut line = line
-bytes_stop n m p partial bytes left rest part next other last w v u faults.NoMemory h cut line = tt
+pub bytes_stop : (s : Bool) (n m p : ℕ) (partial bytes left rest part next last : List ℕ)
+    (Old Mid New : List Note → Type 0) (e : LineFault) → BytesRun n m partial bytes left rest Old Mid →
+    IsCut rest part next → EndedResumed s m (left ++ part) Mid New (Err e) →
+    BytesResumed s n p partial bytes last Old New (Err e)
+bytes_stop s n m p partial bytes left rest part next last Old Mid New e h cut line =
+    resumes_err s (LinesResumed Mid New (without_return (left ++ part) ∷ []))
+    (BytesRun n p partial bytes last [] Old New)
+    (λ k. (more : List ℕ) → StartsBad m (lines_after true (left ++ part) (10 ∷ more)) k) (BytesBad n partial bytes) e
+    (λ k bad. bad_after n m k partial bytes left rest Old Mid h
+    (λ more. subst (λ (l : List (List ℕ)). StartsBad m l k) (sym (at_cut rest part next cut true left more))
+    (bad (next ++ more)))) line
 
-bytes_kept : (n m : ℕ) (partial bytes left rest : List ℕ) (w v : World) →
-    BytesResumed n m partial bytes left rest w v (Ok tt) → ((k : ℕ) → k < length rest → get_or rest k 0 ≢ 10) →
-    BytesResumed n m partial bytes (left ++ rest) [] w v (Ok tt)
-bytes_kept n m partial bytes left rest w v h plain = (
-  h.0,
-  λ ended more. h.1 ended more ∙ ap (λ (l : List (List ℕ)). h.0 ++ l) (unbroken rest plain ended left more),
-  h.2,
-  h.3,
-)
+bytes_kept : (n m : ℕ) (partial bytes left rest : List ℕ) (Old Mid : List Note → Type 0) →
+    BytesRun n m partial bytes left rest Old Mid → ((k : ℕ) → k < length rest → get_or rest k 0 ≢ 10) →
+    BytesRun n m partial bytes (left ++ rest) [] Old Mid
+bytes_kept n m partial bytes left rest Old Mid h plain = record {
+  lines = h.lines;
+  split = λ ended more. h.split ended more ∙
+      ap (λ (l : List (List ℕ)). h.lines ++ l) (unbroken rest plain ended left more);
+  number = h.number;
+  resumed = h.resumed;
+}
 
-bytes_long : (n m p : ℕ) (partial bytes left rest other last : List ℕ) (w v : World) →
-    BytesResumed n m partial bytes left rest w v (Ok tt) → ((k : ℕ) → k < length rest → get_or rest k 0 ≢ 10) →
-    140002 ≤ length (left ++ rest) → BytesResumed n p partial bytes other last w v (Err (faults.Bad (m + 1)))
-bytes_long n m p partial bytes left rest other last w v h plain long =
-    bad_after n m (m + 1) partial bytes left rest other last w v h
-    (λ more. subst (λ (l : List (List ℕ)). HasBadAfter [] l) (sym (unbroken rest plain true left more))
-    (long_line (left ++ rest) more long)) refl
-
--- ## The bytes of lines, in the worlds that a runner represents
-
--- so far, the lines that end before the rest were run
-abbrev pub HasResumed : (Old New : World → Type 0) → ℕ → ℕ → (partial bytes left rest : List ℕ)
-    → Result (Unit {0}) LineFault → Type 0
-HasResumed Old New n m partial bytes left rest r =
-    LeadsOn Old New r (λ w next. BytesResumed n m partial bytes left rest w next r)
-
-pub resumed_start : (Old : World → Type 0) (n : ℕ) (partial bytes : List ℕ) →
-    HasResumed Old Old n n partial bytes partial bytes (Ok tt)
-resumed_start Old n partial bytes w old = (w, bytes_start n partial bytes w, old)
-
-pub resumed_feed : (Old Mid New : World → Type 0) (n m : ℕ) (partial bytes left rest part next : List ℕ) →
-    HasResumed Old Mid n m partial bytes left rest (Ok tt) → IsCut rest part next →
-    LeadsOn {E = LineFault} Mid New (Ok tt) (λ w after. EndedResumed m (left ++ part) w after (Ok tt)) →
-    HasResumed Old New n (m + 1) partial bytes [] next (Ok tt)
-resumed_feed Old Mid New n m partial bytes left rest part next inside cut line w old =
-    let (now, h, mid) = inside w old in
-    let (after, ended, new) = line now mid in
-    (after, bytes_feed n m partial bytes left rest part next w now after h cut ended, new)
-
-pub resumed_stop : (Old Mid New : World → Type 0) (n m p : ℕ) (partial bytes left rest part next other last : List ℕ)
-    (e : LineFault) → HasResumed Old Mid n m partial bytes left rest (Ok tt) → IsCut rest part next →
-    LeadsOn Mid New (Err e) (λ w after. EndedResumed m (left ++ part) w after (Err e)) →
-    HasResumed Old New n p partial bytes other last (Err e)
-resumed_stop Old Mid New n m p partial bytes left rest part next other last e inside cut line w old =
-    let (now, h, mid) = inside w old in
-    let (after, ended, new) = line now mid in
-    (now, bytes_stop n m p partial bytes left rest part next other last w now after e h cut ended, tt)
-
-resumed_kept : (Old Mid : World → Type 0) (n m : ℕ) (partial bytes left rest : List ℕ) →
-    HasResumed Old Mid n m partial bytes left rest (Ok tt) → ((k : ℕ) → k < length rest → get_or rest k 0 ≢ 10) →
-    HasResumed Old Mid n m partial bytes (left ++ rest) [] (Ok tt)
-resumed_kept Old Mid n m partial bytes left rest inside plain w old =
-    let (now, h, mid) = inside w old in
-    (now, bytes_kept n m partial bytes left rest w now h plain, mid)
-
-resumed_long : (Old Mid New : World → Type 0) (n m p : ℕ) (partial bytes left rest other last : List ℕ) →
-    HasResumed Old Mid n m partial bytes left rest (Ok tt) → ((k : ℕ) → k < length rest → get_or rest k 0 ≢ 10) →
-    140002 ≤ length (left ++ rest) → HasResumed Old New n p partial bytes other last (Err (faults.Bad (m + 1)))
-resumed_long Old Mid New n m p partial bytes left rest other last inside plain long w old =
-    let (now, h, mid) = inside w old in
-    (now, bytes_long n m p partial bytes left rest other last w now h plain long, tt)
+bytes_long : (n m : ℕ) (partial bytes left rest : List ℕ) (Old Mid : List Note → Type 0) →
+    BytesRun n m partial bytes left rest Old Mid → ((k : ℕ) → k < length rest → get_or rest k 0 ≢ 10) →
+    140002 ≤ length (left ++ rest) → BytesBad n partial bytes (m + 1)
+bytes_long n m partial bytes left rest Old Mid h plain long =
+    bad_after n m (m + 1) partial bytes left rest Old Mid h
+    (λ more. subst (λ (l : List (List ℕ)). StartsBad m l (m + 1)) (sym (unbroken rest plain true left more))
+    (long_line (left ++ rest) more long, refl))
 
 -- the bytes after the last line feed, which are kept, or make the line too long
-pub resumed_last : (Old Mid : World → Type 0) (n m : ℕ) (partial bytes left rest kept : List ℕ)
-    (r : Result (Unit {0}) LineFault) → HasResumed Old Mid n m partial bytes left rest (Ok tt) →
+pub bytes_last : (s : Bool) (n m : ℕ) (partial bytes left rest kept : List ℕ) (Old Mid : List Note → Type 0)
+    (r : Result (Unit {0}) LineFault) → BytesRun n m partial bytes left rest Old Mid →
     ((k : ℕ) → k < length rest → get_or rest k 0 ≢ 10) → OnOk r (kept ≡ left ++ rest) →
     IfErr r (λ fault. (fault ≡ faults.Bad (m + 1)) × (140002 ≤ length (left ++ rest))) →
-    HasResumed Old Mid n m partial bytes kept [] r
-resumed_last Old Mid n m partial bytes left rest kept (Ok done) inside plain same long =
-    subst (λ (l : List ℕ). HasResumed Old Mid n m partial bytes l [] (Ok tt)) (sym same)
-    (resumed_kept Old Mid n m partial bytes left rest inside plain)
-resumed_last Old Mid n m partial bytes left rest kept (Err fault) inside plain same long =
-    subst (λ (e : LineFault). HasResumed Old Mid n m partial bytes kept [] (Err e)) (sym long.0)
-    (resumed_long Old Mid Mid n m m partial bytes left rest kept [] inside plain long.1)
+    BytesResumed s n m partial bytes kept Old Mid r
+bytes_last s n m partial bytes left rest kept Old Mid (Ok done) h plain same long =
+    subst (λ (l : List ℕ). BytesRun n m partial bytes l [] Old Mid) (sym same)
+    (bytes_kept n m partial bytes left rest Old Mid h plain)
+bytes_last s n m partial bytes left rest kept Old Mid (Err fault) h plain same long =
+    subst (λ (e : LineFault). BytesResumed s n m partial bytes kept Old Mid (Err e)) (sym long.0)
+    (bytes_long n m partial bytes left rest Old Mid h plain long.1)
 
 -- ## How far the script was read
 
--- a text was read, the lines that end in it were run on a new gateway, and the next line has a part already
-pub record Far (config : Config) (input remaining : Option (List ℕ)) (partial : List ℕ) (count : ℕ) (now : World)
-    : Type 0 where
+-- a text was read, the lines that end in it have these notes, and the next line has a part already
+pub record Far (input remaining : Option (List ℕ)) (partial : List ℕ) (count : ℕ) (notes : List Note) : Type 0 where
   pub text : List ℕ
   pub consumed : Consumes input remaining text
   pub lines : List (List ℕ)
   pub split : (ended : Bool) (more : List ℕ) → lines_of ended (text ++ more) ≡ lines ++ lines_after ended partial more
   pub counted : count ≡ length lines
-  pub ran : LinesResumed (start_of config) lines now
+  pub are : notes_of lines ≡ Some notes
 
--- such a world, which a runner represents
-abbrev pub Reaches : (Old : World → Type 0) → Config → (input remaining : Option (List ℕ)) → List ℕ → ℕ → Type 0
-Reaches Old config input remaining partial count =
-    (now : World) × Far config input remaining partial count now × Old now
+-- the notes of such lines, with which a gateway and a follower keep up
+abbrev pub Reaches : (Old : List Note → Type 0) → (input remaining : Option (List ℕ)) → List ℕ → ℕ → Type 0
+Reaches Old input remaining partial count =
+    (notes : List Note) × Far input remaining partial count notes × Old notes
 
-pub reaches_start : (Old : World → Type 0) (config : Config) (input : Option (List ℕ)) (partial : List ℕ) (count : ℕ) →
-    partial ≡ [] → count ≡ 0 → Old (start_of config) → Reaches Old config input input partial count
-reaches_start Old config input partial count none zero_is stands = (
-  start_of config,
+pub reaches_start : (Old : List Note → Type 0) (input : Option (List ℕ)) (partial : List ℕ) (count : ℕ) →
+    partial ≡ [] → count ≡ 0 → Old [] → Reaches Old input input partial count
+unfolding notes_of
+reaches_start Old input partial count none zero_is start = (
+  [],
   record {
     text = [];
     consumed = Consumes-nil input;
     lines = [];
     split = λ ended more. ap (λ (l : List ℕ). lines_after ended l more) (sym none);
     counted = zero_is;
-    ran = no_lines (start_of config);
+    are = refl;
   },
-  stands,
+  start,
 )
 
-pub reaches_bytes : (Old New : World → Type 0) (config : Config) (i x y : Option (List ℕ)) (partial bytes left : List ℕ)
-    (n m : ℕ) → Reaches Old config i x partial n → Consumes x y bytes →
-    HasResumed Old New n m partial bytes left [] (Ok tt) → Reaches New config i y left m
-reaches_bytes Old New config i x y partial bytes left n m come eaten step =
-    let (now, p, old) = come in
-    let (after, h, new) = step now old in (
-      after,
+pub reaches_bytes : (Old New : List Note → Type 0) (i x y : Option (List ℕ)) (partial bytes left : List ℕ) (n m : ℕ) →
+    Reaches Old i x partial n → Consumes x y bytes → BytesRun n m partial bytes left [] Old New → Reaches New i y left m
+reaches_bytes Old New i x y partial bytes left n m come eaten h =
+    let (notes, p, old) = come in (
+      notes ++ h.resumed.notes,
       record {
         text = p.text ++ bytes;
         consumed = Consumes-trans i x y p.text bytes p.consumed eaten;
-        lines = p.lines ++ h.0;
+        lines = p.lines ++ h.lines;
         split = λ ended more. ap (lines_after ended []) (append_assoc p.text bytes more) ∙ p.split ended (bytes ++ more) ∙
-            ap (λ (l : List (List ℕ)). p.lines ++ l) (h.1 ended more) ∙
-            sym (append_assoc p.lines h.0 (lines_after ended left more));
-        counted = omega (arith, h.2, p.counted, length-append p.lines h.0);
-        ran = lines_then (start_of config) now after p.lines h.0 p.ran h.3;
+            ap (λ (l : List (List ℕ)). p.lines ++ l) (h.split ended more) ∙
+            sym (append_assoc p.lines h.lines (lines_after ended left more));
+        counted = omega (arith, h.number, p.counted, length-append p.lines h.lines);
+        are = notes_both p.lines h.lines notes h.resumed.notes p.are h.resumed.are;
       },
-      new,
+      h.resumed.adds notes old,
     )
 
-bad_in_bytes : (config : Config) (i x y : Option (List ℕ)) (partial bytes left : List ℕ) (n m k : ℕ) (v u : World) →
-    Far config i x partial n v → Consumes x y bytes → BytesResumed n m partial bytes left [] v u (Err (faults.Bad k)) →
-    FindsBadLine i y k
-bad_in_bytes config i x y partial bytes left n m k v u p eaten h =
-    let ran = lines_then (start_of config) v u p.lines h.0 p.ran h.3 in
+bad_in_bytes : (i x y : Option (List ℕ)) (partial bytes : List ℕ) (n k : ℕ) (notes : List Note) →
+    Far i x partial n notes → Consumes x y bytes → BytesBad n partial bytes k → FindsBadLine i y k
+bad_in_bytes i x y partial bytes n k notes p eaten h =
+    let are = notes_both p.lines h.lines notes h.notes p.are h.are in
     record {
       text = p.text ++ bytes;
       ended = false;
       read = record { consumed = Consumes-trans i x y p.text bytes p.consumed eaten; at_end = λ e. absurd (cc e) };
-      lines = p.lines ++ h.0;
-      events = ran.events;
-      are = ran.are;
-      number_is = omega (arith, h.2, p.counted, length-append p.lines h.0);
-      bad = λ more none. bad_later p.lines h.0 (lines_after true partial (bytes ++ more))
+      lines = p.lines ++ h.lines;
+      events = events_in (notes ++ h.notes);
+      are = events_of_notes (p.lines ++ h.lines) (notes ++ h.notes) are;
+      number_is = omega (arith, h.number_is, p.counted, length-append p.lines h.lines);
+      bad = λ more none. bad_later p.lines h.lines (lines_after true partial (bytes ++ more))
           (lines_of true ((p.text ++ bytes) ++ more))
-          (ap (lines_after true []) (append_assoc p.text bytes more) ∙ p.split true (bytes ++ more)) (h.1 more);
+          (ap (lines_after true []) (append_assoc p.text bytes more) ∙ p.split true (bytes ++ more)) (h.bad more);
     }
 
-pub reaches_fault : (Old New : World → Type 0) (config : Config) (i x y : Option (List ℕ))
-    (partial bytes left : List ℕ) (n m : ℕ) (state : CoreState) (e : LineFault) →
-    Reaches Old config i x partial n → Consumes x y bytes →
-    HasResumed Old New n m partial bytes left [] (Err e) → AllResumed config i y state (Err (script_fault_of e))
-reaches_fault Old New config i x y partial bytes left n m state (faults.Bad k) come eaten step =
-    let (now, p, old) = come in
-    let (after, h, new) = step now old in
-    bad_in_bytes config i x y partial bytes left n m k now after p eaten h
-reaches_fault Old New config i x y partial bytes left n m state faults.Write come eaten step =
-    (step come.0 come.2).1
-reaches_fault Old New config i x y partial bytes left n m state faults.NoMemory come eaten step = tt
+pub reaches_fault : (s : Bool) (config : Config) (Old New Follows : List Note → Type 0) (i x y : Option (List ℕ))
+    (partial bytes left : List ℕ) (n m : ℕ) (state : CoreState) (e : LineFault) → Reaches Old i x partial n →
+    Consumes x y bytes → BytesResumed s n m partial bytes left Old New (Err e) →
+    AllResumed s config i y state Follows (Err (script_fault_of e))
+reaches_fault s config Old New Follows i x y partial bytes left n m state (faults.Bad k) come eaten h =
+    bad_in_bytes i x y partial bytes n k come.0 come.1 eaten h
+reaches_fault s config Old New Follows i x y partial bytes left n m state faults.Write come eaten h = h
+reaches_fault s config Old New Follows i x y partial bytes left n m state faults.NoMemory come eaten h = tt
 
 abbrev AtEnd : Option (List ℕ) → Option (List ℕ) → Type 0
 AtEnd x y = Keeps x y × IsAtEnd y
 
-read_to_end : (config : Config) (i x y : Option (List ℕ)) (partial : List ℕ) (n : ℕ) (v : World) → AtEnd x y →
-    (p : Far config i x partial n v) → HasRead i y p.text true
-read_to_end config i x y partial n v end p =
+read_to_end : (i x y : Option (List ℕ)) (partial : List ℕ) (n : ℕ) (notes : List Note) → AtEnd x y →
+    (p : Far i x partial n notes) → HasRead i y p.text true
+read_to_end i x y partial n notes end p =
     record { consumed = Consumes-kept i x y p.text p.consumed end.0; at_end = λ e. end.1 }
 
-split_at_end : (config : Config) (i x : Option (List ℕ)) (partial : List ℕ) (n : ℕ) (v : World)
-    (p : Far config i x partial n v) → lines_of true p.text ≡ p.lines ++ lines_after true partial []
-split_at_end config i x partial n v p = ap (lines_after true []) (sym (append-nil p.text)) ∙ p.split true []
+split_at_end : (i x : Option (List ℕ)) (partial : List ℕ) (n : ℕ) (notes : List Note)
+    (p : Far i x partial n notes) → lines_of true p.text ≡ p.lines ++ lines_after true partial []
+split_at_end i x partial n notes p = ap (lines_after true []) (sym (append-nil p.text)) ∙ p.split true []
 
-resumed_at_end : (config : Config) (i x y : Option (List ℕ)) (partial : List ℕ) (n : ℕ) (state : CoreState)
-    (v u : World) → Far config i x partial n v → AtEnd x y → LinesResumed v (lines_after true partial []) u →
-    StandsFor state u → IsResumed config i y state
-resumed_at_end config i x y partial n state v u p end h stands =
-    let ran = subst (λ (l : List (List ℕ)). LinesResumed (start_of config) l u)
-    (sym (split_at_end config i x partial n v p))
-    (lines_then (start_of config) v u p.lines (lines_after true partial []) p.ran h) in
+followed_at_end : (config : Config) (Old Follows : List Note → Type 0) (i x y : Option (List ℕ)) (partial : List ℕ)
+    (n : ℕ) (state : CoreState) → Reaches Old i x partial n → AtEnd x y →
+    LinesResumed Old (KeepsUp config state 0 Follows) (lines_after true partial []) →
+    IsFollowed config i y state Follows
+followed_at_end config Old Follows i x y partial n state (notes, p, old) end h =
+    let last = lines_after true partial [] in
+    let (run, follows) = caught_up config state Follows (notes ++ h.notes) (h.adds notes old) in
     record {
       script = p.text;
-      read = read_to_end config i x y partial n v end p;
-      events = ran.events;
-      are = ran.are;
-      sent = ran.sent;
-      world = u;
-      history = (ran.run, stands);
+      read = read_to_end i x y partial n notes end p;
+      notes = notes ++ h.notes;
+      are = ap notes_of (split_at_end i x partial n notes p) ∙ notes_both p.lines last notes h.notes p.are h.are;
+      run = run;
+      follows = follows;
     }
 
-bad_at_end : (config : Config) (i x y : Option (List ℕ)) (partial : List ℕ) (n k : ℕ) (v : World) →
-    Far config i x partial n v → AtEnd x y → HasBadAfter [] (lines_after true partial []) → k ≡ n + 1 →
-    FindsBadLine i y k
-bad_at_end config i x y partial n k v p end h number = record {
+bad_at_end : (i x y : Option (List ℕ)) (partial : List ℕ) (n k : ℕ) (notes : List Note) →
+    Far i x partial n notes → AtEnd x y → StartsBad n (lines_after true partial []) k → FindsBadLine i y k
+bad_at_end i x y partial n k notes p end (h, number) = record {
   text = p.text;
   ended = true;
-  read = read_to_end config i x y partial n v end p;
+  read = read_to_end i x y partial n notes end p;
   lines = p.lines;
-  events = p.ran.events;
-  are = p.ran.are;
+  events = events_in notes;
+  are = events_of_notes p.lines notes p.are;
   number_is = omega (arith, number, p.counted);
   bad = λ more none. record {
     bad = h.bad;
@@ -406,93 +465,95 @@ bad_at_end config i x y partial n k v p end h number = record {
   };
 }
 
--- the last line, as one of the lines of the script, if there is one
-abbrev AtLast : ℕ → List ℕ → World → World → Result (Unit {0}) LineFault → Type 0
-AtLast count partial w next (Ok done) = LinesResumed w (lines_after true partial []) next
-AtLast count partial w next (Err (faults.Bad k)) = HasBadAfter [] (lines_after true partial []) × (k ≡ count + 1)
-AtLast count partial w next (Err faults.Write) = ⊥
-AtLast count partial w next (Err faults.NoMemory) = Unit {0}
-
-at_line : (count b : ℕ) (bs : List ℕ) (w next : World) (r : Result (Unit {0}) LineFault) →
-    LineResumed (count + 1) (b ∷ bs) w next r → AtLast count (b ∷ bs) w next r
-at_line count b bs w next (Ok done) h =
-    subst (λ (l : List (List ℕ)). LinesResumed w l next) (sym (last_line b bs)) h
-at_line count b bs w next (Err (faults.Bad k)) h =
-    (record { bad = b ∷ bs; others = []; parts = last_line b bs; is_bad = h.1 }, h.0)
-at_line count b bs w next (Err faults.Write) h = h
-at_line count b bs w next (Err faults.NoMemory) h = tt
-
-at_last : (count : ℕ) (partial : List ℕ) (w next : World) (r : Result (Unit {0}) LineFault) →
-    LastResumed count partial w next r → AtLast count partial w next r
-at_last count [] w next r h =
-    let none = subst (λ (l : List (List ℕ)). LinesResumed w l w) (sym no_line) (no_lines w) in
-    let same = subst (λ (v : World). LinesResumed w (lines_after true [] []) v) (sym h.1) none in
-    subst (λ (o : Result (Unit {0}) LineFault). AtLast count [] w next o) (sym h.0) same
-at_last count (b ∷ bs) w next r h = at_line count b bs w next r h
-
-end_reached : (Old : World → Type 0) (config : Config) (i x y : Option (List ℕ)) (partial : List ℕ) (n : ℕ)
-    (state : CoreState) (r : Result (Unit {0}) LineFault) → Reaches Old config i x partial n → AtEnd x y →
-    LeadsOn Old (StandsFor state) r (λ w next. AtLast n partial w next r) → AllResumed config i y state (script_result r)
-end_reached Old config i x y partial n state (Ok done) come end step =
-    let (now, p, old) = come in
-    let (after, h, new) = step now old in
-    resumed_at_end config i x y partial n state now after p end h new
-end_reached Old config i x y partial n state (Err (faults.Bad k)) come end step =
-    let (now, p, old) = come in
-    let (after, h, new) = step now old in
-    bad_at_end config i x y partial n k now p end h.0 h.1
-end_reached Old config i x y partial n state (Err faults.Write) come end step = (step come.0 come.2).1
-end_reached Old config i x y partial n state (Err faults.NoMemory) come end step = tt
-
-pub reaches_end : (Old : World → Type 0) (config : Config) (i x y : Option (List ℕ)) (partial : List ℕ) (n : ℕ)
-    (state : CoreState) (r : Result (Unit {0}) LineFault) → Reaches Old config i x partial n → AtEnd x y →
-    LeadsOn Old (StandsFor state) r (λ w next. LastResumed n partial w next r) →
-    AllResumed config i y state (script_result r)
-reaches_end Old config i x y partial n state r come end step =
-    end_reached Old config i x y partial n state r come end (λ w old.
-    let (next, h, new) = step w old in
-    (next, at_last n partial w next r h, new))
+pub reaches_end : (s : Bool) (config : Config) (Old Follows : List Note → Type 0) (i x y : Option (List ℕ))
+    (partial : List ℕ) (n : ℕ) (state : CoreState) (r : Result (Unit {0}) LineFault) → Reaches Old i x partial n →
+    AtEnd x y → LastResumed s n partial Old (KeepsUp config state 0 Follows) r →
+    AllResumed s config i y state Follows (script_result r)
+reaches_end s config Old Follows i x y partial n state (Ok done) come end h =
+    followed_at_end config Old Follows i x y partial n state come end h
+reaches_end s config Old Follows i x y partial n state (Err (faults.Bad k)) come end h =
+    bad_at_end i x y partial n k come.0 come.1 end h
+reaches_end s config Old Follows i x y partial n state (Err faults.Write) come end h = h
+reaches_end s config Old Follows i x y partial n state (Err faults.NoMemory) come end h = tt
 
 -- ## The last line
 
-last_empty : (count : ℕ) (line : List ℕ) (w : World) → eqb (length line) 0 ≡ true → LastResumed count line w w (Ok tt)
-last_empty count [] w e = (refl, refl)
-last_empty count (b ∷ bs) w e = absurd (omega (arith, eqb-true (length (b ∷ bs)) 0 e))
+last_empty : (line : List ℕ) (Old : List Note → Type 0) → eqb (length line) 0 ≡ true →
+    LinesResumed Old Old (lines_after true line [])
+last_empty [] Old e = subst (λ (l : List (List ℕ)). LinesResumed Old Old l) (sym no_line) (no_lines Old)
+last_empty (b ∷ bs) Old e = absurd (omega (arith, eqb-true (length (b ∷ bs)) 0 e))
 
-last_full : (count : ℕ) (line : List ℕ) (w next : World) (r : Result (Unit {0}) LineFault) →
-    eqb (length line) 0 ≡ false → LineResumed (count + 1) line w next r → LastResumed count line w next r
-last_full count [] w next r e h = absurd (true≢false e)
-last_full count (b ∷ bs) w next r e h = h
+pub no_last_line : (line partial : List ℕ) (Old : List Note → Type 0) → line ≡ partial →
+    eqb (length line) 0 ≡ true → LinesResumed Old Old (lines_after true partial [])
+no_last_line line partial Old is e =
+    subst (λ (l : List ℕ). LinesResumed Old Old (lines_after true l [])) is (last_empty line Old e)
 
-pub no_last_line : (count : ℕ) (line partial : List ℕ) (w : World) → line ≡ partial → eqb (length line) 0 ≡ true →
-    LastResumed count partial w w (Ok tt)
-no_last_line count line partial w is e =
-    subst (λ (l : List ℕ). LastResumed count l w w (Ok tt)) is (last_empty count line w e)
+last_bad : (count b k : ℕ) (bs : List ℕ) → (k ≡ count + 1) × (event_of (b ∷ bs) ≡ None) →
+    StartsBad count (lines_after true (b ∷ bs) []) k
+last_bad count b k bs h =
+    (record { bad = b ∷ bs; others = []; parts = last_line b bs; is_bad = h.1 }, h.0)
 
-pub last_line_resumed : (count : ℕ) (line partial : List ℕ) (w next : World) (r : Result (Unit {0}) LineFault) →
-    line ≡ partial → eqb (length line) 0 ≡ false → LineResumed (count + 1) line w next r →
-    LastResumed count partial w next r
-last_line_resumed count line partial w next r is e h =
-    subst (λ (l : List ℕ). LastResumed count l w next r) is (last_full count line w next r e h)
+last_full : (s : Bool) (count : ℕ) (line : List ℕ) (Old New : List Note → Type 0) (r : Result (Unit {0}) LineFault) →
+    eqb (length line) 0 ≡ false → LineResumed s (count + 1) line Old New r → LastResumed s count line Old New r
+last_full s count [] Old New r e h = absurd (true≢false e)
+last_full s count (b ∷ bs) Old New (Ok done) e h =
+    subst (λ (l : List (List ℕ)). LinesResumed Old New l) (sym (last_line b bs)) h
+last_full s count (b ∷ bs) Old New (Err fault) e h =
+    resumes_err s (LinesResumed Old New ((b ∷ bs) ∷ [])) (LinesResumed Old New (lines_after true (b ∷ bs) []))
+    (λ k. (k ≡ count + 1) × (event_of (b ∷ bs) ≡ None)) (StartsBad count (lines_after true (b ∷ bs) [])) fault
+    (λ k bad. last_bad count b k bs bad) h
+
+pub last_line_resumed : (s : Bool) (count : ℕ) (line partial : List ℕ) (Old New : List Note → Type 0)
+    (r : Result (Unit {0}) LineFault) → line ≡ partial → eqb (length line) 0 ≡ false →
+    LineResumed s (count + 1) line Old New r → LastResumed s count partial Old New r
+last_line_resumed s count line partial Old New r is e h =
+    subst (λ (l : List ℕ). LastResumed s count l Old New r) is (last_full s count line Old New r e h)
 
 -- ## The result
 
-pub bad_line_found : {A : Type 0} (config : Config) (i y : Option (List ℕ)) (state : CoreState)
-    (r : Result A RunFault) (fault : RunFault) (e : ScriptFault) → AllResumed config i y state (Err e) →
-    r ≡ Err fault → fault ≡ run_fault_of e → (number : ℕ) → r ≡ Err (runs.Script number) → FindsBadLine i y number
-bad_line_found config i y state r fault (scripts.Bad k) h failed same number is =
-    subst (λ (n : ℕ). FindsBadLine i y n) (cc (failed, same, is)) h
-bad_line_found config i y state r fault scripts.Read h failed same number is = absurd (cc (failed, same, is))
-bad_line_found config i y state r fault scripts.Write h failed same number is = absurd h
-bad_line_found config i y state r fault scripts.NoMemory h failed same number is = absurd (cc (failed, same, is))
+pub is_resumed : (config : Config) (i y : Option (List ℕ)) (state : CoreState) (Follows : List Note → Type 0) →
+    IsFollowed config i y state Follows → IsResumed config i y state
+is_resumed config i y state Follows h = record {
+  script = h.script;
+  read = h.read;
+  events = events_in h.notes;
+  are = events_of_notes (lines_of true h.script) h.notes h.are;
+  sent = h.run.0;
+  world = h.run.1;
+  history = h.run.2;
+}
 
-pub nothing_written : {A : Type 0} (config : Config) (i y : Option (List ℕ)) (state : CoreState)
-    (r : Result A RunFault) (fault : RunFault) (e : ScriptFault) → AllResumed config i y state (Err e) →
-    r ≡ Err fault → fault ≡ run_fault_of e → r ≢ Err runs.Write
-nothing_written config i y state r fault (scripts.Bad k) h failed same is = cc (failed, same, is)
-nothing_written config i y state r fault scripts.Read h failed same is = cc (failed, same, is)
-nothing_written config i y state r fault scripts.Write h failed same is = h
-nothing_written config i y state r fault scripts.NoMemory h failed same is = cc (failed, same, is)
+pub is_followed : (config : Config) (i y : Option (List ℕ)) (state : CoreState) (Starts : Type 0)
+    (Follows : List Note → Type 0) → Starts → IsFollowed config i y state (λ notes. Starts → Follows notes) →
+    IsFollowed config i y state Follows
+is_followed config i y state Starts Follows start h = record {
+  script = h.script;
+  read = h.read;
+  notes = h.notes;
+  are = h.are;
+  run = h.run;
+  follows = h.follows start;
+}
+
+pub bad_line_found : {A : Type 0} (s : Bool) (config : Config) (i y : Option (List ℕ)) (state : CoreState)
+    (Follows : List Note → Type 0) (r : Result A RunFault) (fault : RunFault) (e : ScriptFault) →
+    AllResumed s config i y state Follows (Err e) → r ≡ Err fault → fault ≡ run_fault_of e → (number : ℕ) →
+    r ≡ Err (runs.Script number) → FindsBadLine i y number
+bad_line_found s config i y state Follows r fault (scripts.Bad k) h failed same number is =
+    subst (λ (n : ℕ). FindsBadLine i y n) (cc (failed, same, is)) h
+bad_line_found s config i y state Follows r fault scripts.Read h failed same number is = absurd (cc (failed, same, is))
+bad_line_found s config i y state Follows r fault scripts.Write h failed same number is = absurd (cc (failed, same, is))
+bad_line_found s config i y state Follows r fault scripts.NoMemory h failed same number is =
+    absurd (cc (failed, same, is))
+
+pub follower_stopped : {A : Type 0} (s : Bool) (config : Config) (i y : Option (List ℕ)) (state : CoreState)
+    (Follows : List Note → Type 0) (r : Result A RunFault) (fault : RunFault) (e : ScriptFault) →
+    AllResumed s config i y state Follows (Err e) → r ≡ Err fault → fault ≡ run_fault_of e → r ≡ Err runs.Write →
+    s ≡ true
+follower_stopped s config i y state Follows r fault (scripts.Bad k) h failed same is = absurd (cc (failed, same, is))
+follower_stopped s config i y state Follows r fault scripts.Read h failed same is = absurd (cc (failed, same, is))
+follower_stopped s config i y state Follows r fault scripts.Write h failed same is = h
+follower_stopped s config i y state Follows r fault scripts.NoMemory h failed same is = absurd (cc (failed, same, is))
 
 pub not_begun : {A : Type 0} (i y : Option (List ℕ)) (r : Result A RunFault) (fault : RunFault) (f : StartFault) →
     r ≡ Err fault → fault ≡ run_fault_at_start f → (number : ℕ) → r ≡ Err (runs.Script number) →

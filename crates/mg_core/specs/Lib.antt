@@ -11,6 +11,8 @@ pub mod Run
 pub mod Recording
 pub mod Resume
 pub mod Headline
+pub mod Note
+pub mod Follow
 pub mod Interleaving
 pub mod Apart
 pub mod ExceptReceived

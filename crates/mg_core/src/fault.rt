@@ -1,3 +1,4 @@
+use crate::stopped::Stopped;
 use mg_engine::StartFault;
 use mg_lines::{ReadFailed, WriteFailed};
 use thiserror::Error;
@@ -20,6 +21,7 @@ pub enum EventFault {
 pub enum LineFault {
     /// The line with this number, counted from 1, is not a script line.
     Bad(u64),
+    /// The output can't be written, or a follower stopped.
     Write,
     NoMemory,
 }
@@ -94,6 +96,17 @@ impl From<NoMemory> for LineFault {
 
     fn from(_failed: NoMemory) -> Self {
         LineFault::NoMemory
+    }
+}
+
+impl From<Stopped> for LineFault {
+    ghost use Rattle.std.specs.Prelude.{◌≡◌};
+    ghost use Rattle.mg_core.specs.declared.fault.LineFault.TheVariants as faults;
+
+    ghost from_gives = { λ _ e. e ≡ faults.Write };
+
+    fn from(_stopped: Stopped) -> Self {
+        LineFault::Write
     }
 }
 

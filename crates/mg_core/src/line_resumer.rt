@@ -1,15 +1,17 @@
-ghost use Rattle.std.specs.Prelude.{◌≡◌, ◌+◌, ◌≤◌, ◌<◌, ◌^◌, ◌↔◌, Err, IfOk, OnOk, OnErr};
+ghost use Rattle.std.specs.Prelude.{◌≡◌, ◌+◌, ◌≤◌, ◌<◌, ◌^◌, ◌↔◌, [], true, List, Err, IfOk, OnOk, OnErr};
 ghost use Rattle.mg_engine.specs.Config.{IsValidConfig};
-ghost use Rattle.mg_core.specs.aids.Resuming.{Awaits, EventResumed, LineResumed};
-ghost use Rattle.mg_core.specs.aids.Steps.{LeadsOn};
-ghost use Rattle.mg_core.specs.World.{World, StandsFor, start_of, world_after_tick};
+ghost use Rattle.mg_engine.specs.declared.config.Config.{Config};
+ghost use Rattle.mg_core.specs.aids.Resuming.{EventResumed, HasFollowed, KeepsUp, LineResumed};
+ghost use Rattle.mg_core.specs.Follow.{HasRun};
+ghost use Rattle.mg_core.specs.Note.{Note};
 
 use crate::event::Event;
-use crate::fault::{LineFault, NoMemory};
+use crate::fault::LineFault;
+use crate::follower::Follower;
 use crate::machine::Core;
-use crate::remarks::Remarks;
 use crate::script::{ParseFault, event_of};
-use mg_engine::{Config, Peer, StartFault};
+use crate::stopped::Stopped;
+use mg_engine::{Config, StartFault};
 use std::alloc::Global;
 
 /// Runs the lines of a script on a gateway, without output. Consecutive ticks are run in one step.
@@ -25,59 +27,52 @@ impl LineResumer {
     pub fn new(alloc: Global, config: Config) -> Result<Self, StartFault>
         ensures bad { (result ≡ Err StartFault.BadConfig) ↔ ¬ IsValidConfig config }
         ensures sound { OnOk result (IsValidConfig config) }
-        ensures start { IfOk result (λ runner. StandsFor runner.core.state (start_of config)) }
+        ensures start { IfOk result (λ runner. HasRun config [] runner.core.state) }
         ensures ticks { IfOk result (λ runner. runner.ticks ≡ 0) }
     {
         let core = Core::new(alloc, config)?;
         Ok(LineResumer { core, ticks: 0 })
     }
 
-    /// Runs the ticks that were counted but not run yet, and reports how many there were.
-    pub fn run_ticks<N: Remarks>(&mut self, remarks: &mut N)
-        ensures value { (w : World) → Awaits self.old.core.state self.old.ticks w →
-            StandsFor self.new.core.state w }
-        ensures ticks { self.new.ticks ≡ 0 }
+    /// Runs the ticks that were counted but not run yet, after the follower.
+    pub fn run_ticks<F: Follower>(&mut self, follower: &mut F) -> Result<(), Stopped>
+        ensures value { (start : F) (config : Config) (notes : List Note) →
+            KeepsUp config self.old.core.state self.old.ticks (HasFollowed F.follows start follower.old config) notes →
+            OnOk result (KeepsUp config self.new.core.state 0 (HasFollowed F.follows start follower.new config) notes) }
+        ensures ticks { OnOk result (self.new.ticks ≡ 0) }
+        ensures stops { OnErr result (F.may_stop ≡ true) }
     {
         if self.ticks == 0 {
-            return;
+            return Ok(());
         }
+        follower.ticks(&self.core, self.ticks)?;
         self.core.skip(self.ticks);
-        remarks.ticks(self.ticks);
         self.ticks = 0;
+        Ok(())
     }
 
     /// Counts a tick, to be run later.
     pub fn take_tick(&mut self)
         requires few { self.old.ticks + 1 < 2 ^ 64 }
-        ensures value { (w : World) → Awaits self.old.core.state self.old.ticks w →
-            Awaits self.new.core.state self.new.ticks (world_after_tick w) }
+        ensures state { self.new.core.state ≡ self.old.core.state }
         ensures ticks { self.new.ticks ≡ self.old.ticks + 1 }
     {
         self.ticks += 1;
     }
 
-    /// Handles a control datagram. Its answer is dropped.
-    fn take_control(&mut self, alloc: Global, source: Peer, bytes: &[u8]) -> Result<(), NoMemory>
-        ensures value { LeadsOn (StandsFor self.old.core.state) (StandsFor self.new.core.state) result
-            (λ w next. EventResumed (Event.Control source bytes.now) w next result) }
-        ensures ticks { self.new.ticks ≡ self.old.ticks }
-    {
-        self.core.control(alloc, source, bytes)?;
-        Ok(())
-    }
-
-    /// Runs an event, or counts it if it is a tick.
-    fn take_event<N: Remarks>(
+    /// Runs an event, or counts it if it is a tick. The answer to a control datagram is dropped.
+    fn take_event<F: Follower>(
         &mut self,
         alloc: Global,
         event: &Event,
-        remarks: &mut N,
-    ) -> Result<(), NoMemory>
+        follower: &mut F,
+    ) -> Result<(), LineFault>
         requires few { self.old.ticks + 1 < 2 ^ 64 }
-        ensures value { LeadsOn (Awaits self.old.core.state self.old.ticks)
-            (Awaits self.new.core.state self.new.ticks) result
-            (λ w next. EventResumed event.now w next result) }
-        ensures ticks { self.new.ticks ≤ self.old.ticks + 1 }
+        ensures value { (start : F) (config : Config) → EventResumed F.may_stop event.now
+            (KeepsUp config self.old.core.state self.old.ticks (HasFollowed F.follows start follower.old config))
+            (KeepsUp config self.new.core.state self.new.ticks (HasFollowed F.follows start follower.new config))
+            result }
+        ensures ticks { OnOk result (self.new.ticks ≤ self.old.ticks + 1) }
     {
         match event {
             Event::Tick => {
@@ -85,41 +80,45 @@ impl LineResumer {
                 Ok(())
             }
             Event::Media(port, source, bytes) => {
-                self.run_ticks(remarks);
+                self.run_ticks(follower)?;
                 let _ = self.core.media(*port, *source, bytes.as_slice());
+                follower.datagram(event, &self.core)?;
                 Ok(())
             }
             Event::Control(source, bytes) => {
-                self.run_ticks(remarks);
-                self.take_control(alloc, *source, bytes.as_slice())
+                self.run_ticks(follower)?;
+                self.core.control(alloc, *source, bytes.as_slice())?;
+                follower.datagram(event, &self.core)?;
+                Ok(())
             }
         }
     }
 
     /// Runs a complete line, given with its number.
-    pub fn take_line<N: Remarks>(
+    pub fn take_line<F: Follower>(
         &mut self,
         alloc: Global,
         number: u64,
         line: &[u8],
-        remarks: &mut N,
+        follower: &mut F,
     ) -> Result<(), LineFault>
         requires few { self.old.ticks + 1 < 2 ^ 64 }
-        ensures value { LeadsOn (Awaits self.old.core.state self.old.ticks)
-            (Awaits self.new.core.state self.new.ticks) result
-            (λ w next. LineResumed number line.now w next result) }
-        ensures ticks { self.new.ticks ≤ self.old.ticks + 1 }
+        ensures value { (start : F) (config : Config) → LineResumed F.may_stop number line.now
+            (KeepsUp config self.old.core.state self.old.ticks (HasFollowed F.follows start follower.old config))
+            (KeepsUp config self.new.core.state self.new.ticks (HasFollowed F.follows start follower.new config))
+            result }
+        ensures ticks { OnOk result (self.new.ticks ≤ self.old.ticks + 1) }
     {
         match event_of(alloc, line) {
             Err(ParseFault::Bad) => Err(LineFault::Bad(number)),
             Err(ParseFault::NoMemory) => Err(LineFault::NoMemory),
             Ok(None) => {
-                self.run_ticks(remarks);
-                remarks.comment(line);
+                self.run_ticks(follower)?;
+                follower.comment(line)?;
                 Ok(())
             }
             Ok(Some(event)) => {
-                self.take_event(alloc, &event, remarks)?;
+                self.take_event(alloc, &event, follower)?;
                 Ok(())
             }
         }

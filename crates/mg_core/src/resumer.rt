@@ -1,15 +1,14 @@
 ghost use Rattle.std.specs.Prelude.{◌≡◌, ◌+◌, ◌*◌, ◌≤◌, ◌<◌, ◌^◌, ◌↔◌, ◌++◌, [], true, codes, Err, length, IfErr, IfOk, OnErr, OnOk};
 ghost use Rattle.memchr.specs.Find.{IsFirstByte, is_byte};
 ghost use Rattle.mg_engine.specs.Config.{IsValidConfig};
-ghost use Rattle.mg_core.specs.aids.Resuming.{AllResumed, Awaits, BytesResumed, EndedResumed, LastResumed};
-ghost use Rattle.mg_core.specs.aids.Steps.{LeadsOn};
+ghost use Rattle.mg_core.specs.aids.Resuming.{AllResumed, BytesResumed, EndedResumed, HasFollowed, KeepsUp, LastResumed};
 ghost use Rattle.mg_core.specs.declared.script_runner.TheConstants.{PARTIAL_LIMIT};
-ghost use Rattle.mg_core.specs.World.{StandsFor, start_of};
+ghost use Rattle.mg_core.specs.Follow.{HasRun};
 ghost use Rattle.mg_engine.specs.declared.config.Config.{Config};
 
 use crate::fault::{LineFault, ScriptFault};
+use crate::follower::Follower;
 use crate::line_resumer::LineResumer;
-use crate::remarks::Remarks;
 use crate::script_runner::PARTIAL_LIMIT;
 use memchr::memchr;
 use mg_engine::{Config, StartFault};
@@ -53,7 +52,7 @@ impl Resumer {
     pub fn new(alloc: Global, config: Config) -> Result<Self, StartFault>
         ensures bad { (result ≡ Err StartFault.BadConfig) ↔ ¬ IsValidConfig config }
         ensures sound { OnOk result (IsValidConfig config) }
-        ensures start { IfOk result (λ s. StandsFor s.runner.core.state (start_of config)) }
+        ensures start { IfOk result (λ s. HasRun config [] s.runner.core.state) }
         ensures ticks { IfOk result (λ s. s.runner.ticks ≡ 0) }
         ensures lines { IfOk result (λ s. s.lines ≡ 0) }
         ensures partial { IfOk result (λ s. s.partial.text ≡ []) }
@@ -83,20 +82,23 @@ impl Resumer {
     }
 
     /// Runs the partial line, which this part completes.
-    fn end_line<N: Remarks>(
+    fn end_line<F: Follower>(
         &mut self,
         alloc: Global,
         part: &[u8],
-        remarks: &mut N,
+        follower: &mut F,
     ) -> Result<(), LineFault>
         requires few { self.old.lines + 1 < 2 ^ 64 }
         requires ticks { self.old.runner.ticks ≤ self.old.lines }
         ensures partial { OnOk result (self.new.partial.text ≡ []) }
         ensures lines { OnOk result (self.new.lines ≡ self.old.lines + 1) }
         ensures ticks { OnOk result (self.new.runner.ticks ≤ self.new.lines) }
-        ensures value { LeadsOn (Awaits self.old.runner.core.state self.old.runner.ticks)
-            (Awaits self.new.runner.core.state self.new.runner.ticks) result (λ w next.
-            EndedResumed self.old.lines (self.old.partial.text ++ part.now) w next result) }
+        ensures value { (start : F) (config : Config) → EndedResumed F.may_stop self.old.lines
+            (self.old.partial.text ++ part.now)
+            (KeepsUp config self.old.runner.core.state self.old.runner.ticks
+            (HasFollowed F.follows start follower.old config))
+            (KeepsUp config self.new.runner.core.state self.new.runner.ticks
+            (HasFollowed F.follows start follower.new config)) result }
     {
         if is_tick(&self.partial, part) {
             self.runner.take_tick();
@@ -106,32 +108,34 @@ impl Resumer {
         self.keep(part)?;
         let number = self.lines + 1;
         let line = without_return(self.partial.as_slice());
-        self.runner.take_line(alloc, number, line, remarks)?;
+        self.runner.take_line(alloc, number, line, follower)?;
         self.lines = number;
         self.partial.clear();
         Ok(())
     }
 
     /// Handles the next bytes of a script.
-    fn take_bytes<N: Remarks>(
+    fn take_bytes<F: Follower>(
         &mut self,
         alloc: Global,
         bytes: &[u8],
-        remarks: &mut N,
+        follower: &mut F,
     ) -> Result<(), LineFault>
         requires few { self.old.lines + length bytes.now + 1 < 2 ^ 64 }
         requires ticks { self.old.runner.ticks ≤ self.old.lines }
         ensures lines { OnOk result (self.new.lines ≤ self.old.lines + length bytes.now) }
         ensures ticks { OnOk result (self.new.runner.ticks ≤ self.new.lines) }
-        ensures value { LeadsOn (Awaits self.old.runner.core.state self.old.runner.ticks)
-            (Awaits self.new.runner.core.state self.new.runner.ticks) result (λ w next.
-            BytesResumed self.old.lines self.new.lines self.old.partial.text bytes.now self.new.partial.text [] w next
-            result) }
+        ensures value { (start : F) (config : Config) → BytesResumed F.may_stop self.old.lines self.new.lines
+            self.old.partial.text bytes.now self.new.partial.text
+            (KeepsUp config self.old.runner.core.state self.old.runner.ticks
+            (HasFollowed F.follows start follower.old config))
+            (KeepsUp config self.new.runner.core.state self.new.runner.ticks
+            (HasFollowed F.follows start follower.new config)) result }
     {
         let mut rest = bytes;
         while let Some(end) = line_end(rest) {
             let (part, tail) = rest.split_at(end);
-            self.end_line(alloc, part, remarks)?;
+            self.end_line(alloc, part, follower)?;
             let (_, next) = tail.split_at(1);
             rest = next;
         }
@@ -139,55 +143,60 @@ impl Resumer {
     }
 
     /// Runs the last line if it has no line feed.
-    fn take_last<N: Remarks>(&mut self, alloc: Global, remarks: &mut N) -> Result<(), LineFault>
+    fn take_last<F: Follower>(&mut self, alloc: Global, follower: &mut F) -> Result<(), LineFault>
         requires few { self.old.lines + 1 < 2 ^ 64 }
         requires ticks { self.old.runner.ticks ≤ self.old.lines }
-        ensures value { LeadsOn (Awaits self.old.runner.core.state self.old.runner.ticks)
-            (Awaits self.new.runner.core.state self.new.runner.ticks) result (λ w next.
-            LastResumed self.old.lines self.old.partial.text w next result) }
+        ensures value { (start : F) (config : Config) → LastResumed F.may_stop self.old.lines self.old.partial.text
+            (KeepsUp config self.old.runner.core.state self.old.runner.ticks
+            (HasFollowed F.follows start follower.old config))
+            (KeepsUp config self.new.runner.core.state self.new.runner.ticks
+            (HasFollowed F.follows start follower.new config)) result }
     {
         let line = self.partial.as_slice();
         if line.is_empty() {
             return Ok(());
         }
         let number = self.lines + 1;
-        self.runner.take_line(alloc, number, line, remarks)?;
+        self.runner.take_line(alloc, number, line, follower)?;
         Ok(())
     }
 
     /// Runs the last line if it has no line feed, and the last ticks.
-    fn finish<N: Remarks>(&mut self, alloc: Global, remarks: &mut N) -> Result<(), LineFault>
+    fn finish<F: Follower>(&mut self, alloc: Global, follower: &mut F) -> Result<(), LineFault>
         requires few { self.old.lines + 1 < 2 ^ 64 }
         requires ticks { self.old.runner.ticks ≤ self.old.lines }
-        ensures value { LeadsOn (Awaits self.old.runner.core.state self.old.runner.ticks)
-            (StandsFor self.new.runner.core.state) result (λ w next.
-            LastResumed self.old.lines self.old.partial.text w next result) }
+        ensures value { (start : F) (config : Config) → LastResumed F.may_stop self.old.lines self.old.partial.text
+            (KeepsUp config self.old.runner.core.state self.old.runner.ticks
+            (HasFollowed F.follows start follower.old config))
+            (KeepsUp config self.new.runner.core.state 0
+            (HasFollowed F.follows start follower.new config)) result }
     {
-        self.take_last(alloc, remarks)?;
-        self.runner.run_ticks(remarks);
+        self.take_last(alloc, follower)?;
+        self.runner.run_ticks(follower)?;
         Ok(())
     }
 
     /// Reads a whole script, and runs it on a new gateway.
-    pub fn take_all<R: Read, N: Remarks>(
+    pub fn take_all<R: Read, F: Follower>(
         &mut self,
         alloc: Global,
         reader: &mut R,
-        remarks: &mut N,
+        follower: &mut F,
     ) -> Result<(), ScriptFault>
         requires lines { self.old.lines ≡ 0 }
         requires ticks { self.old.runner.ticks ≡ 0 }
         requires partial { self.old.partial.text ≡ [] }
-        ensures value { (config : Config) → StandsFor self.old.runner.core.state (start_of config) →
-            AllResumed config (R.remaining reader.old) (R.remaining reader.new) self.new.runner.core.state result }
+        ensures value { (config : Config) → HasRun config [] self.old.runner.core.state →
+            AllResumed F.may_stop config (R.remaining reader.old) (R.remaining reader.new)
+            self.new.runner.core.state (HasFollowed F.follows follower.old follower.new config) result }
     {
         let mut buffer = [0; READ_SIZE];
         for _ in 0..u32::MAX {
             let Some(n) = read_some(reader, &mut buffer)? else {
-                self.finish(alloc, remarks)?;
+                self.finish(alloc, follower)?;
                 return Ok(());
             };
-            self.take_bytes(alloc, &buffer[..n], remarks)?;
+            self.take_bytes(alloc, &buffer[..n], follower)?;
         }
         Err(ScriptFault::Read)
     }

@@ -9,6 +9,7 @@ ghost use Rattle.mg_core.specs.ExceptReceived.{RtpChangesSpeechOnly, RtpChangesS
 ghost use Rattle.mg_core.specs.Headline.{EventsDetermineOutcome, GatewayDeterminesFuture, WorldsAreConsistent};
 ghost use Rattle.mg_core.specs.Journal.{AgreementHasSameFlows, AgreementHasSameReports, HistoriesHaveSameFlows, HistoriesHaveSameReports};
 ghost use Rattle.mg_engine.specs.Isolation.{NoneHearsItself, OwnSpeechChangesNoPacket, IsolatedAreNotHeard, UnheardChangesNoPacket, PayloadsAreMixes};
+ghost use Rattle.mg_core.specs.Note.{NotesHaveEvents};
 ghost use Rattle.mg_core.specs.Interleaving.{PortOrderIsIrrelevant, PortOrderInHistories, PortOrderInScripts};
 ghost use Rattle.mg_core.specs.Parsed.{IsReadingOf, ReadingsAreUnique};
 ghost use Rattle.mg_core.specs.declared.parsed.Parsed.{Parsed};
@@ -193,6 +194,11 @@ pub fn events_are_counted()
 pub fn recordings_are_read()
     ensures theorem { RecordingsAreRead }
     ensures cut { CutRecordingsAreRead }
+{}
+
+/// The notes of a script contain its events, in order. A script has notes unless a line is bad.
+pub fn notes_have_events()
+    ensures theorem { NotesHaveEvents }
 {}
 
 /// The headline theorem: the parts of the headline that go beyond the contracts of a core's calls.

@@ -3,7 +3,7 @@ ghost use Rattle.mg_dates.specs.Dates.{missed_ticks};
 
 use crate::date::Date;
 use crate::date_text::date_in;
-use mg_core::Remarks;
+use mg_core::{Core, Event, Follower, Stopped};
 
 /// The number of ticks that a crash can lose even if the journal works: one second's worth, which are appended
 /// together.
@@ -66,10 +66,9 @@ impl Timeline {
         let expected = start.millis.saturating_add(self.ticks.saturating_mul(TICK));
         expected.abs_diff(date.millis) <= TOLERANCE
     }
-}
 
-impl Remarks for Timeline {
-    fn comment(&mut self, line: &[u8]) {
+    /// Passes a comment or an empty line, without its line end. It counts only if it is a date.
+    pub fn pass_comment(&mut self, line: &[u8]) {
         let Some(date) = date_in(line) else {
             return;
         };
@@ -79,7 +78,27 @@ impl Remarks for Timeline {
         }
     }
 
-    fn ticks(&mut self, count: u64) {
+    /// Passes consecutive ticks.
+    pub fn pass_ticks(&mut self, count: u64) {
         self.ticks = self.ticks.saturating_add(count);
+    }
+}
+
+impl Follower for Timeline {
+    // Nothing is promised about dates.
+    ghost follows = { λ _ _ _ _. Unit {0} };
+
+    fn comment(&mut self, line: &[u8]) -> Result<(), Stopped> {
+        self.pass_comment(line);
+        Ok(())
+    }
+
+    fn datagram(&mut self, _event: &Event, _core: &Core) -> Result<(), Stopped> {
+        Ok(())
+    }
+
+    fn ticks(&mut self, _core: &Core, count: u64) -> Result<(), Stopped> {
+        self.pass_ticks(count);
+        Ok(())
     }
 }

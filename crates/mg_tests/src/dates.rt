@@ -1,6 +1,5 @@
 //! How many ticks a gateway missed, according to the dates in its journal.
 
-use mg_core::Remarks;
 use mg_dates::{Date, Timeline};
 use std::test::Fail;
 
@@ -18,12 +17,12 @@ fn after(millis: u32) -> Date {
 fn counts_missed_ticks(rt: HostRuntime) -> Result<(), Fail> {
     let mut timeline = Timeline::new();
     assert_eq!(rt; timeline.missed(after(0)), 0);
-    timeline.ticks(7);
-    timeline.comment(b"# time 2026-11-27T14:03:20Z");
-    timeline.comment(b"# another comment");
-    timeline.comment(b"");
-    timeline.ticks(40);
-    timeline.ticks(10);
+    timeline.pass_ticks(7);
+    timeline.pass_comment(b"# time 2026-11-27T14:03:20Z");
+    timeline.pass_comment(b"# another comment");
+    timeline.pass_comment(b"");
+    timeline.pass_ticks(40);
+    timeline.pass_ticks(10);
     // One second in which every tick was run, then a gap of 300 ms.
     assert_eq!(rt; timeline.missed(after(1_000)), 0);
     assert_eq!(rt; timeline.missed(after(1_319)), 15);
@@ -36,13 +35,13 @@ fn counts_missed_ticks(rt: HostRuntime) -> Result<(), Fail> {
 #[test]
 fn counts_from_the_first_date(rt: HostRuntime) -> Result<(), Fail> {
     let mut timeline = Timeline::new();
-    timeline.comment(b"# time 2026-11-27T14:03:20Z");
-    timeline.ticks(50);
+    timeline.pass_comment(b"# time 2026-11-27T14:03:20Z");
+    timeline.pass_ticks(50);
     // A restart: 19 ms were rounded off, and it took 30 ms to start.
     assert_eq!(rt; timeline.missed(after(1_219)), 10);
-    timeline.ticks(10);
-    timeline.comment(b"# time 2026-11-27T14:03:21.249Z");
-    timeline.ticks(50);
+    timeline.pass_ticks(10);
+    timeline.pass_comment(b"# time 2026-11-27T14:03:21.249Z");
+    timeline.pass_ticks(50);
     // At the next restart these 49 ms count as missed.
     assert_eq!(rt; timeline.missed(after(2_249)), 2);
     Ok(())
@@ -51,15 +50,15 @@ fn counts_from_the_first_date(rt: HostRuntime) -> Result<(), Fail> {
 #[test]
 fn follows_a_clock_that_is_set(rt: HostRuntime) -> Result<(), Fail> {
     let mut timeline = Timeline::new();
-    timeline.comment(b"# time 2026-11-27T14:03:20Z");
-    timeline.ticks(50);
+    timeline.pass_comment(b"# time 2026-11-27T14:03:20Z");
+    timeline.pass_ticks(50);
     // An hour ahead.
-    timeline.comment(b"# time 2026-11-27T15:03:21Z");
-    timeline.ticks(50);
+    timeline.pass_comment(b"# time 2026-11-27T15:03:21Z");
+    timeline.pass_ticks(50);
     assert_eq!(rt; timeline.missed(after(3_602_100)), 5);
     // An hour back.
-    timeline.comment(b"# time 2026-11-27T14:03:22Z");
-    timeline.ticks(50);
+    timeline.pass_comment(b"# time 2026-11-27T14:03:22Z");
+    timeline.pass_ticks(50);
     assert_eq!(rt; timeline.missed(after(3_100)), 5);
     Ok(())
 }

@@ -3,8 +3,8 @@
 use crate::failing_reader::FailingReader;
 use crate::scripts::run_script;
 use mg_core::{
-    Config, Core, Counts, DATAGRAM_LIMIT, Datagram, EventLine, Peer, Remarks, RunFault, Shown,
-    resume,
+    Config, Core, Counts, DATAGRAM_LIMIT, Datagram, Event, EventLine, Follower, Peer, RunFault,
+    Shown, Stopped, resume,
 };
 use std::alloc::{AllocError, Global};
 use std::io::{Cursor, Read, Write};
@@ -16,31 +16,42 @@ const CONTROLLER: Peer = Peer {
     port: 2945,
 };
 
-/// What a script says besides messages: comments and tick counts.
+/// What a script says: its comments, its datagrams with the counts of control and RTP datagrams after each, and its runs
+/// of ticks with the count of ticks before each.
 #[derive(Drop)]
 struct Notes {
     text: Vec<u8>,
 }
 
-impl Remarks for Notes {
-    fn comment(&mut self, line: &[u8]) {
+impl Follower for Notes {
+    ghost follows = { λ _ _ _ _. Unit {0} };
+
+    fn comment(&mut self, line: &[u8]) -> Result<(), Stopped> {
         let _ = writeln!(self.text, "[{}]", line.len());
         let _ = self.text.extend_from_slice(line);
+        Ok(())
     }
 
-    fn ticks(&mut self, count: u64) {
-        let _ = writeln!(self.text, "<{count}>");
+    fn datagram(&mut self, _event: &Event, core: &Core) -> Result<(), Stopped> {
+        let counts = core.counts();
+        let _ = writeln!(self.text, "({} {})", counts.control, counts.media);
+        Ok(())
+    }
+
+    fn ticks(&mut self, core: &Core, count: u64) -> Result<(), Stopped> {
+        let _ = writeln!(self.text, "{}<{count}>", core.counts().ticks);
+        Ok(())
     }
 }
 
 /// Resumes a gateway with a given configuration.
-fn resume_on<R: Read, N: Remarks>(
+fn resume_on<R: Read, F: Follower>(
     alloc: Global,
     config: Config,
     reader: &mut R,
-    remarks: &mut N,
+    follower: &mut F,
 ) -> Result<Core, RunFault> {
-    resume(alloc, config, reader, remarks)
+    resume(alloc, config, reader, follower)
 }
 
 /// Resumes a gateway with the standard configuration. The script arrives in pieces of this many bytes.
@@ -86,21 +97,79 @@ fn is_noted(alloc: Global, script: &[u8], ticks: u64, text: &[u8]) -> Result<boo
 }
 
 #[test]
-fn remarks_are_in_order(rt: HostRuntime) {
+fn notes_are_in_order(rt: HostRuntime) {
     let alloc = rt.alloc();
     let script = b"# one\ntick\ntick\n\n#two\nsay 127.0.0.1:2945 no\ntick\n#";
-    let text = b"[5]\n# one<2>\n[0]\n[4]\n#two<1>\n[1]\n#";
+    let text = b"[5]\n# one0<2>\n[0]\n[4]\n#two(1 0)\n2<1>\n[1]\n#";
     assert_eq!(rt; is_noted(alloc, script, 3, text), Ok(true));
-    let text = b"<2>\n[0]\n<1>\n";
+    let text = b"0<2>\n[0]\n2<1>\n";
     assert_eq!(rt;
         is_noted(alloc, b"tick\r\ntick\r\n\r\ntick", 3, text),
         Ok(true)
     );
     assert_eq!(rt;
-        is_noted(alloc, b"tick\nrtp 1 1.1.1.1:1 \ntick\n", 2, b"<1>\n<1>\n"),
+        is_noted(
+            alloc,
+            b"tick\nrtp 1 1.1.1.1:1 \ntick\n",
+            2,
+            b"0<1>\n(0 1)\n1<1>\n"
+        ),
         Ok(true)
     );
     assert_eq!(rt; is_noted(alloc, b"", 0, b""), Ok(true));
+}
+
+/// Follows a few notes, and then stops.
+#[derive(Drop)]
+struct Few {
+    left: u32,
+}
+
+impl Few {
+    fn count(&mut self) -> Result<(), Stopped> {
+        let Some(left) = self.left.checked_sub(1) else {
+            return Err(Stopped);
+        };
+        self.left = left;
+        Ok(())
+    }
+}
+
+impl Follower for Few {
+    ghost use Rattle.std.specs.Prelude.{true};
+
+    ghost may_stop = { true };
+
+    ghost follows = { λ _ _ _ _. Unit {0} };
+
+    fn comment(&mut self, _line: &[u8]) -> Result<(), Stopped> {
+        self.count()
+    }
+
+    fn datagram(&mut self, _event: &Event, _core: &Core) -> Result<(), Stopped> {
+        self.count()
+    }
+
+    fn ticks(&mut self, _core: &Core, _count: u64) -> Result<(), Stopped> {
+        self.count()
+    }
+}
+
+#[test]
+fn a_follower_can_stop(rt: HostRuntime) {
+    let alloc = rt.alloc();
+    let script = b"# one\ntick\ntick\nsay 127.0.0.1:2945 no\ntack\n";
+    for (left, fault) in [
+        (0, RunFault::Write),
+        (1, RunFault::Write),
+        (2, RunFault::Write),
+        (3, RunFault::Script(5)),
+    ] {
+        let mut few = Few { left };
+        let mut reader = Cursor::new(script.as_slice());
+        let outcome = resume_on(alloc, Config::default(), &mut reader, &mut few);
+        assert_eq!(rt; outcome.err(), Some(fault));
+    }
 }
 
 #[test]

@@ -6,73 +6,114 @@ use Rattle.mg_lines.specs.Lines.{lines_after, without_return}
 use Rattle.mg_core.specs.declared.event.Event.{Event}
 use Rattle.mg_core.specs.declared.fault.LineFault.{LineFault}
 use Rattle.mg_core.specs.declared.fault.LineFault.TheVariants as stops
-use Rattle.mg_core.specs.declared.fault.NoMemory.{NoMemory}
 use Rattle.mg_core.specs.declared.fault.ScriptFault.{ScriptFault}
 use Rattle.mg_core.specs.declared.fault.ScriptFault.TheVariants as scripts
 use Rattle.mg_core.specs.declared.state.CoreState.{CoreState}
-use Rattle.mg_core.specs.Resume.{FindsBadLine, IsResumed}
+use Rattle.mg_core.specs.Follow.{HasRun, IsFollowed, ticks_of}
+use Rattle.mg_core.specs.Note.{Note, Happened, notes_of}
+use Rattle.mg_core.specs.Resume.{FindsBadLine}
 use Rattle.mg_core.specs.Run.{HasBadAfter}
-use Rattle.mg_core.specs.Script.{event_of, events_of}
-use Rattle.mg_core.specs.Step.{Sent, Step, Run}
-use Rattle.mg_core.specs.World.{World, StandsFor, world_after_ticks}
+use Rattle.mg_core.specs.Script.{event_of}
 
--- this many ticks lead to this world from one that the state represents
-abbrev pub Awaits : CoreState → ℕ → World → Type 0
-Awaits state ticks w = (v : World) × StandsFor state v × (w ≡ world_after_ticks ticks v)
+-- A follower has followed these notes, if it was ready to follow a gateway when it started.
+abbrev pub HasFollowed : {F : Type 0} → (F → F → Config → List Note → Type 0) → F → F → Config
+    → List Note → Type 0
+HasFollowed follows start now config notes =
+    follows start start config [] → follows start now config notes
 
--- an event was run, unless memory ran out
-abbrev pub EventResumed : Event → World → World → Result (Unit {0}) NoMemory → Type 0
-EventResumed event w next (Ok done) = (sent : List Sent) × Step w event sent next
-EventResumed event w next (Err fault) = Unit {0}
+-- A gateway has run these notes, and a follower has followed them. But both still wait for the last
+-- of them, this many ticks.
+pub record KeepsUp (config : Config) (state : CoreState) (ticks : ℕ) (Follows : List Note → Type 0)
+    (notes : List Note) : Type 0 where
+  pub past : List Note
+  pub parts : notes ≡ past ++ ticks_of ticks
+  pub run : HasRun config past state
+  pub follows : Follows past
 
--- the events of lines lead from one world to another
-pub record LinesResumed (w : World) (lines : List (List ℕ)) (last : World) : Type 0 where
-  pub events : List Event
-  pub sent : List Sent
-  pub are : events_of lines ≡ Some events
-  pub run : Run w events sent last
+-- whatever notes a gateway and a follower had before, they have these in addition
+abbrev pub Adds : (Old New : List Note → Type 0) → List Note → Type 0
+Adds Old New more = (notes : List Note) → Old notes → New (notes ++ more)
 
--- a line was run, or the reason why it was not
-abbrev pub LineResumed : ℕ → List ℕ → World → World → Result (Unit {0}) LineFault → Type 0
-LineResumed number line w next (Ok done) = LinesResumed w (line ∷ []) next
-LineResumed number line w next (Err (stops.Bad bad)) = (bad ≡ number) × (event_of line ≡ None)
-LineResumed number line w next (Err stops.Write) = ⊥
-LineResumed number line w next (Err stops.NoMemory) = Unit {0}
+-- lines were run
+pub record LinesResumed (Old New : List Note → Type 0) (lines : List (List ℕ)) : Type 0 where
+  pub notes : List Note
+  pub are : notes_of lines ≡ Some notes
+  pub adds : Adds Old New notes
+
+-- A step succeeded, or it found that the line with this number is bad. Otherwise memory ran out, or
+-- a follower stopped, if it may.
+abbrev pub Resumes : Bool → (Done : Type 0) → (Bad : ℕ → Type 0) → Result (Unit {0}) LineFault
+    → Type 0
+Resumes may_stop Done Bad (Ok done) = Done
+Resumes may_stop Done Bad (Err (stops.Bad number)) = Bad number
+Resumes may_stop Done Bad (Err stops.Write) = may_stop ≡ true
+Resumes may_stop Done Bad (Err stops.NoMemory) = Unit {0}
+
+-- an event was run
+abbrev pub EventResumed : Bool → Event → (Old New : List Note → Type 0)
+    → Result (Unit {0}) LineFault → Type 0
+EventResumed may_stop event Old New result =
+    Resumes may_stop (Adds Old New (Happened event ∷ [])) (λ bad. ⊥) result
+
+-- the line with this number was run, or is bad
+abbrev pub LineResumed : Bool → ℕ → List ℕ → (Old New : List Note → Type 0)
+    → Result (Unit {0}) LineFault → Type 0
+LineResumed may_stop number line Old New result =
+    Resumes may_stop (LinesResumed Old New (line ∷ []))
+    (λ bad. (bad ≡ number) × (event_of line ≡ None)) result
+
+-- the line after this many others is the first bad one of these lines
+abbrev pub StartsBad : ℕ → List (List ℕ) → ℕ → Type 0
+StartsBad count lines number = HasBadAfter [] lines × (number ≡ count + 1)
 
 -- the line with this text, which a line feed ends, was run, or is the first bad line
-abbrev pub EndedResumed : ℕ → List ℕ → World → World → Result (Unit {0}) LineFault → Type 0
-EndedResumed count text w next (Ok done) = LinesResumed w (without_return text ∷ []) next
-EndedResumed count text w next (Err (stops.Bad number)) =
-    ((more : List ℕ) → HasBadAfter [] (lines_after true text (10 ∷ more))) × (number ≡ count + 1)
-EndedResumed count text w next (Err stops.Write) = ⊥
-EndedResumed count text w next (Err stops.NoMemory) = Unit {0}
-
--- The partial line and the bytes before the rest consist of lines that were run and a new partial
--- line, whatever follows. Otherwise, there was a bad line, or memory ran out.
-abbrev pub BytesResumed : ℕ → ℕ → List ℕ → List ℕ → List ℕ → List ℕ → World → World
+abbrev pub EndedResumed : Bool → ℕ → List ℕ → (Old New : List Note → Type 0)
     → Result (Unit {0}) LineFault → Type 0
-BytesResumed count counted partial bytes left rest w next (Ok done) =
-    (lines : List (List ℕ))
-    × ((ended : Bool) (more : List ℕ) → lines_after ended partial (bytes ++ more) ≡ lines
-    ++ lines_after ended left (rest ++ more))
-    × (counted ≡ count + length lines) × LinesResumed w lines next
-BytesResumed count counted partial bytes left rest w next (Err (stops.Bad number)) =
-    (lines : List (List ℕ))
-    × ((more : List ℕ) → HasBadAfter lines (lines_after true partial (bytes ++ more)))
-    × (number ≡ count + length lines + 1) × LinesResumed w lines next
-BytesResumed count counted partial bytes left rest w next (Err stops.Write) = ⊥
-BytesResumed count counted partial bytes left rest w next (Err stops.NoMemory) = Unit {0}
+EndedResumed may_stop count text Old New result =
+    Resumes may_stop (LinesResumed Old New (without_return text ∷ []))
+    (λ bad. (more : List ℕ) → StartsBad count (lines_after true text (10 ∷ more)) bad) result
 
--- the partial line, if there is one, is the last line
-abbrev pub LastResumed : ℕ → List ℕ → World → World → Result (Unit {0}) LineFault → Type 0
-LastResumed count [] w next result = (result ≡ Ok tt) × (next ≡ w)
-LastResumed count (b ∷ bs) w next result = LineResumed (count + 1) (b ∷ bs) w next result
+-- Lines were run, and their bytes are a partial line and all bytes but the rest. The next line has a
+-- part already.
+pub record BytesRun (count counted : ℕ) (partial bytes left rest : List ℕ)
+    (Old New : List Note → Type 0) : Type 0 where
+  pub lines : List (List ℕ)
+  pub split : (ended : Bool) (more : List ℕ)
+      → lines_after ended partial (bytes ++ more) ≡ lines ++ lines_after ended left (rest ++ more)
+  pub number : counted ≡ count + length lines
+  pub resumed : LinesResumed Old New lines
 
--- the whole script was run, the first bad line was found, reading failed, or memory ran out
-abbrev pub AllResumed : Config → (input rest : Option (List ℕ)) → CoreState
-    → Result (Unit {0}) ScriptFault → Type 0
-AllResumed config input rest state (Ok done) = IsResumed config input rest state
-AllResumed config input rest state (Err (scripts.Bad number)) = FindsBadLine input rest number
-AllResumed config input rest state (Err scripts.Read) = Unit {0}
-AllResumed config input rest state (Err scripts.Write) = ⊥
-AllResumed config input rest state (Err scripts.NoMemory) = Unit {0}
+-- The line with this number is the first bad line of a partial line and these bytes, whatever
+-- follows.
+pub record BytesBad (count : ℕ) (partial bytes : List ℕ) (number : ℕ) : Type 0 where
+  pub lines : List (List ℕ)
+  pub bad : (more : List ℕ) → HasBadAfter lines (lines_after true partial (bytes ++ more))
+  pub number_is : number ≡ count + length lines + 1
+  pub notes : List Note
+  pub are : notes_of lines ≡ Some notes
+
+-- the lines that end in these bytes were run, or one is the first bad line
+abbrev pub BytesResumed : Bool → ℕ → ℕ → (partial bytes left : List ℕ)
+    → (Old New : List Note → Type 0) → Result (Unit {0}) LineFault → Type 0
+BytesResumed may_stop count counted partial bytes left Old New result =
+    Resumes may_stop (BytesRun count counted partial bytes left [] Old New)
+    (BytesBad count partial bytes) result
+
+-- the partial line, if there is one, was run as the last line, or is bad
+abbrev pub LastResumed : Bool → ℕ → List ℕ → (Old New : List Note → Type 0)
+    → Result (Unit {0}) LineFault → Type 0
+LastResumed may_stop count partial Old New result =
+    Resumes may_stop (LinesResumed Old New (lines_after true partial []))
+    (StartsBad count (lines_after true partial [])) result
+
+-- The whole script was run, or the first bad line was found. Otherwise reading or memory failed, or
+-- a follower stopped, if it may.
+abbrev pub AllResumed : Bool → Config → (input rest : Option (List ℕ)) → CoreState
+    → (Follows : List Note → Type 0) → Result (Unit {0}) ScriptFault → Type 0
+AllResumed may_stop config input rest state Follows (Ok done) =
+    IsFollowed config input rest state Follows
+AllResumed may_stop config input rest state Follows (Err (scripts.Bad number)) =
+    FindsBadLine input rest number
+AllResumed may_stop config input rest state Follows (Err scripts.Read) = Unit {0}
+AllResumed may_stop config input rest state Follows (Err scripts.Write) = may_stop ≡ true
+AllResumed may_stop config input rest state Follows (Err scripts.NoMemory) = Unit {0}

@@ -1,6 +1,11 @@
-use Rattle.mg_core.proofs.ResumeLemmas.{awaited}
+use Rattle.mg_core.specs.aids.Resuming.{HasFollowed}
+use Rattle.mg_core.proofs.ResumeLemmas.{ticks_followed}
 use Rattle.mg_core.proofs.line_resumer.LineResumer.run_ticks.Goals as goal
 
 pub returns-clause-value : goal.returns-clause-value
-returns-clause-value g c w h =
-    awaited c.args.self.now.core.state c.skip.new.self.state c.args.self.now.ticks c.skip.ensures.next w h
+returns-clause-value g c start config notes h =
+    let follows = g.F.Follower.follows in
+    ticks_followed config c.args.self.now.core.state c.skip.new.self.state c.args.self.now.ticks
+    (HasFollowed follows start c.args.follower.now config) (HasFollowed follows start c.ticks.new.self config) notes
+    (λ past followed run ready. c.in_ok-ticks.ensures.value start config past (followed ready) run)
+    c.skip.ensures.headline h

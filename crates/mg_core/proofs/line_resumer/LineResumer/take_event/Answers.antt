@@ -1,45 +1,42 @@
-use Rattle.std.proofs.Common.{◌∙◌, [], Ok, map, refl, sym, ap, arith}
+use Rattle.std.proofs.Common.{◌≡◌, ◌∙◌, [], subst, sym, ap}
+use Rattle.mg_core.specs.declared.event.Event.{Event}
 use Rattle.mg_core.specs.declared.event.Event.TheVariants.{Control, Media}
-use Rattle.mg_core.specs.declared.fault.NoMemory.{NoMemory}
-use Rattle.mg_core.specs.Step.{Packet}
-use Rattle.mg_core.specs.World.{packets_of, world_after_tick}
-use Rattle.mg_core.specs.aids.Resuming.{EventResumed}
-use Rattle.mg_core.proofs.ResumeLemmas.{after_awaited}
+use Rattle.mg_core.specs.Headline.{ExtendsHistory}
+use Rattle.mg_core.specs.Step.{answer_to, reported}
+use Rattle.mg_core.specs.aids.Resuming.{HasFollowed}
+use Rattle.mg_core.proofs.ResumeLemmas.{datagram_followed}
 use Rattle.mg_core.proofs.line_resumer.LineResumer.take_event.Goals as goal
 
-pub returns-in-Tick : goal.returns-in-Tick
-returns-in-Tick g c = rw c.in-Tick.is (record {
-  value = λ w h. (
-    world_after_tick w,
-    (map Packet (packets_of w), (refl, refl)),
-    c.take_tick.ensures.value w h,
-  );
-  ticks = omega (arith, c.take_tick.ensures.ticks);
-})
-
-pub returns-in-Media : goal.returns-in-Media
-returns-in-Media g c =
+pub returns-in_ok-datagram-in-Media-clause-value : goal.returns-in_ok-datagram-in-Media-clause-value
+returns-in_ok-datagram-in-Media-clause-value g c start config =
+    let follows = g.F.Follower.follows in
     let event = Media c.in-Media.port c.in-Media.source c.as_slice.result.now in
-    let is = c.in-Media.is ∙ ap (Media c.in-Media.port c.in-Media.source) (sym c.as_slice.ensures.value) in
-    rw is (record {
-      value = after_awaited {E = NoMemory} c.args.self.now.core.state c.run_ticks.new.self.core.state c.media.new.self.state
-          c.args.self.now.ticks c.run_ticks.new.self.ticks (Ok tt) (λ w next. EventResumed event w next (Ok tt))
-          c.run_ticks.ensures.value c.run_ticks.ensures.ticks
-          (λ w h.
-          let (next, took, stands) = c.media.ensures.taken w h in
-          (next, ([], (c.media.result, took, refl)), stands));
-      ticks = omega (arith, c.run_ticks.ensures.ticks);
-    })
+    let is : c.args.event.now ≡ event = c.in-Media.is
+    ∙ ap (Media c.in-Media.port c.in-Media.source) (sym c.as_slice.ensures.value) in
+    let mid = c.run_ticks.new.self.core.state in
+    let new = c.media.new.self.state in
+    datagram_followed config c.args.self.now.core.state mid new c.args.self.now.ticks c.run_ticks.new.self.ticks
+    (HasFollowed follows start c.args.follower.now config) (HasFollowed follows start c.run_ticks.new.follower config)
+    (HasFollowed follows start c.datagram.new.self config) c.args.event.now []
+    (λ notes h. c.in_ok-run_ticks-in-Media.ensures.value start config notes h)
+    (subst (λ (e : Event). ExtendsHistory mid new e []) (sym is) c.media.ensures.headline)
+    c.in_ok-run_ticks-in-Media.ensures.ticks
+    (λ notes followed run ready. c.in_ok-datagram-in-Media.ensures.value start config notes (followed ready) run)
 
-pub returns-in-Control : goal.returns-in-Control
-returns-in-Control g c =
+pub returns-in_ok-datagram-in-Control-clause-value : goal.returns-in_ok-datagram-in-Control-clause-value
+returns-in_ok-datagram-in-Control-clause-value g c start config =
+    let follows = g.F.Follower.follows in
     let event = Control c.in-Control.source c.as_slice-in-Control.result.now in
-    let is = c.in-Control.is ∙ ap (Control c.in-Control.source) (sym c.as_slice-in-Control.ensures.value) in
-    rw is (record {
-      value = after_awaited {E = NoMemory} c.args.self.now.core.state c.run_ticks-in-Control.new.self.core.state
-          c.take_control.new.self.core.state c.args.self.now.ticks c.take_control.new.self.ticks c.take_control.result
-          (λ w next. EventResumed event w next c.take_control.result)
-          c.run_ticks-in-Control.ensures.value (c.take_control.ensures.ticks ∙ c.run_ticks-in-Control.ensures.ticks)
-          c.take_control.ensures.value;
-      ticks = omega (arith, c.take_control.ensures.ticks, c.run_ticks-in-Control.ensures.ticks);
-    })
+    let is : c.args.event.now ≡ event = c.in-Control.is
+    ∙ ap (Control c.in-Control.source) (sym c.as_slice-in-Control.ensures.value) in
+    let mid = c.run_ticks-in-Control.new.self.core.state in
+    let new = c.control.new.self.state in
+    let sent = answer_to c.in-Control.source (reported c.in_ok-control-in-Control.field-0 c.control.new.self.answer) in
+    datagram_followed config c.args.self.now.core.state mid new c.args.self.now.ticks
+    c.run_ticks-in-Control.new.self.ticks (HasFollowed follows start c.args.follower.now config)
+    (HasFollowed follows start c.run_ticks-in-Control.new.follower config)
+    (HasFollowed follows start c.datagram-in-Control.new.self config) c.args.event.now sent
+    (λ notes h. c.in_ok-run_ticks-in-Control.ensures.value start config notes h)
+    (subst (λ (e : Event). ExtendsHistory mid new e sent) (sym is) c.in_ok-control-in-Control.ensures.headline)
+    c.in_ok-run_ticks-in-Control.ensures.ticks
+    (λ notes followed run ready. c.in_ok-datagram-in-Control.ensures.value start config notes (followed ready) run)

@@ -1,18 +1,23 @@
+use Rattle.std.proofs.Common.{true, []}
 use Rattle.std.proofs.lemmas.Result.{err_from_is_err_and}
+use Rattle.mg_lines.specs.Lines.{lines_after}
+use Rattle.mg_core.specs.aids.Resuming.{HasFollowed, KeepsUp, LinesResumed, StartsBad}
+use Rattle.mg_core.proofs.ResumeLemmas.{resumes_err}
 use Rattle.mg_core.proofs.resumer.Resumer.finish.Goals as goal
 
 pub returns-in_err-take_last : goal.returns-in_err-take_last
 returns-in_err-take_last g c =
     let p = err_from_is_err_and c.from_residual.result c.from_residual.ensures.1 in
+    let follows = g.F.Follower.follows in
+    let old = c.args.self.now.runner in
+    let new = c.take_last.new.self.runner in
+    let last = lines_after true c.args.self.now.partial.text [] in
     rw (p.1, p.2) (record {
-      value = λ w h.
-          let (next, last, new) = c.in_err-take_last.ensures.value w h in
-          (next, last, tt);
+      value = λ start config.
+          let Old = KeepsUp config old.core.state old.ticks (HasFollowed follows start c.args.follower.now config) in
+          let Follows = HasFollowed follows start c.take_last.new.follower config in
+          resumes_err g.F.Follower.may_stop (LinesResumed Old (KeepsUp config new.core.state new.ticks Follows) last)
+          (LinesResumed Old (KeepsUp config new.core.state 0 Follows) last)
+          (StartsBad c.args.self.now.lines last) (StartsBad c.args.self.now.lines last)
+          c.in_err-take_last.field-0.0 (λ k bad. bad) (c.in_err-take_last.ensures.value start config);
     })
-
-pub returns : goal.returns
-returns g c = record {
-  value = λ w h.
-      let (next, last, awaits) = c.in_ok-take_last.ensures.value w h in
-      (next, last, c.run_ticks.ensures.value next awaits);
-}

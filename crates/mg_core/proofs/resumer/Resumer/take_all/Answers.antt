@@ -1,62 +1,84 @@
-use Rattle.std.proofs.Common.{Ok, Err, take, length-take, arith}
+use Rattle.std.proofs.Common.{[], Ok, Err, take, length-take, arith}
 use Rattle.std.proofs.lemmas.Result.{err_from_is_err_and}
-use Rattle.mg_core.specs.World.{start_of}
-use Rattle.mg_core.specs.aids.Resuming.{Awaits}
-use Rattle.mg_core.proofs.ResumeLemmas.{awaits_none, reaches_bytes, reaches_end, reaches_fault, reaches_start}
+use Rattle.mg_core.specs.aids.Resuming.{HasFollowed, KeepsUp}
+use Rattle.mg_core.proofs.ResumeLemmas.{reaches_bytes, reaches_end, reaches_fault, reaches_start, up_to_date}
 use Rattle.mg_core.proofs.resumer.Resumer.take_all.Goals as goal
 
 pub loop-init : goal.loop-init
-loop-init g c = record {
-  lines = omega (arith, c.requires.lines);
-  ticks = omega (arith, c.requires.ticks);
-  value = λ config stands. reaches_start (Awaits c.args.self.now.runner.core.state c.args.self.now.runner.ticks) config
-      (g.R.Read.remaining c.args.reader.now) c.args.self.now.partial.text c.args.self.now.lines c.requires.partial
-      c.requires.lines (awaits_none c.args.self.now.runner.core.state c.args.self.now.runner.ticks (start_of config)
-      c.requires.ticks stands);
-}
+loop-init g c =
+    let runner = c.args.self.now.runner in
+    let first = c.args.follower.now in
+    record {
+      lines = omega (arith, c.requires.lines);
+      ticks = omega (arith, c.requires.ticks);
+      value = λ config run.
+          let Follows = HasFollowed g.F.Follower.follows first first config in
+          reaches_start (KeepsUp config runner.core.state runner.ticks Follows) (g.R.Read.remaining c.args.reader.now)
+          c.args.self.now.partial.text c.args.self.now.lines c.requires.partial c.requires.lines
+          (up_to_date config runner.core.state runner.ticks Follows [] c.requires.ticks run (λ ready. ready));
+    }
 
 pub returns-in_err-n : goal.returns-in_err-n
 returns-in_err-n g c =
     let p = err_from_is_err_and c.from_residual.result c.from_residual.ensures.1 in
-    rw (p.1, p.2) (record { value = λ config stands. tt })
+    rw (p.1, p.2) (record { value = λ config run. tt })
 
 pub returns-in_err-finish : goal.returns-in_err-finish
 returns-in_err-finish g c =
     let p = err_from_is_err_and c.from_residual-in_err-finish.result c.from_residual-in_err-finish.ensures.1 in
+    let follows = g.F.Follower.follows in
+    let first = c.args.follower.now in
     rw (p.1, p.2) (record {
-      value = λ config stands. reaches_end (Awaits c.loop.self.runner.core.state c.loop.self.runner.ticks) config
+      value = λ config run. reaches_end g.F.Follower.may_stop config
+          (KeepsUp config c.loop.self.runner.core.state c.loop.self.runner.ticks
+          (HasFollowed follows first c.loop.follower config))
+          (HasFollowed follows first c.finish.new.follower config)
           (g.R.Read.remaining c.args.reader.now) (g.R.Read.remaining c.loop.reader)
           (g.R.Read.remaining c.read_some.new.reader) c.loop.self.partial.text c.loop.self.lines
-          c.finish.new.self.runner.core.state (Err c.in_err-finish.field-0.0) (c.loop.invariant.value config stands)
-          (rw c.in_default.is at c.in_ok-n.ensures.value) c.in_err-finish.ensures.value;
+          c.finish.new.self.runner.core.state (Err c.in_err-finish.field-0.0) (c.loop.invariant.value config run)
+          (rw c.in_default.is at c.in_ok-n.ensures.value) (c.in_err-finish.ensures.value first config);
     })
 
 pub returns-in_default : goal.returns-in_default
-returns-in_default g c = record {
-  value = λ config stands. reaches_end (Awaits c.loop.self.runner.core.state c.loop.self.runner.ticks) config
-      (g.R.Read.remaining c.args.reader.now) (g.R.Read.remaining c.loop.reader)
-      (g.R.Read.remaining c.read_some.new.reader) c.loop.self.partial.text c.loop.self.lines
-      c.finish.new.self.runner.core.state (Ok tt) (c.loop.invariant.value config stands)
-      (rw c.in_default.is at c.in_ok-n.ensures.value) c.in_ok-finish.ensures.value;
-}
+returns-in_default g c =
+    let follows = g.F.Follower.follows in
+    let first = c.args.follower.now in
+    record {
+      value = λ config run. reaches_end g.F.Follower.may_stop config
+          (KeepsUp config c.loop.self.runner.core.state c.loop.self.runner.ticks
+          (HasFollowed follows first c.loop.follower config))
+          (HasFollowed follows first c.finish.new.follower config)
+          (g.R.Read.remaining c.args.reader.now) (g.R.Read.remaining c.loop.reader)
+          (g.R.Read.remaining c.read_some.new.reader) c.loop.self.partial.text c.loop.self.lines
+          c.finish.new.self.runner.core.state (Ok tt) (c.loop.invariant.value config run)
+          (rw c.in_default.is at c.in_ok-n.ensures.value) (c.in_ok-finish.ensures.value first config);
+    }
 
 pub returns-in_err-take_bytes : goal.returns-in_err-take_bytes
 returns-in_err-take_bytes g c =
     let p = err_from_is_err_and c.from_residual-in_err-take_bytes.result c.from_residual-in_err-take_bytes.ensures.1 in
     let read = rw c.in-Some.is at c.in_ok-n.ensures.value in
+    let follows = g.F.Follower.follows in
+    let first = c.args.follower.now in
     rw (p.1, p.2) (record {
-      value = λ config stands. reaches_fault (Awaits c.loop.self.runner.core.state c.loop.self.runner.ticks)
-          (Awaits c.take_bytes.new.self.runner.core.state c.take_bytes.new.self.runner.ticks) config
+      value = λ config run. reaches_fault g.F.Follower.may_stop config
+          (KeepsUp config c.loop.self.runner.core.state c.loop.self.runner.ticks
+          (HasFollowed follows first c.loop.follower config))
+          (KeepsUp config c.take_bytes.new.self.runner.core.state c.take_bytes.new.self.runner.ticks
+          (HasFollowed follows first c.take_bytes.new.follower config))
+          (HasFollowed follows first c.take_bytes.new.follower config)
           (g.R.Read.remaining c.args.reader.now) (g.R.Read.remaining c.loop.reader)
           (g.R.Read.remaining c.read_some.new.reader) c.loop.self.partial.text
           (take c.in-Some.n c.read_some.new.buffer) c.take_bytes.new.self.partial.text c.loop.self.lines
           c.take_bytes.new.self.lines c.take_bytes.new.self.runner.core.state c.in_err-take_bytes.field-0.0
-          (c.loop.invariant.value config stands) read.1 c.in_err-take_bytes.ensures.value;
+          (c.loop.invariant.value config run) read.1 (c.in_err-take_bytes.ensures.value first config);
     })
 
 pub loop-preserved : goal.loop-preserved
 loop-preserved g c =
     let read = rw c.in-Some.is at c.in_ok-n.ensures.value in
+    let follows = g.F.Follower.follows in
+    let first = c.args.follower.now in
     record {
       lines = omega (
         arith,
@@ -67,13 +89,17 @@ loop-preserved g c =
         c.loop.invariant.lines,
       );
       ticks = c.in_ok-take_bytes.ensures.ticks;
-      value = λ config stands. reaches_bytes (Awaits c.loop.self.runner.core.state c.loop.self.runner.ticks)
-          (Awaits c.take_bytes.new.self.runner.core.state c.take_bytes.new.self.runner.ticks) config
+      value = λ config run. reaches_bytes
+          (KeepsUp config c.loop.self.runner.core.state c.loop.self.runner.ticks
+          (HasFollowed follows first c.loop.follower config))
+          (KeepsUp config c.take_bytes.new.self.runner.core.state c.take_bytes.new.self.runner.ticks
+          (HasFollowed follows first c.take_bytes.new.follower config))
           (g.R.Read.remaining c.args.reader.now) (g.R.Read.remaining c.loop.reader)
           (g.R.Read.remaining c.read_some.new.reader) c.loop.self.partial.text
           (take c.in-Some.n c.read_some.new.buffer) c.take_bytes.new.self.partial.text c.loop.self.lines
-          c.take_bytes.new.self.lines (c.loop.invariant.value config stands) read.1 c.in_ok-take_bytes.ensures.value;
+          c.take_bytes.new.self.lines (c.loop.invariant.value config run) read.1
+          (c.in_ok-take_bytes.ensures.value first config);
     }
 
 pub returns : goal.returns
-returns g c = record { value = λ config stands. tt }
+returns g c = record { value = λ config run. tt }

@@ -1,0 +1,32 @@
+-- A follower learns, note by note, what a gateway does while a script is run.
+use Rattle.std.specs.Prelude.{◌≡◌, ℕ, true, List, Option, Some, replicate}
+use Rattle.mg_engine.specs.declared.config.Config.{Config}
+use Rattle.mg_lines.specs.Lines.{lines_of}
+use Rattle.mg_core.specs.declared.event.Event.TheVariants.{Tick}
+use Rattle.mg_core.specs.declared.state.CoreState.{CoreState}
+use Rattle.mg_core.specs.Headline.{HasHistory}
+use Rattle.mg_core.specs.Note.{Note, Happened, events_in, notes_of}
+use Rattle.mg_core.specs.Run.{HasRead}
+use Rattle.mg_core.specs.Step.{Sent}
+use Rattle.mg_core.specs.World.{World}
+
+-- A gateway was started with this configuration, the events of these notes arrived, and this is its
+-- state.
+abbrev pub HasRun : Config → List Note → CoreState → Type 0
+HasRun config notes state =
+    (sent : List Sent) × (w : World) × HasHistory config (events_in notes) sent w state
+
+-- this many ticks
+abbrev pub ticks_of : ℕ → List Note
+ticks_of count = replicate count (Happened Tick)
+
+-- The input was read to its end, and its text is a script of these notes. The state is that of a
+-- gateway at which their events arrived, and a follower has followed all the notes.
+pub record IsFollowed (config : Config) (input rest : Option (List ℕ)) (state : CoreState)
+    (Follows : List Note → Type 0) : Type 0 where
+  pub script : List ℕ
+  pub read : HasRead input rest script true
+  pub notes : List Note
+  pub are : notes_of (lines_of true script) ≡ Some notes
+  pub run : HasRun config notes state
+  pub follows : Follows notes

@@ -1,0 +1,10 @@
+pub mod Members
+pub mod SameLemmas
+pub mod IntervalLemmas
+pub mod MaximalLemmas
+pub mod OnceLemmas
+pub mod FlowLemmas
+pub mod MomentLemmas
+pub mod LawLemmas
+pub mod WalkLemmas
+pub mod ContinueLemmas

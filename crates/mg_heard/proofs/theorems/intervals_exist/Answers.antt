@@ -1,0 +1,17 @@
+use Rattle.std.proofs.Common.{◌≡◌, ◌<◌, ◌≤◌, length, refl, arith}
+use Rattle.std.specs.Prelude.{reverse}
+use Rattle.mg_core.specs.World.{start_of}
+use Rattle.mg_heard.specs.Intervals.{intervals}
+use Rattle.mg_heard.proofs.MomentLemmas.{outcomes_more, outcomes_none, some_moments}
+use Rattle.mg_heard.proofs.theorems.intervals_exist.Goals as goal
+
+pub loop-event-preserved : goal.loop-event-preserved
+loop-event-preserved c = outcomes_more c.args.events.now c.loop-event.event-index c.event-item.result
+    c.loop-event-test.true c.event-item.is c.each_event_has_an_outcome.ensures.some c.loop-event.invariant
+
+pub returns : goal.returns
+returns c = record {
+  theorem = λ config.
+      let (moments, are) = some_moments c.args.events.now c.loop-event.event-index (omega arith) c.loop-event.invariant (start_of config) in
+      (intervals (reverse moments), (moments, are, refl));
+}

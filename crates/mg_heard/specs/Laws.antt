@@ -1,0 +1,84 @@
+-- What the intervals say: exactly who could hear whom, and nothing twice.
+use Rattle.std.specs.Prelude.{◌≡◌, ◌↔◌, ℕ, true, List, [], ◌∷◌, ◌++◌, All, AllPairs, Any, Contains}
+use Rattle.std.specs.Prelude.{count_by, reverse}
+use Rattle.mg_engine.specs.declared.config.Config.{Config}
+use Rattle.mg_engine.specs.Flow.{flow}
+use Rattle.mg_core.specs.declared.event.Event.{Event}
+use Rattle.mg_core.specs.Counting.{is_tick}
+use Rattle.mg_core.specs.ExceptReceived.{without_rtp}
+use Rattle.mg_core.specs.Headline.{IsStart}
+use Rattle.mg_core.specs.Step.{Sent, Run}
+use Rattle.mg_core.specs.World.{World, start_of}
+use Rattle.mg_heard.specs.declared.open_flow.OpenFlow.{OpenFlow}
+use Rattle.mg_heard.specs.Intervals.{Interval, intervals}
+use Rattle.mg_heard.specs.Maximal.{IsOfPair, IsTellingOnce, LiesIn}
+use Rattle.mg_heard.specs.Moments.{AreMoments}
+use Rattle.mg_heard.specs.OpenFlows.{open_flow}
+
+-- the intervals of these events on a gateway that was started with this configuration
+abbrev pub AreIntervals : Config → List Event → List Interval → Type 0
+AreIntervals config events ys =
+    (moments : List (List OpenFlow)) × AreMoments (start_of config) events moments
+    × (ys ≡ intervals (reverse moments))
+
+-- Events determine their intervals.
+abbrev pub EventsDetermineIntervals : Type 0
+EventsDetermineIntervals =
+    (config : Config) (events : List Event) (xs ys : List Interval)
+    → AreIntervals config events xs → AreIntervals config events ys → xs ≡ ys
+
+-- ## Each tick
+
+-- nothing happens before the next tick: it comes first, or nothing comes at all
+abbrev pub IsAtTick : List Event → Type 0
+IsAtTick [] = Unit {0}
+IsAtTick (event ∷ later) = is_tick event ≡ true
+
+-- Some events led to this world, a tick or the end comes next, and these are the intervals of all
+-- events.
+pub record HasIntervals (config : Config) (past future : List Event) (w : World)
+    (ys : List Interval) : Type 0 where
+  pub sent : List Sent
+  pub run : Run (start_of config) past sent w
+  pub tick : IsAtTick future
+  pub told : AreIntervals config (past ++ future) ys
+
+-- a pair and a tick lie in one of the intervals
+abbrev pub IsToldAt : ℕ → ℕ → ℕ → List Interval → Type 0
+IsToldAt tick talker listener ys =
+    Any (λ y. IsOfPair talker listener y × LiesIn tick y) ys
+
+-- A pair and a tick lie in an interval exactly if the talker's speech flows to the listener in the
+-- world before that tick. This is the flow of the headline theorem. The same is true of the tick
+-- that comes next after all events.
+abbrev pub IntervalsTellTheFlow : Type 0
+IntervalsTellTheFlow =
+    (config : Config) (past future : List Event) (w : World) (ys : List Interval)
+    (talker listener : ℕ) → HasIntervals config past future w ys
+    → (flow w.gateway talker listener ≡ true)
+    ↔ IsToldAt (count_by is_tick past) talker listener ys
+
+-- What an interval says of the pair, its context and its Remotes, is true in the world before each
+-- tick that lies in the interval.
+abbrev pub IntervalsTellTheTruth : Type 0
+IntervalsTellTheTruth =
+    (config : Config) (past future : List Event) (w : World) (ys : List Interval) (y : Interval)
+    → HasIntervals config past future w ys → Contains ys y → LiesIn (count_by is_tick past) y
+    → y.flow ≡ open_flow w.gateway y.flow.listener y.flow.talker
+
+-- ## Each pair
+
+-- No pair is told twice for a tick.
+abbrev pub NoPairIsToldTwice : Type 0
+NoPairIsToldTwice =
+    (config : Config) (events : List Event) (ys : List Interval) → IsStart config
+    → AreIntervals config events ys → AllPairs IsTellingOnce ys
+
+-- ## Without speech
+
+-- A journal and a full recording of the same gateway have the same intervals. (`without_rtp` drops
+-- the RTP datagrams.)
+abbrev pub RtpChangesNoInterval : Type 0
+RtpChangesNoInterval =
+    (config : Config) (events : List Event) (ys : List Interval)
+    → AreIntervals config events ys → AreIntervals config (without_rtp events) ys

@@ -1,0 +1,47 @@
+-- The intervals that are open, as the code stores and continues them.
+use Rattle.std.specs.Prelude.{◌≡◌, ℕ, ◌+◌, ◌*◌, ◌^◌, ◌<◌, ◌≤◌, not, List, None, Option, find}
+use Rattle.std.specs.Prelude.{filter, length, map, slice_index_or, take, All, AllPairs}
+use Rattle.std.specs.Option.{option_map, option_map_or}
+use Rattle.mg_heard.specs.declared.moment.Moment.{Moment}
+use Rattle.mg_heard.specs.declared.open_flow.OpenFlow.{OpenFlow}
+use Rattle.mg_heard.specs.declared.open_interval.OpenInterval.{OpenInterval}
+use Rattle.mg_heard.specs.Intervals.{Interval}
+use Rattle.mg_heard.specs.OpenFlow.{has, is_same}
+
+-- ## Order
+
+-- a number for each pair, in order of listeners and then of talkers
+abbrev pub key_of : OpenFlow → ℕ
+key_of x = x.listener * 2 ^ 32 + x.talker
+
+-- the intervals are in order of their pairs, and no pair has two
+abbrev pub IsRising : List OpenInterval → Type 0
+IsRising xs = AllPairs (λ x later. key_of x.flow < key_of later.flow) xs
+
+-- each pair is in front of this one
+abbrev pub AreBefore : OpenFlow → List OpenInterval → Type 0
+AreBefore flow xs = All (λ x. key_of x.flow < key_of flow) xs
+
+-- ## Intervals of the same flows
+
+-- when the interval of this flow began, if there is one
+abbrev pub beginning_among : List OpenInterval → OpenFlow → Option Moment
+beginning_among xs flow = option_map (λ x. x.first) (find (λ x. is_same flow x.flow) xs)
+
+-- an interval that begins with the earlier one of the same flow, if there is one
+abbrev pub continued : List OpenInterval → OpenInterval → OpenInterval
+continued earlier x =
+    option_map_or (λ first. record x { first = first }) (beginning_among earlier x.flow) x
+
+abbrev pub flows_of : List OpenInterval → List OpenFlow
+flows_of xs = map (λ x. x.flow) xs
+
+-- those whose flows are not among the next ones
+abbrev pub without_flows : List OpenFlow → List OpenInterval → List OpenInterval
+without_flows flows xs = filter (λ x. not (has flows x.flow)) xs
+
+-- ## Without dates
+
+-- an interval that has not ended
+abbrev pub still_open : OpenInterval → Interval
+still_open x = record { flow = x.flow; first = x.first.tick; end = None }

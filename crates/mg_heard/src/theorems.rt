@@ -1,0 +1,60 @@
+//! Properties of all intervals. The functions do nothing: their contracts are the theorems.
+
+ghost use Rattle.std.specs.Prelude.{◌≡◌, ◌↔◌, true, List};
+ghost use Rattle.mg_engine.specs.declared.config.Config.{Config};
+ghost use Rattle.mg_heard.specs.Intervals.{Interval};
+ghost use Rattle.mg_heard.specs.Laws.{AreIntervals, EventsDetermineIntervals, IntervalsTellTheFlow, IntervalsTellTheTruth, NoPairIsToldTwice, RtpChangesNoInterval};
+ghost use Rattle.mg_heard.specs.Maximal.{IntervalsAreTrueAndMaximal};
+ghost use Rattle.mg_heard.specs.OpenFlow.{is_same};
+ghost use Rattle.mg_heard.specs.declared.open_flow.OpenFlow.{OpenFlow};
+
+use mg_core::Event;
+
+/// Flows that are the same are equal, so what is printed about a flow determines it.
+pub fn same_flows_are_equal()
+    ensures theorem { (a b : OpenFlow) → (is_same a b ≡ true) ↔ (a ≡ b) }
+{}
+
+/// Any events on a gateway have intervals.
+pub fn intervals_exist(events: &[Event])
+    ensures theorem { (config : Config) → (ys : List Interval) × AreIntervals config events.now ys }
+{
+    for event in events {
+        mg_core::theorems::each_event_has_an_outcome(event);
+    }
+}
+
+/// The events of a script determine who could hear whom, and when.
+pub fn intervals_are_unique()
+    ensures theorem { EventsDetermineIntervals }
+{
+    mg_core::theorems::outcomes_are_unique();
+}
+
+/// A pair and a tick lie in an interval exactly if the talker's speech flows to the listener in the world before that
+/// tick. What the interval says of their context and Remotes is true there too.
+pub fn intervals_tell_the_flow()
+    ensures flow { IntervalsTellTheFlow }
+    ensures truth { IntervalsTellTheTruth }
+{
+    mg_core::theorems::outcomes_are_unique();
+}
+
+/// The intervals are exactly those in which a flow is open before each tick, and that can't be extended.
+pub fn intervals_are_true_and_maximal()
+    ensures theorem { IntervalsAreTrueAndMaximal }
+{}
+
+/// No pair is told twice for a tick.
+pub fn no_pair_is_told_twice()
+    ensures theorem { NoPairIsToldTwice }
+{
+    mg_core::theorems::worlds_are_consistent();
+}
+
+/// A journal and a full recording of the same gateway have the same intervals.
+pub fn rtp_changes_no_interval()
+    ensures theorem { RtpChangesNoInterval }
+{
+    mg_core::theorems::rtp_changes_speech_only();
+}

@@ -74,12 +74,12 @@ from_open w x h =
 
 -- ## No pair is listed twice
 
-heard_by : (w : Gateway) (x : OpenFlow) (listener : ℕ) → In x (flows_to w listener) → x.listener ≡ listener
+pub heard_by : (w : Gateway) (x : OpenFlow) (listener : ℕ) → In x (flows_to w listener) → x.listener ≡ listener
 heard_by w x listener h =
     let (talker, j, e) = from_map (open_flow w listener) x (filter (λ n. flow w n listener) (numbers_of w)) h in
     ap (λ (y : OpenFlow). y.listener) e
 
-rising : (w : Gateway) → IsConsistent w.rooms → Pairs (λ a b. a < b) (numbers_of w)
+pub rising : (w : Gateway) → IsConsistent w.rooms → Pairs (λ a b. a < b) (numbers_of w)
 rising w h = pairs_map (λ r later. r.number < later.number) (λ a b. a < b) (λ r. r.number) w.rooms.terminations
     (λ x y less. less)
     (pairs_from_all (λ r later. r.number < later.number) w.rooms.terminations h.terminations.rising)

@@ -8,3 +8,6 @@ pub mod MomentLemmas
 pub mod LawLemmas
 pub mod WalkLemmas
 pub mod ContinueLemmas
+pub mod PartyLemmas
+pub mod FillLemmas
+pub mod AdvanceLemmas

@@ -6,10 +6,13 @@
 #![tactic(auto)]
 
 mod continuing;
+mod filling;
 mod interval;
 mod moment;
 mod open_flow;
 mod open_interval;
+mod open_intervals;
+mod party;
 pub mod theorems;
 
 pub use crate::interval::Interval;

@@ -1,11 +1,12 @@
 -- The intervals that are open, as the code stores and continues them.
-use Rattle.std.specs.Prelude.{◌≡◌, ℕ, ◌+◌, ◌*◌, ◌^◌, ◌<◌, ◌≤◌, not, List, None, Option, find}
+use Rattle.std.specs.Prelude.{◌≡◌, ℕ, ◌+◌, ◌*◌, ◌^◌, ◌<◌, ◌≤◌, not, List, None, Some, Option, find}
 use Rattle.std.specs.Prelude.{filter, length, map, slice_index_or, take, All, AllPairs}
 use Rattle.std.specs.Option.{option_map, option_map_or}
 use Rattle.mg_heard.specs.declared.moment.Moment.{Moment}
 use Rattle.mg_heard.specs.declared.open_flow.OpenFlow.{OpenFlow}
 use Rattle.mg_heard.specs.declared.open_interval.OpenInterval.{OpenInterval}
-use Rattle.mg_heard.specs.Intervals.{Interval}
+use Rattle.mg_words.specs.Limits.{member_limit, termination_limit}
+use Rattle.mg_heard.specs.Intervals.{Interval, lasting}
 use Rattle.mg_heard.specs.OpenFlow.{has, is_same}
 
 -- ## Order
@@ -40,8 +41,25 @@ flows_of xs = map (λ x. x.flow) xs
 abbrev pub without_flows : List OpenFlow → List OpenInterval → List OpenInterval
 without_flows flows xs = filter (λ x. not (has flows x.flow)) xs
 
+-- ## Their places
+
+-- the most flows that can be open
+abbrev pub flow_limit : ℕ
+flow_limit = termination_limit * member_limit
+
+-- an interval that begins at this moment
+abbrev pub beginning_at : Moment → OpenFlow → OpenInterval
+beginning_at first x = record { flow = x; first = first }
+
 -- ## Without dates
 
--- an interval that has not ended
+-- a stored interval, while it has no end, and with its end
 abbrev pub still_open : OpenInterval → Interval
 still_open x = record { flow = x.flow; first = x.first.tick; end = None }
+
+abbrev pub ended_at : ℕ → OpenInterval → Interval
+ended_at tick x = record { flow = x.flow; first = x.first.tick; end = Some tick }
+
+-- these are the intervals that have not ended in the newest moment of a past
+abbrev pub AreLasting : List (List OpenFlow) → List OpenInterval → Type 0
+AreLasting past xs = IsRising xs × (map still_open xs ≡ lasting past)

@@ -1,0 +1,91 @@
+ghost use Rattle.std.specs.Prelude.{◌≡◌, ◌≤◌, ◌∷◌, [], length, map, IfOk, List};
+ghost use Rattle.mg_core.specs.World.{World, StandsFor};
+ghost use Rattle.mg_heard.specs.Intervals.{ending};
+ghost use Rattle.mg_heard.specs.OpenFlows.{open_flows};
+ghost use Rattle.mg_heard.specs.aids.Opening.{beginning_at, continued, ended_at, flows_of, without_flows, IsRising, AreLasting};
+ghost use Rattle.mg_heard.specs.declared.open_flow.OpenFlow.{OpenFlow};
+
+use crate::continuing::{continue_each, keep_ended};
+use crate::filling::{FLOWS, fill_places};
+use crate::moment::Moment;
+use crate::open_interval::OpenInterval;
+use mg_core::Core;
+use std::alloc::{AllocError, Global};
+use std::marker::Model;
+use std::mem;
+
+/// Intervals that have not ended, in order of their listeners and then of their talkers.
+#[derive(Drop)]
+pub(crate) struct OpenIntervals {
+    /// A place for each possible flow. The first `len` places are in use.
+    places: Vec<OpenInterval>,
+    len: usize,
+}
+
+impl Model for OpenIntervals {
+    ghost use Rattle.std.specs.Prelude.{◌≡◌, ◌≤◌, List, length, take};
+    ghost use Rattle.mg_heard.specs.aids.Opening.{flow_limit};
+    ghost use Rattle.mg_heard.specs.declared.open_interval.OpenInterval.{OpenInterval};
+
+    ghost Value = { List OpenInterval };
+
+    ghost view = { λ x. take x.len x.places.items };
+
+    ghost invariant = { λ x. (length x.places.items ≡ flow_limit) × (x.len ≤ flow_limit) };
+}
+
+impl OpenIntervals {
+    /// Makes an empty store. No other call allocates.
+    pub(crate) fn new(alloc: Global) -> Result<Self, AllocError>
+        ensures value { IfOk result (λ x. x ≡ []) }
+    {
+        Ok(OpenIntervals {
+            places: Vec::from_elem(alloc, OpenInterval::none(), FLOWS)?,
+            len: 0,
+        })
+    }
+
+    pub(crate) fn as_slice(&self) -> &[OpenInterval]
+        ensures value { result.now ≡ self.now }
+    {
+        &self.places[..self.len]
+    }
+
+    /// Moves on to a moment. Afterwards there is an interval for each flow that is open in the core, and `ended` has
+    /// those that end at this moment.
+    pub(crate) fn advance(&mut self, ended: &mut OpenIntervals, core: &Core, now: Moment)
+        ensures value { (w : World) (past : List (List OpenFlow)) → StandsFor core.now.state w →
+            now.tick ≡ length past → AreLasting past self.old →
+            AreLasting (open_flows w.gateway ∷ past) self.new
+            × (map (ended_at now.tick) ended.new ≡ ending past (open_flows w.gateway)) }
+    {
+        mem::swap(self, ended);
+        self.fill(core, now);
+        self.continue_from(ended);
+        ended.remove_continued(self);
+    }
+
+    /// Replaces the stored intervals: each flow that is open in a core has one that begins at this moment.
+    fn fill(&mut self, core: &Core, first: Moment)
+        ensures value { (w : World) → StandsFor core.now.state w →
+            self.new ≡ map (beginning_at first) (open_flows w.gateway) }
+        ensures rising { (w : World) → StandsFor core.now.state w → IsRising self.new }
+    {
+        self.len = fill_places(&mut self.places, core, first);
+    }
+
+    /// Lets each interval begin with the earlier one of the same flow, if there is one.
+    fn continue_from(&mut self, earlier: &OpenIntervals)
+        ensures value { IsRising self.old → IsRising earlier.now → self.new ≡ map (continued earlier.now) self.old }
+    {
+        continue_each(&mut self.places[..self.len], earlier.as_slice());
+    }
+
+    /// Removes the intervals whose flows are among the next ones.
+    fn remove_continued(&mut self, next: &OpenIntervals)
+        ensures value { IsRising self.old → IsRising next.now →
+            self.new ≡ without_flows (flows_of next.now) self.old }
+    {
+        self.len = keep_ended(&mut self.places[..self.len], next.as_slice());
+    }
+}

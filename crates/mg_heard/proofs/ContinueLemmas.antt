@@ -3,7 +3,7 @@ use Rattle.std.proofs.Common.{◌≡◌, ℕ, ◌+◌, ◌<◌, ◌≤◌, suc, 
 use Rattle.std.specs.Prelude.{find, is_some}
 use Rattle.std.specs.List.{list_any}
 use Rattle.std.specs.Option.{option_map, option_map_or}
-use Rattle.std.proofs.lemmas.List.{drop-set-lt, drop_more, get_or_default, map_push, take_all, take_more, take_more_set}
+use Rattle.std.proofs.lemmas.List.{append-nil, drop_all, drop-set-lt, drop_more, get_or_default, map_push, take_all, take_more, take_more_set}
 use Rattle.std.proofs.lemmas.List.Elements.{All-weaker}
 use Rattle.std.proofs.lemmas.List.Filters.{FiltersInPlace, FiltersInPlace-all, FiltersInPlace-more_no, FiltersInPlace-more_set}
 use Rattle.mg_heard.specs.OpenFlow.{has, is_same}
@@ -189,3 +189,10 @@ unused = record {
   flow = record { listener = 0; talker = 0; context = 0; listener_at = None; talker_at = None };
   first = record { tick = 0; date = None };
 }
+
+-- what a call leaves in all places
+pub written : (n : ℕ) (items new : List OpenInterval) → n ≡ length items → length new ≡ length items →
+    take n (new ++ drop (length new) items) ≡ new
+written n items new e long =
+    ap (take n) (ap (λ (l : List OpenInterval). new ++ l) (drop_all (length new) items (omega arith)) ∙ append-nil new)
+    ∙ take_all n new (omega arith)

@@ -1,10 +1,11 @@
 //! Intervals for the flows that are open in a core.
 
 ghost use Rattle.std.specs.Prelude.{◌≡◌, ◌≤◌, ◌<◌, ◌+◌, ◌++◌, ◌∷◌, [], length, map, take};
+ghost use Rattle.mg_rooms.specs.Consistent.{IsConsistent};
 ghost use Rattle.mg_engine.specs.Flow.{flow};
 ghost use Rattle.mg_core.specs.World.{World, StandsFor};
 ghost use Rattle.mg_heard.specs.OpenFlows.{flows_to, open_flows};
-ghost use Rattle.mg_heard.specs.aids.Opening.{beginning_at, IsRising};
+ghost use Rattle.mg_heard.specs.aids.Opening.{beginning_at};
 ghost use Rattle.mg_heard.specs.aids.Parties.{AreParties, IsParty};
 
 use crate::moment::Moment;
@@ -22,7 +23,7 @@ pub(crate) fn fill_places(places: &mut [OpenInterval], core: &Core, first: Momen
     ensures within { result ≤ FLOWS }
     ensures value { (w : World) → StandsFor core.now.state w →
         take result places.new ≡ map (beginning_at first) (open_flows w.gateway) }
-    ensures rising { (w : World) → StandsFor core.now.state w → IsRising (take result places.new) }
+    ensures consistent { IsConsistent core.now.state.engine.rooms }
 {
     let found = parties_of(core);
     let parties = found.as_slice();

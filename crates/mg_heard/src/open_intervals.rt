@@ -1,4 +1,5 @@
-ghost use Rattle.std.specs.Prelude.{◌≡◌, ◌≤◌, ◌∷◌, [], length, map, IfOk, List};
+ghost use Rattle.std.specs.Prelude.{◌≡◌, ◌≤◌, ◌∷◌, [], length, map, take, IfOk, List};
+ghost use Rattle.mg_rooms.specs.Consistent.{IsConsistent};
 ghost use Rattle.mg_core.specs.World.{World, StandsFor};
 ghost use Rattle.mg_heard.specs.Intervals.{ending};
 ghost use Rattle.mg_heard.specs.OpenFlows.{open_flows};
@@ -69,7 +70,7 @@ impl OpenIntervals {
     fn fill(&mut self, core: &Core, first: Moment)
         ensures value { (w : World) → StandsFor core.now.state w →
             self.new ≡ map (beginning_at first) (open_flows w.gateway) }
-        ensures rising { (w : World) → StandsFor core.now.state w → IsRising self.new }
+        ensures consistent { IsConsistent core.now.state.engine.rooms }
     {
         self.len = fill_places(&mut self.places, core, first);
     }
@@ -78,7 +79,7 @@ impl OpenIntervals {
     fn continue_from(&mut self, earlier: &OpenIntervals)
         ensures value { IsRising self.old → IsRising earlier.now → self.new ≡ map (continued earlier.now) self.old }
     {
-        continue_each(&mut self.places[..self.len], earlier.as_slice());
+        continue_front(&mut self.places, self.len, earlier.as_slice());
     }
 
     /// Removes the intervals whose flows are among the next ones.
@@ -86,6 +87,25 @@ impl OpenIntervals {
         ensures value { IsRising self.old → IsRising next.now →
             self.new ≡ without_flows (flows_of next.now) self.old }
     {
-        self.len = keep_ended(&mut self.places[..self.len], next.as_slice());
+        self.len = keep_front(&mut self.places, self.len, next.as_slice());
     }
+}
+
+/// Continues the intervals in the first places.
+fn continue_front(places: &mut [OpenInterval], len: usize, earlier: &[OpenInterval])
+    requires within { len ≤ length places.old }
+    ensures value { IsRising (take len places.old) → IsRising earlier.now →
+        take len places.new ≡ map (continued earlier.now) (take len places.old) }
+{
+    continue_each(&mut places[..len], earlier);
+}
+
+/// Keeps those of the intervals in the first places that have ended. Returns how many there are.
+fn keep_front(places: &mut [OpenInterval], len: usize, next: &[OpenInterval]) -> usize
+    requires within { len ≤ length places.old }
+    ensures within { result ≤ len }
+    ensures value { IsRising (take len places.old) → IsRising next.now →
+        take result places.new ≡ without_flows (flows_of next.now) (take len places.old) }
+{
+    keep_ended(&mut places[..len], next)
 }

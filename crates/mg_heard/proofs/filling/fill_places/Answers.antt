@@ -1,12 +1,11 @@
-use Rattle.std.proofs.Common.{◌≡◌, ℕ, ◌+◌, ◌<◌, ◌≤◌, List, get_or, length, take, sym, ap, subst, ◌∙◌, arith}
+use Rattle.std.proofs.Common.{◌≡◌, ℕ, ◌+◌, ◌<◌, ◌≤◌, List, get_or, length, take, sym, ap, subst, arith}
 use Rattle.std.proofs.lemmas.List.{get_or_default, length-take-le}
-use Rattle.mg_rooms.specs.Consistent.{IsConsistent}
 use Rattle.mg_rooms.specs.aids.Sound.{IsSound}
 use Rattle.mg_rooms.proofs.SoundLemmas.{sound_if}
 use Rattle.mg_heard.specs.OpenFlows.{flows_to}
 use Rattle.mg_heard.specs.aids.Parties.{AreParties}
 use Rattle.mg_heard.specs.declared.party.Party.{Party}
-use Rattle.mg_heard.proofs.FillLemmas.{filled_all, filled_more, filled_rising, nobody, to_few}
+use Rattle.mg_heard.proofs.FillLemmas.{filled_more, nobody, to_few}
 use Rattle.mg_heard.proofs.filling.fill_places.Goals as goal
 
 pub loop-listener-preserved : goal.loop-listener-preserved
@@ -40,13 +39,3 @@ loop-listener-preserved c = record {
       (get_or_default ps i p nobody there)
       (c.push_flows-count.ensures.value w stands parties (parties.each i nobody there) room) h;
 }
-
-pub returns-clause-rising : goal.returns-clause-rising
-returns-clause-rising c w stands =
-    let found = c.parties_of-found.ensures in
-    let parties = subst (λ (l : List Party). AreParties w.gateway l) (sym c.as_slice-parties.ensures.value)
-    (found.value w stands) in
-    filled_rising w.gateway c.args.first (take c.loop-listener.count c.loop-listener.places)
-    (subst IsConsistent (sym stands.gateway.rooms) found.consistent)
-    (filled_all w.gateway c.args.first (take c.loop-listener.count c.loop-listener.places) c.as_slice-parties.result.now
-    c.loop-listener.listener-index parties c.loop-listener-test.false (c.loop-listener.invariant.stored w stands))

@@ -58,9 +58,9 @@ new_rising earlier xs h =
     let R = λ (x later : OpenInterval). key_of x.flow < key_of later.flow in
     all_from_pairs R (map (continued earlier) xs) (pairs_map R R (continued earlier) xs
     (λ x y less.
-        let a = ap key_of (continued_flow earlier x) in
-        let b = ap key_of (continued_flow earlier y) in
-        omega arith)
+    let a = ap key_of (continued_flow earlier x) in
+    let b = ap key_of (continued_flow earlier y) in
+    omega arith)
     (pairs_from_all R xs h))
 
 -- ## When a flow began
@@ -122,7 +122,7 @@ unfolding begun_at
 tick_of past old now x (Some first) h tick f =
     ap (λ (m : Moment). m.tick) (sym f.begins) ∙ began_since past old f.y h f.among ∙ ap (since past) f.same
 tick_of past old now x None h tick none = elim (cases_Bool (has (newest past) x)) [
-  inl e ↦ absurd (not_newest past old x h none e)
+  | inl e ↦ absurd (not_newest past old x h none e)
   | inr e ↦ tick ∙ sym (since_none past x e)
 ]
 
@@ -177,8 +177,7 @@ advanced past now next old filled new ended tick (up, lasts) fills rising contin
     let whole = made ∙ ap (map (continued old)) fills in
     let risen = subst IsRising (sym made) (new_rising old filled rising) in
     let flows = ap flows_of whole ∙ new_flows old now next in
-    let left = removes up risen ∙ ap (λ (l : List OpenFlow). without_flows l old) flows in
-    (
+    let left = removes up risen ∙ ap (λ (l : List OpenFlow). without_flows l old) flows in (
       (risen, ap (map still_open) whole ∙ new_last past old now next lasts tick),
       ap (map (ended_at now.tick)) left ∙ rest_ended past old now.tick next lasts tick,
     )

@@ -22,9 +22,9 @@ passed_more : (other xs : List OpenInterval) (from place : ℕ) (d : OpenInterva
 passed_more other xs from place d rising within before k e above below =
     All-weaker (λ y. key_of y.flow < key_of (get_or xs place d).flow) (λ y. key_of y.flow < key_of (get_or xs k e).flow)
     (λ y less.
-        let at = ap (λ (u : OpenInterval). key_of u.flow) (get_or_default xs place d e within) in
-        let more = rising place k e (omega arith) below in
-        omega arith)
+    let at = ap (λ (u : OpenInterval). key_of u.flow) (get_or_default xs place d e within) in
+    let more = rising place k e (omega arith) below in
+    omega arith)
     (take from other) before
 
 -- ## Each interval begins with the earlier one

@@ -98,7 +98,7 @@ pushed_one w listener first start stored new ps i p x there is e same put h =
           ∙ append_assoc start (map (beginning_at first) so_far) (beginning_at first one ∷ [])
           ∙ ap (λ (l : List OpenInterval). start ++ l) (sym (map_push (beginning_at first) so_far one))
           ∙ ap (λ (l : List OpenFlow). start ++ map (beginning_at first) l)
-              (sym (from_more w listener ps i p true there is e));
+          (sym (from_more w listener ps i p true there is e));
     }
 
 -- there is a place for one more
@@ -146,9 +146,9 @@ filled_more w first stored new ps i p sound there is put h =
       is = put ∙ ap (λ (l : List OpenInterval). l ++ map (beginning_at first) flows) h.is
           ∙ sym (map-append (beginning_at first) so_far flows)
           ∙ ap (map (beginning_at first)) (
-            ap (λ (l : List OpenFlow). so_far ++ l) (sym (append-nil flows))
-                ∙ sym (flat_map-append (flows_to w) (numbers (take i ps)) (p.number ∷ []))
-                ∙ ap (flat_map (flows_to w)) (sym (numbers_more ps i p there is))
+          ap (λ (l : List OpenFlow). so_far ++ l) (sym (append-nil flows))
+          ∙ sym (flat_map-append (flows_to w) (numbers (take i ps)) (p.number ∷ []))
+          ∙ ap (flat_map (flows_to w)) (sym (numbers_more ps i p there is))
           );
       few =
           let few = h.few in
@@ -201,8 +201,8 @@ flows_rising w h =
     let up = rising w h in
     pairs_flat_map (λ a b. a < b) (λ x y. key_of x < key_of y) (flows_to w) (numbers_of w)
     (λ listener. pairs_map (λ a b. a < b) (λ x y. key_of x < key_of y) (open_flow w listener)
-        (filter (λ n. flow w n listener) (numbers_of w)) (λ x y less. omega arith)
-        (pairs_filter (λ a b. a < b) (λ n. flow w n listener) (numbers_of w) up))
+    (filter (λ n. flow w n listener) (numbers_of w)) (λ x y less. omega arith)
+    (pairs_filter (λ a b. a < b) (λ n. flow w n listener) (numbers_of w) up))
     (λ a b x y less i j. key_less w a b less x y (talker_fits w h a x i) (heard_by w x a i) (heard_by w y b j))
     up
 

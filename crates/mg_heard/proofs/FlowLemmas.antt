@@ -89,11 +89,11 @@ flows_apart w h =
     let up = rising w h in
     pairs_flat_map (λ a b. a < b) AreApart (flows_to w) (numbers_of w)
     (λ listener. pairs_map (λ a b. a < b) AreApart (open_flow w listener)
-        (filter (λ n. flow w n listener) (numbers_of w)) (λ x y less same. let e = same.0 in absurd (omega arith))
-        (pairs_filter (λ a b. a < b) (λ n. flow w n listener) (numbers_of w) up))
+    (filter (λ n. flow w n listener) (numbers_of w)) (λ x y less same. let e = same.0 in absurd (omega arith))
+    (pairs_filter (λ a b. a < b) (λ n. flow w n listener) (numbers_of w) up))
     (λ x y a b less i j same.
-        let s = same.1 in
-        let e = heard_by w a x i in
-        let k = heard_by w b y j in
-        absurd (omega arith))
+    let s = same.1 in
+    let e = heard_by w a x i in
+    let k = heard_by w b y j in
+    absurd (omega arith))
     up

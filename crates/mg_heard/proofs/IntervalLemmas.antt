@@ -1,6 +1,7 @@
 -- The intervals of a list of moments, newest first.
-use Rattle.std.proofs.Common.{◌≡◌, ◌≢◌, ℕ, ◌+◌, ◌<◌, ◌≤◌, suc, zero, not, Bool, true, false, cond, List, [], ◌∷◌, ◌++◌, length, map, Option, Some, None, refl, sym, ap, subst, ◌∙◌, inl, inr, ◌⊎◌, arith}
+use Rattle.std.proofs.Common.{◌≡◌, ◌≢◌, ℕ, ◌+◌, ◌<◌, ◌≤◌, suc, zero, not, Bool, true, false, cond, List, [], ◌∷◌, ◌++◌, length, map, replicate, Option, Some, None, refl, sym, ap, subst, ◌∙◌, inl, inr, ◌⊎◌, arith}
 use Rattle.std.specs.List.{filter}
+use Rattle.std.proofs.lemmas.List.{append-nil}
 use Rattle.std.proofs.lemmas.Bool.{cases_Bool, cases_lt, true≢false, not-true, not_from_false}
 use Rattle.mg_heard.specs.declared.open_flow.OpenFlow.{OpenFlow}
 use Rattle.mg_heard.specs.OpenFlow.{has}
@@ -42,7 +43,7 @@ since_at : (flows : List OpenFlow) (older : List (List OpenFlow)) (x : OpenFlow)
 since_at flows older x true e h = record {
   within = let w = h.within in omega arith;
   open_since = λ k from below. elim (cases_lt k (length older)) [
-    inl less ↦ inr (h.open_since k from less)
+    | inl less ↦ inr (h.open_since k from less)
     | inr more ↦ inl (omega arith, in_from_has flows x e)
   ];
   not_before = λ k is opens. let w = h.within in
@@ -128,11 +129,10 @@ pub has_ended : (past : List (List OpenFlow)) (y : Interval) → In y (ended pas
 unfolding ended
 has_ended [] y h = absurd h
 has_ended (flows ∷ older) y h = elim (in_cases y (ended older) (ending older flows) h) [
-  inl k ↦ let (end, is) = has_ended older y k in (end, ended_later flows older y end is)
+  | inl k ↦ let (end, is) = has_ended older y k in (end, ended_later flows older y end is)
   | inr k ↦ let (x, j, e) = from_map (interval_of older (Some (length older))) y
-        (filter (λ x. not (has flows x)) (newest older)) k in
-      let r = from_filter (λ x. not (has flows x)) x (newest older) j in
-      (
+      (filter (λ x. not (has flows x)) (newest older)) k in
+      let r = from_filter (λ x. not (has flows x)) x (newest older) j in (
         length older,
         subst (λ (z : Interval). HasEnded (flows ∷ older) z (length older)) (sym e)
             (ended_now flows older x r.0 (not-true (has flows x) r.1)),
@@ -187,7 +187,7 @@ told_next : (flows : List OpenFlow) (older : List (List OpenFlow)) (k : ℕ) (x 
     IsTold older k x → IsTold (flows ∷ older) k x
 told_next flows older k x below (inl h) = inl (told_more flows older k x h)
 told_next flows older k x below (inr h) = elim (cases_Bool (has flows x)) [
-  inl e ↦ inr (in_from_has flows x e, let same = since_more flows older x e in let from = h.1 in omega arith)
+  | inl e ↦ inr (in_from_has flows x e, let same = since_more flows older x e in let from = h.1 in omega arith)
   | inr e ↦ inl (told_ending flows older k x h.0 h.1 below e)
 ]
 
@@ -196,8 +196,49 @@ is_told [] k x h = absurd h
 is_told (flows ∷ older) k x (inl h) = inr (
   h.1,
   let same = since_more flows older x (has_from_in flows x h.1) in
-  let within = (is_since older x).within in
-  let e = h.0 in
-  omega arith,
+      let within = (is_since older x).within in
+      let e = h.0 in
+      omega arith,
 )
 is_told (flows ∷ older) k x (inr h) = told_next flows older k x (open_before older k x h) (is_told older k x h)
+
+-- ## Equal moments
+
+-- nothing ends where all flows stay
+none_ends : (some all : List OpenFlow) →
+    ((x : OpenFlow) → In x some → has all x ≡ true) → filter (λ x. not (has all x)) some ≡ []
+none_ends [] all h = refl
+none_ends (x ∷ some) all h = rw (h x (inl refl)) (none_ends some all (λ y i. h y (inr i)))
+
+same_ended : (flows : List OpenFlow) (past : List (List OpenFlow)) →
+    ended (flows ∷ flows ∷ past) ≡ ended (flows ∷ past)
+unfolding ended
+same_ended flows past =
+    ap (λ (l : List OpenFlow). ended (flows ∷ past) ++ map (interval_of (flows ∷ past) (Some (length (flows ∷ past)))) l)
+    (none_ends flows flows (λ x i. has_from_in flows x i)) ∙ append-nil (ended (flows ∷ past))
+
+all_last : (flows some : List OpenFlow) (past : List (List OpenFlow)) → ((x : OpenFlow) → In x some → In x flows) →
+    map (interval_of (flows ∷ flows ∷ past) None) some ≡ map (interval_of (flows ∷ past) None) some
+all_last flows [] past h = refl
+all_last flows (x ∷ some) past h =
+    let first = since_more flows (flows ∷ past) x (has_from_in flows x (h x (inl refl))) in
+    λ i. record { flow = x; first = first i; end = None } ∷ all_last flows some past (λ y j. h y (inr j)) i
+
+pub equal_moments_tell_nothing : (flows : List OpenFlow) (past : List (List OpenFlow)) (count : ℕ) →
+    (ended (replicate count flows ++ (flows ∷ past)) ≡ ended (flows ∷ past))
+    × (lasting (replicate count flows ++ (flows ∷ past)) ≡ lasting (flows ∷ past))
+equal_moments_tell_nothing flows past zero = (refl, refl)
+equal_moments_tell_nothing flows past (suc count) =
+    let rest = equal_moments_tell_nothing flows past count in
+    let one = again flows past count in
+    (one.0 ∙ rest.0, one.1 ∙ rest.1)
+  where
+    again : (flows : List OpenFlow) (past : List (List OpenFlow)) (count : ℕ) →
+        (ended (flows ∷ (replicate count flows ++ (flows ∷ past))) ≡ ended (replicate count flows ++ (flows ∷ past)))
+        × (lasting (flows ∷ (replicate count flows ++ (flows ∷ past)))
+        ≡ lasting (replicate count flows ++ (flows ∷ past)))
+    again flows past zero = (same_ended flows past, all_last flows flows past (λ x i. i))
+    again flows past (suc count) = (
+      same_ended flows (replicate count flows ++ (flows ∷ past)),
+      all_last flows flows (replicate count flows ++ (flows ∷ past)) (λ x i. i),
+    )

@@ -57,9 +57,9 @@ at_from_open (flows ∷ older) k x (inr h) = moved_back flows older k (get_or (r
 pub open_from_at : (past : List (List OpenFlow)) (k : ℕ) (x : OpenFlow) → At (reverse past) k x → IsOpen past k x
 open_from_at [] k x h = h
 open_from_at (flows ∷ older) k x h = elim (cases_order k (length older)) [
-  inl e ↦ inl (e, moved flows older k flows x (newest_at flows older k e) h)
+  | inl e ↦ inl (e, moved flows older k flows x (newest_at flows older k e) h)
   | inr r ↦ elim r [
-    inl below ↦ inr (open_from_at older k x
+    | inl below ↦ inr (open_from_at older k x
         (moved flows older k (get_or (reverse older) k []) x (older_at flows older k below) h))
     | inr above ↦ absurd (moved flows older k [] x (past_at flows older k above) h)
   ]
@@ -103,7 +103,7 @@ run_from_lasting past x h =
 
 is_run : (past : List (List OpenFlow)) (y : Interval) → In y (intervals past) → IsRun past y
 is_run past y h = elim (in_cases y (ended past) (lasting past) h) [
-  inl k ↦ let (end, is) = has_ended past y k in run_from_ended past y end is
+  | inl k ↦ let (end, is) = has_ended past y k in run_from_ended past y end is
   | inr k ↦ let (x, j, e) = from_map (interval_of past None) y (newest past) k in
       subst (λ (z : Interval). IsRun past z) (sym e) (run_from_lasting past x j)
 ]
@@ -117,7 +117,7 @@ same_interval y z a b c = λ i. record { flow = a i; first = b i; end = c i }
 same_first : (past : List (List OpenFlow)) (y : Interval) (x : OpenFlow) (first : ℕ) → IsRun past y → y.flow ≡ x →
     first ≤ y.first → ((k : ℕ) → first ≤ k → k < y.first → IsOpen past k x) → y.first ≡ first
 same_first past y x first h e under opens = elim (cases_lt first y.first) [
-  inl less ↦ absurd (h.not_before (y.first - 1) (omega arith)
+  | inl less ↦ absurd (h.not_before (y.first - 1) (omega arith)
       (subst (λ (z : OpenFlow). IsOpen past (y.first - 1) z) (sym e) (opens (y.first - 1) (omega arith) (omega arith))))
   | inr more ↦ omega arith
 ]
@@ -128,9 +128,9 @@ same_end_at : (past : List (List OpenFlow)) (y : Interval) (end : ℕ) (o : Opti
 same_end_at past y end None e h some within opens not_after = absurd (not_after (h.throughout end within
     (omega arith, subst (λ (o : Option ℕ). IfSome o (λ n. end < n)) (sym e) tt)))
 same_end_at past y end (Some other) e h some within opens not_after = elim (cases_order other end) [
-  inl same ↦ ap (λ (n : ℕ). Some n) same
+  | inl same ↦ ap (λ (n : ℕ). Some n) same
   | inr r ↦ elim r [
-    inl below ↦
+    | inl below ↦
         let after = end_at (λ n. (n < length past) × ¬ IsOpen past n y.flow) y.end other e h.not_after in
         let from = end_at (λ n. y.first < n) y.end other e h.some.1.1 in
         absurd (after.1 (opens other (omega arith) below))
@@ -153,11 +153,11 @@ told_when_ended past y h t =
     let (end, is) = has_ended past t.y t.told in
     let same : t.end ≡ end = cc (t.ends, is.ends) in
     let opens = λ (k : ℕ) (from : t.y.first ≤ k) (below : k < end).
-        subst (λ (x : OpenFlow). IsOpen past k x) t.flow (is.open_since k from below) in
+    subst (λ (x : OpenFlow). IsOpen past k x) t.flow (is.open_since k from below) in
     let below = t.below in
     let first = same_first past y y.flow t.y.first h refl t.from (λ k from less. opens k from (omega arith)) in
     let ends = same_end_at past y end y.end refl h (omega arith) is.within (λ k from less. opens k (omega arith) less)
-        (λ o. is.not_after (subst (λ (x : OpenFlow). IsOpen past end x) (sym t.flow) o)) in
+    (λ o. is.not_after (subst (λ (x : OpenFlow). IsOpen past end x) (sym t.flow) o)) in
     subst (λ (z : Interval). In z (intervals past)) (sym (same_interval y t.y (sym t.flow) first (ends ∙ sym is.ends)))
     (in_left t.y (ended past) (lasting past) t.told)
 
@@ -174,7 +174,7 @@ told_when_lasting past y h t from =
 
 is_among : (past : List (List OpenFlow)) (y : Interval) → IsRun past y → In y (intervals past)
 is_among past y h = elim (is_told past y.first y.flow (h.throughout y.first h.some.0 h.some.1)) [
-  inl t ↦ told_when_ended past y h t
+  | inl t ↦ told_when_ended past y h t
   | inr t ↦ told_when_lasting past y h t.0 t.1
 ]
 
@@ -241,7 +241,7 @@ told_at moments k x h =
     let opens = open_from_at past k x
     (subst (λ (l : List (List OpenFlow)). At l k x) (sym (reverse-reverse moments)) h) in
     elim (is_told past k x opens) [
-      inl t ↦ (
+      | inl t ↦ (
         t.y,
         in_left t.y (ended past) (lasting past) t.told,
         t.flow,

@@ -65,7 +65,7 @@ pub from_flat_map : {X Y : Type 0} (f : X → List Y) (y : Y) (xs : List X) → 
     (x : X) × In x xs × In y (f x)
 from_flat_map f y [] h = absurd h
 from_flat_map f y (z ∷ xs) h = elim (in_cases y (f z) (flat_map f xs) h) [
-  inl k ↦ (z, inl refl, k)
+  | inl k ↦ (z, inl refl, k)
   | inr k ↦ let (x, j, r) = from_flat_map f y xs k in (x, inr j, r)
 ]
 

@@ -1,7 +1,7 @@
 -- The moments of a history.
 use Rattle.std.proofs.Common.{◌≡◌, ℕ, ◌+◌, ◌<◌, ◌≤◌, suc, zero, not, Bool, true, false, cond, List, [], ◌∷◌, ◌++◌, length, get_or, map, refl, sym, ap, subst, ◌∙◌, inl, inr, ◌⊎◌, arith}
 use Rattle.std.specs.Prelude.{count_by, reverse}
-use Rattle.std.proofs.lemmas.Bool.{cases_lt}
+use Rattle.std.proofs.lemmas.Bool.{cases_lt, true≢false}
 use Rattle.std.proofs.lemmas.List.{get_or_default, reverse-append}
 use Rattle.std.proofs.lemmas.List.Sums.{sum_by-cons}
 use Rattle.mg_rooms.specs.Consistent.{IsConsistent}
@@ -15,8 +15,9 @@ use Rattle.mg_core.specs.World.{World, packets_of, start_of, with_control, world
 use Rattle.mg_core.specs.declared.event.Event.{Event}
 use Rattle.mg_core.specs.declared.event.Event.TheVariants.{Control, Media, Tick}
 use Rattle.mg_core.proofs.HeadlineLemmas.{one_event}
+use Rattle.mg_core.proofs.ReceivedLemmas.{agrees_itself}
 use Rattle.mg_core.proofs.RunLemmas.{run_both}
-use Rattle.mg_heard.specs.Laws.{IsAtTick}
+use Rattle.mg_heard.specs.Laws.{IsAtTick, OnlyControlChangesFlows}
 use Rattle.mg_heard.specs.Moments.{AreMoments}
 use Rattle.mg_heard.specs.OpenFlows.{open_flows}
 use Rattle.mg_heard.specs.declared.open_flow.OpenFlow.{OpenFlow}
@@ -113,9 +114,9 @@ in_back : (x : List OpenFlow) (xs : List (List OpenFlow)) → In x (reverse xs) 
 in_back x [] h = h
 in_back x (y ∷ xs) h = elim (in_cases x (reverse xs) (y ∷ [])
     (subst (λ (l : List (List OpenFlow)). In x l) (reverse-append (y ∷ []) xs) h)) [
-  inl k ↦ inr (in_back x xs k)
-  | inr k ↦ elim k [ inl e ↦ inl e | inr none ↦ absurd none ]
-]
+      | inl k ↦ inr (in_back x xs k)
+      | inr k ↦ elim k [ inl e ↦ inl e | inr none ↦ absurd none ]
+    ]
 
 distinct : (past : List (List OpenFlow)) → AllApart past → AreDistinct past
 distinct [] h = tt
@@ -171,7 +172,7 @@ outcomes_none events k d below = absurd (omega arith)
 pub outcomes_more : (events : List Event) (n : ℕ) (event : Event) → n < length events → event ≡ get_or events n event →
     HasOutcome event → HaveOutcomes events n → HaveOutcomes events (n + 1)
 outcomes_more events n event within is h before k d below = elim (cases_lt k n) [
-  inl less ↦ before k d less
+  | inl less ↦ before k d less
   | inr more ↦
       let last : n ≡ k = omega arith in
       subst (λ (k : ℕ). HasOutcome (get_or events k d)) last
@@ -186,3 +187,12 @@ some_moments (event ∷ events) (suc n) long h w =
     let (sent, next, step) = h 0 event (omega arith) w in
     let (others, are) = some_moments events n (omega arith) (λ k d below. h (suc k) d (omega arith)) next in
     (if_tick (is_tick event) w others, (sent, next, others, step, are, refl))
+
+-- ## Without control datagrams
+
+pub only_control_changes_flows : RtpChangesSpeechOnly → OnlyControlChangesFlows
+only_control_changes_flows agree w next (Control source bytes) sent none step = absurd (true≢false none)
+only_control_changes_flows agree w next (Media port source bytes) sent none step =
+    same_flows next w (agree w w next w (Media port source bytes ∷ []) sent [] (agrees_itself w)
+    (one_event w next (Media port source bytes) sent step) (refl, refl))
+only_control_changes_flows agree w next Tick sent none step = ap (λ (v : World). open_flows v.gateway) step.1

@@ -46,7 +46,7 @@ one_open (flows ∷ older) k x y h (inr i) (inr j) same = one_open older k x y h
 ends_before : (past : List (List OpenFlow)) (i : Interval) (end : ℕ) (y : OpenFlow) → AreDistinct past →
     HasEnded past i end → In y (newest past) → IsSamePair i.flow y → end ≤ since past y
 ends_before past i end y distinct h j same = elim (cases_lt (since past y) end) [
-  inr more ↦ more
+  | inr more ↦ more
   | inl less ↦
       let s = is_since past y in
       let some = h.some in
@@ -80,14 +80,14 @@ ended_once (flows ∷ older) h = pairs_append IsTellingOnce (ended older) (endin
     (told_once older (Some (length older)) (filter (λ x. not (has flows x)) (newest older))
     (pairs_filter AreApart (λ x. not (has flows x)) (newest older) (newest_apart older h.1)))
     (λ x y i j.
-        let (z, k, e) = from_map (interval_of older (Some (length older))) y
-        (filter (λ x. not (has flows x)) (newest older)) j in
-        subst (λ (u : Interval). IsTellingOnce x u) (sym e) (λ same. before_next older x z h.1 i
-        (from_filter (λ x. not (has flows x)) z (newest older) k).0 same))
+    let (z, k, e) = from_map (interval_of older (Some (length older))) y
+    (filter (λ x. not (has flows x)) (newest older)) j in
+    subst (λ (u : Interval). IsTellingOnce x u) (sym e) (λ same. before_next older x z h.1 i
+    (from_filter (λ x. not (has flows x)) z (newest older) k).0 same))
 
 pub intervals_once : (past : List (List OpenFlow)) → AreDistinct past → Pairs IsTellingOnce (intervals past)
 intervals_once past h = pairs_append IsTellingOnce (ended past) (lasting past) (ended_once past h)
     (told_once past None (newest past) (newest_apart past h))
     (λ x y i j.
-        let (z, k, e) = from_map (interval_of past None) y (newest past) j in
-        subst (λ (u : Interval). IsTellingOnce x u) (sym e) (λ same. before_next past x z h i k same))
+    let (z, k, e) = from_map (interval_of past None) y (newest past) j in
+    subst (λ (u : Interval). IsTellingOnce x u) (sym e) (λ same. before_next past x z h i k same))

@@ -52,7 +52,7 @@ same a b =
 pub in_from_has : (flows : List OpenFlow) (x : OpenFlow) → has flows x ≡ true → In x flows
 in_from_has [] x h = absurd (cc)
 in_from_has (y ∷ flows) x h = elim (or_cases (is_same x y) (has flows x) h) [
-  inl e ↦ inl ((same x y).0 e)
+  | inl e ↦ inl ((same x y).0 e)
   | inr e ↦ inr (in_from_has flows x e)
 ]
 

@@ -29,7 +29,8 @@ interval_of moments end x = record { flow = x; first = since moments x; end = en
 -- the intervals that end at the next moment: their flows are open in the newest one, and not in it
 abbrev pub ending : List (List OpenFlow) → List OpenFlow → List Interval
 ending moments next =
-    map (interval_of moments (Some (length moments))) (filter (λ x. not (has next x)) (newest moments))
+    map (interval_of moments (Some (length moments)))
+    (filter (λ x. not (has next x)) (newest moments))
 
 -- all intervals that have ended, in order of their ends, and those with the same end in order of
 -- listeners and talkers

@@ -1,19 +1,19 @@
 -- What the intervals say: exactly who could hear whom, and nothing twice.
-use Rattle.std.specs.Prelude.{◌≡◌, ◌↔◌, ℕ, true, List, [], ◌∷◌, ◌++◌, All, AllPairs, Any, Contains}
-use Rattle.std.specs.Prelude.{count_by, reverse}
+use Rattle.std.specs.Prelude.{◌≡◌, ◌↔◌, ℕ, true, false, List, [], ◌∷◌, ◌++◌, AllPairs, Any}
+use Rattle.std.specs.Prelude.{Contains, count_by, replicate, reverse}
 use Rattle.mg_engine.specs.declared.config.Config.{Config}
 use Rattle.mg_engine.specs.Flow.{flow}
 use Rattle.mg_core.specs.declared.event.Event.{Event}
-use Rattle.mg_core.specs.Counting.{is_tick}
+use Rattle.mg_core.specs.Counting.{is_control, is_tick}
 use Rattle.mg_core.specs.ExceptReceived.{without_rtp}
 use Rattle.mg_core.specs.Headline.{IsStart}
-use Rattle.mg_core.specs.Step.{Sent, Run}
+use Rattle.mg_core.specs.Step.{Sent, Run, Step}
 use Rattle.mg_core.specs.World.{World, start_of}
 use Rattle.mg_heard.specs.declared.open_flow.OpenFlow.{OpenFlow}
-use Rattle.mg_heard.specs.Intervals.{Interval, intervals}
+use Rattle.mg_heard.specs.Intervals.{Interval, ended, intervals, lasting}
 use Rattle.mg_heard.specs.Maximal.{IsOfPair, IsTellingOnce, LiesIn}
 use Rattle.mg_heard.specs.Moments.{AreMoments}
-use Rattle.mg_heard.specs.OpenFlows.{open_flow}
+use Rattle.mg_heard.specs.OpenFlows.{open_flow, open_flows}
 
 -- the intervals of these events on a gateway that was started with this configuration
 abbrev pub AreIntervals : Config → List Event → List Interval → Type 0
@@ -82,3 +82,19 @@ abbrev pub RtpChangesNoInterval : Type 0
 RtpChangesNoInterval =
     (config : Config) (events : List Event) (ys : List Interval)
     → AreIntervals config events ys → AreIntervals config (without_rtp events) ys
+
+-- ## Without changes
+
+-- Only control datagrams change what is open.
+abbrev pub OnlyControlChangesFlows : Type 0
+OnlyControlChangesFlows =
+    (w next : World) (event : Event) (sent : List Sent) → is_control event ≡ false
+    → Step w event sent next → open_flows next.gateway ≡ open_flows w.gateway
+
+-- Equal moments in a row end no interval, and the same intervals last. So nothing has to be looked
+-- at again until a control datagram arrives.
+abbrev pub EqualMomentsTellNothing : Type 0
+EqualMomentsTellNothing =
+    (flows : List OpenFlow) (past : List (List OpenFlow)) (count : ℕ)
+    → (ended (replicate count flows ++ flows ∷ past) ≡ ended (flows ∷ past))
+    × (lasting (replicate count flows ++ flows ∷ past) ≡ lasting (flows ∷ past))

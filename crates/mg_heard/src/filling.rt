@@ -49,7 +49,7 @@ fn push_flows(
         IsParty w.gateway listener.now →
         count + length (flows_to w.gateway listener.now.number) ≤ length places.old →
         take result places.new ≡ take count places.old
-            ++ map (beginning_at first) (flows_to w.gateway listener.now.number) }
+        ++ map (beginning_at first) (flows_to w.gateway listener.now.number) }
 {
     for talker in talkers {
         if is_open(core, talker, listener) {

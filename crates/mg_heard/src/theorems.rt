@@ -3,7 +3,7 @@
 ghost use Rattle.std.specs.Prelude.{◌≡◌, ◌↔◌, true, List};
 ghost use Rattle.mg_engine.specs.declared.config.Config.{Config};
 ghost use Rattle.mg_heard.specs.Intervals.{Interval};
-ghost use Rattle.mg_heard.specs.Laws.{AreIntervals, EventsDetermineIntervals, IntervalsTellTheFlow, IntervalsTellTheTruth, NoPairIsToldTwice, RtpChangesNoInterval};
+ghost use Rattle.mg_heard.specs.Laws.{AreIntervals, EqualMomentsTellNothing, EventsDetermineIntervals, IntervalsTellTheFlow, IntervalsTellTheTruth, NoPairIsToldTwice, OnlyControlChangesFlows, RtpChangesNoInterval};
 ghost use Rattle.mg_heard.specs.Maximal.{IntervalsAreTrueAndMaximal};
 ghost use Rattle.mg_heard.specs.OpenFlow.{is_same};
 ghost use Rattle.mg_heard.specs.declared.open_flow.OpenFlow.{OpenFlow};
@@ -55,6 +55,15 @@ pub fn no_pair_is_told_twice()
 /// A journal and a full recording of the same gateway have the same intervals.
 pub fn rtp_changes_no_interval()
     ensures theorem { RtpChangesNoInterval }
+{
+    mg_core::theorems::rtp_changes_speech_only();
+}
+
+/// Only control datagrams change what is open, and while that stays the same, no interval ends and the same intervals
+/// last.
+pub fn only_control_changes_intervals()
+    ensures flows { OnlyControlChangesFlows }
+    ensures moments { EqualMomentsTellNothing }
 {
     mg_core::theorems::rtp_changes_speech_only();
 }

@@ -21,7 +21,7 @@ returns-else-is_same-clause-value c rising before =
     let x = c.in_ok-interval.interval.now in
     let within = at.lookup.3.0 in
     let above : key_of c.args.flow.now ≤ key_of x.flow = elim c.loop-from-test.branch [
-      then-loop-from-test+else-key w ↦ omega (
+      | then-loop-from-test+else-key w ↦ omega (
         arith,
         c.key-key.ensures.value,
         key_here c.args.intervals.now c.loop-from.from w.key.result x _ at.lookup.3.1 w.key.ensures.value,

@@ -22,7 +22,7 @@ loop-place-preserved c = record {
       let passed = c.beginning_from.ensures.passed before in
       let value = c.beginning_from.ensures.value up before in
       elim c.match-beginning_from.branch [
-        in-Some w ↦ continues_first earlier old new c.match-beginning_from.intervals from next place d w.in-Some.first
+        | in-Some w ↦ continues_first earlier old new c.match-beginning_from.intervals from next place d w.in-Some.first
             rising long within passed (sym value ∙ w.in-Some.is) w.intervals-is h
         | in_default w ↦ subst (λ (l : List OpenInterval). Continues earlier old l next (place + 1)) (sym w.intervals-is)
             (continues_same earlier old new from next place d rising long within passed (sym value ∙ w.in_default.is) h)

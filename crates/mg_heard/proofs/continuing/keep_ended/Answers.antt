@@ -11,7 +11,7 @@ loop-place-preserved c = record {
   behind =
       let behind = c.loop-place.invariant.behind in
       elim c.if-is_none.branch [
-        then-is_none w ↦ omega (arith, w.kept-is, behind)
+        | then-is_none w ↦ omega (arith, w.kept-is, behind)
         | else-is_none w ↦ omega (arith, w.kept-is, behind)
       ];
   walked = λ rising up.
@@ -31,7 +31,7 @@ loop-place-preserved c = record {
       let passed = c.beginning_from.ensures.passed before in
       let value = c.beginning_from.ensures.value up before in
       elim c.if-is_none.branch [
-        then-is_none w ↦ subst (λ (n : ℕ). Keeps next old changed further n (place + 1)) (sym w.kept-is)
+        | then-is_none w ↦ subst (λ (n : ℕ). Keeps next old changed further n (place + 1)) (sym w.kept-is)
             (keeps_one next old new changed from further kept place d rising within passed
             (ap is_some (sym value) ∙ c.is_none.ensures ∙ ap not w.if-is_none.true) w.intervals-is h)
         | else-is_none w ↦ subst (λ (n : ℕ). Keeps next old changed further n (place + 1)) (sym w.kept-is)

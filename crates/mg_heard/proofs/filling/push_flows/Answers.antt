@@ -9,7 +9,7 @@ use Rattle.mg_heard.proofs.filling.push_flows.Goals.{then-is_open, else-is_open}
 pub loop-talker-preserved : goal.loop-talker-preserved
 loop-talker-preserved c = record {
   within = elim c.if-is_open.branch [
-    then-is_open v ↦ omega (arith, v.put-count.ensures.within, v.count-is, c.if-is_open.auto.places)
+    | then-is_open v ↦ omega (arith, v.put-count.ensures.within, v.count-is, c.if-is_open.auto.places)
     | else-is_open v ↦ omega (arith, c.loop-talker.invariant.within, v.count-is, c.if-is_open.auto.places)
   ];
   stored = λ w stands parties listener room.
@@ -28,7 +28,7 @@ loop-talker-preserved c = record {
       let party = parties.each i nobody there in
       let value = c.is_open.ensures.value w stands party listener in
       elim c.if-is_open.branch [
-        then-is_open v ↦
+        | then-is_open v ↦
             let flows : flow g p.number n ≡ true = sym value ∙ v.if-is_open.true in
             let long = length-take-le c.args.count c.args.places.now c.requires.within in
             let same = ap (λ (ns : List ℕ). length (flows_from g n ns)) parties.numbers in

@@ -11,5 +11,5 @@ invariant-loop-talker l = record {
   stored : (w : World) → StandsFor l.core.state w → AreParties w.gateway l.talkers → IsParty w.gateway l.listener →
       l.fn.count + length (flows_to w.gateway l.listener.number) ≤ length l.fn.places →
       HasPushed w.gateway l.listener.number l.first (take l.fn.count l.fn.places) (take l.count l.places) l.talkers
-          l.talker-index;
+      l.talker-index;
 }

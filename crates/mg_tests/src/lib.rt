@@ -10,21 +10,9 @@ mod dates;
 #[cfg(test)]
 mod engine;
 #[cfg(test)]
-mod failing_reader;
-#[cfg(test)]
-mod failing_writer;
-#[cfg(test)]
 mod flows;
 #[cfg(test)]
-mod journaled;
-#[cfg(test)]
-mod loss;
-#[cfg(test)]
 mod machine;
-#[cfg(test)]
-mod metrics;
-#[cfg(test)]
-mod recorded;
 #[cfg(test)]
 mod recording;
 #[cfg(test)]
@@ -37,7 +25,5 @@ mod rooms;
 mod scripts;
 #[cfg(test)]
 mod sdp;
-#[cfg(test)]
-mod serve;
 #[cfg(test)]
 mod text;

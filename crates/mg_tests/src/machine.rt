@@ -2,12 +2,11 @@
 
 ghost use Rattle.mg_core.specs.Parsed.{IsReadingOf};
 
-use crate::failing_reader::FailingReader;
-use crate::failing_writer::FailingWriter;
 use crate::scripts::run_script;
 use mg_core::{
     Answer, Config, Core, Counts, NoMemory, Parsed, Peer, RunFault, Shown, StartFault, TERMINATIONS,
 };
+use mg_fakes::{FailingReader, FailingWriter};
 use mg_words::ErrorNumber;
 use std::alloc::Global;
 use std::io::Cursor;

@@ -1,11 +1,11 @@
 //! Gateways that are resumed from a script.
 
-use crate::failing_reader::FailingReader;
 use crate::scripts::run_script;
 use mg_core::{
     Config, Core, Counts, DATAGRAM_LIMIT, Datagram, Event, EventLine, Follower, Peer, RunFault,
     Shown, Stopped, resume,
 };
+use mg_fakes::FailingReader;
 use std::alloc::{AllocError, Global};
 use std::io::{Cursor, Read, Write};
 use std::process::Abort;

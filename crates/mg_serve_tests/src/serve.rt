@@ -3,9 +3,8 @@
 ghost use Rattle.std.specs.Prelude.{OnOk};
 ghost use Rattle.mg_engine.specs.Config.{IsValidConfig};
 
-use crate::failing_reader::FailingReader;
-use crate::failing_writer::FailingWriter;
 use mg_clock::{ClockFailed, Watch};
+use mg_fakes::{FailingReader, FailingWriter};
 use mg_journal::{AppendFault, Durability};
 use mg_monitor::Reports;
 use mg_ports::{Arrival, Call, FakePorts, Payload, Peer, Receipt};

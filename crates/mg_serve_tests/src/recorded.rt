@@ -1,8 +1,8 @@
 //! Recorded sessions over in-memory ports, and replays of their recordings.
 
-use crate::failing_writer::FailingWriter;
 use crate::serve::{HEARTBEAT, call_log, config, core, ports};
 use mg_core::{Shown, run};
+use mg_fakes::FailingWriter;
 use mg_monitor::Reports;
 use mg_serve::{RunFault, Setup, serve};
 use std::alloc::{AllocError, Global};

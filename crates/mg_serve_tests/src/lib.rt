@@ -1,0 +1,15 @@
+//! Tests of a running gateway, its journal and its reports through their public functions.
+//!
+//! They take their events from `FakePorts`. They are not in `mg_tests`, so that the two are proved at the same time.
+#![tactic(auto)]
+
+#[cfg(test)]
+mod journaled;
+#[cfg(test)]
+mod loss;
+#[cfg(test)]
+mod metrics;
+#[cfg(test)]
+mod recorded;
+#[cfg(test)]
+mod serve;

@@ -1,10 +1,10 @@
 //! Sessions with a journal, over in-memory ports.
 
-use crate::serve::{ADD, HEARTBEAT, call_log, config, core, poll_and_ticks, ports};
+use crate::serve::{ADD, HEARTBEAT, call_log, config, poll_and_ticks, ports, serve_on};
 use mg_core::{Shown, Taken, run};
 use mg_journal::{FaultEffect, FileCall, InjectedFault, MemoryFile, Opening};
 use mg_ports::FakePorts;
-use mg_serve::{Core, Durability, JournalReport, Monitor, Setup, TickReport, serve};
+use mg_serve::{Core, Durability, JournalReport, Monitor, Setup, TickReport};
 use std::alloc::{AllocError, Global};
 use std::io::{self, ErrorKind};
 use std::test::Fail;
@@ -57,13 +57,14 @@ fn ports_for(alloc: Global, case: &Case<'_>) -> io::Result<FakePorts> {
     Ok(ports(alloc, case.waiting, case.failing)?.with_journal(journal))
 }
 
-/// Runs and records a session.
-fn session(alloc: Global, case: &Case<'_>) -> io::Result<Outcome> {
-    let config = config();
-    let core = core(alloc, config)?;
-    let mut ports = ports_for(alloc, case)?;
+/// Runs and records a session on these ports. Returns its last report.
+fn serve_journaled(
+    alloc: Global,
+    case: &Case<'_>,
+    ports: &mut FakePorts,
+    recording: &mut Vec<u8>,
+) -> JournalReport {
     let mut input = case.lines;
-    let mut recording = Vec::new(alloc);
     let mut last = LastReport {
         journal: JournalReport {
             lacking: 0,
@@ -71,28 +72,40 @@ fn session(alloc: Global, case: &Case<'_>) -> io::Result<Outcome> {
             unjournaled: 0,
         },
     };
-    let _ = serve(
+    let _ = serve_on(
         alloc,
-        &Setup::new(config, &[], false, case.journal),
-        core,
+        &Setup::new(config(), &[], false, case.journal),
         Some(b"a title".as_slice()),
-        &mut ports,
+        ports,
         &mut input,
-        &mut recording,
+        recording,
         &mut last,
     );
+    last.journal
+}
+
+/// Returns what the journal's file holds, and how many of its bytes are synced.
+fn journal_of(alloc: Global, ports: &FakePorts) -> Result<(Vec<u8>, usize), AllocError> {
     let mut text = Vec::new(alloc);
-    let mut synced = 0;
-    if let Some(file) = ports.journal_file() {
-        text.extend_from_slice(file.bytes())?;
-        synced = file.synced().len();
-    }
+    let Some(file) = ports.journal_file() else {
+        return Ok((text, 0));
+    };
+    text.extend_from_slice(file.bytes())?;
+    Ok((text, file.synced().len()))
+}
+
+/// Runs and records a session.
+fn session(alloc: Global, case: &Case<'_>) -> io::Result<Outcome> {
+    let mut ports = ports_for(alloc, case)?;
+    let mut recording = Vec::new(alloc);
+    let report = serve_journaled(alloc, case, &mut ports, &mut recording);
+    let (text, synced) = journal_of(alloc, &ports)?;
     Ok(Outcome {
         call_log: call_log(alloc, &ports)?,
         recording,
         text,
         synced,
-        report: last.journal,
+        report,
     })
 }
 

@@ -1,9 +1,9 @@
 //! Metrics, and the lines about lost packets in reports.
 
-use crate::serve::{ADD, CALLER, config, core, poll_and_ticks, ports};
+use crate::serve::{ADD, CALLER, config, poll_and_ticks, ports, serve_on};
 use mg_monitor::{Both, Metrics, Reports, Sink};
 use mg_ports::{Arrival, FakePorts, Payload, Peer};
-use mg_serve::{Setup, serve};
+use mg_serve::{Monitor, Setup};
 use std::alloc::{AllocError, Global};
 use std::cell::Cell;
 use std::io;
@@ -103,8 +103,22 @@ struct Seen {
     reports: Vec<u8>,
 }
 
-/// Runs these lines over these ports, with a report every second. Only 127.0.0.1 may send messages, and callers use
-/// symmetric RTP.
+/// Runs these lines on a new gateway. Only 127.0.0.1 may send messages, and callers use symmetric RTP.
+fn serve_watched<M: Monitor>(alloc: Global, ports: &mut FakePorts, lines: &str, monitor: &mut M) {
+    let mut input = lines.as_bytes();
+    let mut printed = Vec::new(alloc);
+    let _ = serve_on(
+        alloc,
+        &Setup::new(config(), &[[127, 0, 0, 1]], true, None),
+        None,
+        ports,
+        &mut input,
+        &mut printed,
+        monitor,
+    );
+}
+
+/// Runs these lines over these ports, with a report every second.
 fn watch<C: Clock>(
     alloc: Global,
     clock: &C,
@@ -114,8 +128,6 @@ fn watch<C: Clock>(
     let mut metrics = Vec::new(alloc);
     let mut texts = 0;
     let mut reports = Vec::new(alloc);
-    let mut input = lines.as_bytes();
-    let mut printed = Vec::new(alloc);
     {
         let sink = LastText {
             text: &mut metrics,
@@ -125,18 +137,7 @@ fn watch<C: Clock>(
             first: Reports::new(alloc, 1, &mut reports)?,
             second: Some(Metrics::start_now(alloc, clock, sink, "1.2.3")?),
         };
-        let config = config();
-        let core = core(alloc, config)?;
-        let _ = serve(
-            alloc,
-            &Setup::new(config, &[[127, 0, 0, 1]], true, None),
-            core,
-            None,
-            ports,
-            &mut input,
-            &mut printed,
-            &mut monitor,
-        );
+        serve_watched(alloc, ports, lines, &mut monitor);
     }
     Ok(Seen {
         texts,

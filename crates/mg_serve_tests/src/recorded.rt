@@ -1,10 +1,11 @@
 //! Recorded sessions over in-memory ports, and replays of their recordings.
 
-use crate::serve::{HEARTBEAT, call_log, config, core, ports};
+use crate::serve::{HEARTBEAT, call_log, config, ports, serve_on};
 use mg_core::{Shown, run};
 use mg_fakes::FailingWriter;
 use mg_monitor::Reports;
-use mg_serve::{RunFault, Setup, serve};
+use mg_ports::FakePorts;
+use mg_serve::{Counts, RunFault, Setup};
 use std::alloc::{AllocError, Global};
 use std::io::Write;
 use std::test::Fail;
@@ -19,6 +20,30 @@ struct Outcome {
     call_log: String,
 }
 
+/// Records a session of a new gateway on these ports.
+fn serve_titled<W: Write>(
+    alloc: Global,
+    title: &[u8],
+    ports: &mut FakePorts,
+    lines: &[u8],
+    writer: &mut W,
+) -> Result<Counts, RunFault> {
+    let mut reports = Vec::new(alloc);
+    let Ok(mut monitor) = Reports::new(alloc, 0, &mut reports) else {
+        return Err(RunFault::NoMemory);
+    };
+    let mut input = lines;
+    serve_on(
+        alloc,
+        &Setup::new(config(), &[], false, None),
+        Some(title),
+        ports,
+        &mut input,
+        writer,
+        &mut monitor,
+    )
+}
+
 /// Records a session of a new gateway, for which a control datagram and an RTP datagram are waiting.
 fn record<W: Write>(
     alloc: Global,
@@ -27,20 +52,7 @@ fn record<W: Write>(
     writer: &mut W,
 ) -> Result<Outcome, AllocError> {
     let mut ports = ports(alloc, &[(0, HEARTBEAT), (2, STRAY)], &[])?;
-    let mut input = lines;
-    let mut reports = Vec::new(alloc);
-    let config = config();
-    let core = core(alloc, config)?;
-    let result = serve(
-        alloc,
-        &Setup::new(config, &[], false, None),
-        core,
-        Some(title),
-        &mut ports,
-        &mut input,
-        writer,
-        &mut Reports::new(alloc, 0, &mut reports)?,
-    );
+    let result = serve_titled(alloc, title, &mut ports, lines, writer);
     let call_log = call_log(alloc, &ports)?;
     let result = match result {
         Ok(counts) => Ok(counts.sent),

@@ -8,9 +8,9 @@ use mg_fakes::{FailingReader, FailingWriter};
 use mg_journal::{AppendFault, Durability};
 use mg_monitor::Reports;
 use mg_ports::{Arrival, Call, FakePorts, Payload, Peer, Receipt};
-use mg_serve::{Config, Core, Counts, RunFault, Setup, Timing, serve, serve_by_clock};
+use mg_serve::{Config, Core, Counts, Monitor, RunFault, Setup, Timing, serve, serve_by_clock};
 use std::alloc::{AllocError, Global};
-use std::io::Cursor;
+use std::io::{Cursor, Read, Write};
 use std::test::Fail;
 use std::time::Duration;
 
@@ -36,13 +36,45 @@ pub fn config() -> Config {
 }
 
 /// Creates a gateway with this configuration, which is valid.
-pub fn core(alloc: Global, config: Config) -> Result<Core, AllocError>
+fn core(alloc: Global, config: Config) -> Result<Core, AllocError>
     ensures sound { OnOk result (IsValidConfig config) }
 {
     match Core::new(alloc, config) {
         Ok(core) => Ok(core),
         Err(_) => Err(AllocError),
     }
+}
+
+/// Runs a new gateway on these ports, driven by the lines of `input`.
+pub fn serve_on<R: Read, W: Write, M: Monitor>(
+    alloc: Global,
+    setup: &Setup<'_>,
+    title: Option<&[u8]>,
+    ports: &mut FakePorts,
+    input: &mut R,
+    output: &mut W,
+    monitor: &mut M,
+) -> Result<Counts, RunFault> {
+    let Ok(core) = core(alloc, setup.config()) else {
+        return Err(RunFault::NoMemory);
+    };
+    serve(alloc, setup, core, title, ports, input, output, monitor)
+}
+
+/// Runs a new gateway that appends a report to `reports` every `seconds` seconds; 0 disables reports.
+fn serve_reporting<R: Read, W: Write>(
+    alloc: Global,
+    setup: &Setup<'_>,
+    ports: &mut FakePorts,
+    input: &mut R,
+    output: &mut W,
+    seconds: u16,
+    reports: &mut Vec<u8>,
+) -> Result<Counts, RunFault> {
+    let Ok(mut monitor) = Reports::new(alloc, seconds, reports) else {
+        return Err(RunFault::NoMemory);
+    };
+    serve_on(alloc, setup, None, ports, input, output, &mut monitor)
 }
 
 /// Returns ports with these datagrams waiting. The calls with these numbers fail.
@@ -124,17 +156,14 @@ fn session(
     let mut input = lines;
     let mut printed = Vec::new(alloc);
     let mut reports = Vec::new(alloc);
-    let config = config();
-    let core = core(alloc, config)?;
-    let result = serve(
+    let result = serve_reporting(
         alloc,
-        &Setup::new(config, &[], false, None),
-        core,
-        None,
+        &Setup::new(config(), &[], false, None),
         &mut ports,
         &mut input,
         &mut printed,
-        &mut Reports::new(alloc, 0, &mut reports)?,
+        0,
+        &mut reports,
     );
     let call_log = call_log(alloc, &ports)?;
     Ok(Outcome {
@@ -165,17 +194,14 @@ fn loses_the_packet_whose_send_fails(rt: HostRuntime) -> Result<(), Fail> {
     let mut input: &[u8] = b"poll\ntick\ntick\nstats\nquit\n";
     let mut printed = Vec::new(alloc);
     let mut reports = Vec::new(alloc);
-    let config = config();
-    let core = core(alloc, config)?;
-    let result = serve(
+    let result = serve_reporting(
         alloc,
-        &Setup::new(config, &[], false, None),
-        core,
-        None,
+        &Setup::new(config(), &[], false, None),
         &mut ports,
         &mut input,
         &mut printed,
-        &mut Reports::new(alloc, 0, &mut reports)?,
+        0,
+        &mut reports,
     );
     assert!(rt; result.is_ok());
     let wanted: &[u8] =
@@ -330,17 +356,14 @@ fn reported(alloc: Global, seconds: u16, ticks: u64) -> Result<Vec<u8>, AllocErr
     let mut input = lines.as_bytes();
     let mut printed = Vec::new(alloc);
     let mut reports = Vec::new(alloc);
-    let config = config();
-    let core = core(alloc, config)?;
-    let _ = serve(
+    let _ = serve_reporting(
         alloc,
-        &Setup::new(config, &[], false, None),
-        core,
-        None,
+        &Setup::new(config(), &[], false, None),
         &mut ports,
         &mut input,
         &mut printed,
-        &mut Reports::new(alloc, seconds, &mut reports)?,
+        seconds,
+        &mut reports,
     );
     Ok(reports)
 }
@@ -378,17 +401,14 @@ fn ends_where_a_read_fails(rt: HostRuntime) -> Result<(), Fail> {
     };
     let mut printed = Vec::new(alloc);
     let mut reports = Vec::new(alloc);
-    let config = config();
-    let core = core(alloc, config)?;
-    let result = serve(
+    let result = serve_reporting(
         alloc,
-        &Setup::new(config, &[], false, None),
-        core,
-        None,
+        &Setup::new(config(), &[], false, None),
         &mut ports,
         &mut input,
         &mut printed,
-        &mut Reports::new(alloc, 0, &mut reports)?,
+        0,
+        &mut reports,
     );
     assert!(rt; matches!(result, Err(RunFault::Read)));
     assert_eq!(rt; call_log(alloc, &ports)?.as_str(), "n0c1n1n2");
@@ -401,17 +421,14 @@ fn call_log_with_writer(alloc: Global, calls: usize, lines: &[u8]) -> Result<Str
     let mut input = lines;
     let mut output = FailingWriter::new(alloc, 1000, calls);
     let mut reports = Vec::new(alloc);
-    let config = config();
-    let core = core(alloc, config)?;
-    let result = serve(
+    let result = serve_reporting(
         alloc,
-        &Setup::new(config, &[], false, None),
-        core,
-        None,
+        &Setup::new(config(), &[], false, None),
         &mut ports,
         &mut input,
         &mut output,
-        &mut Reports::new(alloc, 0, &mut reports)?,
+        0,
+        &mut reports,
     );
     if !matches!(result, Err(RunFault::Write)) {
         return Ok(String::new(alloc));
@@ -461,17 +478,14 @@ fn takes_messages_of_controllers_alone(rt: HostRuntime) -> Result<(), Fail> {
     let mut input = lines.as_bytes();
     let mut printed = Vec::new(alloc);
     let mut reports = Vec::new(alloc);
-    let config = config();
-    let core = core(alloc, config)?;
-    let result = serve(
+    let result = serve_reporting(
         alloc,
-        &Setup::new(config, &controllers, false, None),
-        core,
-        None,
+        &Setup::new(config(), &controllers, false, None),
         &mut ports,
         &mut input,
         &mut printed,
-        &mut Reports::new(alloc, 1, &mut reports)?,
+        1,
+        &mut reports,
     );
     assert!(rt; matches!(result, Ok(counts) if counts.control == 2 && counts.media == 1));
     assert_eq!(rt; call_log(alloc, &ports)?.as_str(), "c0c0a0c0c0a0n0c1n1n2");
@@ -503,17 +517,14 @@ fn reported_with(alloc: Global, symmetric_rtp: bool) -> Result<Vec<u8>, AllocErr
     let mut input = lines.as_bytes();
     let mut printed = Vec::new(alloc);
     let mut reports = Vec::new(alloc);
-    let config = config();
-    let core = core(alloc, config)?;
-    let _ = serve(
+    let _ = serve_reporting(
         alloc,
-        &Setup::new(config, &[], symmetric_rtp, None),
-        core,
-        None,
+        &Setup::new(config(), &[], symmetric_rtp, None),
         &mut ports,
         &mut input,
         &mut printed,
-        &mut Reports::new(alloc, 1, &mut reports)?,
+        1,
+        &mut reports,
     );
     Ok(reports)
 }
@@ -554,26 +565,35 @@ impl Watch for LateClock {
     }
 }
 
-#[test]
-fn begins_ticks_by_the_clock_until_it_fails(rt: HostRuntime) -> Result<(), Fail> {
-    let alloc = rt.alloc();
-    let mut ports = ports(alloc, &[(0, ADD)], &[])?;
-    let mut watch = LateClock { readings: 0 };
-    let mut printed = Vec::new(alloc);
-    let mut reports = Vec::new(alloc);
+/// Runs a new gateway by the late clock, without reports of its traffic.
+fn serve_late(
+    alloc: Global,
+    ports: &mut FakePorts,
+    printed: &mut Vec<u8>,
+    reports: &mut Vec<u8>,
+) -> Result<RunFault, AllocError> {
     let config = config();
     let core = core(alloc, config)?;
-    let fault = serve_by_clock(
+    Ok(serve_by_clock(
         alloc,
         &Setup::new(config, &[], false, None),
         core,
         None,
-        &mut ports,
-        &mut watch,
+        ports,
+        &mut LateClock { readings: 0 },
         1,
-        &mut printed,
-        &mut Reports::new(alloc, 0, &mut reports)?,
-    );
+        printed,
+        &mut Reports::new(alloc, 0, reports)?,
+    ))
+}
+
+#[test]
+fn begins_ticks_by_the_clock_until_it_fails(rt: HostRuntime) -> Result<(), Fail> {
+    let alloc = rt.alloc();
+    let mut ports = ports(alloc, &[(0, ADD)], &[])?;
+    let mut printed = Vec::new(alloc);
+    let mut reports = Vec::new(alloc);
+    let fault = serve_late(alloc, &mut ports, &mut printed, &mut reports)?;
     assert!(rt; matches!(fault, RunFault::Read));
     assert_eq!(rt; printed.as_slice(), b"ready\n".as_slice());
     assert_eq!(rt;

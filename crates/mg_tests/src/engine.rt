@@ -515,17 +515,37 @@ fn let_all_send(engine: &mut Engine) -> Result<(), Fail> {
     set_mode(engine, 4, Mode::SendReceive)
 }
 
+/// Skips these ticks on one engine and runs them on the other. Then both go on alike.
+fn compare_skip_with_ticks(
+    rt: &impl Abort,
+    skipped: &mut Engine,
+    ticked: &mut Engine,
+    count: u64,
+) -> Result<(), Fail> {
+    let concealed = skipped.skip(count);
+    assert_eq!(rt; concealed, tick_each(ticked, count));
+    assert_eq!(rt; concealed, u64::from(count > 4));
+    let_all_send(skipped)?;
+    let_all_send(ticked)?;
+    assert!(rt; go_on_alike(skipped, ticked));
+    Ok(())
+}
+
+/// Starts another engine with the same terminations, and compares the two.
+fn tick_another(
+    rt: &impl Abort,
+    alloc: Global,
+    skipped: &mut Engine,
+    count: u64,
+) -> Result<(), Fail> {
+    let mut ticked = engine_with_frames(alloc)?;
+    compare_skip_with_ticks(rt, skipped, &mut ticked, count)
+}
+
 /// Skipping some ticks has the same result as running them.
 fn skip_and_tick(rt: &impl Abort, alloc: Global, count: u64) -> Result<(), Fail> {
     let mut skipped = engine_with_frames(alloc)?;
-    let mut ticked = engine_with_frames(alloc)?;
-    let concealed = skipped.skip(count);
-    assert_eq!(rt; concealed, tick_each(&mut ticked, count));
-    assert_eq!(rt; concealed, u64::from(count > 4));
-    let_all_send(&mut skipped)?;
-    let_all_send(&mut ticked)?;
-    assert!(rt; go_on_alike(&mut skipped, &mut ticked));
-    Ok(())
+    tick_another(rt, alloc, &mut skipped, count)
 }
 
 #[test]

@@ -93,6 +93,29 @@ fn runs(core: &mut Core, bytes: &[u8], parsed: &Parsed, text: &[u8]) -> bool
     core.run(CONTROLLER, bytes, parsed) == Answer::Send && core.answer() == text
 }
 
+/// Runs an Add before and after a message that was read before both.
+fn run_around(
+    rt: &impl Abort,
+    alloc: Global,
+    core: &mut Core,
+    bytes: &[u8],
+    parsed: &Parsed,
+) -> Result<(), Fail>
+    requires reading { IsReadingOf bytes.now parsed.now }
+{
+    let add = Core::read(alloc, ADD)?;
+    assert!(rt; runs(core, ADD, &add, ADDED));
+    assert!(rt; runs(core, bytes, parsed, FULL_REPLY));
+    assert!(rt; runs(core, ADD, &add, ADDED));
+    Ok(())
+}
+
+/// Reads a message, and runs it later.
+fn read_then_run(rt: &impl Abort, alloc: Global, core: &mut Core) -> Result<(), Fail> {
+    let full = Core::read(alloc, FULL)?;
+    run_around(rt, alloc, core, FULL, &full)
+}
+
 /// A datagram is run when it is passed to `run`, in the world of that moment, and not when it is read.
 #[test]
 fn runs_what_was_read(rt: HostRuntime) -> Result<(), Fail> {
@@ -101,11 +124,7 @@ fn runs_what_was_read(rt: HostRuntime) -> Result<(), Fail> {
         ..Config::default()
     };
     let mut core = Core::new(rt.alloc(), one_slot)?;
-    let full = Core::read(rt.alloc(), FULL)?;
-    let add = Core::read(rt.alloc(), ADD)?;
-    assert!(rt; runs(&mut core, ADD, &add, ADDED));
-    assert!(rt; runs(&mut core, FULL, &full, FULL_REPLY));
-    assert!(rt; runs(&mut core, ADD, &add, ADDED));
+    read_then_run(&rt, rt.alloc(), &mut core)?;
     assert!(rt; has_one(&core));
     assert_eq!(rt; core.counts().control, 3);
     Ok(())

@@ -5,7 +5,7 @@
 -export([run/1, start/2, stop/1]).
 
 %% @doc Starts the application on a node of its own, with a file of configuration: `erl -run lobby_app run FILE'. Ends
-%% the node with 2 if the configuration is wrong, and with 1 if something else is.
+%% the node with 2 if the configuration is wrong or the store is a later release's, and with 1 if something else is.
 -spec run([file:filename()]) -> ok.
 run([File]) ->
     ok = application:load(lobby),
@@ -13,6 +13,8 @@ run([File]) ->
         {error, Text} -> stop(2, Text);
         ok -> case application:ensure_all_started(lobby) of
             {ok, _} -> _ = spawn(fun watch/0), ok;
+            {error, {lobby, {{shutdown, {failed_to_start_child, lobby_store, {unknown_version, Table}}}, _}}} ->
+                stop(2, io_lib:format("~s: a later release has written here. Nothing was changed", [Table]));
             {error, Reason} -> stop(1, io_lib:format("~0P", [Reason, 30]))
         end
     end.

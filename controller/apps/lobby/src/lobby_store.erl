@@ -19,12 +19,12 @@ start_link(Config) ->
 
 -spec put(table(), Key :: term(), Value :: term()) -> ok.
 put(Table, Key, Value) ->
-    mnesia:dirty_write({Table, Key, Value}).
+    mnesia:dirty_write({Table, Key, lobby_stored:pack(Value)}).
 
 -spec get(table(), Key :: term()) -> {ok, Value :: term()} | error.
 get(Table, Key) ->
     case mnesia:dirty_read(Table, Key) of
-        [{_, _, Value}] -> {ok, Value};
+        [{_, _, Stored}] -> {ok, unpack(Table, Stored)};
         [] -> error
     end.
 
@@ -34,7 +34,11 @@ delete(Table, Key) ->
 
 -spec all(table()) -> [{Key :: term(), Value :: term()}].
 all(Table) ->
-    [{Key, Value} || {_, Key, Value} <- mnesia:dirty_match_object({Table, '_', '_'})].
+    [{Key, unpack(Table, Stored)} || {_, Key, Stored} <- mnesia:dirty_match_object({Table, '_', '_'})].
+
+unpack(Table, Stored) ->
+    {ok, Value} = lobby_stored:unpack(Table, Stored),
+    Value.
 
 %% @doc Adds one to a counter.
 -spec count(Key :: term()) -> ok.
@@ -43,7 +47,7 @@ count(Key) ->
     ok.
 
 %% Leaves existing tables as they are, so a restarted process finds what it had.
--spec init(config()) -> {ok, none}.
+-spec init(config()) -> {ok, none} | {stop, lobby_stored:error()}.
 init(#{store := Store}) ->
     Copies = case Store of memory -> ram_copies; disc -> disc_copies end,
     Store =:= disc andalso on_disc(mnesia:change_table_copy_type(schema, node(), disc_copies)),
@@ -54,7 +58,15 @@ init(#{store := Store}) ->
         end
     end, ?TABLES),
     ok = mnesia:wait_for_tables(?TABLES, ?WAIT),
-    {ok, none}.
+    case unreadable() of
+        [] -> {ok, none};
+        [Reason | _] -> {stop, Reason}
+    end.
+
+%% What a later release wrote isn't touched.
+unreadable() ->
+    [Reason || Table <- ?TABLES, {_, _, Stored} <- mnesia:dirty_match_object({Table, '_', '_'}),
+               {error, Reason} <- [lobby_stored:unpack(Table, Stored)]].
 
 on_disc({atomic, ok}) -> true;
 on_disc({aborted, {already_exists, schema, _, disc_copies}}) -> true.

@@ -1,0 +1,20 @@
+-module(lobby_store_tests).
+
+-include_lib("eunit/include/eunit.hrl").
+
+%% The store isn't opened, and what is in it stays.
+what_a_later_release_wrote_test() ->
+    process_flag(trap_exit, true),
+    ok = mnesia:start(),
+    {ok, First} = lobby_store:start_link(#{store => memory}),
+    ok = lobby_store:put(lobby_rooms, <<"100">>, room),
+    ok = gen_server:stop(First),
+    {ok, Second} = lobby_store:start_link(#{store => memory}),
+    ?assertEqual({ok, room}, lobby_store:get(lobby_rooms, <<"100">>)),
+    ok = gen_server:stop(Second),
+    Later = {lobby_calls, key, {version, 1000, a_call}},
+    ok = mnesia:dirty_write(Later),
+    ?assertEqual({error, {unknown_version, lobby_calls}}, lobby_store:start_link(#{store => memory})),
+    ?assertEqual([Later], mnesia:dirty_read(lobby_calls, key)),
+    ?assertEqual({ok, room}, lobby_store:get(lobby_rooms, <<"100">>)),
+    stopped = mnesia:stop().

@@ -16,6 +16,8 @@
 %% RFC 3261, section 17: T2 is 8 times T1, and after 64 times T1 nobody waits any longer.
 -define(T2, 8 * t1()).
 -define(GIVE_UP, 64 * t1()).
+%% Milliseconds for each call, over which restored calls are spread when they are asked whether they are still there.
+-define(SPREAD, 2).
 %% A caller who offers nothing yet: he is added inactive, and the gateway sends nothing to this address.
 -define(NOWHERE, {{{0, 0, 0, 0}, 9}, pcmu}).
 
@@ -83,20 +85,23 @@ init({Room, Invite, Source}) ->
     case lobby_store:get(lobby_calls, lobby_dialog:key(Invite)) of
         {ok, #{call := Call = #call{id = Id}}} ->
             yes = lobby_registry:register_name({member, Id}, self()),
-            {ok, talking, Call, [{next_event, internal, again}]};
+            {ok, talking, Call, [{{timeout, ask}, rand:uniform(?SPREAD * lobby_store:size(lobby_calls)), again}]};
+        {ok, #{id := Id}} ->
+            {ok, starting, new, [{next_event, internal, {start, Id, Room, Invite, Source}}]};
         error ->
-            {ok, starting, new, [{next_event, internal, {start, Room, Invite, Source}}]}
+            Id = string:lowercase(binary:encode_hex(crypto:strong_rand_bytes(4))),
+            {ok, starting, new, [{next_event, internal, {start, Id, Room, Invite, Source}}]}
     end.
 
 -spec handle_event(gen_statem:event_type(), term(), state(), #call{} | new) -> gen_statem:event_handler_result(state()).
-handle_event(internal, {start, Room, Invite, Source}, starting, new) ->
-    start(Room, Invite, Source);
+handle_event(internal, {start, Id, Room, Invite, Source}, starting, new) ->
+    start(Id, Room, Invite, Source);
 %% The caller is asked whether he is still there, and told where the gateway receives him now.
-handle_event(internal, again, talking, Call = #call{id = Id, room = Room}) ->
+handle_event({timeout, ask}, again, State, Call = #call{id = Id, room = Room}) ->
     case lobby_rooms:update(Room, Id, #{}) of
-        {ok, Local} -> invite(talking, Call#call{local = Local});
-        {error, no_member} -> bye(talking, Call);
-        {error, _} -> invite(talking, Call)
+        {ok, Local} -> invite(State, Call#call{local = Local});
+        {error, no_member} -> bye(State, Call);
+        {error, _} -> invite(State, Call)
     end;
 handle_event(info, {sip, Request = #sip{type = request, method = Method}, Source}, State, Call) ->
     request(Method, Request, State, Call#call{source = Source});
@@ -141,25 +146,30 @@ handle_event(_, _, _, _) ->
 
 %%% The first INVITE.
 
-start(Room, Invite, Source) ->
+start(Id, Room, Invite, Source) ->
     Tag = lobby_sip:own_tag(Invite),
     case {lobby_dialog:new(Invite, Tag), offer(Invite), session_timer(Invite)} of
         {{error, no_contact}, _, _} -> refuse(400, [], Invite, Source);
         {_, {error, _}, _} -> refuse(488, [], Invite, Source);
         {_, _, {too_short, Headers}} -> refuse(422, Headers, Invite, Source);
         {{ok, Dialog}, Offer, _} ->
-            Id = string:lowercase(binary:encode_hex(crypto:strong_rand_bytes(4))),
             Call = heard(Offer, #call{id = Id, room = Room, dialog = Dialog, source = Source}),
-            {Media, Direction} = wanted(Call),
-            Member = lobby_conference:member(Id, <<"member">>, Media, Direction),
-            case lobby_rooms:join(Room, Id, Member) of
-                {ok, Local} ->
-                    yes = lobby_registry:register_name({member, Id}, self()),
-                    confirm(accept(Invite, keep_new(Invite, Call#call{local = Local})));
-                {error, Reason} ->
-                    refuse(status(Reason), [], Invite, Source)
-            end
+            %% Before he joins, so that a process that takes over doesn't have him join twice.
+            Kept = #{invite => Invite, id => Id, room => Room, source => Source},
+            ok = lobby_store:put(lobby_calls, lobby_dialog:key(Dialog), Kept),
+            joined(join(Call), Invite, Call)
     end.
+
+join(Call = #call{id = Id, room = Room}) ->
+    {Media, Direction} = wanted(Call),
+    lobby_rooms:join(Room, Id, lobby_conference:member(Id, <<"member">>, Media, Direction)).
+
+joined({ok, Local}, Invite, Call = #call{id = Id}) ->
+    yes = lobby_registry:register_name({member, Id}, self()),
+    confirm(accept(Invite, keep(Call#call{local = Local})));
+joined({error, Reason}, Invite, #call{dialog = Dialog, source = Source}) ->
+    ok = lobby_store:delete(lobby_calls, lobby_dialog:key(Dialog)),
+    refuse(status(Reason), [], Invite, Source).
 
 refuse(Status, Headers, Invite, Source) ->
     Response = lobby_sip_message:response(Status, Invite, lobby_sip:own_tag(Invite), {Headers, <<>>}),
@@ -388,22 +398,22 @@ response(Response = #sip{status = Status, method = Method}, State, Call = #call{
             {keep_state_and_data, [{{timeout, repeat}, infinity, none}]};
         {true, <<"INVITE">>, offering} when Status < 300 -> accepted(Response, Call);
         {true, <<"INVITE">>, offering} -> refused(Status, Response, Call);
-        %% He didn't get our ACK.
-        {true, <<"INVITE">>, _} when Status >= 200, Status < 300 -> acknowledge(Call), keep_state_and_data;
+        %% He didn't get our ACK, or this answers an INVITE that was sent before a node took over.
+        {_, <<"INVITE">>, _} when Status >= 200, Status < 300 -> acknowledge(Response, Call), keep_state_and_data;
         {true, <<"BYE">>, ending} when Status >= 200 -> stop(Call);
         {_, _, _} -> keep_state_and_data
     end.
 
 accepted(Response, Call) ->
     Call1 = refreshed(Response, Call),
-    acknowledge(Call1),
+    acknowledge(Response, Call1),
     case offer(Response) of
         {ok, Session} -> answered(Session, Call1);
         _ -> bye(talking, Call1)
     end.
 
-acknowledge(Call = #call{dialog = Dialog, source = Source}) ->
-    ok = lobby_sip:send(lobby_dialog:target(Dialog, Source), lobby_dialog:ack(own(Call), Dialog)).
+acknowledge(Response, Call = #call{dialog = Dialog, source = Source}) ->
+    ok = lobby_sip:send(lobby_dialog:target(Dialog, Source), lobby_dialog:ack(Response, own(Call), Dialog)).
 
 %% The ACK to a refusal is of the same transaction (section 17.1.1.3). If both sides invited each other, the one who
 %% doesn't own the Call-ID waits for up to 2 s (section 14.1).
@@ -425,15 +435,9 @@ quiet() -> [{{timeout, repeat}, infinity, none}, {{timeout, give_up}, infinity, 
 
 %%% What outlives this process.
 
-%% Before the call is answered.
-keep_new(Invite, Call = #call{dialog = Dialog, source = Source, room = Room}) ->
-    Kept = #{invite => Invite, room => Room, source => Source, call => Call},
-    ok = lobby_store:put(lobby_calls, lobby_dialog:key(Dialog), Kept),
-    Call.
-
 keep(Call = #call{dialog = Dialog, source = Source, room = Room}) ->
     {ok, Kept} = lobby_store:get(lobby_calls, lobby_dialog:key(Dialog)),
-    ok = lobby_store:put(lobby_calls, lobby_dialog:key(Dialog), Kept#{room := Room, source := Source, call := Call}),
+    ok = lobby_store:put(lobby_calls, lobby_dialog:key(Dialog), Kept#{room := Room, source := Source, call => Call}),
     Call.
 
 stop(#call{id = Id, room = Room, dialog = Dialog}) ->

@@ -12,7 +12,7 @@
 
 -export([new/0, member/4, join/2, leave/2, update/3, set_rules/2, take/2, give/3, drop/1, forget/1]).
 -export([next/1, done/3, audit/1, inventory/1, suspect/1]).
--export([ids/1, rules/1, context/1, find/2, local/2, flows/1]).
+-export([ids/1, rules/1, context/1, contexts/1, find/2, local/2, flows/1]).
 -export_type([conference/0, member/0, change/0, step/0, event/0, held/0]).
 
 -define(NO_FLOWS, sets:new([{version, 2}])).
@@ -139,6 +139,11 @@ rules(#conference{rules = Rules}) -> Rules.
 
 -spec context(conference()) -> lobby_h248:context() | new.
 context(#conference{context = Context}) -> Context.
+
+%% @doc The gateway's contexts that the conference knows of: its own, and those with terminations to be ended or moved.
+-spec contexts(conference()) -> [lobby_h248:context()].
+contexts(#conference{context = Context, leaving = Leaving, arriving = Arriving}) ->
+    [Context || Context =/= new] ++ [From || {From, _} <- Leaving ++ maps:values(Arriving)].
 
 %% @doc A member as the interface shows him.
 -spec find(id(), conference()) -> {ok, #{role := lobby_rules:role(), muted := boolean(), direction := direction(),

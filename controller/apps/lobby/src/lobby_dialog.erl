@@ -3,7 +3,7 @@
 
 -include_lib("p1_sip/include/esip.hrl").
 
--export([new/2, received/2, refreshed/2, request/4, ack/2, contact/1, target/2, key/1, caller/1]).
+-export([new/2, received/2, refreshed/2, request/4, ack/3, contact/1, target/2, key/1, caller/1]).
 -export_type([dialog/0, own/0]).
 
 %% The transport and the own address.
@@ -53,10 +53,10 @@ refreshed(Message, D) ->
 request(Method, Content, Own, D = #dialog{own_sequence = Sequence}) ->
     {message(Method, Sequence + 1, Content, Own, D), D#dialog{own_sequence = Sequence + 1}}.
 
-%% @doc The ACK to a 2xx response to our last INVITE (section 13.2.2.4).
--spec ack(own(), dialog()) -> lobby_sip_message:message().
-ack(Own, D = #dialog{own_sequence = Sequence}) ->
-    message(<<"ACK">>, Sequence, {[], <<>>}, Own, D).
+%% @doc The ACK to this 2xx response to an INVITE of ours (section 13.2.2.4).
+-spec ack(lobby_sip_message:message(), own(), dialog()) -> lobby_sip_message:message().
+ack(Response, Own, D) ->
+    message(<<"ACK">>, lobby_sip_message:sequence(Response), {[], <<>>}, Own, D).
 
 message(Method, Sequence, {Headers, Body}, Own = {Transport, {Address, Port}}, D) ->
     #dialog{call_id = CallId, local = Local, remote = Remote} = D,

@@ -9,15 +9,18 @@
 %%% - a gateway with a journal is awaited before it counts as lost. If it comes back and still has this termination, it
 %%%   has all others, too, and nothing was lost but time;
 %%% - if a lost gateway answers again and still has this termination, it was only out of reach. What it has of ours was
-%%%   made again elsewhere, so it is ended first.
+%%%   made again elsewhere, so it is ended first;
+%%% - if this node or another one had it before, and it still has this termination, its conferences go on. What the store
+%%%   doesn't know of is ended: contexts that no room has, and those that requests without an answer have made. These
+%%%   requests are kept before they are sent, and repeated, so that the gateway answers again.
 %%%
-%%% Each time that it serves it has a new handle, so that nobody who missed its loss commands by its old names. Members
+%%% Each time that it was lost it has a new handle, so that nobody who missed its loss commands by its old names. Members
 %%% of pg's group `{gateway, Name}' in the scope `lobby' are sent `{lobby_gateway, Handle, lost}', and those of
 %%% `waiting' are sent `{lobby_gateway, Handle, serving}'.
 -module(lobby_gateway).
 -behaviour(gen_statem).
 
--export([start_link/1, request/2, name/1, serving/0]).
+-export([start_link/1, request/2, name/1, serving/0, handles/0, keep_only/2]).
 -export([callback_mode/0, init/1, handle_event/4]).
 -export_type([name/0, handle/0, config/0, request_error/0]).
 
@@ -30,11 +33,11 @@
                     returns := non_neg_integer(), terminations := pos_integer(), contexts := pos_integer()}.
 -type request_error() :: {refused, Code :: pos_integer()} | lost | busy.
 
--type state() :: probing | cleaning | serving | away.
+-type state() :: probing | cleaning | serving | away | resuming.
 -type sentinel() :: {lobby_h248:context(), lobby_h248:termination(), Remote :: lobby_h248:endpoint()}.
 %% What a request is for: somebody else's, or our own.
 -type purpose() :: {request, gen_statem:from()} | {probe, Remote :: lobby_h248:endpoint()} | audit
-                 | {clean, lobby_h248:context()} | {unknown, lobby_h248:transaction()}.
+                 | {clean, lobby_h248:context()} | {unknown, lobby_transactions:sent()}.
 -record(data, {config :: config(), handle :: handle(), socket :: gen_udp:socket(),
                transactions :: lobby_transactions:transactions(), sentinel = none :: sentinel() | none,
                %% Since when its host only says that nobody has the port.
@@ -45,7 +48,7 @@
                terminations = #{} :: #{lobby_h248:termination() => lobby_h248:context()},
                %% Of a lost gateway: contexts to be ended, and requests that may have made some.
                contexts = [] :: [lobby_h248:context()],
-               unknown = [] :: [{lobby_h248:transaction(), lobby_h248:action()}]}).
+               unknown = [] :: [lobby_transactions:sent()]}).
 
 -spec start_link(config()) -> gen_statem:start_ret().
 start_link(Config = #{name := Name}) ->
@@ -73,6 +76,17 @@ serving() ->
     [{Handle, Load} || {Name, #{serving := {Handle, Load}}} <- lists:sort(lobby_store:all(lobby_gateways)),
                        lobby_registry:whereis_name({gateway, Name}) =/= undefined].
 
+%% @doc The handles of all gateways.
+-spec handles() -> [handle()].
+handles() ->
+    [Handle || {_, #{handle := Handle}} <- lobby_store:all(lobby_gateways)].
+
+%% @doc Ends all contexts but these, if this is still the gateway's handle. Called while nobody uses it, when rooms are
+%% started from what was kept.
+-spec keep_only(handle(), [lobby_h248:context()]) -> ok.
+keep_only(Handle = {Name, _}, Contexts) ->
+    gen_statem:cast(via(Name), {keep_only, Handle, Contexts}).
+
 -spec callback_mode() -> [handle_event_function | state_enter].
 callback_mode() ->
     [handle_event_function, state_enter].
@@ -87,22 +101,28 @@ init(Config = #{name := Name, address := {Address, Port}, here := Here}) ->
     First = 1 + erlang:system_time(100) band 16#7FFFFFFF,
     Data = #data{config = Config, handle = {Name, make_ref()}, socket = Socket,
                  transactions = lobby_transactions:new(Own, First, maps:with([retry, tries, quiet], Config))},
-    {ok, probing, kept(lobby_store:get(lobby_gateways, Name), Data)}.
+    {State, Data1} = kept(lobby_store:get(lobby_gateways, Name), lobby_store:run(), Data),
+    {ok, State, Data1}.
 
-%% What this process knew when it ended. The answers to its last requests are lost, so for the rooms the gateway is too.
-kept({ok, #{handle := Handle = {Name, _}, sentinel := Sentinel, terminations := Terminations, contexts := Contexts,
-            unknown := Unknown}}, Data) ->
-    tell({gateway, Name}, {?MODULE, Handle, lost}),
-    forget(Unknown, Data#data{sentinel = Sentinel, terminations = Terminations, contexts = Contexts});
-kept(error, Data) ->
-    Data.
+kept(error, _, Data) ->
+    {probing, Data};
+kept({ok, Kept = #{handle := Handle = {Name, _}, sentinel := Sentinel, terminations := Terminations,
+                   contexts := Contexts, unknown := Unknown}}, Run, Data) ->
+    Known = Data#data{sentinel = Sentinel, terminations = Terminations, contexts = Contexts, unknown = Unknown},
+    case {Sentinel, maps:get(run, Kept, none)} of
+        %% Rooms are waiting for answers that this process doesn't know of, so for them the gateway is lost.
+        {_, Run} -> tell({gateway, Name}, {?MODULE, Handle, lost}), {probing, forget([], Known)};
+        {none, _} -> {probing, Known};
+        {_, _} -> {resuming, Known#data{handle = Handle}}
+    end.
 
 -spec handle_event(gen_statem:event_type(), term(), state(), #data{}) -> gen_statem:event_handler_result(state()).
 handle_event(enter, _, State, Data) ->
     entered(State, keep(State, Data));
 handle_event({call, From}, {request, Handle, Action}, serving, Data = #data{handle = Handle}) ->
     submit({queued, {request, From}}, Action, serving, Data);
-handle_event({call, _}, {request, Handle, _}, away, #data{handle = Handle}) ->
+handle_event({call, _}, {request, Handle, _}, State, #data{handle = Handle})
+  when State =:= away; State =:= resuming; State =:= cleaning ->
     {keep_state_and_data, [postpone]};
 handle_event({call, From}, {request, _, _}, _, _) ->
     {keep_state_and_data, [{reply, From, {error, lost}}]};
@@ -123,15 +143,25 @@ handle_event({timeout, transactions}, expired, State, Data = #data{transactions 
     effects(lobby_transactions:expired(now_ms(), T), State, Data);
 handle_event({timeout, probe}, again, probing, Data) ->
     probe(Data);
-handle_event({timeout, probe}, again, away, Data) ->
-    submit({forever, audit}, sentinel_audit(Data), away, Data);
-handle_event(state_timeout, not_back, away, Data) ->
-    result(away, lost(not_back, Data));
+handle_event({timeout, probe}, again, State, Data) when State =:= away; State =:= resuming ->
+    submit({forever, audit}, sentinel_audit(Data), State, Data);
+handle_event(state_timeout, not_back, State, Data) ->
+    result(State, lost(not_back, Data));
 handle_event({timeout, audit}, again, serving, Data) ->
     audit(Data);
 handle_event({timeout, clean}, again, cleaning, Data) ->
     clean(Data);
 handle_event({timeout, _}, again, _, _) ->
+    keep_state_and_data;
+handle_event(cast, {keep_only, Handle, Contexts}, State, Data = #data{handle = Handle, terminations = Terminations}) ->
+    Strays = lists:usort(maps:values(Terminations)) -- Contexts,
+    Ended = Data#data{terminations = maps:filter(fun(_, Context) -> not lists:member(Context, Strays) end, Terminations),
+                      contexts = lists:usort(Strays ++ Data#data.contexts)},
+    result(State, case State of
+        serving -> lists:foldl(fun end_context/2, {serving, Ended, []}, Strays);
+        _ -> {State, Ended, []}
+    end);
+handle_event(cast, {keep_only, _, _}, _, _) ->
     keep_state_and_data;
 handle_event(info, _, _, _) ->
     keep_state_and_data.
@@ -144,6 +174,8 @@ entered(cleaning, Data) ->
     {keep_state, Data, [{{timeout, clean}, 0, again}]};
 entered(away, Data = #data{config = #{returns := Returns}}) ->
     {keep_state, Data, [{state_timeout, Returns, not_back}, {{timeout, probe}, 0, again}]};
+entered(resuming, Data = #data{config = #{returns := Returns, retry := Retry, tries := Tries}}) ->
+    {keep_state, Data, [{state_timeout, max(Returns, Retry * Tries), not_back}, {{timeout, probe}, 0, again}]};
 entered(serving, Data = #data{config = #{name := Name, audit := Interval}, handle = Handle}) ->
     logger:notice("gateway ~p serves", [Name]),
     ok = lobby_events:publish({gateway, Name, serving}),
@@ -171,8 +203,8 @@ rand(N) ->
 clean(Data = #data{contexts = [], unknown = []}) ->
     {next_state, serving, Data};
 clean(Data = #data{contexts = Contexts, unknown = Unknown}) ->
-    Repeated = lists:foldl(fun(Request, Acc) ->
-        sent(fun(T) -> lobby_transactions:resubmit(Request, {unknown, element(1, Request)}, now_ms(), T) end, Acc)
+    Repeated = lists:foldl(fun(Sent, Acc) ->
+        sent(fun(T) -> lobby_transactions:resubmit(Sent, {unknown, Sent}, now_ms(), T) end, Acc)
     end, {cleaning, Data, []}, Unknown),
     result(cleaning, lists:foldl(fun end_context/2, Repeated, Contexts)).
 
@@ -208,7 +240,7 @@ lost(Why, Data = #data{config = #{name := Name}, handle = Handle, transactions =
 
 %% The rooms have forgotten it: all of it is to be ended.
 forget(Abandoned, Data = #data{terminations = Terminations, contexts = Contexts, unknown = Unknown}) ->
-    Making = [Request || Request = {_, #{context := new}} <- Abandoned],
+    Making = [Sent || Sent = {_, _, #{context := new}} <- Abandoned],
     Data#data{terminations = #{}, contexts = lists:usort(maps:values(Terminations) ++ Contexts),
               unknown = lists:usort(Making ++ Unknown)}.
 
@@ -229,10 +261,16 @@ received({error, not_understood}, _, #data{config = #{name := Name}}) ->
 effects(Effects, State, Data) ->
     result(State, sent(fun(_) -> Effects end, {State, Data, []})).
 
-%% Does something with the transactions, and what follows from it.
+%% Does something with the transactions, and what follows from it. A request that makes a context is kept before it is
+%% sent.
 sent(Change, {State, Data = #data{transactions = T}, Actions}) ->
     {Effects, T1} = Change(T),
-    lists:foldl(fun effect/2, {State, Data#data{transactions = T1}, Actions}, Effects).
+    Data1 = Data#data{transactions = T1},
+    Kept = case lobby_transactions:making(T1) -- lobby_transactions:making(T) of
+        [] -> Data1;
+        _ -> keep(State, Data1)
+    end,
+    lists:foldl(fun effect/2, {State, Kept, Actions}, Effects).
 
 effect({send, Message}, Acc = {_, #data{socket = Socket}, _}) ->
     %% What can't be sent is repeated, like what is lost on the way.
@@ -269,7 +307,7 @@ answered({request, From = {Pid, _}}, #{context := Context}, Reply, State, Data) 
         {_, _, {error, Code}} -> {State, Data1, [{reply, From, {error, {refused, Code}}}]}
     end;
 answered({probe, Remote}, _, {ok, #{context := Context, results := [{add, T, #{}}]}}, probing, Data) ->
-    {serving, Data#data{sentinel = {Context, T, Remote}, contexts = [], unknown = []}, []};
+    {cleaning, Data#data{sentinel = {Context, T, Remote}}, []};
 answered({probe, _}, _, Reply, probing, Data = #data{config = #{name := Name}}) ->
     logger:warning("gateway ~p refuses an Add: ~0p", [Name, Reply]),
     {probing, Data, [{{timeout, probe}, 1000, again}]};
@@ -278,13 +316,13 @@ answered(audit, _, Reply, State, Data = #data{config = #{audit := Interval}}) ->
         {true, serving} -> {serving, Data, [{{timeout, audit}, Interval, again}]};
         {true, away} -> returned(Data);
         {true, _} -> {cleaning, Data, []};
-        {false, Had} when Had =:= serving; Had =:= away -> begun_anew(lost(begun_anew, Data));
+        {false, Had} when Had =:= serving; Had =:= away; Had =:= resuming -> begun_anew(lost(begun_anew, Data));
         {false, _} -> begun_anew({probing, Data, [{{timeout, probe}, 0, again}]})
     end;
 answered({clean, Context}, _, _, State, Data = #data{contexts = Contexts}) ->
     cleaned(State, keep(State, Data#data{contexts = lists:delete(Context, Contexts)}));
-answered({unknown, Number}, _, Reply, State, Data = #data{unknown = Unknown, contexts = Contexts}) ->
-    Data1 = Data#data{unknown = lists:keydelete(Number, 1, Unknown)},
+answered({unknown, Sent}, _, Reply, State, Data = #data{unknown = Unknown, contexts = Contexts}) ->
+    Data1 = Data#data{unknown = lists:delete(Sent, Unknown)},
     case Reply of
         {ok, #{context := Context}} when is_integer(Context) ->
             end_context(Context, {State, Data1#data{contexts = [Context | Contexts]}, []});
@@ -317,9 +355,10 @@ note({subtract, T, #{}}, _, Terminations) -> maps:remove(T, Terminations);
 note(_, _, Terminations) -> Terminations.
 
 %% For placement, and for a process that takes over.
-keep(State, Data = #data{config = #{name := Name}}) ->
-    Kept = #{handle => Data#data.handle, sentinel => Data#data.sentinel, terminations => Data#data.terminations,
-             contexts => Data#data.contexts, unknown => Data#data.unknown},
+keep(State, Data = #data{config = #{name := Name}, unknown = Unknown, transactions = T}) ->
+    Kept = #{run => lobby_store:run(), handle => Data#data.handle, sentinel => Data#data.sentinel,
+             terminations => Data#data.terminations, contexts => Data#data.contexts,
+             unknown => lists:usort(Unknown ++ lobby_transactions:making(T))},
     ok = lobby_store:put(lobby_gateways, Name, case State of
         serving -> Kept#{serving => {Data#data.handle, used(Data)}};
         _ -> Kept

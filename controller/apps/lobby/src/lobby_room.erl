@@ -8,7 +8,7 @@
 -behaviour(gen_server).
 
 -export([start_link/1, keep/1, let_go/1, lock/2, join/3, leave/2, update/3, add_rules/2, set_rules/2, take/2, give/3,
-         describe/1, audit/1]).
+         describe/1, audit/1, kept/0]).
 -export([init/1, handle_continue/2, handle_call/3, handle_cast/2, handle_info/2]).
 -export_type([name/0, error/0, description/0]).
 
@@ -105,6 +105,11 @@ describe(Name) ->
 -spec audit(name()) -> same | repaired | unknown.
 audit(Name) ->
     call(Name, audit).
+
+%% @doc The rooms that the store has, with their gateways and the contexts there.
+-spec kept() -> [{name(), lobby_gateway:handle() | none, [lobby_h248:context()]}].
+kept() ->
+    [{Name, Gateway, lobby_conference:contexts(C)} || {Name, {C, Gateway, _, _}} <- lobby_store:all(lobby_rooms)].
 
 %% A gateway answers or is lost within a second, and a large conference takes many requests.
 call(Name, Request) ->

@@ -64,10 +64,15 @@ move(Id, From, To) ->
 names() ->
     lists:sort([Name || {Name, _} <- lobby_store:all(lobby_rooms)]).
 
-%% @doc Starts the rooms that were kept. Called by the supervisor.
+%% @doc Starts the rooms that were kept. What a gateway has for no room is ended. Called by the supervisor.
 -spec restore() -> ignore.
 restore() ->
-    lists:foreach(fun(Name) -> ok = start(Name) end, names()),
+    Kept = lobby_room:kept(),
+    Used = maps:groups_from_list(fun({_, Gateway, _}) -> Gateway end, fun({_, _, Contexts}) -> Contexts end, Kept),
+    lists:foreach(fun(Gateway) ->
+        lobby_gateway:keep_only(Gateway, lists:append(maps:get(Gateway, Used, [])))
+    end, lobby_gateway:handles()),
+    lists:foreach(fun({Name, _, _}) -> ok = start(Name) end, Kept),
     ignore.
 
 %% A room that ends, because it is empty or because it fails, is started again.

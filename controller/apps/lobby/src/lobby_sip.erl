@@ -77,11 +77,14 @@ open(Own = {Address, Port}, Tries) ->
         Opened -> Opened
     end.
 
-%% It stays for the node's life, so that tags stay as they are when this process is started again.
+%% It is kept, so that tags and nonces stay as they are when this process is started again, or a node takes over.
 secret() ->
-    case persistent_term:get(?MODULE, none) of
-        {_, _, Secret} -> Secret;
-        none -> crypto:strong_rand_bytes(32)
+    case lobby_store:get(lobby_settings, secret) of
+        {ok, Secret} -> Secret;
+        error ->
+            Secret = crypto:strong_rand_bytes(32),
+            ok = lobby_store:put(lobby_settings, secret, Secret),
+            Secret
     end.
 
 address(Source) ->

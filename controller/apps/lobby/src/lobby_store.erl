@@ -3,14 +3,15 @@
 -module(lobby_store).
 -behaviour(gen_server).
 
--export([start_link/1, put/3, get/2, delete/2, all/1, count/1]).
+-export([start_link/1, put/3, get/2, delete/2, all/1, size/1, count/1, run/0]).
 -export([init/1, handle_call/3, handle_cast/2]).
--export_type([table/0, config/0]).
+-export_type([table/0, config/0, run/0]).
 
--type table() :: lobby_rooms | lobby_gateways | lobby_calls | lobby_counters.
+-type table() :: lobby_rooms | lobby_gateways | lobby_calls | lobby_counters | lobby_settings.
+-opaque run() :: reference().
 %% `disc': mnesia's folder (its `dir') has the tables, too.
 -type config() :: #{store := memory | disc}.
--define(TABLES, [lobby_rooms, lobby_gateways, lobby_calls, lobby_counters]).
+-define(TABLES, [lobby_rooms, lobby_gateways, lobby_calls, lobby_counters, lobby_settings]).
 -define(WAIT, 30000).
 
 -spec start_link(config()) -> gen_server:start_ret().
@@ -40,15 +41,25 @@ unpack(Table, Stored) ->
     {ok, Value} = lobby_stored:unpack(Table, Stored),
     Value.
 
+-spec size(table()) -> non_neg_integer().
+size(Table) ->
+    mnesia:table_info(Table, size).
+
 %% @doc Adds one to a counter.
 -spec count(Key :: term()) -> ok.
 count(Key) ->
     _ = mnesia:dirty_update_counter(lobby_counters, Key, 1),
     ok.
 
+%% @doc The application's run on this node. What another run kept was known to processes that are no more.
+-spec run() -> run().
+run() ->
+    persistent_term:get(?MODULE).
+
 %% Leaves existing tables as they are, so a restarted process finds what it had.
 -spec init(config()) -> {ok, none} | {stop, lobby_stored:error()}.
 init(#{store := Store}) ->
+    ok = persistent_term:put(?MODULE, make_ref()),
     Copies = case Store of memory -> ram_copies; disc -> disc_copies end,
     Store =:= disc andalso on_disc(mnesia:change_table_copy_type(schema, node(), disc_copies)),
     lists:foreach(fun(Table) ->

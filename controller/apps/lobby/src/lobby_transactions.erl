@@ -6,8 +6,8 @@
 %%% reply was acknowledged. So an acknowledgement follows only after a quiet time, in which no copy can be under way.
 -module(lobby_transactions).
 
--export([new/3, submit/4, resubmit/4, received/4, expired/2, deadline/1, hold/1, resume/2, abandon/1]).
--export_type([transactions/0, options/0, effect/1, reply/0]).
+-export([new/3, submit/4, resubmit/4, received/4, expired/2, deadline/1, hold/1, resume/2, abandon/1, making/1]).
+-export_type([transactions/0, options/0, effect/1, reply/0, sent/0]).
 
 %% Half of the 32 replies that a gateway keeps for all its controllers.
 -define(WINDOW, 16).
@@ -21,8 +21,11 @@
 -type effect(From) :: {send, binary()} | {answer, From, lobby_h248:action(), reply()} | {refuse, From, busy}
                     | no_answer.
 
--record(request, {from :: term(), action :: lobby_h248:action(), message :: binary(), again :: milliseconds(),
-                  left :: non_neg_integer() | infinity}).
+%% A request that was sent, and under which names: the gateway takes it for a repetition if both are the same.
+-type sent() :: {Sender :: lobby_h248:endpoint(), lobby_h248:transaction(), lobby_h248:action()}.
+
+-record(request, {from :: term(), sender :: lobby_h248:endpoint(), action :: lobby_h248:action(), message :: binary(),
+                  again :: milliseconds(), left :: non_neg_integer() | infinity}).
 -record(transactions, {sender :: lobby_h248:endpoint(), options :: options(), next :: lobby_h248:transaction(),
                        open = #{} :: #{lobby_h248:transaction() => #request{}},
                        waiting = queue:new() :: queue:queue({term(), lobby_h248:action(), pos_integer() | infinity}),
@@ -50,17 +53,16 @@ submit({Kind, From}, Action, Now, T = #transactions{waiting = Waiting, options =
     Left = case Kind of urgent -> Tries; forever -> infinity end,
     flush(Now, T#transactions{waiting = queue:in_r({From, Action, Left}, Waiting)}).
 
-%% @doc Repeats an abandoned request under its number, so that it isn't run twice.
--spec resubmit({lobby_h248:transaction(), lobby_h248:action()}, From, milliseconds(), transactions()) ->
-          {[effect(From)], transactions()}.
-resubmit({Number, Action}, From, Now, T = #transactions{options = #{tries := Tries}}) ->
-    send(Number, From, Action, Tries, Now, T).
+%% @doc Repeats an abandoned request under its names, so that it isn't run twice.
+-spec resubmit(sent(), From, milliseconds(), transactions()) -> {[effect(From)], transactions()}.
+resubmit(Sent, From, Now, T = #transactions{options = #{tries := Tries}}) ->
+    send(Sent, From, Tries, Now, T).
 
-flush(Now, T = #transactions{open = Open, waiting = Waiting, next = Number}) ->
+flush(Now, T = #transactions{sender = Sender, open = Open, waiting = Waiting, next = Number}) ->
     case {queue:out(Waiting), Number - lists:min([Number | maps:keys(Open)]) < ?WINDOW} of
         {{{value, {From, Action, Left}}, Rest}, true} ->
             Next = T#transactions{waiting = Rest, next = following(Number)},
-            {Sent, T1} = send(Number, From, Action, Left, Now, Next),
+            {Sent, T1} = send({Sender, Number, Action}, From, Left, Now, Next),
             {Effects, T2} = flush(Now, T1),
             {Sent ++ Effects, T2};
         _ ->
@@ -70,9 +72,10 @@ flush(Now, T = #transactions{open = Open, waiting = Waiting, next = Number}) ->
 following(16#FFFFFFFF) -> 1;
 following(Number) -> Number + 1.
 
-send(Number, From, Action, Left, Now, T = #transactions{sender = Sender, open = Open, options = #{retry := Retry}}) ->
+send({Sender, Number, Action}, From, Left, Now, T = #transactions{open = Open, options = #{retry := Retry}}) ->
     Message = lobby_h248:request(Sender, Number, Action),
-    Request = #request{from = From, action = Action, message = Message, again = Now + Retry, left = less(Left)},
+    Request = #request{from = From, sender = Sender, action = Action, message = Message, again = Now + Retry,
+                       left = less(Left)},
     {[{send, Message}], T#transactions{open = Open#{Number => Request}}}.
 
 less(infinity) -> infinity;
@@ -137,10 +140,20 @@ resume(Now, T = #transactions{held = {Held, Waiting}, options = #{tries := Tries
     {Sent ++ More, T2}.
 
 %% @doc Gives up all requests: who waits for an answer, and what may have been run without our knowledge.
--spec abandon(transactions()) -> {[From :: term()], [{lobby_h248:transaction(), lobby_h248:action()}], transactions()}.
+-spec abandon(transactions()) -> {[From :: term()], [sent()], transactions()}.
 abandon(T = #transactions{held = {Held, Later}, open = Open, waiting = Waiting}) ->
     abandon(T#transactions{held = none, open = maps:merge(Held, Open), waiting = queue:join(Later, Waiting)});
 abandon(T = #transactions{open = Open, waiting = Waiting}) ->
     Froms = [From || #request{from = From} <- maps:values(Open)] ++ [From || {From, _, _} <- queue:to_list(Waiting)],
-    {Froms, [{Number, Action} || {Number, #request{action = Action}} <- maps:to_list(Open)],
-     T#transactions{open = #{}, waiting = queue:new()}}.
+    {Froms, sent(Open), T#transactions{open = #{}, waiting = queue:new()}}.
+
+%% @doc The requests without an answer that make a context, if they are run.
+-spec making(transactions()) -> [sent()].
+making(#transactions{held = {Held, _}, open = Open}) -> making_of(maps:merge(Held, Open));
+making(#transactions{open = Open}) -> making_of(Open).
+
+making_of(Open) ->
+    [Sent || Sent = {_, _, #{context := new}} <- sent(Open)].
+
+sent(Open) ->
+    [{Sender, Number, Action} || {Number, #request{sender = Sender, action = Action}} <- maps:to_list(Open)].

@@ -10,7 +10,7 @@ all() ->
     [a_call, callers_hear_each_other, a_repeated_invite_has_the_same_answer, the_answer_is_repeated_until_the_ack,
      without_an_ack_the_call_ends, hold_and_resume, hold_by_update, streams_are_declined, an_offer_that_comes_late, cancel_and_options,
      session_timers, who_is_silent_is_asked, requests_that_are_refused, limits, addresses_that_may_call, passwords, a_lost_gateway_is_replaced, sixty_callers_hear_each_other_again, our_invite_is_repeated_and_acknowledged, both_invite_at_once,
-     who_vanished_is_removed, who_refuses_our_invite_is_hung_up, hung_up_and_moved, addresses_of_ipv6, routes, a_call_that_starts_again_knows_its_place, processes_fail, the_node_fails, garbage,
+     who_vanished_is_removed, who_refuses_our_invite_is_hung_up, hung_up_and_moved, addresses_of_ipv6, routes, a_call_that_starts_again_knows_its_place, a_call_that_fails_while_it_joins, an_answer_that_comes_after_a_failure, processes_fail, the_node_fails, garbage,
      over_tcp, connections_are_limited, answers_are_quick, sipp, baresips].
 
 init_per_testcase(Case, Config) ->
@@ -491,8 +491,9 @@ the_node_fails(Config) ->
     end,
     First = Start(),
     ok = peer:call(First, lobby_rooms, create, [<<"100">>, lobby_rules:preset(lecture)]),
-    {Phone, _} = call(Config),
-    {Other, _} = call(Config),
+    {Phone, RP} = call(Config),
+    {Other, RO} = call(Config),
+    Context = maps:get(context, peer:call(First, lobby_room, describe, [<<"100">>])),
     %% What was written is on the disc a little later.
     timer:sleep(4000),
     Pid = peer:call(First, os, getpid, []),
@@ -501,12 +502,13 @@ the_node_fails(Config) ->
     Second = Start(),
     [begin
          Invite = phone:recv(P, 3000),
-         ?assertEqual("INVITE", phone:status(Invite)),
+         ?assertEqual({"INVITE", local(R)}, {phone:status(Invite), local(Invite)}),
          phone:answer(200, Invite, phone:sdp(P), P),
          ?assertEqual("ACK", phone:status(phone:recv(P)))
-     end || P <- [Phone, Other]],
-    #{members := Members, rules := Rules} = peer:call(Second, lobby_room, describe, [<<"100">>]),
-    ?assertEqual({2, lobby_rules:preset(lecture)}, {map_size(Members), Rules}),
+     end || {P, R} <- [{Phone, RP}, {Other, RO}]],
+    %% The conference goes on.
+    #{members := Members, rules := Rules, context := Now} = peer:call(Second, lobby_room, describe, [<<"100">>]),
+    ?assertEqual({2, lobby_rules:preset(lecture), Context}, {map_size(Members), Rules, Now}),
     %% Our own context, and the room's.
     ?assertEqual(2, length(gateway:contexts(lists:seq(1, 60), Gateway))),
     hang_up(Phone),
@@ -534,6 +536,48 @@ a_call_that_starts_again_knows_its_place(Config) ->
     {ok, {Now, _}} = lobby_room:update(<<"100">>, Id, #{}),
     ?assertEqual(Now, local(Invite)),
     phone:answer(200, Invite, phone:sdp(Phone), Phone).
+
+%% He joins once, and is answered although he asks once.
+a_call_that_fails_while_it_joins(Config) ->
+    {_, _} = call(Config),
+    Room = lobby_registry:whereis_name({room, <<"100">>}),
+    ok = sys:suspend(Room),
+    Phone = phone:start(sip(Config)),
+    Phone1 = phone:invite(phone:sdp(Phone), Phone),
+    Joins = fun(N) -> lobby_case:until(fun() -> process_info(Room, message_queue_len) >= {message_queue_len, N} end) end,
+    Joins(1),
+    [Pid] = [P || {_, P, _, _} <- supervisor:which_children(lobby_call_sup), process_info(P, status) =:= {status, waiting},
+                  element(1, sys_state(P)) =:= busy],
+    exit(Pid, kill),
+    Joins(2),
+    ok = sys:resume(Room),
+    Response = phone:recv(Phone1),
+    ?assertEqual(200, phone:status(Response)),
+    ?assertEqual(2, length(members(<<"100">>))),
+    Phone2 = phone:learn(Response, Phone1),
+    phone:ack(Phone2),
+    hang_up(Phone2),
+    lobby_case:until(fun() -> length(members(<<"100">>)) =:= 1 end).
+
+%% A call that waits for its room can't tell its state.
+sys_state(Pid) ->
+    try {idle, sys:get_state(Pid, 100)} catch exit:{timeout, _} -> {busy, none} end.
+
+%% It's acknowledged, or the phone would hang up.
+an_answer_that_comes_after_a_failure(Config) ->
+    {Phone, Invite} = our_invite(Config),
+    [Pid] = [P || {_, P, _, _} <- supervisor:which_children(lobby_call_sup)],
+    exit(Pid, kill),
+    Again = next_number("2 INVITE", Phone),
+    phone:answer(200, Invite, phone:sdp(Phone), Phone),
+    ?assertEqual("1 ACK", phone:header("CSeq", next(["INVITE"], Phone))),
+    phone:answer(200, Again, phone:sdp(Phone), Phone),
+    ?assertEqual("2 ACK", phone:header("CSeq", next(["INVITE"], Phone))),
+    hang_up(Phone).
+
+next_number(Number, Phone) ->
+    Text = phone:recv(Phone),
+    case phone:header("CSeq", Text) of Number -> Text; _ -> next_number(Number, Phone) end.
 
 processes_fail(Config) ->
     {Phone, _} = call(Config),

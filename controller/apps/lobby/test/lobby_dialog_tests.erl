@@ -45,8 +45,11 @@ a_strict_route_is_the_uri() ->
     ?assert(lists:member(<<"Route: <sip:10.0.0.2;lr>, <sip:alice@10.0.0.5:5070>">>, lines(Request))).
 
 the_ack_has_the_number_of_its_invite() ->
+    %% Even if another request was sent after it.
     {_, Dialog} = lobby_dialog:request(<<"INVITE">>, {[], <<>>}, ?OWN, dialog([])),
-    ?assert(lists:member(<<"CSeq: 1 ACK">>, lines(lobby_dialog:ack(?OWN, Dialog)))).
+    {_, Later} = lobby_dialog:request(<<"BYE">>, {[], <<>>}, ?OWN, Dialog),
+    Response = (invite([]))#sip{type = response, hdrs = [{cseq, 1}]},
+    ?assert(lists:member(<<"CSeq: 1 ACK">>, lines(lobby_dialog:ack(Response, ?OWN, Later)))).
 
 requests_are_told_apart_by_number() ->
     Numbered = fun(N) -> (invite([]))#sip{hdrs = [{cseq, N}]} end,

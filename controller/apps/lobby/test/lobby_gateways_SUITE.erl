@@ -12,7 +12,7 @@ all() ->
      one_that_begins_with_the_same_numbers_is_noticed, one_that_was_out_of_reach_is_cleaned,
      a_room_waits_for_a_gateway, one_with_a_journal_comes_back, one_that_comes_back_soon_is_not_missed, one_that_comes_back_soon_is_seen,
      requests_wait_for_one_with_a_journal, one_that_does_not_come_back_is_replaced, one_that_lost_its_journal_is_noticed,
-     one_that_comes_back_with_less_is_corrected, processes_fail, a_room_fails_in_the_middle_of_a_request,
+     one_that_comes_back_with_less_is_corrected, another_run_takes_over, one_that_began_anew_between_two_runs, processes_fail, a_room_fails_in_the_middle_of_a_request,
      somebody_else_changes_the_topology, lost_and_doubled_datagrams, anything_for_some_seconds].
 
 init_per_testcase(_, Config) ->
@@ -405,6 +405,43 @@ one_that_comes_back_with_less_is_corrected(Config) ->
     ?assertEqual(2, length(gateway:contexts(lists:seq(1, 60), G))).
 
 %% Each process of ours is killed in turn. The rooms stay, nothing is left over on the gateway, and the rules hold.
+%% The controller ends while a request that makes a context is under way, and one room is lost. The next run goes on with
+%% the other conference, and ends the rest.
+another_run_takes_over(_) ->
+    G = gateway:start(),
+    run([{<<"a">>, G}]),
+    ok = lobby_rooms:create(<<"100">>, lobby_rules:isolate({member, bob})),
+    Before = [join(<<"100">>, Id, <<"member">>) || Id <- [alice, bob, carol]],
+    _ = join(<<"200">>, dave, <<"member">>),
+    #{context := Context} = lobby_room:describe(<<"100">>),
+    gateway:stop(G),
+    Joining = spawn(fun() -> lobby_rooms:join(<<"300">>, erin, lobby_conference:member(erin, <<"member">>, media(40000), sendrecv)) end),
+    lobby_case:until(fun() -> [{_, #{unknown := Unknown}}] = lobby_store:all(lobby_gateways), length(Unknown) =:= 1 end),
+    exit(Joining, kill),
+    ok = application:stop(lobby),
+    [ok = lobby_store:delete(lobby_rooms, Room) || Room <- [<<"200">>, <<"300">>]],
+    gateway:continue(G),
+    timer:sleep(500),
+    %% Not more: the gateway keeps 32 replies.
+    ?assertEqual([2, 3, 4], gateway:contexts([2, 3, 4], G)),
+    run([{<<"a">>, G}]),
+    ?assertEqual(lists:sort([Context, sentinel(G)]), gateway:contexts(lists:seq(1, 60), G)),
+    ?assertMatch(#{context := Context}, lobby_room:describe(<<"100">>)),
+    ?assertEqual([{alice, carol}, {carol, alice}], heard(<<"100">>, #{<<"a">> => G})),
+    ?assertEqual(Before, [begin {ok, Local} = lobby_room:update(<<"100">>, Id, #{}), Local end || Id <- [alice, bob, carol]]),
+    ?assertMatch([{_, #{terminations := 4, contexts := 2}}], lobby_gateway:serving()).
+
+one_that_began_anew_between_two_runs(_) ->
+    G = gateway:start(),
+    run([{<<"a">>, G}]),
+    ok = lobby_rooms:create(<<"100">>, lobby_rules:isolate({member, bob})),
+    [join(<<"100">>, Id, <<"member">>) || Id <- [alice, bob, carol]],
+    ok = application:stop(lobby),
+    New = gateway:restart(G, ["--first-context", "500"]),
+    run([{<<"a">>, New}]),
+    lobby_case:until(fun() -> all_held(<<"100">>) end),
+    ?assertEqual([{alice, carol}, {carol, alice}], heard(<<"100">>, #{<<"a">> => New})).
+
 processes_fail(_) ->
     G = gateway:start(),
     run([{<<"a">>, G}]),

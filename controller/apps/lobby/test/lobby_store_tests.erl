@@ -3,7 +3,10 @@
 -include_lib("eunit/include/eunit.hrl").
 
 %% The store isn't opened, and what is in it stays.
-what_a_later_release_wrote_test() ->
+what_a_later_release_wrote_test_() ->
+    {timeout, 60, fun what_a_later_release_wrote/0}.
+
+what_a_later_release_wrote() ->
     process_flag(trap_exit, true),
     ok = mnesia:start(),
     {ok, First} = lobby_store:start_link(#{store => memory}),

@@ -104,7 +104,7 @@ a_request_is_repeated_and_then_given_up_test() ->
     {1, Table3} = sends(lobby_transactions:expired(300, Table2)),
     ?assertMatch({[no_answer], _}, lobby_transactions:expired(400, Table3)),
     {Waiting, Open, _} = lobby_transactions:abandon(Table3),
-    ?assertEqual({[me], [{1000, ?ACTION}]}, {Waiting, Open}).
+    ?assertEqual({[me], [{{{127, 0, 0, 1}, 2945}, 1000, ?ACTION}]}, {Waiting, Open}).
 
 one_that_waits_forever_is_not_given_up_test() ->
     {1, Table0} = sends(lobby_transactions:submit({forever, me}, ?ACTION, 0, new())),
@@ -151,10 +151,20 @@ what_is_held_back_is_sent_again_under_its_number_test() ->
     ?assertMatch({match, _}, re:run(Again, "T=1000")),
     {[{answer, me, _, _}], _} = lobby_transactions:received(1000, {error, 501}, 700, Table4),
     {Waiting, Open, _} = lobby_transactions:abandon(Table2),
-    ?assertEqual({[audit, me], [1000, 1001]}, {lists:sort(Waiting), [Number || {Number, _} <- Open]}).
+    ?assertEqual({[audit, me], [1000, 1001]}, {lists:sort(Waiting), [Number || {_, Number, _} <- Open]}).
 
-an_abandoned_request_keeps_its_number_test() ->
-    {_, Table0} = lobby_transactions:submit({queued, me}, ?ACTION, 0, new()),
+%% Also if another process repeats it, from a socket of its own.
+an_abandoned_request_keeps_its_names_test() ->
+    {[{send, Message}], Table0} = lobby_transactions:submit({queued, me}, ?ACTION, 0, new()),
     {_, [Abandoned], Table1} = lobby_transactions:abandon(Table0),
-    {[{send, Message}], _} = lobby_transactions:resubmit(Abandoned, me, 1, Table1),
-    ?assertMatch({match, _}, re:run(Message, "T=1000")).
+    Other = lobby_transactions:new({{127, 0, 0, 1}, 9}, 5000, #{retry => 100, tries => 4, quiet => 5000}),
+    [?assertMatch({[{send, Message}], _}, lobby_transactions:resubmit(Abandoned, me, 1, T)) || T <- [Table1, Other]].
+
+what_makes_a_context_is_known_until_it_is_answered_test() ->
+    New = #{context => new, commands => [{add, #{mode => inactive}}]},
+    {_, Table0} = lobby_transactions:submit({queued, me}, ?ACTION, 0, new()),
+    ?assertEqual([], lobby_transactions:making(Table0)),
+    {_, Table1} = lobby_transactions:submit({queued, me}, New, 0, Table0),
+    [?assertEqual([{{{127, 0, 0, 1}, 2945}, 1001, New}], lobby_transactions:making(T)) || T <- [Table1, lobby_transactions:hold(Table1)]],
+    {_, Table2} = lobby_transactions:received(1001, {error, 501}, 10, Table1),
+    ?assertEqual([], lobby_transactions:making(Table2)).

@@ -2,20 +2,49 @@
 -module(lobby_app).
 -behaviour(application).
 
--export([run/1, start/2, stop/1]).
+-export([run/1, create/1, alone/1, leave/1, start/2, stop/1]).
 
 %% @doc Starts the application on a node of its own, with a file of configuration: `erl -run lobby_app run FILE'. Ends
 %% the node with 2 if the configuration is wrong or the store is a later release's, and with 1 if something else is.
 -spec run([file:filename()]) -> ok.
 run([File]) ->
+    _ = configured(File),
+    case application:ensure_all_started(lobby) of
+        {ok, _} -> _ = spawn(fun watch/0), ok;
+        {error, {lobby, {{shutdown, {failed_to_start_child, lobby_store, {unknown_version, Table}}}, _}}} ->
+            stop(2, io_lib:format("~s: a later release has written here. Nothing was changed", [Table]));
+        {error, Reason} -> stop(1, io_lib:format("~0P", [Reason, 30]))
+    end.
+
+%% @doc Commands for a pair, each on a node that doesn't run: `erl -run lobby_app create FILE'. See `lobby_pair'.
+-spec create([file:filename()]) -> no_return().
+create([File]) -> command(create, File).
+
+-spec alone([file:filename()]) -> no_return().
+alone([File]) -> command(alone, File).
+
+-spec leave([file:filename()]) -> no_return().
+leave([File]) -> command(leave, File).
+
+-spec command(lobby_pair:command(), file:filename()) -> no_return().
+command(Command, File) ->
+    case configured(File) of
+        none -> stop(2, "the configuration has no pair");
+        Pair -> case lobby_pair:command(Command, Pair) of
+            ok -> halt(0);
+            {error, Reason} -> stop(1, io_lib:format("~s: ~0P", [Command, Reason, 30]))
+        end
+    end.
+
+%% A node of a pair has a name.
+configured(File) ->
     ok = application:load(lobby),
     case lobby_config:load(File) of
         {error, Text} -> stop(2, Text);
-        ok -> case application:ensure_all_started(lobby) of
-            {ok, _} -> _ = spawn(fun watch/0), ok;
-            {error, {lobby, {{shutdown, {failed_to_start_child, lobby_store, {unknown_version, Table}}}, _}}} ->
-                stop(2, io_lib:format("~s: a later release has written here. Nothing was changed", [Table]));
-            {error, Reason} -> stop(1, io_lib:format("~0P", [Reason, 30]))
+        {ok, #{pair := none}} -> none;
+        {ok, #{pair := Pair}} -> case lobby_pair:distribute(Pair) of
+            ok -> Pair;
+            {error, Reason} -> stop(1, io_lib:format("no node ~0p: ~0P", [maps:get(self, Pair), Reason, 30]))
         end
     end.
 

@@ -67,13 +67,12 @@ all() ->
     [#{id => Id, room => Room, caller => lobby_dialog:caller(Dialog)}
      || {_, #{room := Room, call := #call{id = Id, dialog = Dialog}}} <- lobby_store:all(lobby_calls)].
 
-%% @doc Starts the calls that were kept. Called by the supervisor.
--spec restore() -> ignore.
+%% @doc Starts the calls that were kept.
+-spec restore() -> ok.
 restore() ->
     lists:foreach(fun({_, #{invite := Invite, room := Room, source := Source}}) ->
         {ok, _} = supervisor:start_child(lobby_call_sup, [Room, Invite, Source])
-    end, lobby_store:all(lobby_calls)),
-    ignore.
+    end, lobby_store:all(lobby_calls)).
 
 -spec callback_mode() -> handle_event_function.
 callback_mode() ->

@@ -9,7 +9,7 @@
                     callers := [lobby_auth:network()], users := lobby_auth:users(),
                     max_calls := pos_integer(), max_calls_from := pos_integer(),
                     silent_after := pos_integer(), room_audit := pos_integer(),
-                    store := memory | disc,
+                    store := memory | disc, pair := lobby_pair:config() | none,
                     http := lobby_sip_message:peer(), tokens := [{binary(), operator | viewer}]}.
 
 %% The kinds of values, with the default, by name.
@@ -18,24 +18,38 @@
                callers => {networks, []}, users => {users, #{}},
                max_calls => {{1, 100000}, 1024}, max_calls_from => {{1, 100000}, 1024},
                silent_after => {{1000, 3600000}, 30000}, room_audit => {{500, 600000}, 5000},
-               store => {store, memory},
+               store => {store, memory}, pair => {pair, none},
                http => {address, {{127, 0, 0, 1}, 8080}}, tokens => {tokens, []}}).
 -define(GATEWAY, #{name => {text, required}, address => {address, required}, here => {ip, {127, 0, 0, 1}},
                    retry => {{10, 5000}, 100}, tries => {{1, 20}, 4}, quiet => {{100, 60000}, 5000},
                    audit => {{50, 60000}, 250}, returns => {{0, 20000}, 0},
                    terminations => {{1, 256}, 256}, contexts => {{1, 64}, 64}}).
 
+-define(PAIR, #{self => {node, required}, peer => {node, required}, cookie => {secret, required},
+                lease => {lease, address}, ready => {file, none}, gap => {{100, 10000}, 400}}).
+
 %% @doc The configuration with defaults, or what is wrong with it.
 -spec check([{atom(), term()}]) -> {ok, config()} | {error, string()}.
 check(Env) ->
     case values("the configuration", ?TOP, maps:from_list(Env)) of
-        {ok, Config = #{gateways := Gateways}} -> gateways([values("a gateway", ?GATEWAY, G) || G <- Gateways], Config);
+        {ok, Config} -> pair(Config);
+        Error -> Error
+    end.
+
+pair(Config = #{pair := none}) ->
+    gateways(Config);
+pair(#{store := memory}) ->
+    wrong("a pair needs {store,disc}", []);
+pair(Config = #{pair := Pair}) ->
+    case values("the pair", ?PAIR, Pair) of
+        {ok, #{self := Node, peer := Node}} -> wrong("the pair has ~0p twice", [Node]);
+        {ok, Checked} -> gateways(Config#{pair := Checked});
         Error -> Error
     end.
 
 %% @doc Sets the applications' environment to what a file says, if the application's is right: a list as in
 %% `sys.config', such as `[{lobby, [{gateways, [..]}]}].'
--spec load(file:filename()) -> ok | {error, string()}.
+-spec load(file:filename()) -> {ok, config()} | {error, string()}.
 load(File) ->
     case file:consult(File) of
         {ok, [Applications]} -> set(File, Applications);
@@ -46,13 +60,14 @@ load(File) ->
 set(File, Applications) ->
     case is(applications, Applications) andalso lists:keyfind(lobby, 1, Applications) of
         {lobby, Env} -> case check(Env) of
-            {ok, _} -> application:set_env(Applications);
+            {ok, Config} -> ok = application:set_env(Applications), {ok, Config};
             Error -> Error
         end;
         false -> wrong("~ts has to have a list such as [{lobby,[{gateways,[..]}]}]", [File])
     end.
 
-gateways(Checked, Config) ->
+gateways(Config = #{gateways := Gateways}) ->
+    Checked = [values("a gateway", ?GATEWAY, G) || G <- Gateways],
     Names = [Name || {ok, #{name := Name}} <- Checked],
     case {[Error || Error = {error, _} <- Checked], Names -- lists:usort(Names)} of
         {[Error | _], _} -> Error;
@@ -83,6 +98,13 @@ is(applications, Value) ->
 is(env, Value) -> is_list(Value) andalso lists:all(fun({Key, _}) -> is_atom(Key); (_) -> false end, Value);
 is(gateways, Value) -> is_list(Value) andalso Value =/= [];
 is(tokens, Value) -> is_list(Value) andalso lists:all(fun is_token/1, Value);
+is(pair, Value) -> Value =:= none orelse is_map(Value);
+is(node, Value) ->
+    is_atom(Value) andalso re:run(atom_to_list(Value), "^[^@]+@[^@]+$", [dollar_endonly]) =/= nomatch;
+is(secret, Value) -> is_binary(Value) andalso byte_size(Value) >= 16 andalso byte_size(Value) < 256;
+is(lease, {file, File}) -> is_path(File);
+is(lease, Value) -> Value =:= address;
+is(file, Value) -> Value =:= none orelse is_path(Value);
 is(store, Value) -> lists:member(Value, [memory, disc]);
 is(networks, Value) -> is_list(Value) andalso lists:all(fun is_network/1, Value);
 is(users, Value) ->
@@ -93,12 +115,19 @@ is(address, {Address, Port}) -> inet:is_ipv4_address(Address) andalso is({1, 655
 is(address, _) -> false;
 is({Min, Max}, Value) -> is_integer(Value) andalso Value >= Min andalso Value =< Max.
 
+is_path(Value) -> Value =/= [] andalso io_lib:printable_list(Value).
+
 is_network({Address, Bits}) -> inet:is_ipv4_address(Address) andalso is({0, 32}, Bits);
 is_network(_) -> false.
 
 is_token({Token, Role}) when is_binary(Token), byte_size(Token) >= 16 -> lists:member(Role, [operator, viewer]);
 is_token(_) -> false.
 
+described(pair) -> "a map or none";
+described(node) -> "a node's name such as 'lobby@10.0.0.20'";
+described(secret) -> "a binary of sixteen bytes or more, and less than 256";
+described(lease) -> "address or {file,\"/path\"}";
+described(file) -> "a path such as \"/path\"";
 described(store) -> "memory or disc";
 described(networks) -> "a list of networks such as {{192,0,2,0},24}";
 described(users) -> "a map of passwords by name, both binaries that aren't empty";

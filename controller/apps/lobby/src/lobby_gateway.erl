@@ -20,7 +20,7 @@
 -module(lobby_gateway).
 -behaviour(gen_statem).
 
--export([start_link/1, request/2, name/1, serving/0, handles/0, keep_only/2]).
+-export([start_link/1, request/2, name/1, serving/0, any_serves/0, handles/0, keep_only/2]).
 -export([callback_mode/0, init/1, handle_event/4]).
 -export_type([name/0, handle/0, config/0, request_error/0]).
 
@@ -75,6 +75,11 @@ name({Name, _}) ->
 serving() ->
     [{Handle, Load} || {Name, #{serving := {Handle, Load}}} <- lists:sort(lobby_store:all(lobby_gateways)),
                        lobby_registry:whereis_name({gateway, Name}) =/= undefined].
+
+%% @doc Whether at least one gateway serves, as far as the store knows.
+-spec any_serves() -> boolean().
+any_serves() ->
+    lists:any(fun({_, Kept}) -> is_map_key(serving, Kept) end, lobby_store:all(lobby_gateways)).
 
 %% @doc The handles of all gateways.
 -spec handles() -> [handle()].
@@ -273,6 +278,7 @@ sent(Change, {State, Data = #data{transactions = T}, Actions}) ->
     lists:foldl(fun effect/2, {State, Kept, Actions}, Effects).
 
 effect({send, Message}, Acc = {_, #data{socket = Socket}, _}) ->
+    ok = lobby_lease:hold(),
     %% What can't be sent is repeated, like what is lost on the way.
     _ = gen_udp:send(Socket, Message),
     Acc;

@@ -6,7 +6,7 @@
 -include_lib("p1_sip/include/esip.hrl").
 
 -export([start_link/1, received/2, send/2, own/0, own_tag/1, allow/0]).
--export([init/1, handle_call/3, handle_cast/2, handle_info/2]).
+-export([init/1, handle_continue/2, handle_call/3, handle_cast/2, handle_info/2]).
 -export_type([config/0]).
 
 %% The limits are of calls: all, and those from one address.
@@ -31,6 +31,7 @@ received(Message, Source) ->
 send({tcp, Connection, _}, Message) ->
     lobby_tcp:send(Connection, lobby_sip_message:encode(Message));
 send({Address, Port}, Message) ->
+    ok = lobby_lease:hold(),
     {Socket, _, _} = persistent_term:get(?MODULE),
     _ = gen_udp:send(Socket, Address, Port, lobby_sip_message:encode(Message)),
     ok.
@@ -53,16 +54,22 @@ own_secret() ->
 allow() ->
     {allow, [<<"INVITE">>, <<"ACK">>, <<"BYE">>, <<"CANCEL">>, <<"OPTIONS">>, <<"UPDATE">>]}.
 
--spec init(config()) -> {ok, #state{}} | {stop, {cannot_bind, lobby_sip_message:peer(), inet:posix()}}.
+-spec init(config()) -> {ok, #state{}, {continue, restore}} | {stop, {cannot_bind, lobby_sip_message:peer(), inet:posix()}}.
 init(Config = #{sip := Own}) ->
     ok = esip_codec:start(),
     case open(Own, 50) of
         {ok, Socket} ->
             ok = persistent_term:put(?MODULE, {Socket, Own, secret()}),
-            {ok, known_calls(#state{config = Config, socket = Socket})};
+            {ok, #state{config = Config, socket = Socket}, {continue, restore}};
         {error, Reason} ->
             {stop, {cannot_bind, Own, Reason}}
     end.
+
+%% Calls that were kept are there before the first message is read.
+-spec handle_continue(restore, #state{}) -> {noreply, #state{}}.
+handle_continue(restore, State) ->
+    ok = lobby_call:restore(),
+    {noreply, known_calls(State)}.
 
 %% Those that were there before this process.
 known_calls(State) ->

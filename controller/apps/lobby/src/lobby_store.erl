@@ -1,18 +1,27 @@
 %%% @doc What has to outlive the process that knows it: rooms, calls, and what gateways have for us. With a folder for
-%%% mnesia, it also outlives the node.
+%%% mnesia, it also outlives the node. Of a pair of nodes, each has a copy, and what one writes is on the other before
+%%% `put/3' returns.
+%%%
+%%% A node of a pair that has nothing in its folder waits for the other one, and copies what that has. One that ended as
+%%% the standby waits for the node that served, because only that one knows what has changed since.
 -module(lobby_store).
 -behaviour(gen_server).
 
--export([start_link/1, put/3, get/2, delete/2, all/1, size/1, count/1, run/0]).
--export([init/1, handle_call/3, handle_cast/2]).
+-export([start_link/1, put/3, get/2, delete/2, all/1, size/1, count/1, run/0, is_open/0, follow/1, admit/1]).
+-export([init/1, handle_continue/2, handle_call/3, handle_cast/2, handle_info/2]).
 -export_type([table/0, config/0, run/0]).
 
 -type table() :: lobby_rooms | lobby_gateways | lobby_calls | lobby_counters | lobby_settings.
 -opaque run() :: reference().
 %% `disc': mnesia's folder (its `dir') has the tables, too.
--type config() :: #{store := memory | disc}.
+-type config() :: #{store := memory | disc, pair := lobby_pair:config() | none}.
 -define(TABLES, [lobby_rooms, lobby_gateways, lobby_calls, lobby_counters, lobby_settings]).
 -define(WAIT, 30000).
+%% Milliseconds until a node asks the other one again.
+-define(AGAIN, 500).
+
+%% Of a node in a pair.
+-type state() :: lobby_pair:config() | none.
 
 -spec start_link(config()) -> gen_server:start_ret().
 start_link(Config) ->
@@ -20,7 +29,7 @@ start_link(Config) ->
 
 -spec put(table(), Key :: term(), Value :: term()) -> ok.
 put(Table, Key, Value) ->
-    mnesia:dirty_write({Table, Key, lobby_stored:pack(Value)}).
+    write(fun() -> mnesia:write({Table, Key, lobby_stored:pack(Value)}) end).
 
 -spec get(table(), Key :: term()) -> {ok, Value :: term()} | error.
 get(Table, Key) ->
@@ -31,7 +40,11 @@ get(Table, Key) ->
 
 -spec delete(table(), Key :: term()) -> ok.
 delete(Table, Key) ->
-    mnesia:dirty_delete(Table, Key).
+    write(fun() -> mnesia:delete({Table, Key}) end).
+
+%% On both nodes.
+write(Change) ->
+    mnesia:sync_dirty(Change).
 
 -spec all(table()) -> [{Key :: term(), Value :: term()}].
 all(Table) ->
@@ -56,36 +69,111 @@ count(Key) ->
 run() ->
     persistent_term:get(?MODULE).
 
+%% @doc Whether this node has all that was kept.
+-spec is_open() -> boolean().
+is_open() ->
+    persistent_term:get({?MODULE, open}, false).
+
+%% @doc Whose tables are to be loaded when this node starts the next time: those of a node that serves, or, with `none',
+%% those that were written last.
+-spec follow(node() | none) -> ok.
+follow(none) -> mnesia:set_master_nodes([]);
+follow(Node) -> mnesia:set_master_nodes([Node]).
+
+%% @doc Lets a node with an empty folder make copies, even if it had some before. Called by that node.
+-spec admit(node()) -> ok | {error, not_open}.
+admit(Node) ->
+    Open = is_open(),
+    case Open andalso lists:member(Node, mnesia:system_info(db_nodes)) of
+        true -> {atomic, ok} = mnesia:del_table_copy(schema, Node), ok;
+        false when Open -> ok;
+        false -> {error, not_open}
+    end.
+
 %% Leaves existing tables as they are, so a restarted process finds what it had.
--spec init(config()) -> {ok, none} | {stop, lobby_stored:error()}.
-init(#{store := Store}) ->
+-spec init(config()) -> {ok, state()} | {ok, state(), {continue, open}} | {stop, lobby_stored:error()}.
+init(#{store := Store, pair := none}) ->
     ok = persistent_term:put(?MODULE, make_ref()),
-    Copies = case Store of memory -> ram_copies; disc -> disc_copies end,
-    Store =:= disc andalso on_disc(mnesia:change_table_copy_type(schema, node(), disc_copies)),
+    Store =:= disc andalso on_disc(),
+    ok = create(case Store of memory -> ram_copies; disc -> disc_copies end),
+    ok = mnesia:wait_for_tables(?TABLES, ?WAIT),
+    case unreadable() of
+        [] -> {ok, none};
+        [Reason | _] -> {stop, Reason}
+    end;
+init(#{pair := Pair}) ->
+    ok = persistent_term:put(?MODULE, make_ref()),
+    ok = persistent_term:put({?MODULE, open}, false),
+    {ok, Pair, {continue, open}}.
+
+on_disc() ->
+    case mnesia:change_table_copy_type(schema, node(), disc_copies) of
+        {atomic, ok} -> true;
+        {aborted, {already_exists, schema, _, disc_copies}} -> true
+    end.
+
+create(Copies) ->
     lists:foreach(fun(Table) ->
         case mnesia:create_table(Table, [{Copies, [node()]}, {attributes, [key, value]}]) of
             {atomic, ok} -> ok;
             {aborted, {already_exists, Table}} -> ok
         end
-    end, ?TABLES),
-    ok = mnesia:wait_for_tables(?TABLES, ?WAIT),
-    case unreadable() of
-        [] -> {ok, none};
-        [Reason | _] -> {stop, Reason}
-    end.
+    end, ?TABLES).
 
 %% What a later release wrote isn't touched.
 unreadable() ->
     [Reason || Table <- ?TABLES, {_, _, Stored} <- mnesia:dirty_match_object({Table, '_', '_'}),
                {error, Reason} <- [lobby_stored:unpack(Table, Stored)]].
 
-on_disc({atomic, ok}) -> true;
-on_disc({aborted, {already_exists, schema, _, disc_copies}}) -> true.
+%%% A node of a pair.
 
--spec handle_call(term(), gen_server:from(), none) -> {reply, {error, unknown_call}, none}.
-handle_call(_, _, none) ->
-    {reply, {error, unknown_call}, none}.
+-spec handle_continue(open, state()) -> {noreply, state()} | {stop, lobby_stored:error(), state()}.
+handle_continue(open, Pair = #{peer := Peer}) ->
+    _ = net_kernel:connect_node(Peer),
+    Has = case mnesia:system_info(use_dir) of
+        true -> loaded();
+        false -> copied(Peer)
+    end,
+    case {Has, Has andalso unreadable()} of
+        {true, []} -> ok = persistent_term:put({?MODULE, open}, true), {noreply, Pair};
+        {true, [Reason | _]} -> {stop, Reason, Pair};
+        {false, _} -> _ = erlang:send_after(?AGAIN, self(), open), {noreply, Pair}
+    end.
 
--spec handle_cast(term(), none) -> {noreply, none}.
-handle_cast(_, none) ->
-    {noreply, none}.
+%% What is in the folder, or what the other node has, if mnesia says that it is newer.
+loaded() ->
+    case lists:member(lobby_settings, mnesia:system_info(tables)) of
+        true -> mnesia:wait_for_tables(?TABLES, 0) =:= ok;
+        false -> create(disc_copies) =:= ok
+    end.
+
+%% Nothing is in the folder. Where the other node isn't open yet, it is asked again.
+copied(Peer) ->
+    try erpc:call(Peer, ?MODULE, admit, [node()], ?WAIT) of
+        ok -> joined(mnesia:change_config(extra_db_nodes, [Peer]));
+        {error, not_open} -> false
+    catch
+        error:{erpc, _} -> false;
+        exit:{exception, _} -> false
+    end.
+
+joined({ok, [_]}) ->
+    true = on_disc(),
+    lists:foreach(fun(Table) -> {atomic, ok} = mnesia:add_table_copy(Table, node(), disc_copies) end, ?TABLES),
+    true;
+joined(_) ->
+    false.
+
+-spec handle_call(term(), gen_server:from(), state()) -> {reply, {error, unknown_call}, state()}.
+handle_call(_, _, State) ->
+    {reply, {error, unknown_call}, State}.
+
+-spec handle_cast(term(), state()) -> {noreply, state()}.
+handle_cast(_, State) ->
+    {noreply, State}.
+
+-spec handle_info(term(), state()) -> {noreply, state()} | {noreply, state(), {continue, open}}.
+handle_info(open, State) ->
+    {noreply, State, {continue, open}};
+handle_info(_, State) ->
+    {noreply, State}.

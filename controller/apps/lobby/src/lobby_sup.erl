@@ -10,12 +10,13 @@ start_link(Config) ->
     supervisor:start_link({local, ?MODULE}, ?MODULE, Config).
 
 %% @doc A supervisor below the top, which is registered by this name.
--spec start_link(Name :: atom(), {gateways, [lobby_gateway:config()]} | rooms | calls) -> supervisor:startlink_ret().
+-spec start_link(Name :: atom(), {serving, lobby_config:config()} | {gateways, [lobby_gateway:config()]} | rooms | calls) ->
+          supervisor:startlink_ret().
 start_link(Name, Children) ->
     supervisor:start_link({local, Name}, ?MODULE, Children).
 
 %% Whatever fails takes up what its predecessor knew.
--spec init(lobby_config:config() | {gateways, [lobby_gateway:config()]} | rooms | calls) ->
+-spec init(lobby_config:config() | {serving, lobby_config:config()} | {gateways, [lobby_gateway:config()]} | rooms | calls) ->
           {ok, {supervisor:sup_flags(), [supervisor:child_spec()]}}.
 init({gateways, Gateways}) ->
     {ok, {#{strategy => one_for_one, intensity => 20, period => 10},
@@ -26,11 +27,10 @@ init(rooms) ->
 init(calls) ->
     {ok, {#{strategy => simple_one_for_one, intensity => 100, period => 10},
           [#{id => call, start => {lobby_call, start_link, []}, restart => transient}]}};
-init(Config = #{gateways := Gateways, sip := Own}) ->
+init({serving, Config = #{gateways := Gateways, sip := Own}}) ->
     Sip = maps:with([sip, max_calls, max_calls_from, callers, users], Config),
     Http = maps:with([http, tokens], Config),
     {ok, {#{strategy => rest_for_one, intensity => 10, period => 10}, [
-        #{id => lobby_store, start => {lobby_store, start_link, [maps:with([store], Config)]}},
         #{id => pg, start => {pg, start_link, [lobby]}},
         #{id => lobby_registry, start => {lobby_registry, start_link, []}},
         sup(lobby_gateway_sup, {gateways, Gateways}),
@@ -39,8 +39,14 @@ init(Config = #{gateways := Gateways, sip := Own}) ->
         sup(lobby_call_sup, calls),
         #{id => lobby_sip, start => {lobby_sip, start_link, [Sip]}},
         #{id => lobby_tcp_sup, start => {lobby_tcp_sup, start_link, [Own]}, type => supervisor},
-        #{id => restore_calls, start => {lobby_call, restore, []}},
-        #{id => lobby_http, start => {lobby_http, start_link, [Http]}, type => supervisor}]}}.
+        #{id => lobby_http, start => {lobby_http, start_link, [Http]}, type => supervisor}]}};
+%% Of a pair, the node that has the lease starts what serves.
+init(Config = #{pair := Pair}) ->
+    Serving = sup(lobby_serving, {serving, Config}),
+    Lease = #{id => lobby_lease, start => {lobby_lease, start_link, [maps:with([pair, sip], Config), Serving]}},
+    {ok, {#{strategy => rest_for_one, intensity => 10, period => 10}, [
+        #{id => lobby_store, start => {lobby_store, start_link, [maps:with([store, pair], Config)]}},
+        case Pair of none -> Serving; #{} -> Lease end]}}.
 
 sup(Name, Children) ->
     #{id => Name, start => {?MODULE, start_link, [Name, Children]}, type => supervisor}.

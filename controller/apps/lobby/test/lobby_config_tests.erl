@@ -28,6 +28,20 @@ top_test_() ->
     ++ [?_assertMatch({ok, #{callers := [_], users := #{}, tokens := [_]}},
                       lobby_config:check([Gateways, {callers, [{{10, 0, 0, 0}, 8}]}, {tokens, [{<<"0123456789abcdef">>, viewer}]}]))].
 
+pair_test_() ->
+    Pair = #{self => 'lobby@10.0.0.21', peer => 'lobby@10.0.0.22', cookie => <<"0123456789abcdef">>},
+    Gateways = {gateways, [#{name => <<"a">>, address => ?ADDRESS}]},
+    [?_assertMatch({ok, #{pair := #{lease := address, ready := none, gap := 400}}}, lobby_config:check([Gateways, {store, disc}, {pair, Pair}]))
+     | [?_assertEqual({error, Text}, lobby_config:check([Gateways, {store, Store}, {pair, Wrong}]))
+        || {Text, Store, Wrong} <-
+               [{"a pair needs {store,disc}", memory, Pair},
+                {"the pair has 'lobby@10.0.0.21' twice", disc, Pair#{peer := 'lobby@10.0.0.21'}},
+                {"the pair needs peer", disc, maps:remove(peer, Pair)},
+                {"self is a node's name such as 'lobby@10.0.0.20', not lobby", disc, Pair#{self := lobby}},
+                {"cookie is a binary of sixteen bytes or more, and less than 256, not <<\"a\">>", disc, Pair#{cookie := <<"a">>}},
+                {"lease is address or {file,\"/path\"}, not true", disc, Pair#{lease => true}},
+                {"pair is a map or none, not []", disc, []}]]].
+
 refused_test_() ->
     [?_assertEqual({error, Text}, check(Gateways))
      || {Text, Gateways} <-
@@ -64,7 +78,7 @@ files_test_() ->
               {"the configuration has no port", "[{lobby, [" ++ Gateways ++ ", {port, 1}]}]."}]]
         ++ [?_test(begin
              ok = file:write_file(File, ["[{lobby, [", Gateways, "]}, {mnesia, [{dir, \"x\"}]}]."]),
-             ?assertEqual(ok, lobby_config:load(File)),
+             ?assertMatch({ok, #{gateways := [_]}}, lobby_config:load(File)),
              ?assertMatch([{ok, [_]}, {ok, "x"}], [application:get_env(lobby, gateways), application:get_env(mnesia, dir)]),
              ok = application:unset_env(lobby, gateways),
              ok = application:unset_env(mnesia, dir)

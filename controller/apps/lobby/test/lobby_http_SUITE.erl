@@ -334,8 +334,8 @@ supervisors_fail(Config) ->
     ?assertEqual(1, length(members("100", Config))),
     %% At once, as a supervisor does it.
     [begin
-         ok = supervisor:terminate_child(lobby_sup, Child),
-         ?assertMatch({ok, _}, supervisor:restart_child(lobby_sup, Child))
+         ok = supervisor:terminate_child(lobby_serving, Child),
+         ?assertMatch({ok, _}, supervisor:restart_child(lobby_serving, Child))
      end || Child <- [lobby_http, lobby_tcp_sup, lobby_sip], _ <- lists:seq(1, 100)],
     phone:close(Phone).
 

@@ -1,0 +1,259 @@
+%% Two nodes with one gateway. Files stand for the lease: whoever has one serves.
+-module(lobby_pair_SUITE).
+
+-include_lib("common_test/include/ct.hrl").
+-include_lib("stdlib/include/assert.hrl").
+
+-compile([export_all]).
+
+all() ->
+    [the_other_node_takes_over, a_node_that_hung_ends_itself, a_node_without_the_lease_ends, a_standby_alone_ends_and_waits,
+     both_end_and_begin, a_node_leaves_and_joins, without_the_other_node].
+
+init_per_testcase(Case, Config) ->
+    Folder = string:trim(os:cmd("mktemp -d")),
+    {_, Port} = gateway:free_address(),
+    Config1 = [{folder, Folder}, {port, Port}, {sip, gateway:free_address()}, {http, gateway:free_address()}, {gateway, gateway:start()},
+               {own_ports, Case =:= a_node_that_hung_ends_itself} | Config],
+    A = node_of(a, Config1),
+    ok = peer:call(A, lobby_pair, command, [create, pair(a, Config1)]),
+    ok = started(A),
+    B = started_node(b, Config1),
+    lobby_case:until(fun() -> is_open(A) andalso is_open(B) end),
+    lease(a, Config1),
+    lobby_case:until(fun() -> serves(A) end),
+    [{a, A}, {b, B} | Config1].
+
+end_per_testcase(_, Config) ->
+    _ = os:cmd("kill -9 " ++ lists:flatten(lists:join(" ", persistent_term:get(?MODULE, [])))),
+    persistent_term:put(?MODULE, []),
+    _ = gateway:kill_all(),
+    %% The programs that write the files end a moment later than the nodes.
+    "" = os:cmd("sleep 0.5; rm -r " ++ proplists:get_value(folder, Config)),
+    Config.
+
+%%% Helpers.
+
+get(Key, Config) -> proplists:get_value(Key, Config).
+sip(Config) -> get(sip, Config).
+file(Name, Kind, Config) -> filename:join(get(folder, Config), lists:concat([Name, ".", Kind])).
+
+name(a) -> 'lobby@127.0.1.1';
+name(b) -> 'lobby@127.0.1.2'.
+other(a) -> b;
+other(b) -> a.
+
+pair(Name, Config) ->
+    #{self => name(Name), peer => name(other(Name)), cookie => <<"0123456789abcdef">>, gap => 2000,
+      lease => {file, file(Name, lease, Config)}, ready => file(Name, ready, Config)}.
+
+%% A node with its name and configuration.
+node_of(Name, Config) ->
+    {ok, Peer, _} = peer:start(#{connection => standard_io, wait_boot => 60000,
+                                 args => ["-start_epmd", "false", "-erl_epmd_port", integer_to_list(get(port, Config)),
+                                          "-mnesia", "dir", "\"" ++ file(Name, db, Config) ++ "\"", "-pa" | code:get_path()]}),
+    persistent_term:put(?MODULE, [peer:call(Peer, os, getpid, []) | persistent_term:get(?MODULE, [])]),
+    ok = peer:call(Peer, application, load, [lobby]),
+    [ok = peer:call(Peer, application, set_env, [lobby, Key, Value])
+     || {Key, Value} <- [{gateways, [gateway:config(<<"1">>, get(gateway, Config))]}, {store, disc}, {pair, pair(Name, Config)}
+                         | addresses(Name, Config)]],
+    ok = peer:call(Peer, lobby_pair, distribute, [pair(Name, Config)]),
+    Peer.
+
+%% A node that hangs keeps its ports.
+addresses(Name, Config) ->
+    case get(own_ports, Config) andalso Name =:= b of
+        true -> [{sip, gateway:free_address()}, {http, gateway:free_address()}];
+        false -> [{sip, sip(Config)}, {http, get(http, Config)}]
+    end.
+
+started(Peer) ->
+    {ok, _} = peer:call(Peer, application, ensure_all_started, [lobby], 60000),
+    ok.
+
+started_node(Name, Config) ->
+    Peer = node_of(Name, Config),
+    ok = started(Peer),
+    Peer.
+
+is_open(Peer) -> peer:call(Peer, lobby_store, is_open, []).
+
+serves(Peer) ->
+    peer:call(Peer, erlang, whereis, [lobby_connections]) =/= undefined andalso length(peer:call(Peer, lobby_gateway, serving, [])) =:= 1.
+
+lease(Name, Config) ->
+    _ = file:delete(file(other(Name), lease, Config)),
+    ok = file:write_file(file(Name, lease, Config), "").
+
+signal(Signal, Peer, Config) ->
+    Os = hd([Pid || {Node, Pid} <- [{get(a, Config), get(os_a, Config)}, {get(b, Config), get(os_b, Config)}], Node =:= Peer]),
+    "" = os:cmd("kill -" ++ Signal ++ " " ++ Os),
+    ok.
+
+with_pids(Config) ->
+    [{os_a, peer:call(get(a, Config), os, getpid, [])}, {os_b, peer:call(get(b, Config), os, getpid, [])} | Config].
+
+%% Waits until a node has ended.
+ended(Peer) ->
+    Monitor = monitor(process, Peer),
+    receive {'DOWN', Monitor, process, _, _} -> ok after 20000 -> error(has_not_ended) end.
+
+call(Config) ->
+    Phone = phone:start(sip(Config)),
+    Calling = phone:invite(phone:sdp(Phone), Phone),
+    Response = phone:recv(Calling, 5000),
+    ?assertEqual(200, phone:status(Response)),
+    Talking = phone:learn(Response, Calling),
+    phone:ack(Talking),
+    {Talking, Response}.
+
+room(Peer) -> peer:call(Peer, lobby_room, describe, [<<"100">>]).
+
+flows(Peer, Config) ->
+    #{context := Context} = room(Peer),
+    length(gateway:topology(Context, get(gateway, Config))).
+
+%% What is asked after a take-over, at the address as before.
+asked(Phone, Response) ->
+    Invite = phone:recv(Phone, 5000),
+    ?assertEqual({"INVITE", media_line(Response)}, {phone:status(Invite), media_line(Invite)}),
+    phone:answer(200, Invite, phone:sdp(Phone), Phone),
+    ?assertEqual("ACK", phone:status(phone:recv(Phone))).
+
+media_line(Text) ->
+    {match, [Line]} = re:run(Text, "m=audio (\\d+)", [{capture, all_but_first, list}]),
+    Line.
+
+%%% Cases.
+
+%% A call goes on, and so do a rule, an INVITE that waits for its ACK, and an answer to an INVITE of the first node.
+the_other_node_takes_over(Config0) ->
+    Config = [{a, A}, {b, B} | _] = with_pids_first(Config0),
+    {Alice, RA} = call(Config),
+    {Bob, RB} = call(Config),
+    [Id | _] = maps:keys(maps:get(members, room(A))),
+    ok = peer:call(A, lobby_room, add_rules, [<<"100">>, lobby_rules:isolate({member, Id})]),
+    ?assertEqual(0, flows(A, Config)),
+    Carol = phone:start(sip(Config)),
+    Carol1 = phone:invite(phone:sdp(Carol), Carol),
+    RC = phone:recv(Carol1, 5000),
+    Before = room(A),
+    signal("KILL", A, Config),
+    lease(b, Config),
+    lobby_case:until(fun() -> serves(B) end),
+    %% The node was killed before the ACK came, and the caller asks again.
+    _ = phone:invite(phone:sdp(Carol), Carol),
+    ?assertEqual(phone:header("To", RC), phone:header("To", next_status(200, Carol1))),
+    [asked(Phone, R) || {Phone, R} <- [{Alice, RA}, {Bob, RB}]],
+    ?assertEqual(Before, room(B)),
+    ?assertEqual(2, flows(B, Config)),
+    Context = maps:get(context, Before),
+    ?assertEqual([1, Context], lists:sort(gateway:contexts(lists:seq(1, 20), get(gateway, Config)))),
+    %% The first node comes back as the standby.
+    A1 = started_node(a, Config),
+    lobby_case:until(fun() -> is_open(A1) end),
+    ?assertNot(serves_at_all(A1)),
+    ?assertEqual(peer:call(B, lobby_store, all, [lobby_rooms]), peer:call(A1, lobby_store, all, [lobby_rooms])).
+
+with_pids_first(Config) ->
+    [{a, get(a, Config)}, {b, get(b, Config)} | with_pids(Config)].
+
+serves_at_all(Peer) -> peer:call(Peer, erlang, whereis, [lobby_serving]) =/= undefined.
+
+next_status(Status, Phone) ->
+    Text = phone:recv(Phone, 5000),
+    case phone:status(Text) of
+        Status -> Text;
+        Other when Other =/= none -> next_status(Status, Phone)
+    end.
+
+a_node_that_hung_ends_itself(Config0) ->
+    Config = [{a, A}, {b, B} | _] = with_pids_first(Config0),
+    {_, _} = call(Config),
+    signal("STOP", A, Config),
+    %% It says that it isn't ready, for keepalived.
+    lobby_case:until(fun() -> file:read_file(file(a, ready, Config)) =:= {ok, <<"-254\n">>} end),
+    ?assertEqual({ok, <<"0\n">>}, file:read_file(file(b, ready, Config))),
+    lease(b, Config),
+    lobby_case:until(fun() -> serves(B) end),
+    ok = peer:call(B, lobby_room, set_rules, [<<"100">>, [{deny, everyone, everyone}]]),
+    timer:sleep(2500),
+    signal("CONT", A, Config),
+    ended(A),
+    timer:sleep(500),
+    ?assert(serves(B)),
+    ?assertMatch(#{rules := [_]}, room(B)).
+
+a_node_without_the_lease_ends(Config) ->
+    A = get(a, Config),
+    {_, _} = call(Config),
+    lease(b, Config),
+    ended(A),
+    lobby_case:until(fun() -> serves(get(b, Config)) end),
+    ?assertMatch(#{members := Members} when map_size(Members) =:= 1, room(get(b, Config))).
+
+%% A standby that was apart from the other node doesn't know what that has changed.
+a_standby_alone_ends_and_waits(Config) ->
+    {A, B} = {get(a, Config), get(b, Config)},
+    timer:sleep(500),
+    true = peer:call(B, erlang, disconnect_node, [name(a)]),
+    ended(B),
+    {_, _} = call(Config),
+    B1 = started_node(b, Config),
+    lobby_case:until(fun() -> is_open(B1) end),
+    ?assertEqual(peer:call(A, lobby_store, all, [lobby_rooms]), peer:call(B1, lobby_store, all, [lobby_rooms])).
+
+%% The node that served last has what is right, and the other one waits for it.
+both_end_and_begin(Config0) ->
+    Config = with_pids(Config0),
+    {A, B} = {get(a, Config), get(b, Config)},
+    timer:sleep(500),
+    signal("KILL", B, Config),
+    ended(B),
+    {_, _} = call(Config),
+    Rooms = peer:call(A, lobby_store, all, [lobby_rooms]),
+    %% What was written is on the disc a little later.
+    timer:sleep(4000),
+    signal("KILL", A, Config),
+    ended(A),
+    lease(b, Config),
+    B1 = started_node(b, Config),
+    timer:sleep(2000),
+    ?assertNot(is_open(B1)),
+    ?assertEqual({ok, <<"-254\n">>}, file:read_file(file(b, ready, Config))),
+    A1 = started_node(a, Config),
+    lobby_case:until(fun() -> is_open(A1) andalso is_open(B1) end),
+    lobby_case:until(fun() -> serves(B1) end),
+    ?assertMatch([{<<"100">>, _}], Rooms),
+    ?assertMatch([{<<"100">>, _}], peer:call(B1, lobby_store, all, [lobby_rooms])).
+
+a_node_leaves_and_joins(Config0) ->
+    Config = with_pids(Config0),
+    {A, B} = {get(a, Config), get(b, Config)},
+    {_, _} = call(Config),
+    signal("KILL", B, Config),
+    ended(B),
+    B1 = node_of(b, Config),
+    ok = peer:call(B1, lobby_pair, command, [leave, pair(b, Config)]),
+    ?assertEqual([name(a)], peer:call(A, mnesia, system_info, [db_nodes])),
+    ok = started(B1),
+    lobby_case:until(fun() -> is_open(B1) end),
+    ?assertEqual(lists:sort([name(a), name(b)]), lists:sort(peer:call(A, mnesia, system_info, [running_db_nodes]))),
+    ?assertEqual(peer:call(A, lobby_store, all, [lobby_rooms]), peer:call(B1, lobby_store, all, [lobby_rooms])).
+
+%% The node that served is lost for good: somebody decides to go on with what the other one has.
+without_the_other_node(Config0) ->
+    Config = with_pids(Config0),
+    {A, B} = {get(a, Config), get(b, Config)},
+    {_, _} = call(Config),
+    timer:sleep(4000),
+    signal("KILL", B, Config),
+    ended(B),
+    signal("KILL", A, Config),
+    ended(A),
+    lease(b, Config),
+    B1 = node_of(b, Config),
+    ok = peer:call(B1, lobby_pair, command, [alone, pair(b, Config)]),
+    ok = started(B1),
+    lobby_case:until(fun() -> serves(B1) end),
+    ?assertMatch(#{members := Members} when map_size(Members) =:= 1, room(B1)).

@@ -10,7 +10,7 @@
 
 -include_lib("p1_sip/include/esip.hrl").
 
--export([start_link/3, move/2, hang_up/1, all/0, restore/0]).
+-export([start_link/3, move/2, hang_up/1, all/0, restore/1]).
 -export([callback_mode/0, init/1, handle_event/4]).
 
 %% RFC 3261, section 17: T2 is 8 times T1, and after 64 times T1 nobody waits any longer.
@@ -18,6 +18,8 @@
 -define(GIVE_UP, 64 * t1()).
 %% Milliseconds for each call, over which restored calls are spread when they are asked whether they are still there.
 -define(SPREAD, 2).
+%% Milliseconds after which an idle call takes less memory.
+-define(IDLE, 1000).
 %% A caller who offers nothing yet: he is added inactive, and the gateway sends nothing to this address.
 -define(NOWHERE, {{{0, 0, 0, 0}, 9}, pcmu}).
 
@@ -39,7 +41,7 @@
 -spec start_link(lobby_room:name(), lobby_sip_message:message(), lobby_sip_message:target()) -> gen_statem:start_ret().
 start_link(Room, Invite, Source) ->
     Name = {via, lobby_registry, {call, lobby_dialog:key(Invite)}},
-    case gen_statem:start_link(Name, ?MODULE, {Room, Invite, Source}, []) of
+    case gen_statem:start_link(Name, ?MODULE, {Room, Invite, Source}, [{hibernate_after, ?IDLE}]) of
         %% Somebody had the supervisor start it before it saw that it had to do so itself.
         {error, {already_started, Pid}} -> {ok, Pid};
         Started -> Started
@@ -67,12 +69,16 @@ all() ->
     [#{id => Id, room => Room, caller => lobby_dialog:caller(Dialog)}
      || {_, #{room := Room, call := #call{id = Id, dialog = Dialog}}} <- lobby_store:all(lobby_calls)].
 
-%% @doc Starts the calls that were kept.
--spec restore() -> ok.
-restore() ->
-    lists:foreach(fun({_, #{invite := Invite, room := Room, source := Source}}) ->
-        {ok, _} = supervisor:start_child(lobby_call_sup, [Room, Invite, Source])
-    end, lobby_store:all(lobby_calls)).
+%% @doc Starts a call that was kept, and returns where its caller's last request came from.
+-spec restore(Key :: {binary(), binary()}) -> {ok, pid(), lobby_sip_message:target()} | error.
+restore(Key) ->
+    case lobby_store:get(lobby_calls, Key) of
+        {ok, #{invite := Invite, room := Room, source := Source}} ->
+            {ok, Pid} = supervisor:start_child(lobby_call_sup, [Room, Invite, Source]),
+            {ok, Pid, Source};
+        error ->
+            error
+    end.
 
 -spec callback_mode() -> handle_event_function.
 callback_mode() ->

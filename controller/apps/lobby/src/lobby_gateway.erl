@@ -48,7 +48,9 @@
                terminations = #{} :: #{lobby_h248:termination() => lobby_h248:context()},
                %% Of a lost gateway: contexts to be ended, and requests that may have made some.
                contexts = [] :: [lobby_h248:context()],
-               unknown = [] :: [lobby_transactions:sent()]}).
+               unknown = [] :: [lobby_transactions:sent()],
+               %% What the store has.
+               kept = none :: map() | none}).
 
 -spec start_link(config()) -> gen_statem:start_ret().
 start_link(Config = #{name := Name}) ->
@@ -361,15 +363,20 @@ note({subtract, T, #{}}, _, Terminations) -> maps:remove(T, Terminations);
 note(_, _, Terminations) -> Terminations.
 
 %% For placement, and for a process that takes over.
-keep(State, Data = #data{config = #{name := Name}, unknown = Unknown, transactions = T}) ->
+keep(State, Data = #data{config = #{name := Name}, kept = Before}) ->
+    case to_keep(State, Data) of
+        Before -> Data;
+        Kept -> ok = lobby_store:put(lobby_gateways, Name, Kept), Data#data{kept = Kept}
+    end.
+
+to_keep(State, Data = #data{unknown = Unknown, transactions = T}) ->
     Kept = #{run => lobby_store:run(), handle => Data#data.handle, sentinel => Data#data.sentinel,
              terminations => Data#data.terminations, contexts => Data#data.contexts,
              unknown => lists:usort(Unknown ++ lobby_transactions:making(T))},
-    ok = lobby_store:put(lobby_gateways, Name, case State of
+    case State of
         serving -> Kept#{serving => {Data#data.handle, used(Data)}};
         _ -> Kept
-    end),
-    Data.
+    end.
 
 %% The own termination and its context count.
 used(#data{config = #{terminations := MaxTerminations, contexts := MaxContexts}, terminations = Terminations}) ->

@@ -17,6 +17,8 @@
 %% Requests for one change. More mean that the gateway and the room can't agree.
 -define(MAX_REQUESTS, 100).
 -define(MAX_MEMBERS, 64).
+%% Milliseconds after which an idle room takes less memory.
+-define(IDLE, 1000).
 
 -type name() :: binary().
 -type id() :: lobby_rules:id().
@@ -36,11 +38,13 @@
                 packets = #{} :: #{lobby_h248:termination() => {non_neg_integer(), Since :: integer()}},
                 %% Events of the requests since the last change.
                 events = [] :: [lobby_conference:event()],
-                retry = none :: reference() | none}).
+                retry = none :: reference() | none,
+                %% What the store has.
+                saved = none :: tuple() | none}).
 
 -spec start_link(name()) -> gen_server:start_ret().
 start_link(Name) ->
-    case gen_server:start_link(via(Name), ?MODULE, Name, []) of
+    case gen_server:start_link(via(Name), ?MODULE, Name, [{hibernate_after, ?IDLE}]) of
         %% Somebody had the supervisor start it before it saw that it had to do so itself.
         {error, {already_started, Pid}} -> {ok, Pid};
         Started -> Started
@@ -366,8 +370,10 @@ wait(State) ->
     State.
 
 save(State = #state{name = Name, conference = C, gateway = Gateway, told = Told, kept = Kept, locked = Locked}) ->
-    ok = lobby_store:put(lobby_rooms, Name, {C, Gateway, Told, {Kept, Locked}}),
-    State.
+    case {C, Gateway, Told, {Kept, Locked}} of
+        Saved when Saved =:= State#state.saved -> State;
+        Changed -> ok = lobby_store:put(lobby_rooms, Name, Changed), State#state{saved = Changed}
+    end.
 
 audit_interval() ->
     application:get_env(lobby, room_audit, 5000).

@@ -5,7 +5,7 @@
 -export([is_name/1, create/2, join/3, leave/2, update/3, move/3, names/0, restore/0]).
 -export_type([error/0]).
 
--define(MAX_ROOMS, 1000).
+-define(MAX_ROOMS, 10000).
 -define(TRIES, 3).
 
 -type error() :: lobby_room:error() | same_room | too_many_rooms.
@@ -62,9 +62,10 @@ move(Id, From, To) ->
 
 -spec names() -> [lobby_room:name()].
 names() ->
-    lists:sort([Name || {Name, _} <- lobby_store:all(lobby_rooms)]).
+    lists:sort(lobby_store:keys(lobby_rooms)).
 
-%% @doc Starts the rooms that were kept. What a gateway has for no room is ended. Called by the supervisor.
+%% @doc Starts the rooms that were kept, in the background: those that are needed before are started then. What a gateway
+%% has for no room is ended. Called by the supervisor.
 -spec restore() -> ignore.
 restore() ->
     Kept = lobby_room:kept(),
@@ -72,7 +73,7 @@ restore() ->
     lists:foreach(fun(Gateway) ->
         lobby_gateway:keep_only(Gateway, lists:append(maps:get(Gateway, Used, [])))
     end, lobby_gateway:handles()),
-    lists:foreach(fun({Name, _, _}) -> ok = start(Name) end, Kept),
+    _ = spawn(fun() -> lists:foreach(fun({Name, _, _}) -> ok = start(Name) end, Kept) end),
     ignore.
 
 %% A room that ends, because it is empty or because it fails, is started again.
@@ -90,7 +91,7 @@ in_room(Name, Request, Tries) ->
     end.
 
 start(Name) ->
-    case {lobby_registry:whereis_name({room, Name}), length(names()) < ?MAX_ROOMS} of
+    case {lobby_registry:whereis_name({room, Name}), lobby_store:size(lobby_rooms) < ?MAX_ROOMS} of
         {undefined, true} -> {ok, _} = supervisor:start_child(lobby_room_sup, [Name]), ok;
         {undefined, false} -> {error, too_many_rooms};
         {_, _} -> ok

@@ -65,17 +65,14 @@ init(Config = #{sip := Own}) ->
             {stop, {cannot_bind, Own, Reason}}
     end.
 
-%% Calls that were kept are there before the first message is read.
+%% Calls that were kept are started by another process, and before that, those for which something comes.
 -spec handle_continue(restore, #state{}) -> {noreply, #state{}}.
 handle_continue(restore, State) ->
-    ok = lobby_call:restore(),
-    {noreply, known_calls(State)}.
-
-%% Those that were there before this process.
-known_calls(State) ->
-    Calls = [{Pid, address(Source)} || {Key, #{source := Source}} <- lobby_store:all(lobby_calls),
-                                       Pid <- [lobby_registry:whereis_name({call, Key})], Pid =/= undefined],
-    lists:foldl(fun watch/2, State, Calls).
+    Self = self(),
+    _ = spawn_link(fun() ->
+        lists:foreach(fun(Key) -> Self ! {restored, lobby_call:restore(Key)} end, lobby_store:keys(lobby_calls))
+    end),
+    {noreply, State}.
 
 %% The socket of a process that was killed is closed a little later.
 open(Own = {Address, Port}, Tries) ->
@@ -113,16 +110,17 @@ handle_info({udp, Socket, Address, Port, Datagram}, State = #state{socket = Sock
 handle_info({udp_passive, Socket}, State = #state{socket = Socket}) ->
     ok = inet:setopts(Socket, [{active, 100}]),
     {noreply, State};
+handle_info({restored, Restored}, State) ->
+    {noreply, restored(Restored, State)};
 handle_info({'DOWN', _, process, Pid, _}, State = #state{calls = Calls}) ->
     {noreply, State#state{calls = maps:remove(Pid, Calls)}};
 handle_info(_, State) ->
     {noreply, State}.
 
-handle({ok, Message = #sip{type = Type}}, Source, State) ->
-    case {lobby_registry:whereis_name({call, key(Message)}), Type} of
-        {undefined, request} -> unknown(Message, Source, State);
-        {undefined, response} -> State;
-        {Pid, _} -> forward(Pid, {sip, Message, Source}), State
+handle({ok, Message}, Source, State) ->
+    case lobby_registry:whereis_name({call, key(Message)}) of
+        undefined -> without_process(Message, Source, State);
+        Pid -> forward(Pid, {sip, Message, Source}), State
     end;
 handle({bad_request, #sip{method = <<"ACK">>}}, _, State) ->
     State;
@@ -130,6 +128,16 @@ handle({bad_request, Request}, Source, State) ->
     answer(400, [], Request, Source, State);
 handle({error, not_sip}, _, State) ->
     State.
+
+without_process(Message = #sip{type = Type}, Source, State) ->
+    case {lobby_call:restore(key(Message)), Type} of
+        {Restored = {ok, Pid, _}, _} -> forward(Pid, {sip, Message, Source}), restored(Restored, State);
+        {error, request} -> unknown(Message, Source, State);
+        {error, response} -> State
+    end.
+
+restored({ok, Pid, Source}, State) -> watch({Pid, address(Source)}, State);
+restored(error, State) -> State.
 
 %% What is dropped is sent again by whoever wants an answer.
 forward(Pid, Message) ->
@@ -158,13 +166,11 @@ unknown(Request = #sip{method = Method}, Source, State) ->
         end
     end.
 
-%% Our tag shows that the call was here. So it has ended, and the answer to his BYE was lost (section 17.2.2), or its
-%% process is just started again: then he sends it again.
+%% Our tag shows that the call was here. So it has ended, and the answer to his BYE was lost (section 17.2.2).
 bye(Tag, Request, Source, State) ->
-    case {own_tag(Request), lobby_store:get(lobby_calls, lobby_dialog:key(Request))} of
-        {Tag, error} -> answer(200, [], Request, Source, State);
-        {Tag, {ok, _}} -> State;
-        {_, _} -> answer(481, [], Request, Source, State)
+    case own_tag(Request) of
+        Tag -> answer(200, [], Request, Source, State);
+        _ -> answer(481, [], Request, Source, State)
     end.
 
 accept() -> {accept, [{<<"application/sdp">>, []}]}.
@@ -199,6 +205,8 @@ first([Test | Tests]) ->
         [] -> first(Tests)
     end.
 
+watch({Pid, _}, State = #state{calls = Calls}) when is_map_key(Pid, Calls) ->
+    State;
 watch({Pid, Address}, State = #state{calls = Calls}) ->
     _ = monitor(process, Pid),
     State#state{calls = Calls#{Pid => Address}}.

@@ -7,7 +7,7 @@
 -module(lobby_store).
 -behaviour(gen_server).
 
--export([start_link/1, put/3, get/2, delete/2, all/1, size/1, count/1, run/0, is_open/0, follow/1, admit/1]).
+-export([start_link/1, put/3, get/2, delete/2, all/1, keys/1, size/1, count/1, run/0, is_open/0, follow/1, admit/1]).
 -export([init/1, handle_continue/2, handle_call/3, handle_cast/2, handle_info/2]).
 -export_type([table/0, config/0, run/0]).
 
@@ -53,6 +53,10 @@ all(Table) ->
 unpack(Table, Stored) ->
     {ok, Value} = lobby_stored:unpack(Table, Stored),
     Value.
+
+-spec keys(table()) -> [Key :: term()].
+keys(Table) ->
+    mnesia:dirty_all_keys(Table).
 
 -spec size(table()) -> non_neg_integer().
 size(Table) ->

@@ -44,8 +44,8 @@ command({add, Settings = #{remote := {{_, Port}, _}}}, Context, New, G = #gatewa
         {515, _} -> {{add, new, {error, 515}}, Context, New, G};
         {_, {error, Code}} -> {{add, new, {error, Code}}, Context, New, G};
         {_, {ok, Now, G1}} ->
-            Local = {{{127, 0, 0, 1}, T}, maps:get(local, Settings)},
-            {{add, T, #{local => Local}}, Now, case New of none -> T; _ -> New end,
+            Local = maps:map(fun(local, Format) -> {{{127, 0, 0, 1}, T}, Format} end, maps:with([local], Settings)),
+            {{add, T, Local}, Now, case New of none -> T; _ -> New end,
              G1#gateway{next_termination = T + 1, terminations = (G1#gateway.terminations)#{T => {Now, maps:get(mode, Settings)}}}}
     end;
 command({modify, T, Settings}, Context, New, G = #gateway{terminations = Ts}) ->
@@ -53,7 +53,7 @@ command({modify, T, Settings}, Context, New, G = #gateway{terminations = Ts}) ->
         {#{remote := {{_, 515}, _}}, #{T := {Context, _}}} -> {{modify, T, {error, 515}}, Context, New, G};
         {_, #{T := {Context, Mode}}} ->
             {{modify, T, #{}}, Context, New, G#gateway{terminations = Ts#{T := {Context, maps:get(mode, Settings, Mode)}}}};
-        {_, #{}} -> {{modify, T, {error, 430}}, Context, New, G}
+        {_, #{}} -> {{modify, T, {error, missing(Context, G)}}, Context, New, G}
     end;
 command({move, T, Settings}, Context, New, G = #gateway{terminations = Ts}) ->
     case Ts of
@@ -75,13 +75,17 @@ command({subtract, all}, Context, New, G = #gateway{terminations = Ts}) ->
 command({subtract, T}, Context, New, G = #gateway{terminations = Ts}) ->
     case Ts of
         #{T := {Context, _}} -> {{subtract, T, #{}}, Context, New, exit_from(T, Context, G)};
-        #{} -> {{subtract, T, {error, 430}}, Context, New, G}
+        #{} -> {{subtract, T, {error, missing(Context, G)}}, Context, New, G}
     end;
 command({audit, T, []}, Context, New, G = #gateway{terminations = Ts}) ->
     case Ts of
         #{T := {Context, _}} -> {{audit, T, #{}}, Context, New, G};
-        #{} -> {{audit, T, {error, 430}}, Context, New, G}
+        #{} -> {{audit, T, {error, missing(Context, G)}}, Context, New, G}
     end.
+
+%% Why a command finds nothing: no such context, or no such termination in it.
+missing(Context, #gateway{contexts = Cs}) ->
+    case is_map_key(Context, Cs) of true -> 430; false -> 411 end.
 
 %% A termination enters a context, and is connected both ways with everyone there.
 enter(T, new, G = #gateway{next_context = N, contexts = Cs}) ->

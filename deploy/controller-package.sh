@@ -31,6 +31,7 @@ install_in "usr/lib/erlang/lib/lobby-$version/ebin" "$built"/ebin/*
 install_in "usr/lib/erlang/lib/lobby-$version/priv" "$top"/controller/apps/lobby/priv/*
 install_in usr/lib/systemd/system "$here/lobbysorrel-controller.service"
 install_in usr/share/doc/lobbysorrel-controller "$top/controller/README.md" "$top/controller/page.png" "$here/debian/copyright"
+install_in usr/share/doc/lobbysorrel-controller/pair "$here/pair/keepalived.conf" "$here/pair/lobby.config"
 install_in etc/lobbysorrel "$here/lobby.config"
 mv "$root/etc/lobbysorrel/lobby.config" "$root/etc/lobbysorrel/lobby.config.example"
 

@@ -28,10 +28,13 @@ received(Message, Source) ->
 
 %% @doc Sends a message. If it is lost, as it is while the port isn't open, it is repeated by whoever wants an answer.
 -spec send(lobby_sip_message:target(), lobby_sip_message:message()) -> ok.
-send({tcp, Connection, _}, Message) ->
-    lobby_tcp:send(Connection, lobby_sip_message:encode(Message));
-send({Address, Port}, Message) ->
+send(Target, Message) ->
     ok = lobby_lease:hold(),
+    sent(Target, Message).
+
+sent({tcp, Connection, _}, Message) ->
+    lobby_tcp:send(Connection, lobby_sip_message:encode(Message));
+sent({Address, Port}, Message) ->
     {Socket, _, _} = persistent_term:get(?MODULE),
     _ = gen_udp:send(Socket, Address, Port, lobby_sip_message:encode(Message)),
     ok.

@@ -369,6 +369,8 @@ def main():
             stopped(pair, conference)
             apart(pair, conference)
             unplugged(pair, conference, "o", 0)
+            # Both serve, and the one that began later goes on. Then one that reaches no gateway for longer.
+            unplugged(pair, conference, "oi", 1)
             unplugged(pair, conference, "oi", 12)
             both(pair, conference, pair.nodes)
             both(pair, conference, pair.nodes[::-1])

@@ -124,6 +124,9 @@ kept({ok, Kept = #{handle := Handle = {Name, _}, sentinel := Sentinel, terminati
     end.
 
 -spec handle_event(gen_statem:event_type(), term(), state(), #data{}) -> gen_statem:event_handler_result(state()).
+%% Of a pair, this node may have been cut off, and the other one goes on with what would be ended. It hears of that first.
+handle_event(enter, probing, cleaning, Data = #data{contexts = [_ | _]}) ->
+    {keep_state, keep(cleaning, Data), [{{timeout, clean}, lobby_lease:settled_after(), again}]};
 handle_event(enter, _, State, Data) ->
     entered(State, keep(State, Data));
 handle_event({call, From}, {request, Handle, Action}, serving, Data = #data{handle = Handle}) ->

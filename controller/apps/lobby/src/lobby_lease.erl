@@ -7,11 +7,12 @@
 %%% change the same conferences, and none serves with what is out of date.
 %%%
 %%% Each node says to keepalived what it is good for, through a program that notices also if the node hangs or ends: one
-%%% that serves, and reaches a gateway, is to go on; one that has reached none for a while is worse than a standby.
+%%% that serves, and reaches a gateway, is to go on, and if two were apart and both do, the one that began later; one that
+%%% has reached none for a while is worse than a standby.
 -module(lobby_lease).
 -behaviour(gen_server).
 
--export([start_link/2, hold/0]).
+-export([start_link/2, hold/0, settled_after/0]).
 -export([init/1, handle_call/3, handle_cast/2, handle_info/2]).
 -export_type([lease/0]).
 
@@ -22,6 +23,8 @@
 -define(TICK, 20).
 -define(BEAT, 100).
 -define(ALONE, 3000).
+%% Milliseconds after which keepalived has taken the lease from one of two nodes that were apart.
+-define(SETTLED, 1000).
 %% Milliseconds for mnesia to notice that the other node isn't connected.
 -define(DISCONNECT, 100).
 %% Milliseconds until a node that reaches no gateway says so, and how often it looks.
@@ -30,6 +33,7 @@
 -define(WAITING, -254).
 -define(STANDBY, 0).
 -define(SERVING, 20).
+-define(TERMS, 100).
 -define(USELESS, -20).
 
 -record(state, {pair :: lobby_pair:config(), lease :: lease(), serving :: supervisor:child_spec(),
@@ -55,6 +59,11 @@ hold() ->
         none -> ok;
         {Seen, Gap} -> within(now_ms() - atomics:get(Seen, 1), Gap)
     end.
+
+%% @doc Milliseconds after which nodes that were apart agree about who serves: 0 without another node.
+-spec settled_after() -> non_neg_integer().
+settled_after() ->
+    case persistent_term:get(?MODULE, none) of none -> 0; _ -> ?SETTLED end.
 
 within(Passed, Gap) when Passed =< Gap -> ok;
 within(Passed, _) -> stop(io_lib:format("~b ms without a look at the lease", [Passed])).
@@ -187,10 +196,10 @@ reached(State) ->
 
 value(#state{role = waiting}) -> ?WAITING;
 value(#state{role = standby}) -> ?STANDBY;
-value(#state{role = serving, reached = Since}) ->
+value(#state{role = serving, term = Term, reached = Since}) ->
     case now_ms() - Since > ?UNREACHED of
         true -> ?USELESS;
-        false -> ?SERVING
+        false -> ?SERVING + Term rem ?TERMS
     end.
 
 follow(State = #state{role = standby, follows = false, pair = #{peer := Peer}, peer = {{serving, _}, _}}) ->

@@ -9,7 +9,7 @@
 all() ->
     [the_rules_hold_on_the_gateway, a_newcomer_enters_with_his_rules, mutes_and_holds_are_modes, members_move, a_move_that_fails_changes_nothing, refused_media,
      a_lecture_of_sixty, a_killed_gateway_is_replaced, one_that_begins_anew_is_noticed,
-     one_that_begins_with_the_same_numbers_is_noticed, one_that_was_out_of_reach_is_cleaned,
+     one_that_begins_with_the_same_numbers_is_noticed, one_that_was_out_of_reach_is_cleaned, of_a_pair_it_is_cleaned_later,
      a_room_waits_for_a_gateway, one_with_a_journal_comes_back, one_that_comes_back_soon_is_not_missed, one_that_comes_back_soon_is_seen,
      requests_wait_for_one_with_a_journal, one_that_does_not_come_back_is_replaced, one_that_lost_its_journal_is_noticed,
      one_that_comes_back_with_less_is_corrected, another_run_takes_over, one_that_began_anew_between_two_runs, processes_fail, a_room_fails_in_the_middle_of_a_request,
@@ -227,6 +227,23 @@ one_that_was_out_of_reach_is_cleaned(_) ->
     lobby_case:until(fun() -> length(lobby_gateway:serving()) =:= 2 end),
     ?assertEqual([sentinel(Stopped)], gateway:contexts(lists:seq(1, 60) ++ lists:seq(500, 560), Stopped)),
     ?assertEqual([{alice, bob}, {bob, alice}], heard(<<"100">>, Gs)).
+
+%% This node of a pair may have been cut off: until it would have heard of that, nothing is ended.
+of_a_pair_it_is_cleaned_later(_) ->
+    Gs = maps:from_list([{Name, gateway:start()} || Name <- [<<"a">>, <<"b">>]]),
+    ok = persistent_term:put(lobby_lease, {atomics:new(1, []), 1 bsl 60}),
+    run(maps:to_list(Gs)),
+    [join(<<"100">>, Id, <<"member">>) || Id <- [alice, bob]],
+    #{gateway := First, context := Context} = lobby_room:describe(<<"100">>),
+    Stopped = maps:get(First, Gs),
+    gateway:stop(Stopped),
+    lobby_case:until(fun() -> maps:get(gateway, lobby_room:describe(<<"100">>)) =/= First end),
+    gateway:continue(Stopped),
+    timer:sleep(500),
+    ?assertEqual([Context], gateway:contexts([Context], Stopped)),
+    lobby_case:until(fun() -> gateway:contexts([Context], Stopped) =:= [] end),
+    lobby_case:until(fun() -> length(lobby_gateway:serving()) =:= 2 end),
+    true = persistent_term:erase(lobby_lease).
 
 a_room_waits_for_a_gateway(_) ->
     G = gateway:start(),

@@ -5,6 +5,9 @@
 
 -export([start_link/1, start_link/2, init/1]).
 
+%% Names of what lobby_serving starts. `lobby' is pg's.
+-define(SERVING, [lobby, lobby_registry, lobby_gateway_sup, lobby_room_sup, lobby_call_sup, lobby_sip, lobby_connections]).
+
 -spec start_link(lobby_config:config()) -> supervisor:startlink_ret().
 start_link(Config) ->
     supervisor:start_link({local, ?MODULE}, ?MODULE, Config).
@@ -12,8 +15,16 @@ start_link(Config) ->
 %% @doc A supervisor below the top, which is registered by this name.
 -spec start_link(Name :: atom(), {serving, lobby_config:config()} | {gateways, [lobby_gateway:config()]} | rooms | calls) ->
           supervisor:startlink_ret().
+start_link(lobby_serving, Children) ->
+    lists:foreach(fun ended_before/1, ?SERVING),
+    supervisor:start_link({local, lobby_serving}, ?MODULE, Children);
 start_link(Name, Children) ->
     supervisor:start_link({local, Name}, ?MODULE, Children).
+
+%% If their supervisor was killed, they end a little later.
+ended_before(Name) ->
+    Monitor = monitor(process, Name),
+    receive {'DOWN', Monitor, process, _, _} -> ok end.
 
 %% Whatever fails takes up what its predecessor knew.
 -spec init(lobby_config:config() | {serving, lobby_config:config()} | {gateways, [lobby_gateway:config()]} | rooms | calls) ->

@@ -330,7 +330,7 @@ supervisors_fail(Config) ->
          exit(Before, kill),
          until(fun() -> not lists:member(whereis(Name), [undefined, Before]) andalso whereis(lobby_sip) =/= undefined end),
          until(fun() -> is_answered(Config) end)
-     end || Name <- [lobby_room_sup, lobby_call_sup, lobby_room_sup, lobby_registry, lobby_room_sup, lobby_gateway_sup]],
+     end || Name <- [lobby_room_sup, lobby_call_sup, lobby_room_sup, lobby_registry, lobby_room_sup, lobby_gateway_sup, lobby_serving, lobby_store]],
     ?assertEqual(1, length(members("100", Config))),
     %% At once, as a supervisor does it.
     [begin

@@ -227,8 +227,9 @@ gone(Why, Data = #data{config = #{returns := 0}}) ->
     lost(Why, Data);
 gone(Why, Data = #data{config = #{name := Name}, transactions = T}) ->
     logger:warning("gateway ~p is awaited: ~p", [Name, Why]),
+    Away = keep(away, Data#data{transactions = lobby_transactions:hold(T), refused = none, away = now_ms()}),
     ok = lobby_events:publish({gateway, Name, away}),
-    {away, Data#data{transactions = lobby_transactions:hold(T), refused = none, away = now_ms()}, []}.
+    {away, Away, []}.
 
 returned(Data = #data{config = #{name := Name}, handle = Handle, away = Since}) ->
     logger:notice("gateway ~p came back with what it had, after ~b ms", [Name, now_ms() - Since]),

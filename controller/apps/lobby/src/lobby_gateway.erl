@@ -275,9 +275,9 @@ effects(Effects, State, Data) ->
 %% Does something with the transactions, and what follows from it. A request that makes a context is kept before it is
 %% sent.
 sent(Change, {State, Data = #data{transactions = T}, Actions}) ->
-    {Effects, T1} = Change(T),
-    Data1 = Data#data{transactions = T1},
-    Kept = case lobby_transactions:making(T1) -- lobby_transactions:making(T) of
+    {Effects, Changed} = Change(T),
+    Data1 = Data#data{transactions = Changed},
+    Kept = case lobby_transactions:making(Changed) -- lobby_transactions:making(T) of
         [] -> Data1;
         _ -> keep(State, Data1)
     end,

@@ -50,7 +50,7 @@ main(Arguments) ->
     Loss = now_ms(),
     [simulated_gateway:kill(G) || G <- Killed],
     phones:asked(Phones, Affected, ?TIMEOUT),
-    io:format("~b gateways with ~b callers lost at once: all of these were re-invited and answered after ~b ms~n", [Lost, Affected, now_ms() - Loss]),
+    io:format("~b gateways with ~b callers lost at once: all callers were re-invited and answered after ~b ms~n", [Lost, Affected, now_ms() - Loss]),
     io:format("terminations on the others: ~b~n", [lists:sum([T - 1 || G <- Left, {_, T} <- [simulated_gateway:contexts(G)]])]),
     io:format("memory of the node that serves: ~b MB~n", [memory(B)]),
     _ = os:cmd("kill -9 " ++ peer:call(B, os, getpid, []) ++ "; sleep 1; rm -r " ++ Folder),

@@ -167,9 +167,10 @@ handle_event(cast, {keep_only, Handle, Contexts}, State, Data = #data{handle = H
     Strays = lists:usort(maps:values(Terminations)) -- Contexts,
     Ended = Data#data{terminations = maps:filter(fun(_, Context) -> not lists:member(Context, Strays) end, Terminations),
                       contexts = lists:usort(Strays ++ Data#data.contexts)},
-    result(State, case State of
-        serving -> lists:foldl(fun end_context/2, {serving, Ended, []}, Strays);
-        _ -> {State, Ended, []}
+    %% Otherwise, they are ended when the gateway answers.
+    result(State, case lists:member(State, [serving, cleaning]) of
+        true -> lists:foldl(fun end_context/2, {State, Ended, []}, Strays);
+        false -> {State, Ended, []}
     end);
 handle_event(cast, {keep_only, _, _}, _, _) ->
     keep_state_and_data;
@@ -231,12 +232,13 @@ gone(Why, Data = #data{config = #{name := Name}, transactions = T}) ->
     ok = lobby_events:publish({gateway, Name, away}),
     {away, Away, []}.
 
-returned(Data = #data{config = #{name := Name}, handle = Handle, away = Since}) ->
+returned(Data = #data{config = #{name := Name}, handle = Handle, away = Since, contexts = Contexts}) ->
     logger:notice("gateway ~p came back with what it had, after ~b ms", [Name, now_ms() - Since]),
     ok = lobby_events:count(lobby_gateway_returns_total, Name),
     ok = lobby_events:publish({gateway, Name, returned}),
     tell({gateway, Name}, {?MODULE, Handle, returned}),
-    sent(fun(T) -> lobby_transactions:resume(now_ms(), T) end, {serving, Data#data{away = none}, []}).
+    Resumed = sent(fun(T) -> lobby_transactions:resume(now_ms(), T) end, {serving, Data#data{away = none}, []}),
+    lists:foldl(fun end_context/2, Resumed, Contexts).
 
 lost(Why, Data = #data{config = #{name := Name}, handle = Handle, transactions = T}) ->
     logger:warning("gateway ~p is lost: ~p", [Name, Why]),

@@ -156,7 +156,7 @@ create(Name, Object) ->
     case {lobby_rooms:is_name(Name), lobby_json:rules(Object)} of
         {false, _} -> no_name();
         {_, {error, Text}} -> {400, failure(Text)};
-        {_, {ok, Rules}} -> changed(lobby_rooms:create(Name, Rules))
+        {_, {ok, Rules}} -> changed_in(Name, fun() -> lobby_rooms:create(Name, Rules) end)
     end.
 
 close(Name) ->
@@ -167,7 +167,7 @@ close(Name) ->
 
 add_rules(Name, Object) ->
     case lobby_json:rules(Object) of
-        {ok, Rules} -> in_room(Name, fun() -> changed(lobby_room:add_rules(Name, Rules)) end);
+        {ok, Rules} -> in_room(Name, fun() -> changed_in(Name, fun() -> lobby_room:add_rules(Name, Rules) end) end);
         {error, Text} -> {400, failure(Text)}
     end.
 
@@ -182,7 +182,7 @@ no_name() -> {400, failure(<<"a room's name has 1 to 32 letters, digits and _.-"
 %% In the room of this member.
 of_member(Id, Change) ->
     case [Room || #{id := Known, room := Room} <- lobby_call:all(), Known =:= Id] of
-        [Room] -> in_room(Room, fun() -> changed(Change(Room)) end);
+        [Room] -> in_room(Room, fun() -> changed_in(Room, fun() -> Change(Room) end) end);
         [] -> changed({error, no_member})
     end.
 
@@ -208,7 +208,7 @@ role(Id, Object) ->
 
 move(Id, Object) ->
     with_text(<<"room">>, Object, fun(To) -> case lobby_rooms:is_name(To) of
-        true -> changed(lobby_call:move(Id, To));
+        true -> changed_in(To, fun() -> lobby_call:move(Id, To) end);
         false -> no_name()
     end end).
 
@@ -216,6 +216,16 @@ with_text(Key, Object, Change) ->
     case lobby_json:text(Key, Object) of
         {ok, Text} -> Change(Text);
         {error, Text} -> {400, failure(Text)}
+    end.
+
+%% A change isn't done before the gateway has it.
+changed_in(Room, Change) ->
+    case Change() of
+        {error, Reason} -> changed({error, Reason});
+        Done -> in_room(Room, fun() -> case lobby_room:agrees(Room) of
+            true -> changed(Done);
+            false -> changed({error, not_yet})
+        end end)
     end.
 
 changed(ok) -> {200, #{}};
@@ -232,4 +242,5 @@ reason(same_room) -> {409, <<"the member is in this room">>};
 reason(room_full) -> {409, <<"the room is full">>};
 reason(too_many_rules) -> {409, <<"the room has too many rules">>};
 reason(too_many_rooms) -> {409, <<"there are too many rooms">>};
-reason(no_room) -> {503, <<"no gateway has room">>}.
+reason(no_room) -> {503, <<"no gateway has room">>};
+reason(not_yet) -> {503, <<"the gateway refuses the change for now; the room keeps it and asks again">>}.

@@ -8,7 +8,7 @@
 -behaviour(gen_server).
 
 -export([start_link/1, keep/1, let_go/1, lock/2, join/3, leave/2, update/3, add_rules/2, set_rules/2, take/2, give/3,
-         describe/1, audit/1, kept/0]).
+         describe/1, agrees/1, audit/1, kept/0]).
 -export([init/1, handle_continue/2, handle_call/3, handle_cast/2, handle_info/2]).
 -export_type([name/0, error/0, description/0]).
 
@@ -105,6 +105,12 @@ give(Name, Id, Given) ->
 describe(Name) ->
     call(Name, describe).
 
+%% @doc Whether the gateway has what the room wants. Without a gateway, nobody hears anyone, and what comes next will have
+%% it.
+-spec agrees(name()) -> boolean().
+agrees(Name) ->
+    call(Name, agrees).
+
 %% @doc Compares the gateway's topology with the room's. `repaired': it was another one, and has been corrected.
 -spec audit(name()) -> same | repaired | unknown.
 audit(Name) ->
@@ -176,6 +182,8 @@ handle_call({take, Id}, _, State = #state{conference = C, gateway = Gateway}) ->
 handle_call(audit, _, State) ->
     {Result, State1} = audited(State),
     {reply, Result, State1};
+handle_call(agrees, _, State = #state{conference = C, gateway = Gateway}) ->
+    {reply, Gateway =:= none orelse lobby_conference:next(C) =:= settled, State};
 handle_call(describe, _, State) ->
     {reply, described(State), State}.
 

@@ -19,7 +19,13 @@ start_link(lobby_serving, Children) ->
     lists:foreach(fun ended_before/1, ?SERVING),
     supervisor:start_link({local, lobby_serving}, ?MODULE, Children);
 start_link(Name, Children) ->
+    lists:foreach(fun ended_before/1, lobby_registry:processes(kind(Children))),
     supervisor:start_link({local, Name}, ?MODULE, Children).
+
+%% By what their names begin with.
+kind({gateways, _}) -> gateway;
+kind(rooms) -> room;
+kind(calls) -> call.
 
 %% If their supervisor was killed, they end a little later.
 ended_before(Name) ->

@@ -201,15 +201,23 @@ what_the_gateway_says(Config) ->
     ?assertEqual(2, flows("100", Config)),
     {200, #{<<"gateways">> := [#{<<"name">> := <<"a">>, <<"terminations">> := 3, <<"contexts">> := 2}]}} = ask(get, "/gateways", Config).
 
-%% The page shows what the gateway has, and not what it was asked for: somebody who is still heard isn't shown as isolated.
+%% The page shows what the gateway has, and not what it was asked for: somebody who is still heard isn't shown as isolated,
+%% and nobody is told that he is.
 what_the_gateway_refuses(Config) ->
     [call("100", Config) || _ <- [1, 2]],
     [A, _] = members("100", Config),
     {200, #{<<"flows">> := Flows}} = ask(get, "/rooms/100", Config),
     ok = relay:refuse(proplists:get_value(relay, Config), <<"TP{">>),
-    _ = ask(post, "/members/" ++ binary_to_list(A) ++ "/isolate", "", Config),
+    Isolate = "/members/" ++ binary_to_list(A) ++ "/isolate",
+    NotYet = {503, #{<<"error">> => <<"the gateway refuses the change for now; the room keeps it and asks again">>}},
+    ?assertEqual(NotYet, ask(post, Isolate, "", Config)),
     ?assertMatch({200, #{<<"audited">> := true, <<"rules">> := [_, _], <<"flows">> := Flows}}, ask(get, "/rooms/100", Config)),
-    ?assertEqual(2, flows("100", Config)).
+    ?assertEqual(2, flows("100", Config)),
+    [?assertEqual(NotYet, ask(Method, Path, Body, Config))
+     || {Method, Path, Body} <- [{put, "/rooms/100", "{\"rules\": [{\"hears\": false, \"talker\": \"everyone\", \"listener\": \"everyone\"}]}"}, {post, "/rooms/100/rules", "{\"rules\": []}"}]],
+    ok = relay:pass(proplists:get_value(relay, Config)),
+    lobby_case:until(fun() -> flows("100", Config) =:= 0 end),
+    ?assertMatch({200, _}, ask(post, Isolate, "", Config)).
 
 metrics(Config) ->
     call("100", Config),

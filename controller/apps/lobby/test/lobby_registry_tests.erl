@@ -4,7 +4,7 @@
 
 registry_test_() ->
     {setup, fun() -> {ok, Pid} = lobby_registry:start_link(), Pid end, fun gen_server:stop/1,
-     [fun a_name_is_one_processes/0, fun names_end_with_their_process/0, fun a_name_is_given_up/0]}.
+     [fun a_name_is_one_processes/0, fun names_end_with_their_process/0, fun a_name_is_given_up/0, fun processes_of_a_kind/0]}.
 
 process() -> spawn(fun() -> receive stop -> ok end end).
 
@@ -33,3 +33,9 @@ a_name_is_given_up() ->
     ?assertEqual(ok, lobby_registry:unregister_name(z)),
     ?assertEqual(ok, lobby_registry:unregister_name(z)),
     ?assertEqual(yes, lobby_registry:register_name(z, self())).
+
+processes_of_a_kind() ->
+    [A, B] = [process(), process()],
+    [yes = lobby_registry:register_name(Name, Pid) || {Name, Pid} <- [{{seat, 1}, A}, {{seat, 2}, B}, {{table, 1}, A}, {seat, B}]],
+    ?assertEqual(lists:sort([A, B]), lists:sort(lobby_registry:processes(seat))),
+    ?assertEqual([], lobby_registry:processes(chair)).

@@ -1,7 +1,8 @@
-%% A relay between a controller and a gateway that loses, doubles and delays datagrams in both directions.
+%% A relay between a controller and a gateway that loses, doubles and delays datagrams in both directions, and can
+%% refuse or drop requests.
 -module(relay).
 
--export([start/2, address/1, refuse/2]).
+-export([start/2, address/1, refuse/2, drop/2, pass/1]).
 
 start(Gateway, Faults) ->
     Parent = self(),
@@ -18,17 +19,28 @@ address({_, Port}) -> {{127, 0, 0, 1}, Port}.
 %% From now on, requests with this text don't reach the gateway, and the answer to them is error 510.
 refuse({Pid, _}, Text) -> Pid ! {refuse, Text}, ok.
 
+%% From now on, requests with this text are dropped.
+drop({Pid, _}, Text) -> Pid ! {drop, Text}, ok.
+
+%% From now on, all requests reach the gateway again.
+pass({Pid, _}) -> Pid ! pass, ok.
+
 %% Each controller has a socket of its own to the gateway.
 loop(Socket, Gateway = {GatewayAddress, GatewayPort}, Faults, Sockets) ->
     receive
         {refuse, Text} ->
             loop(Socket, Gateway, Faults#{refuse => Text}, Sockets);
+        {drop, Text} ->
+            loop(Socket, Gateway, Faults#{drop => Text}, Sockets);
+        pass ->
+            loop(Socket, Gateway, maps:without([refuse, drop], Faults), Sockets);
         {udp, Socket, Address, Port, Datagram} ->
             {Out, Sockets1} = out({Address, Port}, Sockets),
-            faulty(Faults, case is_refused(Datagram, Faults) of
-                {match, [Number]} -> {send, Socket, Address, Port, io_lib:format("!/1 [127.0.0.1]:~b P=~s{ER=510{}}", [GatewayPort, Number])};
-                nomatch -> {send, Out, GatewayAddress, GatewayPort, Datagram}
-            end),
+            case {has(refuse, Datagram, Faults), has(drop, Datagram, Faults)} of
+                {true, _} -> faulty(Faults, {send, Socket, Address, Port, refusal(Datagram, GatewayPort)});
+                {_, true} -> ok;
+                {_, _} -> faulty(Faults, {send, Out, GatewayAddress, GatewayPort, Datagram})
+            end,
             loop(Socket, Gateway, Faults, Sockets1);
         {udp, Out, _, _, Datagram} ->
             #{Out := {Address, Port}} = Sockets,
@@ -39,14 +51,15 @@ loop(Socket, Gateway = {GatewayAddress, GatewayPort}, Faults, Sockets) ->
             loop(Socket, Gateway, Faults, Sockets)
     end.
 
-%% The transaction's number.
-is_refused(Request, #{refuse := Text}) ->
-    case binary:match(Request, Text) of
-        nomatch -> nomatch;
-        _ -> re:run(Request, "T=(\\d+)", [{capture, all_but_first, list}])
-    end;
-is_refused(_, _) ->
-    nomatch.
+has(Key, Request, Faults) ->
+    case Faults of
+        #{Key := Text} -> binary:match(Request, Text) =/= nomatch;
+        #{} -> false
+    end.
+
+refusal(Request, Port) ->
+    {match, [Number]} = re:run(Request, "T=(\\d+)", [{capture, all_but_first, list}]),
+    io_lib:format("!/1 [127.0.0.1]:~b P=~s{ER=510{}}", [Port, Number]).
 
 out(Controller, Sockets) ->
     case Sockets of

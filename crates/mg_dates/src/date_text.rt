@@ -46,8 +46,8 @@ impl DateText {
     }
 }
 
-/// Returns the date in a comment line, if it has one.
-pub(crate) fn date_in(line: &[u8]) -> Option<Date> {
+/// Returns the date in a comment line such as `# time 2026-11-27T14:03:20.5Z`, if it has one.
+pub fn date_in(line: &[u8]) -> Option<Date> {
     let text = line.strip_prefix(b"# time ".as_slice())?;
     match str::from_utf8(text) {
         Ok(text) => Date::of_text(text),

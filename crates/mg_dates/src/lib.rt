@@ -13,11 +13,14 @@
 //! following lines happened.
 #![tactic(auto)]
 
+mod agreement;
 mod date;
 mod date_text;
 mod dated_journal;
 mod timeline;
 
+pub use crate::agreement::Agreement;
 pub use crate::date::Date;
+pub use crate::date_text::date_in;
 pub use crate::dated_journal::DatedJournal;
 pub use crate::timeline::Timeline;

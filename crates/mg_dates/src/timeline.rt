@@ -1,6 +1,7 @@
 ghost use Rattle.std.specs.Prelude.{◌≡◌};
 ghost use Rattle.mg_dates.specs.Dates.{missed_ticks};
 
+use crate::agreement::Agreement;
 use crate::date::Date;
 use crate::date_text::date_in;
 use mg_core::{Core, Event, Follower, Stopped};
@@ -41,6 +42,17 @@ fn missed_ticks(date: Date, ticks: u64, now: Date) -> u64
     passed - ticks
 }
 
+/// Returns how a date agrees with the time that was expected.
+fn agreement_of(expected: Date, date: Date) -> Agreement {
+    if expected.millis.abs_diff(date.millis) <= TOLERANCE {
+        Agreement::Agrees
+    } else if date < expected {
+        Agreement::WentBack
+    } else {
+        Agreement::JumpedAhead
+    }
+}
+
 impl Timeline {
     /// Creates a timeline that hasn't read any of a journal's lines yet.
     pub fn new() -> Self {
@@ -58,23 +70,30 @@ impl Timeline {
         }
     }
 
-    /// Returns whether a date is close to when the next tick should happen.
-    fn agrees(&self, date: Date) -> bool {
-        let Some(start) = self.start else {
-            return false;
+    /// Returns when the next tick should happen. Returns `None` if there is no date.
+    pub fn next_tick(&self) -> Option<Date> {
+        let start = self.start?;
+        let millis = start.millis.saturating_add(self.ticks.saturating_mul(TICK));
+        Some(Date { millis })
+    }
+
+    /// Passes a date, and returns how it agrees with the ticks before it.
+    pub fn pass_date(&mut self, date: Date) -> Agreement {
+        let agreement = match self.next_tick() {
+            Some(expected) => agreement_of(expected, date),
+            None => Agreement::First,
         };
-        let expected = start.millis.saturating_add(self.ticks.saturating_mul(TICK));
-        expected.abs_diff(date.millis) <= TOLERANCE
+        if agreement != Agreement::Agrees {
+            self.start = Some(date);
+            self.ticks = 0;
+        }
+        agreement
     }
 
     /// Passes a comment or an empty line, without its line end. It counts only if it is a date.
     pub fn pass_comment(&mut self, line: &[u8]) {
-        let Some(date) = date_in(line) else {
-            return;
-        };
-        if !self.agrees(date) {
-            self.start = Some(date);
-            self.ticks = 0;
+        if let Some(date) = date_in(line) {
+            let _ = self.pass_date(date);
         }
     }
 

@@ -11,3 +11,4 @@ pub mod ContinueLemmas
 pub mod PartyLemmas
 pub mod FillLemmas
 pub mod AdvanceLemmas
+pub mod KeepingLemmas

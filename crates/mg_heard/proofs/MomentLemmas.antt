@@ -29,7 +29,7 @@ abbrev pub OneOutcome : Type 0
 OneOutcome = (w : World) (event : Event) (a b : List Sent) (x y : World) →
     Step w event a x → Step w event b y → (a ≡ b) × (x ≡ y)
 
-abbrev if_tick : Bool → World → List (List OpenFlow) → List (List OpenFlow)
+abbrev pub if_tick : Bool → World → List (List OpenFlow) → List (List OpenFlow)
 if_tick b w others = cond b (open_flows w.gateway ∷ others) others
 
 -- ## The moment of a tick

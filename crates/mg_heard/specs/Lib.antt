@@ -4,4 +4,5 @@ pub mod Moments
 pub mod Intervals
 pub mod Maximal
 pub mod Laws
+pub mod Told
 pub mod aids

@@ -1,20 +1,44 @@
 //! Who could hear whom, and when: the intervals in which a talker's speech flowed to a listener.
 //!
+//! [`hear`] runs a script, such as a journal or a recording, and tells a [`Sink`] each interval when it ends:
+//!
+//! ```rust
+//! let (sink, extent) = hear(alloc, config, &mut input, sink)?;
+//! ```
+//!
 //! A pair and a tick lie in an interval exactly if the talker's speech flows to the listener in the world before that
 //! tick (`specs/Laws.antt`). The intervals are read off the flows that are open before each tick
-//! (`specs/Intervals.antt`); those that have not ended are stored, and compared with the flows of the next tick.
+//! (`specs/Intervals.antt`); those that have not ended are stored, and compared with the flows of the next tick. Dates come from the script's comments. No proof covers dates and gaps.
 #![tactic(auto)]
 
+mod clock;
+mod clock_fault;
 mod continuing;
+mod entry;
+mod extent;
 mod filling;
+mod gap;
+mod heard;
+mod heard_fault;
+mod hearing;
 mod interval;
 mod moment;
 mod open_flow;
 mod open_interval;
 mod open_intervals;
 mod party;
+mod remark;
+mod sink;
+mod telling;
 pub mod theorems;
 
+pub use crate::clock_fault::ClockFault;
+pub use crate::entry::Entry;
+pub use crate::extent::Extent;
+pub use crate::gap::Gap;
+pub use crate::heard_fault::HeardFault;
+pub use crate::hearing::hear;
 pub use crate::interval::Interval;
 pub use crate::moment::Moment;
 pub use crate::open_flow::OpenFlow;
+pub use crate::sink::Sink;

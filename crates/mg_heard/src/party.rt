@@ -20,10 +20,10 @@ pub(crate) struct Party {
 
 impl Party {
     /// Returns what an interval says about a termination.
-    fn of(record: &Record) -> Party
-        ensures value { result ≡ party_of record.now }
+    fn of(termination: &Record) -> Party
+        ensures value { result ≡ party_of termination.now }
     {
-        let at = record.remote.map(|chosen| {
+        let at = termination.remote.map(|chosen| {
             let address = chosen.address;
             Peer {
                 address,
@@ -31,8 +31,8 @@ impl Party {
             }
         });
         Party {
-            number: record.number,
-            context: record.context,
+            number: termination.number,
+            context: termination.context,
             at,
         }
     }

@@ -1,0 +1,474 @@
+-- What a follower keeps, note by note.
+use Rattle.std.proofs.Common.{◌≡◌, ◌≢◌, ℕ, ◌+◌, suc, zero, Bool, true, false, cond, List, [], ◌∷◌, ◌++◌, ◌<◌, ◌≤◌, length, get_or, map, replicate, take, Option, Some, None, Result, Ok, Err, IfOk, OnOk, refl, sym, ap, subst, ◌∙◌, arith}
+use Rattle.std.specs.Prelude.{reverse}
+use Rattle.std.proofs.lemmas.Bool.{true≢false}
+use Rattle.std.proofs.lemmas.List.{append-nil, append_assoc, length-append, length-replicate, map-append, reverse-append, reverse-reverse, take_all, take_more}
+use Rattle.mg_words.specs.declared.peer.Peer.{Peer}
+use Rattle.mg_engine.specs.declared.config.Config.{Config}
+use Rattle.mg_core.specs.declared.event.Event.{Event}
+use Rattle.mg_core.specs.declared.event.Event.TheVariants.{Control, Media, Tick}
+use Rattle.mg_core.specs.declared.state.CoreState.{CoreState}
+use Rattle.mg_core.specs.Counting.{is_control, is_tick}
+use Rattle.mg_core.specs.Follow.{HasRun, IsFollowed, ticks_of}
+use Rattle.mg_core.specs.Note.{Note, Comment, Happened, events_in}
+use Rattle.mg_core.specs.Step.{Packet, Run, Sent, Step}
+use Rattle.mg_core.specs.World.{World, packets_of, start_of, world_after_tick}
+use Rattle.mg_heard.specs.declared.entry.Entry.{Entry}
+use Rattle.mg_heard.specs.declared.entry.Entry.TheVariants as entries
+use Rattle.mg_heard.specs.declared.gap.Gap.{Gap}
+use Rattle.mg_heard.specs.declared.moment.Moment.{Moment}
+use Rattle.mg_heard.specs.declared.open_flow.OpenFlow.{OpenFlow}
+use Rattle.mg_heard.specs.declared.open_interval.OpenInterval.{OpenInterval}
+use Rattle.mg_heard.specs.Intervals.{Interval, ended, ending, intervals, lasting, newest}
+use Rattle.mg_heard.specs.Laws.{AreIntervals, EqualMomentsTellNothing, IntervalsTellTheFlow, OnlyControlChangesFlows}
+use Rattle.mg_heard.specs.Moments.{AreMoments}
+use Rattle.mg_heard.specs.OpenFlows.{open_flows}
+use Rattle.mg_heard.specs.Told.{TellsAll, TellsTheFlow, intervals_in}
+use Rattle.mg_heard.specs.aids.Keeping.{KeepsOpen, TellsPast, entry_until}
+use Rattle.mg_heard.specs.aids.Opening.{AreLasting, ended_at, still_open}
+use Rattle.mg_heard.proofs.MomentLemmas.{OneOutcome, if_tick}
+
+-- ## Moments of more events
+
+if_tick_append : (b : Bool) (w : World) (xs ys : List (List OpenFlow)) →
+    if_tick b w xs ++ ys ≡ if_tick b w (xs ++ ys)
+if_tick_append true w xs ys = refl
+if_tick_append false w xs ys = refl
+
+-- the last of these moments is that of the world w, and the others stay if more events follow
+record Continues (a w : World) (events later : List Event) (moments others : List (List OpenFlow)) : Type 0 where
+  before : List (List OpenFlow)
+  is : moments ≡ before ++ open_flows w.gateway ∷ []
+  are : AreMoments a (events ++ later) (before ++ others)
+
+continues : OneOutcome → (a w : World) (events later : List Event) (sent : List Sent)
+    (moments others : List (List OpenFlow)) → Run a events sent w → AreMoments a events moments →
+    AreMoments w later others → Continues a w events later moments others
+continues one a w [] later sent moments others run are more = record {
+  before = [];
+  is = are ∙ ap (λ (v : World). open_flows v.gateway ∷ []) (sym run.1);
+  are = subst (λ (v : World). AreMoments v later others) run.1 more;
+}
+continues one a w (e ∷ es) later sent moments others (first, rest, next, step, run, is) (also, after, tail, too, are, its) more =
+    let same = (one a e first also next after step too).1 in
+    let c = continues one after w es later rest tail others (subst (λ (v : World). Run v es rest w) same run) are more in
+    record {
+      before = if_tick (is_tick e) a c.before;
+      is = its ∙ ap (if_tick (is_tick e) a) c.is ∙ sym (if_tick_append (is_tick e) a c.before (open_flows w.gateway ∷ []));
+      are = (also, after, c.before ++ others, too, c.are, if_tick_append (is_tick e) a c.before others);
+    }
+
+-- the same, of moments that come newest first
+record Extends (a w : World) (events later : List Event) (now : List OpenFlow) (past others : List (List OpenFlow))
+    : Type 0 where
+  is : now ≡ open_flows w.gateway
+  are : AreMoments a (events ++ later) (reverse past ++ others)
+
+extends : OneOutcome → (a w : World) (events later : List Event) (sent : List Sent) (now : List OpenFlow)
+    (past others : List (List OpenFlow)) → Run a events sent w → AreMoments a events (reverse (now ∷ past)) →
+    AreMoments w later others → Extends a w events later now past others
+extends one a w events later sent now past others run are more =
+    let c = continues one a w events later sent (reverse (now ∷ past)) others run are more in
+    let back : now ∷ past ≡ open_flows w.gateway ∷ reverse c.before = sym (reverse-reverse (now ∷ past))
+    ∙ ap reverse c.is ∙ reverse-append c.before (open_flows w.gateway ∷ []) in
+    let front : past ≡ reverse c.before = cc back in
+    record {
+      is = cc back;
+      are = subst (λ (l : List (List OpenFlow)). AreMoments a (events ++ later) (l ++ others))
+          (sym (ap reverse front ∙ reverse-reverse c.before)) c.are;
+    }
+
+-- ## The events of notes
+
+events_in_both : (a b : List Note) → events_in (a ++ b) ≡ events_in a ++ events_in b
+events_in_both [] b = refl
+events_in_both (Comment line ∷ a) b = events_in_both a b
+events_in_both (Happened event ∷ a) b = ap (λ (l : List Event). event ∷ l) (events_in_both a b)
+
+events_in_ticks : (n : ℕ) → events_in (ticks_of n) ≡ replicate n Tick
+events_in_ticks zero = refl
+events_in_ticks (suc n) = ap (λ (l : List Event). Tick ∷ l) (events_in_ticks n)
+
+events_with_ticks : (notes : List Note) (n : ℕ) → events_in (notes ++ ticks_of n) ≡ events_in notes ++ replicate n Tick
+events_with_ticks notes n = events_in_both notes (ticks_of n) ∙ ap (λ (l : List Event). events_in notes ++ l) (events_in_ticks n)
+
+-- ## The intervals among entries
+
+intervals_in_both : (a b : List Entry) → intervals_in (a ++ b) ≡ intervals_in a ++ intervals_in b
+intervals_in_both [] b = refl
+intervals_in_both (entries.Interval x ∷ a) b = λ i. record {
+  flow = x.flow;
+  first = x.first.tick;
+  end = Rattle.std.specs.Option.option_map (λ (m : Moment). m.tick) x.end;
+} ∷ intervals_in_both a b i
+intervals_in_both (entries.Gap gap ∷ a) b = intervals_in_both a b
+
+told_until : (end : Moment) (xs : List OpenInterval) →
+    intervals_in (map (entry_until (Some end)) xs) ≡ map (ended_at end.tick) xs
+told_until end [] = refl
+told_until end (x ∷ xs) = ap (λ (l : List Interval). ended_at end.tick x ∷ l) (told_until end xs)
+
+told_open : (xs : List OpenInterval) → intervals_in (map (entry_until None) xs) ≡ map still_open xs
+told_open [] = refl
+told_open (x ∷ xs) = ap (λ (l : List Interval). still_open x ∷ l) (told_open xs)
+
+-- ## One moment more
+
+still_same : EqualMomentsTellNothing → (past : List (List OpenFlow)) (flows : List OpenFlow) → flows ≡ newest past →
+    (ended (flows ∷ past) ≡ ended past) × (lasting (flows ∷ past) ≡ lasting past)
+unfolding ended
+still_same equal [] flows e = subst (λ (l : List OpenFlow). (ended (l ∷ []) ≡ ended []) × (lasting (l ∷ []) ≡ lasting []))
+    (sym e) (refl, refl)
+still_same equal (last ∷ older) flows e = subst
+    (λ (l : List OpenFlow). (ended (l ∷ last ∷ older) ≡ ended (last ∷ older)) × (lasting (l ∷ last ∷ older) ≡ lasting (last ∷ older)))
+    (sym e) (equal last older 1)
+
+-- nothing has changed
+pub tells_same : EqualMomentsTellNothing → (past : List (List OpenFlow)) (flows : List OpenFlow)
+    (stored : List OpenInterval) (Told : List Entry → Type 0) → flows ≡ newest past → TellsPast past stored Told →
+    TellsPast (flows ∷ past) stored Told
+tells_same equal past flows stored Told e h =
+    let same = still_same equal past flows e in
+    record {
+      lasts = (h.lasts.0, h.lasts.1 ∙ sym same.1);
+      xs = h.xs;
+      ended_are = h.ended_are ∙ sym same.0;
+      told = h.told;
+    }
+
+-- the intervals that ended are told
+pub tells_ended : (past : List (List OpenFlow)) (flows : List OpenFlow) (now : Moment)
+    (stored new over : List OpenInterval) (Told ToldNext : List Entry → Type 0) →
+    AreLasting (flows ∷ past) new → map (ended_at now.tick) over ≡ ending past flows →
+    ((before : List Entry) → Told before → ToldNext (before ++ map (entry_until (Some now)) over)) →
+    TellsPast past stored Told → TellsPast (flows ∷ past) new ToldNext
+unfolding ended
+tells_ended past flows now stored new over Told ToldNext lasts ends tells h = record {
+  lasts = lasts;
+  xs = h.xs ++ map (entry_until (Some now)) over;
+  ended_are = intervals_in_both h.xs (map (entry_until (Some now)) over)
+      ∙ ap (λ (l : List Interval). l ++ intervals_in (map (entry_until (Some now)) over)) h.ended_are
+      ∙ ap (λ (l : List Interval). ended past ++ l) (told_until now over ∙ ends);
+  told = tells h.xs h.told;
+}
+
+-- the same, unless the sink refuses one
+pub tells_ended_on : {E : Type 0} (past : List (List OpenFlow)) (flows : List OpenFlow) (now : Moment)
+    (stored new over : List OpenInterval) (Told ToldNext : List Entry → Type 0) (result : Result (Unit {0}) E) →
+    AreLasting (flows ∷ past) new → map (ended_at now.tick) over ≡ ending past flows →
+    ((before : List Entry) → Told before → OnOk result (ToldNext (before ++ map (entry_until (Some now)) over))) →
+    TellsPast past stored Told → OnOk result (TellsPast (flows ∷ past) new ToldNext)
+tells_ended_on past flows now stored new over Told ToldNext (Ok done) lasts ends tells h =
+    tells_ended past flows now stored new over Told ToldNext lasts ends tells h
+tells_ended_on past flows now stored new over Told ToldNext (Err error) lasts ends tells h = tt
+
+-- one more interval is told
+pub told_more : (end : Option Moment) (before : List Entry) (xs : List OpenInterval) (i : ℕ) (x : OpenInterval) →
+    i < length xs → get_or xs i x ≡ x →
+    (before ++ map (entry_until end) (take i xs)) ++ entry_until end x ∷ [] ≡
+    before ++ map (entry_until end) (take (i + 1) xs)
+told_more end before xs i x within is =
+    append_assoc before (map (entry_until end) (take i xs)) (entry_until end x ∷ [])
+    ∙ ap (λ (l : List Entry). before ++ l) (sym (map-append (entry_until end) (take i xs) (x ∷ []))
+    ∙ ap (λ (l : List OpenInterval). map (entry_until end) l) (ap (λ (y : OpenInterval). take i xs ++ y ∷ []) (sym is)
+    ∙ sym (take_more xs i x within)))
+
+pub told_whole : (end : Option Moment) (before : List Entry) (xs : List OpenInterval) (i : ℕ) → length xs ≤ i →
+    before ++ map (entry_until end) (take i xs) ≡ before ++ map (entry_until end) xs
+told_whole end before xs i all = ap (λ (l : List OpenInterval). before ++ map (entry_until end) l) (take_all i xs all)
+
+-- ## Notes
+
+pub keeps_start : (config : Config) (tick : ℕ) (is_changed : Bool) (stored : List OpenInterval)
+    (Told : List Entry → Type 0) → tick ≡ 0 → is_changed ≡ true → stored ≡ [] → Told [] →
+    KeepsOpen config [] tick is_changed stored Told
+unfolding ended
+keeps_start config tick is_changed stored Told none changed empty told = record {
+  past = [];
+  now = open_flows (start_of config).gateway;
+  are = refl;
+  count = none;
+  same = λ e. absurd (true≢false (sym changed ∙ e));
+  tells = record {
+    lasts = subst (λ (l : List OpenInterval). AreLasting [] l) (sym empty)
+        (λ i j d less below. absurd (omega arith), refl);
+    xs = [];
+    ended_are = refl;
+    told = told;
+  };
+}
+
+pub keeps_comment : (config : Config) (notes : List Note) (line : List ℕ) (tick next : ℕ) (is_changed : Bool)
+    (stored : List OpenInterval) (Told : List Entry → Type 0) → next ≡ tick →
+    KeepsOpen config notes tick is_changed stored Told →
+    KeepsOpen config (notes ++ Comment line ∷ []) next is_changed stored Told
+keeps_comment config notes line tick next is_changed stored Told e h = record {
+  past = h.past;
+  now = h.now;
+  are = subst (λ (l : List Event). AreMoments (start_of config) l (reverse (h.now ∷ h.past)))
+      (sym (events_in_both notes (Comment line ∷ []) ∙ append-nil (events_in notes))) h.are;
+  count = e ∙ h.count;
+  same = h.same;
+  tells = h.tells;
+}
+
+pub keeps_gap : (config : Config) (notes : List Note) (gap : Gap) (tick : ℕ) (is_changed : Bool)
+    (stored : List OpenInterval) (Told ToldNext : List Entry → Type 0) →
+    ((before : List Entry) → Told before → ToldNext (before ++ entries.Gap gap ∷ [])) →
+    KeepsOpen config notes tick is_changed stored Told → KeepsOpen config notes tick is_changed stored ToldNext
+keeps_gap config notes gap tick is_changed stored Told ToldNext tells h = record {
+  past = h.past;
+  now = h.now;
+  are = h.are;
+  count = h.count;
+  same = h.same;
+  tells = record {
+    lasts = h.tells.lasts;
+    xs = h.tells.xs ++ entries.Gap gap ∷ [];
+    ended_are = intervals_in_both h.tells.xs (entries.Gap gap ∷ []) ∙ append-nil (intervals_in h.tells.xs)
+        ∙ h.tells.ended_are;
+    told = tells h.tells.xs h.tells.told;
+  };
+}
+
+-- the same, unless the sink refuses the gap
+pub keeps_gap_on : {E : Type 0} (config : Config) (notes : List Note) (gap : Gap) (tick : ℕ) (is_changed : Bool)
+    (stored : List OpenInterval) (Told ToldNext : List Entry → Type 0) (result : Result (Unit {0}) E) →
+    ((before : List Entry) → Told before → OnOk result (ToldNext (before ++ entries.Gap gap ∷ []))) →
+    KeepsOpen config notes tick is_changed stored Told →
+    OnOk result (KeepsOpen config notes tick is_changed stored ToldNext)
+keeps_gap_on config notes gap tick is_changed stored Told ToldNext (Ok done) tells h =
+    keeps_gap config notes gap tick is_changed stored Told ToldNext tells h
+keeps_gap_on config notes gap tick is_changed stored Told ToldNext (Err error) tells h = tt
+
+-- the flows that are kept as open are those of the world
+pub now_is : OneOutcome → (config : Config) (notes : List Note) (tick : ℕ) (is_changed : Bool)
+    (stored : List OpenInterval) (Told : List Entry → Type 0) (sent : List Sent) (w : World) →
+    Run (start_of config) (events_in notes) sent w → (h : KeepsOpen config notes tick is_changed stored Told) →
+    h.now ≡ open_flows w.gateway
+now_is one config notes tick is_changed stored Told sent w run h =
+    (extends one (start_of config) w (events_in notes) [] sent h.now h.past (open_flows w.gateway ∷ []) run h.are refl).is
+
+-- events that end with this one
+record Split (a w : World) (events : List Event) (event : Event) : Type 0 where
+  before : List Sent
+  mid : World
+  run : Run a events before mid
+  sent : List Sent
+  step : Step mid event sent w
+
+split : (a w : World) (events : List Event) (event : Event) (sent : List Sent) → Run a (events ++ event ∷ []) sent w →
+    Split a w events event
+split a w [] event sent (first, rest, next, step, run, is) = record {
+  before = [];
+  mid = a;
+  run = (refl, refl);
+  sent = first;
+  step = subst (λ (v : World). Step a event first v) (sym run.1) step;
+}
+split a w (e ∷ es) event sent (first, rest, next, step, run, is) =
+    let s = split next w es event rest run in
+    record {
+      before = first ++ s.before;
+      mid = s.mid;
+      run = (first, s.before, next, step, s.run, refl);
+      sent = s.sent;
+      step = s.step;
+    }
+
+pub not_control : (event : Event) → ((source : Peer) (bytes : List ℕ) → ¬ event ≡ Control source bytes) →
+    is_control event ≡ false
+not_control (Control source bytes) h = absurd (h source bytes refl)
+not_control (Media port source bytes) h = refl
+not_control Tick h = refl
+
+no_tick : (event : Event) → event ≢ Tick → is_tick event ≡ false
+no_tick (Control source bytes) h = refl
+no_tick (Media port source bytes) h = refl
+no_tick Tick h = absurd (h refl)
+
+one_moment : (w next : World) (event : Event) (sent : List Sent) → event ≢ Tick → Step w event sent next →
+    AreMoments w (event ∷ []) (open_flows next.gateway ∷ [])
+one_moment w next event sent h step = (
+  sent,
+  next,
+  open_flows next.gateway ∷ [],
+  step,
+  refl,
+  sym (ap (λ (b : Bool). if_tick b w (open_flows next.gateway ∷ [])) (no_tick event h)),
+)
+
+pub keeps_datagram : OneOutcome → OnlyControlChangesFlows → (config : Config) (notes : List Note) (event : Event)
+    (tick next : ℕ) (is_changed will_change : Bool) (stored : List OpenInterval) (Told : List Entry → Type 0)
+    (state : CoreState) → next ≡ tick → event ≢ Tick →
+    (will_change ≡ false → (is_control event ≡ false) × (is_changed ≡ false)) →
+    HasRun config (notes ++ Happened event ∷ []) state → KeepsOpen config notes tick is_changed stored Told →
+    KeepsOpen config (notes ++ Happened event ∷ []) next will_change stored Told
+keeps_datagram one only config notes event tick next is_changed will_change stored Told state same not changes (sent, w, (run, stands)) h =
+    let all = events_in_both notes (Happened event ∷ []) in
+    let s = split (start_of config) w (events_in notes) event sent
+    (subst (λ (l : List Event). Run (start_of config) l sent w) all run) in
+    let e = extends one (start_of config) s.mid (events_in notes) (event ∷ []) s.before h.now h.past
+    (open_flows w.gateway ∷ []) s.run h.are (one_moment s.mid w event s.sent not s.step) in
+    record {
+      past = h.past;
+      now = open_flows w.gateway;
+      are = subst (λ (l : List Event). AreMoments (start_of config) l (reverse (open_flows w.gateway ∷ h.past))) (sym all)
+          (subst (λ (l : List (List OpenFlow)). AreMoments (start_of config) (events_in notes ++ event ∷ []) l)
+          (sym (reverse-append (open_flows w.gateway ∷ []) h.past)) e.are);
+      count = same ∙ h.count;
+      same = λ k. let (speech, before) = changes k in
+          only s.mid w event s.sent speech s.step ∙ sym e.is ∙ h.same before;
+      tells = h.tells;
+    }
+
+-- ## Ticks
+
+tick_moments : OnlyControlChangesFlows → (n : ℕ) (w : World) (flows : List OpenFlow) → flows ≡ open_flows w.gateway →
+    AreMoments w (replicate n Tick) (replicate n flows ++ flows ∷ [])
+tick_moments only zero w flows e = ap (λ (l : List OpenFlow). l ∷ []) e
+tick_moments only (suc n) w flows e = (
+  map Packet (packets_of w),
+  world_after_tick w,
+  replicate n flows ++ flows ∷ [],
+  (refl, refl),
+  tick_moments only n (world_after_tick w) flows
+      (e ∙ sym (only w (world_after_tick w) Tick (map Packet (packets_of w)) refl (refl, refl))),
+  ap (λ (l : List OpenFlow). l ∷ (replicate n flows ++ flows ∷ [])) e,
+)
+
+same_back : (n : ℕ) (flows : List OpenFlow) (past : List (List OpenFlow)) →
+    replicate (suc n) flows ++ past ≡ replicate n flows ++ flows ∷ past
+same_back zero flows past = refl
+same_back (suc n) flows past = ap (λ (l : List (List OpenFlow)). flows ∷ l) (same_back n flows past)
+
+same_reversed : (n : ℕ) (flows : List OpenFlow) → reverse (replicate n flows) ≡ replicate n flows
+same_reversed zero flows = refl
+same_reversed (suc n) flows = reverse-append (flows ∷ []) (replicate n flows)
+    ∙ ap (λ (l : List (List OpenFlow)). l ++ flows ∷ []) (same_reversed n flows)
+    ∙ sym (same_back n flows []) ∙ append-nil (replicate (suc n) flows)
+
+back_to_front : (n : ℕ) (flows : List OpenFlow) (past : List (List OpenFlow)) →
+    reverse past ++ (replicate n flows ++ flows ∷ []) ≡ reverse (flows ∷ (replicate n flows ++ past))
+back_to_front n flows past =
+    ap (λ (l : List (List OpenFlow)). reverse past ++ l)
+    (sym (same_back n flows []) ∙ append-nil (replicate (suc n) flows) ∙ sym (same_reversed (suc n) flows))
+    ∙ sym (reverse-append (replicate (suc n) flows) past)
+
+keeps_ticks : OneOutcome → OnlyControlChangesFlows → EqualMomentsTellNothing → (config : Config)
+    (notes : List Note) (tick next n : ℕ) (is_changed will_change : Bool) (stored new : List OpenInterval)
+    (Told ToldNext : List Entry → Type 0) (sent : List Sent) (w : World) → next ≡ tick + suc n →
+    Run (start_of config) (events_in notes) sent w → (h : KeepsOpen config notes tick is_changed stored Told) →
+    TellsPast (open_flows w.gateway ∷ h.past) new ToldNext →
+    KeepsOpen config (notes ++ ticks_of (suc n)) next will_change new ToldNext
+keeps_ticks one only equal config notes tick next n is_changed will_change stored new Told ToldNext sent w sum run h tells =
+    let flows = open_flows w.gateway in
+    let e = extends one (start_of config) w (events_in notes) (replicate (suc n) Tick) sent h.now h.past
+    (replicate (suc n) flows ++ flows ∷ []) run h.are (tick_moments only (suc n) w flows refl) in
+    let same = equal flows h.past n in
+    let back = same_back n flows h.past in
+    record {
+      past = replicate (suc n) flows ++ h.past;
+      now = flows;
+      are = subst (λ (l : List Event). AreMoments (start_of config) l (reverse (flows ∷ (replicate (suc n) flows ++ h.past))))
+          (sym (events_with_ticks notes (suc n)))
+          (subst (λ (l : List (List OpenFlow)). AreMoments (start_of config) (events_in notes ++ replicate (suc n) Tick) l)
+          (back_to_front (suc n) flows h.past) e.are);
+      count = let k = h.count in omega (arith, length-append (replicate (suc n) flows) h.past, length-replicate (suc n) flows);
+      same = λ k. refl;
+      tells = record {
+        lasts = (tells.lasts.0, tells.lasts.1 ∙ sym same.1 ∙ ap lasting (sym back));
+        xs = tells.xs;
+        ended_are = tells.ended_are ∙ sym same.0 ∙ ap ended (sym back);
+        told = tells.told;
+      };
+    }
+
+pub keeps_some_ticks : OneOutcome → OnlyControlChangesFlows → EqualMomentsTellNothing → (config : Config)
+    (notes : List Note) (tick next count : ℕ) (is_changed will_change : Bool) (stored new : List OpenInterval)
+    (Told ToldNext : List Entry → Type 0) (sent : List Sent) (w : World) → count ≢ 0 → next ≡ tick + count →
+    Run (start_of config) (events_in notes) sent w → (h : KeepsOpen config notes tick is_changed stored Told) →
+    TellsPast (open_flows w.gateway ∷ h.past) new ToldNext →
+    KeepsOpen config (notes ++ ticks_of count) next will_change new ToldNext
+keeps_some_ticks one only equal config notes tick next zero is_changed will_change stored new Told ToldNext sent w some sum
+    run h tells = absurd (some refl)
+keeps_some_ticks one only equal config notes tick next (suc n) is_changed will_change stored new Told ToldNext sent w some
+    sum run h tells =
+    keeps_ticks one only equal config notes tick next n is_changed will_change stored new Told ToldNext sent w sum run h tells
+
+pub keeps_no_tick : (config : Config) (notes : List Note) (tick count : ℕ) (is_changed : Bool)
+    (stored : List OpenInterval) (Told : List Entry → Type 0) → count ≡ 0 →
+    KeepsOpen config notes tick is_changed stored Told →
+    KeepsOpen config (notes ++ ticks_of count) tick is_changed stored Told
+keeps_no_tick config notes tick count is_changed stored Told none h =
+    subst (λ (l : List Note). KeepsOpen config l tick is_changed stored Told)
+    (sym (append-nil notes) ∙ ap (λ (n : ℕ). notes ++ ticks_of n) (sym none)) h
+
+-- ## The end
+
+tells_the_flow : IntervalsTellTheFlow → (config : Config) (events : List Event) (ys : List Interval) →
+    AreIntervals config events ys → TellsTheFlow config events ys
+tells_the_flow law config events ys are past future sent w talker listener e run tick =
+    law config past future w ys talker listener (record {
+      sent = sent;
+      run = run;
+      tick = tick;
+      told = subst (λ (l : List Event). AreIntervals config l ys) e are;
+    })
+
+pub tells_all : OneOutcome → IntervalsTellTheFlow → (config : Config) (notes : List Note) (tick : ℕ)
+    (is_changed : Bool) (stored new : List OpenInterval) (Told ToldNow ToldNext : List Entry → Type 0)
+    (sent : List Sent) (w : World) → Run (start_of config) (events_in notes) sent w →
+    (h : KeepsOpen config notes tick is_changed stored Told) → TellsPast (open_flows w.gateway ∷ h.past) new ToldNow →
+    ((before : List Entry) → ToldNow before → ToldNext (before ++ map (entry_until None) new)) →
+    TellsAll config notes ToldNext
+tells_all one law config notes tick is_changed stored new Told ToldNow ToldNext sent w run h tells last =
+    let flows = open_flows w.gateway in
+    let now = now_is one config notes tick is_changed stored Told sent w run h in
+    let xs = tells.xs ++ map (entry_until None) new in
+    let all : intervals_in xs ≡ intervals (flows ∷ h.past) = intervals_in_both tells.xs (map (entry_until None) new)
+    ∙ ap (λ (l : List Interval). l ++ intervals_in (map (entry_until None) new)) tells.ended_are
+    ∙ ap (λ (l : List Interval). ended (flows ∷ h.past) ++ l) (told_open new ∙ tells.lasts.1) in
+    let are : AreIntervals config (events_in notes) (intervals_in xs) = (
+      reverse (h.now ∷ h.past),
+      h.are,
+      all ∙ ap (λ (l : List OpenFlow). intervals (l ∷ h.past)) (sym now)
+          ∙ ap intervals (sym (reverse-reverse (h.now ∷ h.past))),
+    ) in
+    record {
+      xs = xs;
+      are = are;
+      flow = tells_the_flow law config (events_in notes) (intervals_in xs) are;
+      told = last tells.xs tells.told;
+    }
+
+-- the same, unless the sink refuses an interval
+pub tells_all_on : {E : Type 0} → OneOutcome → IntervalsTellTheFlow → (config : Config) (notes : List Note) (tick : ℕ)
+    (is_changed : Bool) (stored new : List OpenInterval) (Told ToldNow ToldNext : List Entry → Type 0)
+    (sent : List Sent) (w : World) (result : Result (Unit {0}) E) → Run (start_of config) (events_in notes) sent w →
+    (h : KeepsOpen config notes tick is_changed stored Told) → TellsPast (open_flows w.gateway ∷ h.past) new ToldNow →
+    ((before : List Entry) → ToldNow before → OnOk result (ToldNext (before ++ map (entry_until None) new))) →
+    OnOk result (TellsAll config notes ToldNext)
+tells_all_on one law config notes tick is_changed stored new Told ToldNow ToldNext sent w (Ok done) run h tells last =
+    tells_all one law config notes tick is_changed stored new Told ToldNow ToldNext sent w run h tells last
+tells_all_on one law config notes tick is_changed stored new Told ToldNow ToldNext sent w (Err error) run h tells last = tt
+
+-- what was told of a whole script, unless the sink refused an interval
+pub tells_followed : {S X E : Type 0} (config : Config) (input rest : Option (List ℕ)) (state : CoreState)
+    (Follows : List Note → Type 0) (Told : S → List Entry → Type 0) (result : Result (S × X) E) →
+    IsFollowed config input rest state Follows →
+    ((notes : List Note) → HasRun config notes state → Follows notes →
+    IfOk result (λ ended. TellsAll config notes (Told ended.0))) →
+    IfOk result (λ heard. (s : CoreState) × IsFollowed config input rest s (λ notes. TellsAll config notes (Told heard.0)))
+tells_followed config input rest state Follows Told (Ok ended) h tells = (
+  state,
+  record {
+    script = h.script;
+    read = h.read;
+    notes = h.notes;
+    are = h.are;
+    run = h.run;
+    follows = tells h.notes h.run h.follows;
+  },
+)
+tells_followed config input rest state Follows Told (Err error) h tells = tt

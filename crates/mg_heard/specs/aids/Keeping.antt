@@ -1,0 +1,38 @@
+-- What a follower keeps while a script is run, and what it has told by then.
+use Rattle.std.specs.Prelude.{◌≡◌, ℕ, Bool, false, List, ◌∷◌, length, reverse, Option}
+use Rattle.mg_engine.specs.declared.config.Config.{Config}
+use Rattle.mg_core.specs.Note.{Note, events_in}
+use Rattle.mg_core.specs.World.{start_of}
+use Rattle.mg_heard.specs.declared.entry.Entry.{Entry}
+use Rattle.mg_heard.specs.declared.entry.Entry.TheVariants as entries
+use Rattle.mg_heard.specs.declared.moment.Moment.{Moment}
+use Rattle.mg_heard.specs.declared.open_flow.OpenFlow.{OpenFlow}
+use Rattle.mg_heard.specs.declared.open_interval.OpenInterval.{OpenInterval}
+use Rattle.mg_heard.specs.Intervals.{ended, newest}
+use Rattle.mg_heard.specs.Moments.{AreMoments}
+use Rattle.mg_heard.specs.Told.{intervals_in}
+use Rattle.mg_heard.specs.aids.Opening.{AreLasting}
+
+-- what is told of a stored interval
+abbrev pub entry_until : Option Moment → OpenInterval → Entry
+entry_until end x = entries.Interval (record { flow = x.flow; first = x.first; end = end })
+
+-- the intervals that have not ended in the newest moment of a past are stored, and the others are
+-- told
+pub record TellsPast (past : List (List OpenFlow)) (stored : List OpenInterval)
+    (Told : List Entry → Type 0) : Type 0 where
+  pub lasts : AreLasting past stored
+  pub xs : List Entry
+  pub ended_are : intervals_in xs ≡ ended past
+  pub told : Told xs
+
+-- After these notes a follower has told the intervals that had ended before the last tick, and
+-- stores those that had not. If nothing may have changed since then, the same flows are open now.
+pub record KeepsOpen (config : Config) (notes : List Note) (tick : ℕ) (is_changed : Bool)
+    (stored : List OpenInterval) (Told : List Entry → Type 0) : Type 0 where
+  pub past : List (List OpenFlow)
+  pub now : List OpenFlow
+  pub are : AreMoments (start_of config) (events_in notes) (reverse (now ∷ past))
+  pub count : tick ≡ length past
+  pub same : is_changed ≡ false → now ≡ newest past
+  pub tells : TellsPast past stored Told

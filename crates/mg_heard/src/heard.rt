@@ -1,0 +1,140 @@
+ghost use Rattle.std.specs.Prelude.{◌≡◌, ◌∷◌, [], false, length, IfOk, List, OnOk};
+ghost use Rattle.mg_engine.specs.declared.config.Config.{Config};
+ghost use Rattle.mg_core.specs.Follow.{HasRun};
+ghost use Rattle.mg_core.specs.Note.{Note};
+ghost use Rattle.mg_core.specs.World.{World, StandsFor};
+ghost use Rattle.mg_heard.specs.Intervals.{newest};
+ghost use Rattle.mg_heard.specs.OpenFlows.{open_flows};
+ghost use Rattle.mg_heard.specs.Told.{TellsAll};
+ghost use Rattle.mg_heard.specs.aids.Keeping.{KeepsOpen, TellsPast};
+ghost use Rattle.mg_heard.specs.declared.open_flow.OpenFlow.{OpenFlow};
+
+use crate::clock::Clock;
+use crate::clock_fault::ClockFault;
+use crate::open_intervals::OpenIntervals;
+use crate::sink::Sink;
+use crate::telling::{tell_gap, tell_intervals};
+use crate::theorems::{intervals_tell_the_flow, only_control_changes_intervals};
+use mg_core::{Core, Event, Follower, Stopped};
+use std::alloc::{AllocError, Global};
+
+/// Follows who can hear whom, and tells a sink each interval when it ends.
+#[derive(Drop)]
+pub(crate) struct Heard<S: Sink> {
+    pub(crate) sink: S,
+    pub(crate) clock: Clock,
+    /// Why the follower stopped, if it did and the sink did not.
+    pub(crate) fault: Option<ClockFault>,
+    /// Whether the open flows may have changed since the stored intervals were last compared with them.
+    pub(crate) is_changed: bool,
+    pub(crate) open: OpenIntervals,
+    /// The intervals that ended with the last change.
+    ended: OpenIntervals,
+}
+
+impl<S: Sink> Heard<S> {
+    /// Creates a follower at the beginning of a script. No other call allocates.
+    pub(crate) fn new(alloc: Global, sink: S) -> Result<Self, AllocError>
+    where
+        S: Drop,
+        ensures start { (config : Config) → S.told sink sink [] → IfOk result (λ h.
+            KeepsOpen config [] h.clock.ticks h.is_changed h.open (S.told h.sink h.sink)) }
+        ensures sink { IfOk result (λ h. h.sink ≡ sink) }
+    {
+        Ok(Heard {
+            sink,
+            clock: Clock::new(),
+            fault: None,
+            is_changed: true,
+            open: OpenIntervals::new(alloc)?,
+            ended: OpenIntervals::new(alloc)?,
+        })
+    }
+
+    /// Stores why it stops.
+    fn stop(&mut self, fault: ClockFault) -> Stopped {
+        self.fault = Some(fault);
+        Stopped
+    }
+
+    /// Compares the stored intervals with the flows that are open in a core, if these may have changed.
+    fn update(&mut self, core: &Core) -> Result<(), Stopped>
+        ensures value { (w : World) (past : List (List OpenFlow)) (start : S) → StandsFor core.now.state w →
+            self.old.clock.ticks ≡ length past →
+            (self.old.is_changed ≡ false → open_flows w.gateway ≡ newest past) →
+            TellsPast past self.old.open (S.told start self.old.sink) → OnOk result
+            (TellsPast (open_flows w.gateway ∷ past) self.new.open (S.told start self.new.sink)) }
+        ensures clock { self.new.clock ≡ self.old.clock }
+    {
+        if self.is_changed {
+            return self.tell_changes(core);
+        }
+        Ok(())
+    }
+
+    /// Compares the stored intervals with the flows that are open in a core, and tells the intervals that have ended.
+    fn tell_changes(&mut self, core: &Core) -> Result<(), Stopped>
+        ensures value { (w : World) (past : List (List OpenFlow)) (start : S) → StandsFor core.now.state w →
+            self.old.clock.ticks ≡ length past → TellsPast past self.old.open (S.told start self.old.sink) →
+            OnOk result (TellsPast (open_flows w.gateway ∷ past) self.new.open (S.told start self.new.sink)) }
+        ensures clock { self.new.clock ≡ self.old.clock }
+    {
+        let now = self.clock.now();
+        self.open.advance(&mut self.ended, core, now);
+        self.is_changed = false;
+        tell_intervals(self.ended.as_slice(), Some(now), &mut self.sink)
+    }
+
+    /// Tells the intervals that have not ended at the end of a script. `core` is the gateway then.
+    pub(crate) fn finish(&mut self, core: &Core) -> Result<(), Stopped>
+        ensures value { (start : S) (config : Config) (notes : List Note) → HasRun config notes core.now.state →
+            KeepsOpen config notes self.old.clock.ticks self.old.is_changed self.old.open (S.told start self.old.sink) →
+            OnOk result (TellsAll config notes (S.told start self.new.sink)) }
+    {
+        mg_core::theorems::outcomes_are_unique();
+        intervals_tell_the_flow();
+        self.update(core)?;
+        tell_intervals(self.open.as_slice(), None, &mut self.sink)
+    }
+}
+
+impl<S: Sink> Follower for Heard<S> {
+    ghost use Rattle.std.specs.Prelude.{true};
+    ghost use Rattle.mg_heard.specs.aids.Keeping.{KeepsOpen};
+
+    ghost may_stop = { true };
+
+    ghost follows = { λ start h config notes.
+        KeepsOpen config notes h.clock.ticks h.is_changed h.open (S.told start.sink h.sink) };
+
+    fn comment(&mut self, line: &[u8]) -> Result<(), Stopped> {
+        match self.clock.pass_comment(line) {
+            Ok(None) => Ok(()),
+            Ok(Some(gap)) => tell_gap(gap, &mut self.sink),
+            Err(fault) => Err(self.stop(fault)),
+        }
+    }
+
+    fn datagram(&mut self, event: &Event, _core: &Core) -> Result<(), Stopped> {
+        mg_core::theorems::outcomes_are_unique();
+        only_control_changes_intervals();
+        self.clock.pass_line();
+        if let Event::Control(_, _) = event {
+            self.is_changed = true;
+        }
+        Ok(())
+    }
+
+    fn ticks(&mut self, core: &Core, count: u64) -> Result<(), Stopped> {
+        mg_core::theorems::outcomes_are_unique();
+        only_control_changes_intervals();
+        if count == 0 {
+            return Ok(());
+        }
+        self.update(core)?;
+        match self.clock.pass_ticks(count) {
+            Ok(_) => Ok(()),
+            Err(fault) => Err(self.stop(fault)),
+        }
+    }
+}

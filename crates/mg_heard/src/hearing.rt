@@ -1,0 +1,78 @@
+ghost use Rattle.std.specs.Prelude.{◌≡◌, ℕ, [], List, Err, IfErr, IfOk, OnOk};
+ghost use Rattle.mg_engine.specs.Config.{IsValidConfig};
+ghost use Rattle.mg_engine.specs.declared.config.Config.{Config};
+ghost use Rattle.mg_core.specs.Follow.{HasRun, IsFollowed};
+ghost use Rattle.mg_core.specs.Note.{Note};
+ghost use Rattle.mg_core.specs.Resume.{FindsBadLine};
+ghost use Rattle.mg_core.specs.declared.fault.RunFault.{RunFault};
+ghost use Rattle.mg_core.specs.declared.fault.RunFault.TheVariants as runs;
+ghost use Rattle.mg_core.specs.declared.state.CoreState.{CoreState};
+ghost use Rattle.mg_heard.specs.Told.{TellsAll};
+ghost use Rattle.mg_heard.specs.aids.Keeping.{KeepsOpen};
+
+use crate::clock_fault::ClockFault;
+use crate::extent::Extent;
+use crate::heard::Heard;
+use crate::heard_fault::HeardFault;
+use crate::sink::Sink;
+use mg_core::{Config, Core, RunFault, resume};
+use std::alloc::Global;
+use std::io::Read;
+
+/// Tells a sink who could hear whom while a script ran, as intervals. Returns the sink, and the time that the script
+/// covers.
+///
+/// An interval is told when it ends, so a script of any length takes the same memory. Sends nothing.
+pub fn hear<R: Read, S: Sink>(
+    alloc: Global,
+    config: Config,
+    reader: &mut R,
+    sink: S,
+) -> Result<(S, Extent), HeardFault>
+where
+    S: Drop,
+    ensures told { S.told sink sink [] → IfOk result (λ heard. (state : CoreState) ×
+        IsFollowed config (R.remaining reader.old) (R.remaining reader.new) state
+        (λ notes. TellsAll config notes (S.told sink heard.0))) }
+    ensures script { (number : ℕ) → result ≡ Err (HeardFault.Run (runs.Script number)) →
+        FindsBadLine (R.remaining reader.old) (R.remaining reader.new) number }
+    ensures bad { result ≡ Err (HeardFault.Run runs.BadConfig) → ¬ IsValidConfig config }
+    ensures sound { OnOk result (IsValidConfig config) }
+{
+    let Ok(mut heard) = Heard::new(alloc, sink) else {
+        return Err(HeardFault::NoMemory);
+    };
+    match resume(alloc, config, reader, &mut heard) {
+        Ok(core) => finish(heard, &core),
+        Err(fault) => Err(fault_of(fault, heard.fault)),
+    }
+}
+
+/// Tells the last intervals. Returns the sink, and the time that the script covers.
+fn finish<S: Sink>(mut heard: Heard<S>, core: &Core) -> Result<(S, Extent), HeardFault>
+where
+    S: Drop,
+    ensures value { (start : S) (config : Config) (notes : List Note) → HasRun config notes core.now.state →
+        KeepsOpen config notes heard.clock.ticks heard.is_changed heard.open (S.told start heard.sink) →
+        IfOk result (λ ended. TellsAll config notes (S.told start ended.0)) }
+    ensures stops { IfErr result (λ fault. fault ≡ HeardFault.Stopped) }
+{
+    match heard.finish(core) {
+        Ok(_) => {
+            let extent = heard.clock.extent();
+            Ok((heard.sink, extent))
+        }
+        Err(_) => Err(HeardFault::Stopped),
+    }
+}
+
+/// Returns why a script was not run to its end, given why its follower stopped.
+fn fault_of(fault: RunFault, stopped: Option<ClockFault>) -> HeardFault
+    ensures run { (run : RunFault) → result ≡ HeardFault.Run run → fault ≡ run }
+{
+    match (fault, stopped) {
+        (RunFault::Write, Some(clock)) => HeardFault::Clock(clock),
+        (RunFault::Write, None) => HeardFault::Stopped,
+        _ => HeardFault::Run(fault),
+    }
+}

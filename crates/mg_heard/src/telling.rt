@@ -1,0 +1,36 @@
+//! Entries for a sink.
+
+ghost use Rattle.std.specs.Prelude.{◌≡◌, ◌++◌, ◌∷◌, [], map, List, OnOk};
+ghost use Rattle.mg_heard.specs.aids.Keeping.{entry_until};
+ghost use Rattle.mg_heard.specs.declared.entry.Entry.{Entry};
+ghost use Rattle.mg_heard.specs.declared.entry.Entry.TheVariants as entries;
+
+use crate::entry::Entry;
+use crate::gap::Gap;
+use crate::moment::Moment;
+use crate::open_interval::OpenInterval;
+use crate::sink::Sink;
+use mg_core::Stopped;
+
+/// Tells a sink intervals that have this end, or none.
+pub(crate) fn tell_intervals<S: Sink>(
+    intervals: &[OpenInterval],
+    end: Option<Moment>,
+    sink: &mut S,
+) -> Result<(), Stopped>
+    ensures value { (start : S) (before : List Entry) → S.told start sink.old before →
+        OnOk result (S.told start sink.new (before ++ map (entry_until end) intervals.now)) }
+{
+    for interval in intervals {
+        sink.tell(&Entry::Interval(interval.until(end)))?;
+    }
+    Ok(())
+}
+
+/// Tells a sink a gap.
+pub(crate) fn tell_gap<S: Sink>(gap: Gap, sink: &mut S) -> Result<(), Stopped>
+    ensures value { (start : S) (before : List Entry) → S.told start sink.old before →
+        OnOk result (S.told start sink.new (before ++ entries.Gap gap ∷ [])) }
+{
+    sink.tell(&Entry::Gap(gap))
+}

@@ -1,5 +1,5 @@
 -- One moment more: the stored intervals are those that last, and those that are removed have ended.
-use Rattle.std.proofs.Common.{◌≡◌, ℕ, ◌+◌, ◌<◌, not, Bool, true, false, cond, List, [], ◌∷◌, length, map, Option, Some, None, refl, sym, ap, subst, ◌∙◌, inl, inr, ◌⊎◌, arith}
+use Rattle.std.proofs.Common.{◌≡◌, ℕ, ◌<◌, not, Bool, true, false, cond, List, [], ◌∷◌, length, map, Option, Some, None, refl, sym, ap, subst, ◌∙◌, inl, inr, arith}
 use Rattle.std.specs.Prelude.{filter, find}
 use Rattle.std.specs.Option.{option_map, option_map_or}
 use Rattle.std.proofs.lemmas.Bool.{cases_Bool, true≢false}
@@ -10,7 +10,7 @@ use Rattle.mg_heard.specs.declared.moment.Moment.{Moment}
 use Rattle.mg_heard.specs.declared.open_flow.OpenFlow.{OpenFlow}
 use Rattle.mg_heard.specs.declared.open_interval.OpenInterval.{OpenInterval}
 use Rattle.mg_heard.proofs.IntervalLemmas.{since_more}
-use Rattle.mg_heard.proofs.Members.{In, Pairs, all_from_pairs, from_map, in_map, pairs_from_all, pairs_map}
+use Rattle.mg_heard.proofs.Members.{In, all_from_pairs, from_map, in_map, pairs_from_all, pairs_map}
 use Rattle.mg_heard.proofs.SameLemmas.{has_from_in, in_from_has, same}
 
 -- ## Lists

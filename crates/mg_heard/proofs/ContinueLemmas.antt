@@ -1,13 +1,12 @@
 -- Two lists of intervals, walked through in step.
-use Rattle.std.proofs.Common.{◌≡◌, ℕ, ◌+◌, ◌<◌, ◌≤◌, suc, zero, not, ◌||◌, Bool, true, false, cond, List, [], ◌∷◌, ◌++◌, length, get_or, set, take, drop, map, Option, Some, None, All, refl, sym, ap, subst, ◌∙◌, arith}
+use Rattle.std.proofs.Common.{◌≡◌, ℕ, ◌+◌, ◌<◌, ◌≤◌, not, ◌||◌, Bool, true, false, cond, List, [], ◌∷◌, ◌++◌, length, get_or, set, take, drop, map, Option, Some, None, refl, sym, ap, subst, ◌∙◌, arith}
 use Rattle.std.specs.Prelude.{find, is_some}
-use Rattle.std.specs.List.{list_any}
 use Rattle.std.specs.Option.{option_map, option_map_or}
 use Rattle.std.proofs.lemmas.List.{append-nil, drop_all, drop-set-lt, drop_more, get_or_default, map_push, take_all, take_more, take_more_set}
 use Rattle.std.proofs.lemmas.List.Elements.{All-weaker}
-use Rattle.std.proofs.lemmas.List.Filters.{FiltersInPlace, FiltersInPlace-all, FiltersInPlace-more_no, FiltersInPlace-more_set}
+use Rattle.std.proofs.lemmas.List.Filters.{FiltersInPlace, FiltersInPlace-more_no, FiltersInPlace-more_set}
 use Rattle.mg_heard.specs.OpenFlow.{has, is_same}
-use Rattle.mg_heard.specs.aids.Opening.{AreBefore, IsRising, beginning_among, continued, flows_of, key_of, without_flows}
+use Rattle.mg_heard.specs.aids.Opening.{AreBefore, IsRising, beginning_among, continued, flows_of, key_of}
 use Rattle.mg_heard.specs.declared.moment.Moment.{Moment}
 use Rattle.mg_heard.specs.declared.open_flow.OpenFlow.{OpenFlow}
 use Rattle.mg_heard.specs.declared.open_interval.OpenInterval.{OpenInterval}

@@ -1,26 +1,26 @@
 -- Intervals for the open flows of a gateway, one after another.
-use Rattle.std.proofs.Common.{◌≡◌, ℕ, ◌+◌, ◌*◌, ◌^◌, ◌<◌, ◌≤◌, None, Bool, true, false, cond, List, [], ◌∷◌, ◌++◌, All, map, get_or, set, take, drop, length, append_assoc, length-append, refl, sym, ap, subst, ◌∙◌, inl, inr, ◌⊎◌, arith}
+use Rattle.std.proofs.Common.{◌≡◌, ℕ, ◌+◌, ◌*◌, ◌^◌, ◌<◌, ◌≤◌, None, Bool, true, false, cond, List, [], ◌∷◌, ◌++◌, map, get_or, take, drop, length, append_assoc, length-append, refl, sym, ap, subst, ◌∙◌, inl, inr, arith}
 use Rattle.std.specs.Prelude.{filter, flat_map}
 use Rattle.std.specs.List.{AllByRecursion}
-use Rattle.std.proofs.lemmas.List.{append-nil, length-map, length-take-le, map-append, map_push, take-append-drop, take_all, take_more}
+use Rattle.std.proofs.lemmas.List.{append-nil, length-map, map-append, map_push, take-append-drop, take_all, take_more}
 use Rattle.std.proofs.lemmas.List.Concat.{flat_map-append}
 use Rattle.std.proofs.lemmas.List.Elements.{filter-append}
-use Rattle.mg_words.specs.Limits.{last_termination, member_limit}
+use Rattle.mg_words.specs.Limits.{member_limit}
 use Rattle.mg_rooms.specs.Consistent.{IsConsistent, IsTermination}
 use Rattle.mg_rooms.specs.aids.Sound.{IsSound}
 use Rattle.mg_rooms.specs.declared.record.Record.{Record}
 use Rattle.mg_engine.specs.Flow.{flow}
-use Rattle.mg_engine.specs.Gateway.{Gateway, context_of, numbers_of}
+use Rattle.mg_engine.specs.Gateway.{Gateway, numbers_of}
 use Rattle.mg_core.proofs.ListenerLemmas.{talkers_few}
 use Rattle.mg_heard.specs.OpenFlows.{flows_to, open_flow, open_flows}
 use Rattle.mg_heard.specs.aids.Opening.{IsRising, beginning_at, key_of}
-use Rattle.mg_heard.specs.aids.Parties.{AreParties, IsParty}
+use Rattle.mg_heard.specs.aids.Parties.{AreParties}
 use Rattle.mg_heard.specs.declared.moment.Moment.{Moment}
 use Rattle.mg_heard.specs.declared.open_flow.OpenFlow.{OpenFlow}
 use Rattle.mg_heard.specs.declared.open_interval.OpenInterval.{OpenInterval}
 use Rattle.mg_heard.specs.declared.party.Party.{Party}
 use Rattle.mg_heard.proofs.FlowLemmas.{heard_by, rising}
-use Rattle.mg_heard.proofs.Members.{In, Pairs, all_from_pairs, from_filter, from_map, in_at, pairs_filter, pairs_flat_map, pairs_map}
+use Rattle.mg_heard.proofs.Members.{In, Pairs, all_from_pairs, from_filter, from_map, pairs_filter, pairs_flat_map, pairs_map}
 
 abbrev pub numbers : List Party → List ℕ
 numbers ps = map (λ p. p.number) ps

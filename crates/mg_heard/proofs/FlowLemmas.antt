@@ -1,6 +1,6 @@
 -- The open flows of a gateway.
-use Rattle.std.proofs.Common.{◌≡◌, ℕ, eqb, ◌<◌, not, ◌&&◌, Bool, true, false, cond, List, [], ◌∷◌, map, Option, Some, None, refl, sym, ap, subst, ◌∙◌, inl, inr, ◌⊎◌, arith}
-use Rattle.std.specs.Prelude.{filter, find, flat_map}
+use Rattle.std.proofs.Common.{◌≡◌, ℕ, eqb, ◌<◌, not, ◌&&◌, Bool, true, false, cond, List, [], ◌∷◌, Option, Some, None, refl, sym, ap, subst, ◌∙◌, inl, inr, ◌⊎◌, arith}
+use Rattle.std.specs.Prelude.{filter, find}
 use Rattle.std.specs.Option.{option_map_or}
 use Rattle.std.proofs.lemmas.Bool.{and_parts, eqb-true, false≢true}
 use Rattle.mg_words.specs.Mode.{talks, listens}

@@ -1,12 +1,12 @@
 -- The intervals of a list of moments, newest first.
-use Rattle.std.proofs.Common.{◌≡◌, ◌≢◌, ℕ, ◌+◌, ◌<◌, ◌≤◌, suc, zero, not, Bool, true, false, cond, List, [], ◌∷◌, ◌++◌, length, map, replicate, Option, Some, None, refl, sym, ap, subst, ◌∙◌, inl, inr, ◌⊎◌, arith}
+use Rattle.std.proofs.Common.{◌≡◌, ℕ, ◌+◌, ◌<◌, ◌≤◌, suc, zero, not, Bool, true, false, cond, List, [], ◌∷◌, ◌++◌, length, map, replicate, Some, None, refl, sym, ap, subst, ◌∙◌, inl, inr, ◌⊎◌, arith}
 use Rattle.std.specs.List.{filter}
 use Rattle.std.proofs.lemmas.List.{append-nil}
 use Rattle.std.proofs.lemmas.Bool.{cases_Bool, cases_lt, true≢false, not-true, not_from_false}
 use Rattle.mg_heard.specs.declared.open_flow.OpenFlow.{OpenFlow}
 use Rattle.mg_heard.specs.OpenFlow.{has}
-use Rattle.mg_heard.specs.Intervals.{Interval, ended, ending, interval_of, intervals, lasting, newest, since}
-use Rattle.mg_heard.proofs.Members.{In, in_left, in_right, in_cases, in_map, from_map, in_filter, from_filter, Pairs, pairs_append, pairs_map, pairs_filter}
+use Rattle.mg_heard.specs.Intervals.{Interval, ended, ending, interval_of, lasting, newest, since}
+use Rattle.mg_heard.proofs.Members.{In, in_left, in_right, in_cases, in_map, from_map, in_filter, from_filter}
 use Rattle.mg_heard.proofs.SameLemmas.{in_from_has, has_from_in}
 
 -- the flow is open in the moment of this number

@@ -1,6 +1,6 @@
 -- What intervals say about the worlds of a history.
-use Rattle.std.proofs.Common.{◌≡◌, ℕ, ◌<◌, true, List, [], ◌∷◌, ◌++◌, length, get_or, refl, sym, ap, subst, ◌∙◌}
-use Rattle.std.specs.Prelude.{Contains, count_by, reverse}
+use Rattle.std.proofs.Common.{◌≡◌, ℕ, true, List, [], refl, sym, ap, subst, ◌∙◌}
+use Rattle.std.specs.Prelude.{count_by, reverse}
 use Rattle.mg_engine.specs.Flow.{flow}
 use Rattle.mg_core.specs.Counting.{is_tick}
 use Rattle.mg_core.specs.ExceptReceived.{RtpChangesSpeechOnly}
@@ -10,7 +10,7 @@ use Rattle.mg_core.proofs.ReceivedLemmas.{agrees_itself}
 use Rattle.mg_heard.specs.Intervals.{Interval, intervals}
 use Rattle.mg_heard.specs.Laws.{EventsDetermineIntervals, IntervalsTellTheFlow, IntervalsTellTheTruth, IsToldAt, NoPairIsToldTwice, RtpChangesNoInterval}
 use Rattle.mg_heard.specs.Maximal.{IsOfPair, IsTellingOnce, LiesIn}
-use Rattle.mg_heard.specs.OpenFlows.{open_flow, open_flows}
+use Rattle.mg_heard.specs.OpenFlows.{open_flow}
 use Rattle.mg_heard.specs.declared.open_flow.OpenFlow.{OpenFlow}
 use Rattle.mg_heard.proofs.FlowLemmas.{IsOpenIn, from_open, open_in}
 use Rattle.mg_heard.proofs.MaximalLemmas.{open_at, told_at}

@@ -1,13 +1,12 @@
 -- The intervals are those that are true throughout and that can't be extended.
-use Rattle.std.proofs.Common.{◌≡◌, ◌≢◌, ℕ, ◌+◌, ◌-◌, ◌<◌, ◌≤◌, suc, zero, List, [], ◌∷◌, ◌++◌, length, get_or, map, Option, Some, None, refl, sym, ap, subst, ◌∙◌, inl, inr, ◌⊎◌, arith}
-use Rattle.std.specs.Prelude.{reverse, Contains, IfSome}
-use Rattle.std.specs.Bool.{⊤}
+use Rattle.std.proofs.Common.{◌≡◌, ℕ, ◌+◌, ◌-◌, ◌<◌, ◌≤◌, List, [], ◌∷◌, ◌++◌, length, get_or, Option, Some, None, refl, sym, ap, subst, ◌∙◌, inl, inr, arith}
+use Rattle.std.specs.Prelude.{reverse, IfSome}
 use Rattle.std.proofs.lemmas.Bool.{cases_lt, cases_order}
-use Rattle.std.proofs.lemmas.List.{append-nil, get_or_append_left, get_or_push, get_or_past, length-append, length-reverse, length_push, reverse-append, reverse-reverse}
+use Rattle.std.proofs.lemmas.List.{get_or_append_left, get_or_push, get_or_past, length-reverse, length_push, reverse-append, reverse-reverse}
 use Rattle.mg_heard.specs.declared.open_flow.OpenFlow.{OpenFlow}
 use Rattle.mg_heard.specs.Intervals.{Interval, ended, interval_of, intervals, lasting, newest, since}
 use Rattle.mg_heard.specs.Maximal.{IntervalsAreTrueAndMaximal, IsOpenAt, IsTrueAndMaximal, LiesIn}
-use Rattle.mg_heard.proofs.IntervalLemmas.{HasEnded, IsOpen, IsSince, IsTold, IsToldEnded, has_ended, is_since, is_told, open_before, open_newest, open_older, since_newest}
+use Rattle.mg_heard.proofs.IntervalLemmas.{HasEnded, IsOpen, IsToldEnded, has_ended, is_since, is_told, open_before, since_newest}
 use Rattle.mg_heard.proofs.Members.{In, at_from_in, from_map, in_cases, in_from_at, in_left, in_map, in_right}
 
 -- ## A moment by its number

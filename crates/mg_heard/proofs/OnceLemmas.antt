@@ -1,12 +1,12 @@
 -- No pair is told twice for a tick, if no moment has a pair twice.
-use Rattle.std.proofs.Common.{◌≡◌, ℕ, ◌+◌, ◌-◌, ◌<◌, ◌≤◌, not, List, [], ◌∷◌, ◌++◌, length, map, Option, Some, None, refl, sym, ap, subst, ◌∙◌, inl, inr, ◌⊎◌, arith}
+use Rattle.std.proofs.Common.{◌≡◌, ℕ, ◌-◌, ◌≤◌, not, List, [], ◌∷◌, length, map, Option, Some, None, sym, ap, subst, ◌∙◌, inl, inr, arith}
 use Rattle.std.specs.Prelude.{IsSomeAnd, filter}
 use Rattle.std.proofs.lemmas.Bool.{cases_lt}
 use Rattle.mg_heard.specs.declared.open_flow.OpenFlow.{OpenFlow}
 use Rattle.mg_heard.specs.Intervals.{Interval, ended, ending, interval_of, intervals, lasting, newest, since}
 use Rattle.mg_heard.specs.Maximal.{IsTellingOnce}
 use Rattle.mg_heard.specs.OpenFlow.{has}
-use Rattle.mg_heard.proofs.IntervalLemmas.{HasEnded, IsOpen, has_ended, is_since, open_before, since_newest}
+use Rattle.mg_heard.proofs.IntervalLemmas.{HasEnded, IsOpen, has_ended, is_since, open_before}
 use Rattle.mg_heard.proofs.Members.{In, Pairs, from_filter, from_map, pairs_append, pairs_filter, pairs_map}
 
 abbrev pub IsSamePair : OpenFlow → OpenFlow → Type 0

@@ -1,16 +1,14 @@
 -- The terminations of a core, one after another.
-use Rattle.std.proofs.Common.{◌≡◌, ℕ, ◌+◌, ◌<◌, ◌≤◌, List, [], ◌∷◌, ◌++◌, Option, Some, None, Result, Ok, Err, All, map, get_or, take, length, refl, sym, ap, subst, ◌∙◌, arith}
+use Rattle.std.proofs.Common.{◌≡◌, ℕ, ◌+◌, ◌<◌, ◌≤◌, List, [], ◌∷◌, ◌++◌, Option, Some, Result, Ok, Err, map, get_or, take, length, refl, sym, ap, ◌∙◌, arith}
 use Rattle.std.specs.Prelude.{OnOk, OnErr}
 use Rattle.std.specs.Option.{option_and_then, option_map, option_map_or}
 use Rattle.std.proofs.lemmas.List.{length-map, length-take-le, map_push, take_more}
 use Rattle.std.proofs.lemmas.List.Elements.{All-map}
 use Rattle.mg_words.specs.Limits.{termination_limit}
-use Rattle.mg_words.specs.declared.peer.Peer.{Peer}
 use Rattle.mg_rooms.specs.Registry.{record_at}
 use Rattle.mg_rooms.specs.aids.Sound.{IsSound}
 use Rattle.mg_rooms.specs.declared.record.Record.{Record}
-use Rattle.mg_engine.specs.Gateway.{Gateway, context_of, numbers_of}
-use Rattle.mg_heard.specs.OpenFlows.{remote_of}
+use Rattle.mg_engine.specs.Gateway.{Gateway}
 use Rattle.mg_heard.specs.aids.Parties.{AreParties, IsParty, party_of}
 use Rattle.mg_heard.specs.declared.party.Party.{Party}
 

@@ -1,5 +1,5 @@
 -- When two open flows are the same: all that is printed about them is equal.
-use Rattle.std.specs.Prelude.{ℕ, ◌==◌, ◌&&◌, Bool, List}
+use Rattle.std.specs.Prelude.{◌==◌, ◌&&◌, Bool, List}
 use Rattle.std.specs.List.{list_any}
 use Rattle.std.specs.Option.{option_eq}
 use Rattle.std.specs.Str.{bytes_eq}

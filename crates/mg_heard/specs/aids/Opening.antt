@@ -1,6 +1,6 @@
 -- The intervals that are open, as the code stores and continues them.
-use Rattle.std.specs.Prelude.{◌≡◌, ℕ, ◌+◌, ◌*◌, ◌^◌, ◌<◌, ◌≤◌, not, List, None, Some, Option, find}
-use Rattle.std.specs.Prelude.{filter, length, map, slice_index_or, take, All, AllPairs}
+use Rattle.std.specs.Prelude.{◌≡◌, ℕ, ◌+◌, ◌*◌, ◌^◌, ◌<◌, not, List, None, Some, Option, find}
+use Rattle.std.specs.Prelude.{filter, map, All, AllPairs}
 use Rattle.std.specs.Option.{option_map, option_map_or}
 use Rattle.mg_heard.specs.declared.moment.Moment.{Moment}
 use Rattle.mg_heard.specs.declared.open_flow.OpenFlow.{OpenFlow}

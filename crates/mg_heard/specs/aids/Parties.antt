@@ -1,5 +1,5 @@
 -- Terminations, as an interval tells of them.
-use Rattle.std.specs.Prelude.{◌≡◌, ℕ, List, map, All}
+use Rattle.std.specs.Prelude.{◌≡◌, List, map, All}
 use Rattle.std.specs.Option.{option_map}
 use Rattle.mg_rooms.specs.declared.record.Record.{Record}
 use Rattle.mg_engine.specs.Gateway.{Gateway, context_of, numbers_of}

@@ -1,4 +1,4 @@
-use Rattle.std.proofs.Common.{◌≡◌, ◌<◌, ◌≤◌, length, sym, ◌∙◌, arith}
+use Rattle.std.proofs.Common.{◌≤◌, sym, ◌∙◌, arith}
 use Rattle.mg_heard.specs.aids.Opening.{key_of}
 use Rattle.mg_heard.proofs.WalkLemmas.{begun_here, begun_nowhere, key_here, not_begun}
 use Rattle.mg_heard.proofs.continuing.beginning_from.Goals as goal

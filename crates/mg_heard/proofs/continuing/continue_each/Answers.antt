@@ -1,4 +1,4 @@
-use Rattle.std.proofs.Common.{◌≡◌, ◌+◌, ◌<◌, List, length, sym, subst, ◌∙◌, arith}
+use Rattle.std.proofs.Common.{◌+◌, ◌<◌, List, length, sym, subst, ◌∙◌, arith}
 use Rattle.mg_heard.specs.declared.open_interval.OpenInterval.{OpenInterval}
 use Rattle.mg_heard.proofs.ContinueLemmas.{Continues, before_next, continues_first, continues_same, unused}
 use Rattle.mg_heard.proofs.continuing.continue_each.Goals as goal

@@ -1,4 +1,4 @@
-use Rattle.std.proofs.Common.{◌≡◌, ℕ, ◌+◌, ◌<◌, ◌≤◌, List, get_or, length, take, sym, ap, subst, arith}
+use Rattle.std.proofs.Common.{◌+◌, ◌≤◌, List, get_or, length, take, sym, ap, subst, arith}
 use Rattle.std.proofs.lemmas.List.{get_or_default, length-take-le}
 use Rattle.mg_rooms.specs.aids.Sound.{IsSound}
 use Rattle.mg_rooms.proofs.SoundLemmas.{sound_if}

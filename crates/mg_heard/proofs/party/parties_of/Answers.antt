@@ -1,11 +1,10 @@
-use Rattle.std.proofs.Common.{◌≡◌, ◌<◌, ◌≤◌, List, length, map, take, sym, ap, subst, ◌∙◌, arith}
+use Rattle.std.proofs.Common.{◌<◌, ◌≤◌, List, length, map, take, sym, ap, subst, ◌∙◌, arith}
 use Rattle.std.proofs.lemmas.List.{length-map, take_all}
 use Rattle.std.proofs.lemmas.Option.{get_or_from_slice_get}
 use Rattle.mg_words.specs.Limits.{termination_limit}
 use Rattle.mg_rooms.specs.Registry.{Registry}
 use Rattle.mg_rooms.specs.aids.Sound.{IsSound}
 use Rattle.mg_rooms.proofs.SoundLemmas.{sound_if}
-use Rattle.mg_rooms.specs.declared.record.Record.{Record}
 use Rattle.mg_heard.specs.aids.Parties.{AreParties, party_of}
 use Rattle.mg_heard.specs.declared.party.Party.{Party}
 use Rattle.mg_heard.proofs.PartyLemmas.{are_parties, party_more}

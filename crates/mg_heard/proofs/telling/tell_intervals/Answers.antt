@@ -1,4 +1,4 @@
-use Rattle.std.proofs.Common.{◌++◌, ◌∷◌, [], List, get_or, map, take, ap, subst, ◌∙◌, arith}
+use Rattle.std.proofs.Common.{◌++◌, ◌∷◌, [], List, get_or, map, take, ap, subst, ◌∙◌}
 use Rattle.std.proofs.lemmas.List.{get_or_default}
 use Rattle.mg_heard.specs.aids.Keeping.{entry_until}
 use Rattle.mg_heard.specs.declared.entry.Entry.{Entry}

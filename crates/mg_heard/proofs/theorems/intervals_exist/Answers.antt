@@ -1,8 +1,8 @@
-use Rattle.std.proofs.Common.{◌≡◌, ◌<◌, ◌≤◌, length, refl, arith}
+use Rattle.std.proofs.Common.{refl, arith}
 use Rattle.std.specs.Prelude.{reverse}
 use Rattle.mg_core.specs.World.{start_of}
 use Rattle.mg_heard.specs.Intervals.{intervals}
-use Rattle.mg_heard.proofs.MomentLemmas.{outcomes_more, outcomes_none, some_moments}
+use Rattle.mg_heard.proofs.MomentLemmas.{outcomes_more, some_moments}
 use Rattle.mg_heard.proofs.theorems.intervals_exist.Goals as goal
 
 pub loop-event-preserved : goal.loop-event-preserved

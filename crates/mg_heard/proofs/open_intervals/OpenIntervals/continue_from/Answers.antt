@@ -1,6 +1,5 @@
-use Rattle.std.proofs.Common.{◌≡◌, List, length, map, take, sym, ap, subst, ◌∙◌}
+use Rattle.std.proofs.Common.{◌≡◌, length, map, take, sym, ap, subst, ◌∙◌}
 use Rattle.mg_heard.specs.aids.Opening.{IsRising, continued}
-use Rattle.mg_heard.specs.declared.open_interval.OpenInterval.{OpenInterval}
 use Rattle.mg_heard.proofs.ContinueLemmas.{written}
 use Rattle.mg_heard.proofs.open_intervals.OpenIntervals.continue_from.Goals as goal
 

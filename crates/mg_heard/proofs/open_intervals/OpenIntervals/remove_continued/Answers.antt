@@ -1,6 +1,5 @@
-use Rattle.std.proofs.Common.{◌≡◌, List, length, take, sym, ap, subst, ◌∙◌}
+use Rattle.std.proofs.Common.{◌≡◌, length, take, sym, ap, subst, ◌∙◌}
 use Rattle.mg_heard.specs.aids.Opening.{IsRising, flows_of, without_flows}
-use Rattle.mg_heard.specs.declared.open_interval.OpenInterval.{OpenInterval}
 use Rattle.mg_heard.proofs.ContinueLemmas.{written}
 use Rattle.mg_heard.proofs.open_intervals.OpenIntervals.remove_continued.Goals as goal
 

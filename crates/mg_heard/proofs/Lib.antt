@@ -12,3 +12,4 @@ pub mod PartyLemmas
 pub mod FillLemmas
 pub mod AdvanceLemmas
 pub mod KeepingLemmas
+pub mod FindingLemmas

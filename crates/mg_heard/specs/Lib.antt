@@ -5,4 +5,6 @@ pub mod Intervals
 pub mod Maximal
 pub mod Laws
 pub mod Told
+pub mod Query
+pub mod Verdict
 pub mod aids

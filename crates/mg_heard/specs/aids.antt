@@ -1,3 +1,4 @@
 pub mod Opening
 pub mod Keeping
 pub mod Parties
+pub mod Finding

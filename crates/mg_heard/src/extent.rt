@@ -1,4 +1,8 @@
+ghost use Rattle.std.specs.Prelude.{◌≡◌};
+ghost use Rattle.mg_heard.specs.Verdict.{is_within};
+
 use crate::moment::Moment;
+use mg_dates::Date;
 
 /// The time that a script covers.
 #[derive(Clone, Copy, Debug, PartialEq, Eq)]
@@ -7,4 +11,16 @@ pub struct Extent {
     pub first: Option<Moment>,
     /// The tick that comes next.
     pub end: Moment,
+}
+
+impl Extent {
+    /// Returns whether the script covers a time.
+    pub fn covers(&self, time: Date) -> bool
+        ensures value { result ≡ is_within self.now time }
+    {
+        let Some(first) = self.first else {
+            return false;
+        };
+        first.is_past(time) && self.end.is_future(time)
+    }
 }

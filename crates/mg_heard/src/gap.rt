@@ -1,4 +1,8 @@
+ghost use Rattle.std.specs.Prelude.{◌≡◌};
+ghost use Rattle.mg_heard.specs.Verdict.{is_in_gap};
+
 use crate::moment::Moment;
+use mg_dates::Date;
 
 /// A time in which the gateway did not run, or for which the script has no ticks.
 ///
@@ -9,4 +13,13 @@ pub struct Gap {
     pub first: Moment,
     /// The first moment after the gap.
     pub end: Moment,
+}
+
+impl Gap {
+    /// Returns whether a time is known to lie in the gap.
+    pub(crate) fn contains(&self, time: Date) -> bool
+        ensures value { result ≡ is_in_gap self.now time }
+    {
+        self.first.is_past(time) && self.end.is_future(time)
+    }
 }

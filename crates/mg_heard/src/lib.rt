@@ -6,11 +6,16 @@
 //! let (sink, extent) = hear(alloc, config, &mut input, sink)?;
 //! ```
 //!
+//! [`hear_at`] answers whether a talker could be heard at one time.
+//!
 //! A pair and a tick lie in an interval exactly if the talker's speech flows to the listener in the world before that
 //! tick (`specs/Laws.antt`). The intervals are read off the flows that are open before each tick
-//! (`specs/Intervals.antt`); those that have not ended are stored, and compared with the flows of the next tick. Dates come from the script's comments. No proof covers dates and gaps.
+//! (`specs/Intervals.antt`); those that have not ended are stored, and compared with the flows of the next tick.
+//!
+//! Dates come from the script's comments. No proof covers dates and gaps.
 #![tactic(auto)]
 
+mod answering;
 mod clock;
 mod clock_fault;
 mod continuing;
@@ -21,24 +26,33 @@ mod gap;
 mod heard;
 mod heard_fault;
 mod hearing;
+mod instant;
 mod interval;
 mod moment;
 mod open_flow;
 mod open_interval;
 mod open_intervals;
 mod party;
+mod party_name;
+mod query;
 mod remark;
 mod sink;
 mod telling;
 pub mod theorems;
+mod verdict;
 
+pub use crate::answering::hear_at;
 pub use crate::clock_fault::ClockFault;
 pub use crate::entry::Entry;
 pub use crate::extent::Extent;
 pub use crate::gap::Gap;
 pub use crate::heard_fault::HeardFault;
 pub use crate::hearing::hear;
+pub use crate::instant::Instant;
 pub use crate::interval::Interval;
 pub use crate::moment::Moment;
 pub use crate::open_flow::OpenFlow;
+pub use crate::party_name::PartyName;
+pub use crate::query::Query;
 pub use crate::sink::Sink;
+pub use crate::verdict::Verdict;

@@ -1,3 +1,6 @@
+ghost use Rattle.std.specs.Prelude.{◌≡◌};
+ghost use Rattle.mg_heard.specs.Verdict.{is_future, is_past};
+
 use mg_dates::Date;
 
 /// A tick, and when it happened.
@@ -7,4 +10,26 @@ pub struct Moment {
     pub tick: u64,
     /// The time of the tick, if a date precedes it in the script.
     pub date: Option<Date>,
+}
+
+impl Moment {
+    /// Returns whether this is known to be at a time or before it.
+    pub(crate) fn is_past(&self, time: Date) -> bool
+        ensures value { result ≡ is_past self.now time }
+    {
+        match self.date {
+            Some(date) => date.millis <= time.millis,
+            None => false,
+        }
+    }
+
+    /// Returns whether this is known to be after a time.
+    pub(crate) fn is_future(&self, time: Date) -> bool
+        ensures value { result ≡ is_future self.now time }
+    {
+        match self.date {
+            Some(date) => time.millis < date.millis,
+            None => false,
+        }
+    }
 }

@@ -1,0 +1,69 @@
+-- Which intervals a question asks for.
+use Rattle.std.specs.Prelude.{ℕ, ◌==◌, ◌&&◌, Bool, true, false, nat_eq, nat_le, nat_lt, List, Option}
+use Rattle.std.specs.Prelude.{Some, None, codes, drop, if◌then◌else◌}
+use Rattle.std.specs.List.{starts_with}
+use Rattle.std.specs.Option.{option_map, option_map_or, option_or}
+use Rattle.std.specs.Str.{bytes_eq}
+use Rattle.mg_words.specs.Address.{address_of}
+use Rattle.mg_words.specs.Numbers.{number_of}
+use Rattle.mg_words.specs.declared.peer.Peer.{Peer}
+use Rattle.mg_core.specs.Peer.{peer_of}
+use Rattle.mg_dates.specs.declared.date.Date.{Date}
+use Rattle.mg_heard.specs.OpenFlow.{is_same_peer}
+use Rattle.mg_heard.specs.declared.entry.Entry.{Entry}
+use Rattle.mg_heard.specs.declared.entry.Entry.TheVariants as entries
+use Rattle.mg_heard.specs.declared.interval.Interval.{Interval}
+use Rattle.mg_heard.specs.declared.party_name.PartyName.{PartyName}
+use Rattle.mg_heard.specs.declared.party_name.PartyName.TheVariants.{Termination, Address, Remote}
+use Rattle.mg_heard.specs.declared.query.Query.{Query}
+
+-- the name in a text: `RTP/7`, an address and a port, or an address
+abbrev pub party_name_of : List ℕ → Option PartyName
+party_name_of text =
+    if starts_with nat_eq text (codes "RTP/") then option_map Termination (number_of (drop 4 text))
+    else option_or (option_map Remote (peer_of text)) (option_map Address (address_of text))
+
+-- the name is that of a termination with this number and this Remote
+abbrev pub is_named : PartyName → ℕ → Option Peer → Bool
+is_named (Termination n) number at = n == number
+is_named (Address address) number None = false
+is_named (Address address) number (Some peer) = bytes_eq peer.address address
+is_named (Remote remote) number None = false
+is_named (Remote remote) number (Some peer) = is_same_peer peer remote
+
+-- without a name, each termination is asked for
+abbrev pub is_asked : Option PartyName → ℕ → Option Peer → Bool
+is_asked name number at = option_map_or (λ n. is_named n number at) name true
+
+-- without a date, an interval may begin before any time
+abbrev pub begins_before : Interval → Date → Bool
+begins_before x time = option_map_or (λ date. nat_lt date.millis time.millis) x.first.date true
+
+-- without an end or its date, an interval may end after any time
+abbrev pub ends_after : Interval → Date → Bool
+ends_after x time = option_map_or
+    (λ end. option_map_or (λ date. nat_lt time.millis date.millis) end.date true) x.end true
+
+abbrev pub selects : Query → Interval → Bool
+selects q x =
+    is_asked q.listener x.flow.listener x.flow.listener_at
+    && (is_asked q.talker x.flow.talker x.flow.talker_at
+    && (option_map_or (ends_after x) q.from true && option_map_or (begins_before x) q.until true))
+
+-- without a date, an interval began before the script's first date
+abbrev pub has_begun : Interval → Date → Bool
+has_begun x time = option_map_or (λ date. nat_le date.millis time.millis) x.first.date true
+
+-- without an end, an interval lasts; an end without a date precedes the script's first date
+abbrev pub lasts_beyond : Interval → Date → Bool
+lasts_beyond x time = option_map_or
+    (λ end. option_map_or (λ date. nat_lt time.millis date.millis) end.date false) x.end true
+
+-- a time that the script covers lies in the interval
+abbrev pub covers : Interval → Date → Bool
+covers x time = has_begun x time && lasts_beyond x time
+
+-- each gap is asked for
+abbrev pub selects_entry : Query → Entry → Bool
+selects_entry q (entries.Interval x) = selects q x
+selects_entry q (entries.Gap gap) = true

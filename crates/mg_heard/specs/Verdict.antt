@@ -1,0 +1,55 @@
+-- Who could hear whom at one time.
+use Rattle.std.specs.Prelude.{◌&&◌, ◌||◌, not, Bool, false, List, [], ◌∷◌, nat_le, nat_lt, Option}
+use Rattle.std.specs.Prelude.{Some, None, is_some, if◌then◌else◌}
+use Rattle.std.specs.Option.{option_map_or}
+use Rattle.mg_dates.specs.declared.date.Date.{Date}
+use Rattle.mg_heard.specs.declared.entry.Entry.{Entry}
+use Rattle.mg_heard.specs.declared.entry.Entry.TheVariants as entries
+use Rattle.mg_heard.specs.declared.extent.Extent.{Extent}
+use Rattle.mg_heard.specs.declared.gap.Gap.{Gap}
+use Rattle.mg_heard.specs.declared.interval.Interval.{Interval}
+use Rattle.mg_heard.specs.declared.moment.Moment.{Moment}
+use Rattle.mg_heard.specs.declared.query.Query.{Query}
+use Rattle.mg_heard.specs.declared.verdict.Verdict.{Verdict}
+use Rattle.mg_heard.specs.declared.verdict.Verdict.TheVariants.{CouldHear, CouldNotHear, Unknown}
+use Rattle.mg_heard.specs.Query.{covers, selects}
+
+-- the first interval that is asked for and in which the time lies
+abbrev pub heard_at : Query → Date → List Entry → Option Interval
+heard_at query time [] = None
+heard_at query time (entries.Interval x ∷ xs) =
+    if selects query x && covers x time then Some x else heard_at query time xs
+heard_at query time (entries.Gap gap ∷ xs) = heard_at query time xs
+
+-- the moment is known to be at this time or before it
+abbrev pub is_past : Moment → Date → Bool
+is_past m time = option_map_or (λ date. nat_le date.millis time.millis) m.date false
+
+-- the moment is known to be after this time
+abbrev pub is_future : Moment → Date → Bool
+is_future m time = option_map_or (λ date. nat_lt time.millis date.millis) m.date false
+
+abbrev pub is_in_gap : Gap → Date → Bool
+is_in_gap gap time = is_past gap.first time && is_future gap.end time
+
+-- the first gap in which the time lies
+abbrev pub gap_at : Date → List Entry → Option Gap
+gap_at time [] = None
+gap_at time (entries.Interval x ∷ xs) = gap_at time xs
+gap_at time (entries.Gap gap ∷ xs) = if is_in_gap gap time then Some gap else gap_at time xs
+
+-- the script covers this time: it is not before the first date, nor at the end or after it
+abbrev pub is_within : Extent → Date → Bool
+is_within extent time =
+    option_map_or (λ first. is_past first time) extent.first false && is_future extent.end time
+
+-- The answer, given the interval and the gap in which the time lies. The script doesn't say who
+-- could hear whom outside of the time that it covers, and in a gap.
+abbrev pub verdict_of : (is_within : Bool) → Option Gap → Option Interval → Verdict
+verdict_of is_within gap heard =
+    if is_some gap || not is_within then Unknown else option_map_or CouldHear heard CouldNotHear
+
+-- the answer that follows from the entries of a script
+abbrev pub verdict_at : Query → Date → Extent → List Entry → Verdict
+verdict_at query time extent xs =
+    verdict_of (is_within extent time) (gap_at time xs) (heard_at query time xs)

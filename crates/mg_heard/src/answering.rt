@@ -1,0 +1,34 @@
+ghost use Rattle.std.specs.Prelude.{◌≡◌, IfOk};
+ghost use Rattle.mg_core.specs.Follow.{IsFollowed};
+ghost use Rattle.mg_core.specs.declared.state.CoreState.{CoreState};
+ghost use Rattle.mg_heard.specs.Told.{TellsAll};
+ghost use Rattle.mg_heard.specs.Verdict.{verdict_at};
+ghost use Rattle.mg_heard.specs.declared.extent.Extent.{Extent};
+
+use crate::heard_fault::HeardFault;
+use crate::hearing::hear;
+use crate::instant::Instant;
+use crate::query::Query;
+use crate::verdict::Verdict;
+use mg_core::Config;
+use mg_dates::Date;
+use std::alloc::Global;
+use std::io::Read;
+
+/// Answers whether those who are asked about could hear each other at one time, while a script ran.
+///
+/// No contract says that dates, gaps and the extent are those of the script.
+pub fn hear_at<R: Read>(
+    alloc: Global,
+    config: Config,
+    reader: &mut R,
+    query: Query,
+    time: Date,
+) -> Result<Verdict, HeardFault>
+    ensures answer { IfOk result (λ verdict. (state : CoreState) × (extent : Extent) ×
+        IsFollowed config (R.remaining reader.old) (R.remaining reader.new) state
+        (λ notes. TellsAll config notes (λ xs. verdict ≡ verdict_at query time extent xs))) }
+{
+    let (instant, extent) = hear(alloc, config, reader, Instant::new(query, time))?;
+    Ok(instant.verdict(&extent))
+}

@@ -1,0 +1,111 @@
+ghost use Rattle.std.specs.Prelude.{◌≡◌, ◌∷◌, [], None};
+ghost use Rattle.std.specs.Option.{option_or};
+ghost use Rattle.mg_heard.specs.Verdict.{gap_at, heard_at, is_within, verdict_of};
+ghost use Rattle.mg_heard.specs.declared.entry.Entry.TheVariants as entries;
+
+use crate::entry::Entry;
+use crate::extent::Extent;
+use crate::gap::Gap;
+use crate::interval::Interval;
+use crate::query::Query;
+use crate::sink::Sink;
+use crate::verdict::Verdict;
+use mg_core::Stopped;
+use mg_dates::Date;
+
+/// Finds out who could hear whom at one time.
+#[derive(Clone, Copy, Debug, PartialEq, Eq)]
+pub struct Instant {
+    pub query: Query,
+    pub time: Date,
+    /// The first interval that is asked for and in which the time lies.
+    pub heard: Option<Interval>,
+    /// The first gap in which the time lies.
+    pub gap: Option<Gap>,
+}
+
+impl Instant {
+    /// Asks about a time.
+    pub fn new(query: Query, time: Date) -> Self
+        ensures value { result ≡ record { query = query; time = time; heard = None; gap = None } }
+    {
+        Instant {
+            query,
+            time,
+            heard: None,
+            gap: None,
+        }
+    }
+
+    /// Returns the answer, given the time that the script covers.
+    pub fn verdict(&self, extent: &Extent) -> Verdict
+        ensures value { result ≡ verdict_of (is_within extent.now self.now.time) self.now.gap self.now.heard }
+    {
+        if self.gap.is_some() || !extent.covers(self.time) {
+            return Verdict::Unknown;
+        }
+        match self.heard {
+            Some(interval) => Verdict::CouldHear(interval),
+            None => Verdict::CouldNotHear,
+        }
+    }
+
+    /// Returns an interval if it is asked for and the time lies in it.
+    fn heard_in(&self, interval: &Interval) -> Option<Interval>
+        ensures value { result ≡ heard_at self.now.query self.now.time (entries.Interval interval.now ∷ []) }
+    {
+        if self.query.selects_at(interval, self.time) {
+            Some(*interval)
+        } else {
+            None
+        }
+    }
+
+    /// Returns a gap if the time lies in it.
+    fn gap_in(&self, gap: &Gap) -> Option<Gap>
+        ensures value { result ≡ gap_at self.now.time (entries.Gap gap.now ∷ []) }
+    {
+        if gap.contains(self.time) {
+            Some(*gap)
+        } else {
+            None
+        }
+    }
+
+    /// Stores an interval, if it is the first one that is asked for and in which the time lies.
+    fn take_interval(&mut self, interval: &Interval)
+        ensures value { self.new ≡ record self.old {
+          heard = option_or self.old.heard (heard_at self.old.query self.old.time (entries.Interval interval.now ∷ []));
+        } }
+    {
+        self.heard = self.heard.or(self.heard_in(interval));
+    }
+
+    /// Stores a gap, if it is the first one in which the time lies.
+    fn take_gap(&mut self, gap: &Gap)
+        ensures value { self.new ≡ record self.old {
+          gap = option_or self.old.gap (gap_at self.old.time (entries.Gap gap.now ∷ []));
+        } }
+    {
+        self.gap = self.gap.or(self.gap_in(gap));
+    }
+}
+
+impl Sink for Instant {
+    ghost use Rattle.mg_heard.specs.aids.Finding.{HasFound};
+
+    ghost told = { HasFound };
+
+    fn tell(&mut self, entry: &Entry) -> Result<(), Stopped> {
+        match entry {
+            Entry::Interval(interval) => {
+                self.take_interval(interval);
+                Ok(())
+            }
+            Entry::Gap(gap) => {
+                self.take_gap(gap);
+                Ok(())
+            }
+        }
+    }
+}

@@ -1,0 +1,148 @@
+ghost use Rattle.std.specs.Prelude.{◌≡◌, ◌&&◌, None, true};
+ghost use Rattle.std.specs.Option.{option_map_or};
+ghost use Rattle.mg_heard.specs.Query.{begins_before, covers, ends_after, has_begun, is_asked, lasts_beyond, selects, selects_entry};
+
+use crate::entry::Entry;
+use crate::interval::Interval;
+use crate::party_name::PartyName;
+use mg_core::Peer;
+use mg_dates::Date;
+
+/// Which intervals are asked for.
+#[derive(Clone, Copy, Debug, PartialEq, Eq)]
+pub struct Query {
+    /// `None` for any listener.
+    pub listener: Option<PartyName>,
+    /// `None` for any talker.
+    pub talker: Option<PartyName>,
+    /// Leaves out intervals that end at this time or earlier.
+    pub from: Option<Date>,
+    /// Leaves out intervals that begin at this time or later.
+    pub until: Option<Date>,
+}
+
+/// Returns whether a termination is asked for.
+fn is_asked(name: Option<PartyName>, number: u32, at: Option<Peer>) -> bool
+    ensures value { result ≡ is_asked name number at }
+{
+    match name {
+        Some(name) => name.names(number, at),
+        None => true,
+    }
+}
+
+/// Returns whether an interval begins before a time. An interval without a date may begin at any time.
+fn begins_before(interval: &Interval, time: Date) -> bool
+    ensures value { result ≡ begins_before interval.now time }
+{
+    match interval.first.date {
+        Some(date) => date.millis < time.millis,
+        None => true,
+    }
+}
+
+/// Returns whether an interval ends after a time. An interval without an end or its date may end at any time.
+fn ends_after(interval: &Interval, time: Date) -> bool
+    ensures value { result ≡ ends_after interval.now time }
+{
+    let Some(end) = interval.end else {
+        return true;
+    };
+    match end.date {
+        Some(date) => time.millis < date.millis,
+        None => true,
+    }
+}
+
+/// Returns whether an interval ends after a time, if there is one.
+fn ends_after_from(interval: &Interval, from: Option<Date>) -> bool
+    ensures value { result ≡ option_map_or (ends_after interval.now) from true }
+{
+    match from {
+        Some(time) => ends_after(interval, time),
+        None => true,
+    }
+}
+
+/// Returns whether an interval begins before a time, if there is one.
+fn begins_before_until(interval: &Interval, until: Option<Date>) -> bool
+    ensures value { result ≡ option_map_or (begins_before interval.now) until true }
+{
+    match until {
+        Some(time) => begins_before(interval, time),
+        None => true,
+    }
+}
+
+impl Query {
+    /// Asks for all intervals.
+    pub fn all() -> Query
+        ensures value { result ≡ record { listener = None; talker = None; from = None; until = None } }
+    {
+        Query {
+            listener: None,
+            talker: None,
+            from: None,
+            until: None,
+        }
+    }
+
+    /// Returns whether an entry is asked for. Each gap is.
+    pub fn selects_entry(&self, entry: &Entry) -> bool
+        ensures value { result ≡ selects_entry self.now entry.now }
+    {
+        match entry {
+            Entry::Interval(interval) => self.selects(interval),
+            Entry::Gap(_) => true,
+        }
+    }
+
+    /// Returns whether an interval is asked for.
+    pub fn selects(&self, interval: &Interval) -> bool
+        ensures value { result ≡ selects self.now interval.now }
+    {
+        let flow = &interval.flow;
+        is_asked(self.listener, flow.listener, flow.listener_at)
+            && is_asked(self.talker, flow.talker, flow.talker_at)
+            && ends_after_from(interval, self.from)
+            && begins_before_until(interval, self.until)
+    }
+
+    /// Returns whether an interval is asked for, and a time that the script covers lies in it.
+    pub(crate) fn selects_at(&self, interval: &Interval, time: Date) -> bool
+        ensures value { result ≡ (selects self.now interval.now && covers interval.now time) }
+    {
+        self.selects(interval) && covers(interval, time)
+    }
+}
+
+/// Returns whether an interval has begun at a time. One without a date began before the script's first date.
+fn has_begun(interval: &Interval, time: Date) -> bool
+    ensures value { result ≡ has_begun interval.now time }
+{
+    match interval.first.date {
+        Some(date) => date.millis <= time.millis,
+        None => true,
+    }
+}
+
+/// Returns whether an interval ends after a time, or not at all. One whose end has no date ended before the script's
+/// first date.
+fn lasts_beyond(interval: &Interval, time: Date) -> bool
+    ensures value { result ≡ lasts_beyond interval.now time }
+{
+    let Some(end) = interval.end else {
+        return true;
+    };
+    match end.date {
+        Some(date) => time.millis < date.millis,
+        None => false,
+    }
+}
+
+/// Returns whether a time that the script covers lies in an interval.
+fn covers(interval: &Interval, time: Date) -> bool
+    ensures value { result ≡ covers interval.now time }
+{
+    has_begun(interval, time) && lasts_beyond(interval, time)
+}

@@ -12,6 +12,8 @@ mod engine;
 #[cfg(test)]
 mod flows;
 #[cfg(test)]
+mod heard;
+#[cfg(test)]
 mod machine;
 #[cfg(test)]
 mod recording;

@@ -1,6 +1,10 @@
+use arrayvec::ArrayVec;
 use jiff::Timestamp;
-use std::io;
+use std::io::{self, Write};
 use std::time::{Clock, SystemTime, UNIX_EPOCH};
+
+/// The text of a point in time.
+pub type TimeText = ArrayVec<u8, 64>;
 
 /// A point in time, in milliseconds since 1970 (UTC).
 #[derive(Clone, Copy, Debug, PartialEq, Eq, PartialOrd, Ord)]
@@ -37,6 +41,16 @@ impl Date {
             return None;
         };
         Timestamp::from_millisecond(millis).ok()
+    }
+
+    /// Returns the time in UTC as text (RFC 3339), such as `2026-11-27T14:03:20.5Z`. The text is empty after the year
+    /// 9999.
+    pub fn text(self) -> TimeText {
+        let mut text = TimeText::new();
+        if let Some(timestamp) = self.timestamp() {
+            let _ = write!(text, "{timestamp}");
+        }
+        text
     }
 
     /// Returns the time this many milliseconds earlier.

@@ -20,7 +20,7 @@ mod dated_journal;
 mod timeline;
 
 pub use crate::agreement::Agreement;
-pub use crate::date::Date;
+pub use crate::date::{Date, TimeText};
 pub use crate::date_text::date_in;
 pub use crate::dated_journal::DatedJournal;
 pub use crate::timeline::Timeline;

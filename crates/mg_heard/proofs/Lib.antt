@@ -13,3 +13,5 @@ pub mod FillLemmas
 pub mod AdvanceLemmas
 pub mod KeepingLemmas
 pub mod FindingLemmas
+pub mod LineLemmas
+pub mod ReportLemmas

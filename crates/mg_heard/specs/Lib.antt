@@ -7,4 +7,6 @@ pub mod Laws
 pub mod Told
 pub mod Query
 pub mod Verdict
+pub mod Lines
+pub mod Reported
 pub mod aids

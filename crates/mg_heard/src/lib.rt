@@ -6,7 +6,8 @@
 //! let (sink, extent) = hear(alloc, config, &mut input, sink)?;
 //! ```
 //!
-//! [`hear_at`] answers whether a talker could be heard at one time.
+//! [`hear_at`] answers whether a talker could be heard at one time. A [`Report`] is a sink that writes a line for each
+//! interval that is asked for, and for each gap.
 //!
 //! A pair and a tick lie in an interval exactly if the talker's speech flows to the listener in the world before that
 //! tick (`specs/Laws.antt`). The intervals are read off the flows that are open before each tick
@@ -22,12 +23,14 @@ mod continuing;
 mod entry;
 mod extent;
 mod filling;
+mod format;
 mod gap;
 mod heard;
 mod heard_fault;
 mod hearing;
 mod instant;
 mod interval;
+mod line;
 mod moment;
 mod open_flow;
 mod open_interval;
@@ -36,6 +39,7 @@ mod party;
 mod party_name;
 mod query;
 mod remark;
+mod report;
 mod sink;
 mod telling;
 pub mod theorems;
@@ -45,6 +49,7 @@ pub use crate::answering::hear_at;
 pub use crate::clock_fault::ClockFault;
 pub use crate::entry::Entry;
 pub use crate::extent::Extent;
+pub use crate::format::Format;
 pub use crate::gap::Gap;
 pub use crate::heard_fault::HeardFault;
 pub use crate::hearing::hear;
@@ -54,5 +59,6 @@ pub use crate::moment::Moment;
 pub use crate::open_flow::OpenFlow;
 pub use crate::party_name::PartyName;
 pub use crate::query::Query;
+pub use crate::report::Report;
 pub use crate::sink::Sink;
 pub use crate::verdict::Verdict;

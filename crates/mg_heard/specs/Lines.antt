@@ -1,0 +1,149 @@
+-- The lines for intervals and gaps: sentences of this project's own, rows (CSV, RFC 4180) and
+-- objects (JSON, RFC 8259). The text of a date has no definition, because that of `jiff` has none.
+-- So the texts of a line's two dates are parameters.
+use Rattle.std.specs.Prelude.{◌≡◌, ℕ, ◌∷◌, ◌++◌, List, [], filter, Option, Some, None, codes}
+use Rattle.std.specs.Prelude.{decimal}
+use Rattle.std.specs.Io.KnownBytes.{Appends}
+use Rattle.std.specs.Prelude.{option_and_then}
+use Rattle.mg_words.specs.Term.{rtp_name}
+use Rattle.mg_words.specs.declared.peer.Peer.{Peer}
+use Rattle.mg_core.specs.Peer.{peer_text}
+use Rattle.mg_dates.specs.declared.date.Date.{Date}
+use Rattle.mg_heard.specs.declared.entry.Entry.{Entry}
+use Rattle.mg_heard.specs.declared.entry.Entry.TheVariants as entries
+use Rattle.mg_heard.specs.declared.format.Format.{Format}
+use Rattle.mg_heard.specs.declared.format.Format.TheVariants.{Text, Csv, Json}
+use Rattle.mg_heard.specs.declared.interval.Interval.{Interval}
+use Rattle.mg_heard.specs.declared.moment.Moment.{Moment}
+use Rattle.mg_heard.specs.declared.query.Query.{Query}
+use Rattle.mg_heard.specs.Query.{selects_entry}
+
+-- ## Sentences
+
+abbrev pub at_text : Option Peer → List ℕ
+at_text None = []
+at_text (Some peer) = codes " (" ++ (peer_text peer ++ codes ")")
+
+abbrev pub party_text : ℕ → Option Peer → List ℕ
+party_text n at = rtp_name n ++ at_text at
+
+-- a tick, with its time if that is known
+abbrev pub moment_text : List ℕ → ℕ → Option Date → List ℕ
+moment_text time tick None = codes "tick " ++ decimal tick
+moment_text time tick (Some date) = time ++ (codes " (tick " ++ (decimal tick ++ codes ")"))
+
+abbrev pub end_text : List ℕ → Option Moment → List ℕ
+end_text time None = codes "the end"
+end_text time (Some end) = moment_text time end.tick end.date
+
+abbrev pub extent_text : List ℕ → List ℕ → Moment → Option Moment → List ℕ
+extent_text from until first end =
+    codes " from " ++ (moment_text from first.tick first.date
+    ++ (codes " until " ++ (end_text until end ++ codes "\n")))
+
+abbrev pub sentence_of : List ℕ → List ℕ → Interval → List ℕ
+sentence_of from until x =
+    party_text x.flow.listener x.flow.listener_at ++ (codes " could hear "
+    ++ (party_text x.flow.talker x.flow.talker_at ++ (codes " in context "
+    ++ (decimal x.flow.context ++ extent_text from until x.first x.end))))
+
+-- ## Rows
+
+abbrev pub peer_column : Option Peer → List ℕ
+peer_column None = []
+peer_column (Some peer) = peer_text peer
+
+abbrev pub tick_column : Option Moment → List ℕ
+tick_column None = []
+tick_column (Some end) = decimal end.tick
+
+abbrev pub time_column : List ℕ → Option Date → List ℕ
+time_column time None = []
+time_column time (Some date) = time
+
+-- the date of a moment, if there is one
+abbrev pub date_of_end : Option Moment → Option Date
+date_of_end end = option_and_then (λ m. m.date) end
+
+abbrev pub extent_columns : List ℕ → List ℕ → Moment → Option Moment → List ℕ
+extent_columns from until first end =
+    decimal first.tick ++ (codes "," ++ (tick_column end ++ (codes ","
+    ++ (time_column from first.date ++ (codes ","
+    ++ (time_column until (date_of_end end) ++ codes "\n"))))))
+
+abbrev pub row_of : List ℕ → List ℕ → Interval → List ℕ
+row_of from until x =
+    codes "heard," ++ (rtp_name x.flow.listener ++ (codes "," ++ (peer_column x.flow.listener_at
+    ++ (codes "," ++ (rtp_name x.flow.talker ++ (codes "," ++ (peer_column x.flow.talker_at
+    ++ (codes "," ++ (decimal x.flow.context
+    ++ (codes "," ++ extent_columns from until x.first x.end))))))))))
+
+-- ## Objects
+
+abbrev pub peer_value : Option Peer → List ℕ
+peer_value None = codes "null"
+peer_value (Some peer) = codes "\"" ++ (peer_text peer ++ codes "\"")
+
+abbrev pub tick_value : Option Moment → List ℕ
+tick_value None = codes "null"
+tick_value (Some end) = decimal end.tick
+
+abbrev pub time_value : List ℕ → Option Date → List ℕ
+time_value time None = codes "null"
+time_value time (Some date) = codes "\"" ++ (time ++ codes "\"")
+
+abbrev pub extent_members : List ℕ → List ℕ → Moment → Option Moment → List ℕ
+extent_members from until first end =
+    codes ",\"first_tick\":" ++ (decimal first.tick ++ (codes ",\"end_tick\":" ++ (tick_value end
+    ++ (codes ",\"from\":" ++ (time_value from first.date ++ (codes ",\"until\":"
+    ++ (time_value until (date_of_end end) ++ codes "}\n")))))))
+
+abbrev pub object_of : List ℕ → List ℕ → Interval → List ℕ
+object_of from until x =
+    codes "{\"kind\":\"heard\",\"listener\":\"" ++ (rtp_name x.flow.listener
+    ++ (codes "\",\"listener_at\":" ++ (peer_value x.flow.listener_at
+    ++ (codes ",\"talker\":\"" ++ (rtp_name x.flow.talker
+    ++ (codes "\",\"talker_at\":" ++ (peer_value x.flow.talker_at
+    ++ (codes ",\"context\":" ++ (decimal x.flow.context
+    ++ extent_members from until x.first x.end)))))))))
+
+-- ## Each format
+
+abbrev pub head_of : Format → List ℕ
+head_of Text = []
+head_of Json = []
+head_of Csv =
+    codes "kind,listener,listener_at,talker,talker_at,context,first_tick,end_tick,from,until\n"
+
+abbrev pub interval_line : Format → List ℕ → List ℕ → Interval → List ℕ
+interval_line Text from until x = sentence_of from until x
+interval_line Csv from until x = row_of from until x
+interval_line Json from until x = object_of from until x
+
+abbrev pub gap_line : Format → List ℕ → List ℕ → Moment → Moment → List ℕ
+gap_line Text from until first end = codes "gap" ++ extent_text from until first (Some end)
+gap_line Csv from until first end = codes "gap,,,,,," ++ extent_columns from until first (Some end)
+gap_line Json from until first end =
+    codes "{\"kind\":\"gap\"" ++ extent_members from until first (Some end)
+
+abbrev pub line_of : Format → List ℕ → List ℕ → Entry → List ℕ
+line_of format from until (entries.Interval x) = interval_line format from until x
+line_of format from until (entries.Gap gap) = gap_line format from until gap.first gap.end
+
+-- the line of an entry, with some texts for its dates
+abbrev pub IsLine : Format → Entry → List ℕ → Type 0
+IsLine format entry line =
+    (from : List ℕ) × (until : List ℕ) × (line ≡ line_of format from until entry)
+
+-- a line for each entry, in order
+abbrev pub AreLines : Format → List Entry → List ℕ → Type 0
+AreLines format [] text = text ≡ []
+AreLines format (x ∷ xs) text =
+    (line : List ℕ) × (others : List ℕ) × IsLine format x line × AreLines format xs others
+    × (text ≡ line ++ others)
+
+-- a writer has received a line for each entry that is asked for
+abbrev pub WritesLines : Format → Query → (old new : Option (List ℕ)) → List Entry → Type 0
+WritesLines format query old new xs =
+    (text : List ℕ) × AreLines format (filter (selects_entry query) xs) text
+    × Appends old new text

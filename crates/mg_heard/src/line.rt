@@ -1,0 +1,469 @@
+//! The lines for intervals and gaps, in each format.
+
+ghost use Rattle.std.specs.Prelude.{◌≡◌, ◌≤◌, ◌+◌, ◌++◌, codes, decimal, length, None, Some};
+ghost use Rattle.mg_words.specs.Term.{rtp_name};
+ghost use Rattle.mg_core.specs.Peer.{peer_text};
+ghost use Rattle.mg_reply.specs.Bytes.{appended};
+ghost use Rattle.mg_heard.specs.Lines.{at_text, date_of_end, end_text, extent_columns, extent_members, extent_text, gap_line, head_of, interval_line, line_of, moment_text, object_of, party_text, peer_column, peer_value, row_of, sentence_of, tick_column, tick_value, time_column, time_value};
+
+use crate::entry::Entry;
+use crate::format::Format;
+use crate::gap::Gap;
+use crate::interval::Interval;
+use crate::moment::Moment;
+use itoa::Buffer;
+use mg_core::Peer;
+use mg_dates::Date;
+use mg_reply::{Bytes, write_address, write_port};
+
+/// The maximum length of a line, in bytes.
+pub(crate) const LINE_LIMIT: usize = 512;
+
+/// The maximum length, in bytes, of a time. The other constants are lengths in bytes, too.
+pub(crate) const TIME_LIMIT: usize = 64;
+
+/// A number in decimal.
+const NUMBER_LIMIT: usize = 20;
+
+/// `RTP/` and a number.
+const NAME_LIMIT: usize = 4 + NUMBER_LIMIT;
+
+/// An address, a colon and a port.
+const PEER_LIMIT: usize = 21;
+
+/// A name, and a peer in brackets after a space.
+const PARTY_LIMIT: usize = 3 + NAME_LIMIT + PEER_LIMIT;
+
+/// A time, and a tick in brackets.
+const MOMENT_LIMIT: usize = 8 + TIME_LIMIT + NUMBER_LIMIT;
+
+/// The end of a sentence: ` from `, ` until `, two moments and a line feed.
+const EXTENT_LIMIT: usize = 14 + 2 * MOMENT_LIMIT;
+
+/// The last columns of a row: two numbers, two times, commas and a line feed.
+const COLUMNS_LIMIT: usize = 4 + 2 * NUMBER_LIMIT + 2 * TIME_LIMIT;
+
+/// The last members of an object: their names, two numbers, two times in quotes, a brace and a line feed.
+const MEMBERS_LIMIT: usize = 49 + 2 * NUMBER_LIMIT + 2 * TIME_LIMIT;
+
+/// Writes a number in decimal.
+#[tactic(auto, using(crate::proofs::LineLemmas::lengths))]
+fn push_number(n: u64, out: &mut Bytes)
+    requires room { NUMBER_LIMIT ≤ out.old.room }
+    ensures value { out.new ≡ appended out.old (decimal n) }
+    ensures short { length (decimal n) ≤ NUMBER_LIMIT }
+{
+    let mut buffer = Buffer::new();
+    out.push(buffer.format(n).as_bytes());
+}
+
+/// Writes the number of a context in decimal.
+#[tactic(auto, using(crate::proofs::LineLemmas::lengths))]
+fn push_context(n: u32, out: &mut Bytes)
+    requires room { NUMBER_LIMIT ≤ out.old.room }
+    ensures value { out.new ≡ appended out.old (decimal n) }
+    ensures short { length (decimal n) ≤ NUMBER_LIMIT }
+{
+    push_number(u64::from(n), out);
+}
+
+/// Writes the name of a termination.
+#[tactic(auto, using(crate::proofs::LineLemmas::steps))]
+fn push_name(number: u32, out: &mut Bytes)
+    requires room { NAME_LIMIT ≤ out.old.room }
+    ensures value { out.new ≡ appended out.old (rtp_name number) }
+    ensures short { length (rtp_name number) ≤ NAME_LIMIT }
+{
+    out.push(b"RTP/");
+    push_number(u64::from(number), out);
+}
+
+/// Writes a peer: an address, a colon and a port.
+#[tactic(auto, using(crate::proofs::LineLemmas::steps))]
+fn push_peer(peer: Peer, out: &mut Bytes)
+    requires room { PEER_LIMIT ≤ out.old.room }
+    ensures value { out.new ≡ appended out.old (peer_text peer) }
+    ensures short { length (peer_text peer) ≤ PEER_LIMIT }
+{
+    write_address(peer.address, out);
+    out.push(b":");
+    write_port(peer.port, out);
+}
+
+// ## Sentences
+
+/// Writes a peer in brackets after a space, if there is one.
+#[tactic(auto, using(crate::proofs::LineLemmas::steps))]
+fn push_at(at: Option<Peer>, out: &mut Bytes)
+    requires room { 3 + PEER_LIMIT ≤ out.old.room }
+    ensures value { out.new ≡ appended out.old (at_text at) }
+    ensures short { length (at_text at) ≤ 3 + PEER_LIMIT }
+{
+    if let Some(peer) = at {
+        out.push(b" (");
+        push_peer(peer, out);
+        out.push(b")");
+    }
+}
+
+/// Writes a termination, and its Remote if it has one.
+#[tactic(auto, using(crate::proofs::LineLemmas::steps))]
+fn push_party(number: u32, at: Option<Peer>, out: &mut Bytes)
+    requires room { PARTY_LIMIT ≤ out.old.room }
+    ensures value { out.new ≡ appended out.old (party_text number at) }
+    ensures short { length (party_text number at) ≤ PARTY_LIMIT }
+{
+    push_name(number, out);
+    push_at(at, out);
+}
+
+/// Writes a tick, and its time if that is known.
+#[tactic(auto, using(crate::proofs::LineLemmas::steps))]
+fn push_moment(time: &[u8], tick: u64, date: Option<Date>, out: &mut Bytes)
+    requires time { length time.now ≤ TIME_LIMIT }
+    requires room { MOMENT_LIMIT ≤ out.old.room }
+    ensures value { out.new ≡ appended out.old (moment_text time.now tick date) }
+    ensures short { length (moment_text time.now tick date) ≤ MOMENT_LIMIT }
+{
+    match date {
+        Some(_) => {
+            out.push(time);
+            out.push(b" (tick ");
+            push_number(tick, out);
+            out.push(b")");
+        }
+        None => {
+            out.push(b"tick ");
+            push_number(tick, out);
+        }
+    }
+}
+
+/// Writes the end of an interval or a gap.
+#[tactic(auto, using(crate::proofs::LineLemmas::steps))]
+fn push_end(time: &[u8], end: Option<Moment>, out: &mut Bytes)
+    requires time { length time.now ≤ TIME_LIMIT }
+    requires room { MOMENT_LIMIT ≤ out.old.room }
+    ensures value { out.new ≡ appended out.old (end_text time.now end) }
+    ensures short { length (end_text time.now end) ≤ MOMENT_LIMIT }
+{
+    match end {
+        Some(end) => push_moment(time, end.tick, end.date, out),
+        None => out.push(b"the end"),
+    }
+}
+
+/// Writes the beginning and the end of an interval or a gap.
+#[tactic(auto, using(crate::proofs::LineLemmas::steps))]
+fn push_extent(from: &[u8], until: &[u8], first: Moment, end: Option<Moment>, out: &mut Bytes)
+    requires from { length from.now ≤ TIME_LIMIT }
+    requires until { length until.now ≤ TIME_LIMIT }
+    requires room { EXTENT_LIMIT ≤ out.old.room }
+    ensures value { out.new ≡ appended out.old (extent_text from.now until.now first end) }
+    ensures short { length (extent_text from.now until.now first end) ≤ EXTENT_LIMIT }
+{
+    out.push(b" from ");
+    push_moment(from, first.tick, first.date, out);
+    out.push(b" until ");
+    push_end(until, end, out);
+    out.push(b"\n");
+}
+
+/// Writes the sentence for an interval.
+#[tactic(auto, using(crate::proofs::LineLemmas::steps))]
+fn push_sentence(from: &[u8], until: &[u8], interval: &Interval, out: &mut Bytes)
+    requires from { length from.now ≤ TIME_LIMIT }
+    requires until { length until.now ≤ TIME_LIMIT }
+    requires room { LINE_LIMIT ≤ out.old.room }
+    ensures value { out.new ≡ appended out.old (sentence_of from.now until.now interval.now) }
+    ensures short { length (sentence_of from.now until.now interval.now) ≤ LINE_LIMIT }
+{
+    let flow = &interval.flow;
+    push_party(flow.listener, flow.listener_at, out);
+    out.push(b" could hear ");
+    push_party(flow.talker, flow.talker_at, out);
+    out.push(b" in context ");
+    push_context(flow.context, out);
+    push_extent(from, until, interval.first, interval.end, out);
+}
+
+// ## Rows
+
+/// Writes a peer, if there is one.
+fn push_optional_peer(peer: Option<Peer>, out: &mut Bytes)
+    requires room { PEER_LIMIT ≤ out.old.room }
+    ensures value { out.new ≡ appended out.old (peer_column peer) }
+    ensures short { length (peer_column peer) ≤ PEER_LIMIT }
+{
+    if let Some(peer) = peer {
+        push_peer(peer, out);
+    }
+}
+
+/// Writes the tick of an end, if there is one.
+fn push_optional_tick(end: Option<Moment>, out: &mut Bytes)
+    requires room { NUMBER_LIMIT ≤ out.old.room }
+    ensures value { out.new ≡ appended out.old (tick_column end) }
+    ensures short { length (tick_column end) ≤ NUMBER_LIMIT }
+{
+    if let Some(end) = end {
+        push_number(end.tick, out);
+    }
+}
+
+/// Writes a time, if there is one.
+fn push_optional_time(time: &[u8], date: Option<Date>, out: &mut Bytes)
+    requires time { length time.now ≤ TIME_LIMIT }
+    requires room { TIME_LIMIT ≤ out.old.room }
+    ensures value { out.new ≡ appended out.old (time_column time.now date) }
+    ensures short { length (time_column time.now date) ≤ TIME_LIMIT }
+{
+    if date.is_some() {
+        out.push(time);
+    }
+}
+
+/// Returns the date of an end, if there is one.
+fn date_of_end(end: Option<Moment>) -> Option<Date>
+    ensures value { result ≡ date_of_end end }
+{
+    match end {
+        Some(end) => end.date,
+        None => None,
+    }
+}
+
+/// Writes the four columns of a beginning and an end.
+#[tactic(auto, using(crate::proofs::LineLemmas::steps))]
+fn push_extent_columns(
+    from: &[u8],
+    until: &[u8],
+    first: Moment,
+    end: Option<Moment>,
+    out: &mut Bytes,
+)
+    requires from { length from.now ≤ TIME_LIMIT }
+    requires until { length until.now ≤ TIME_LIMIT }
+    requires room { COLUMNS_LIMIT ≤ out.old.room }
+    ensures value { out.new ≡ appended out.old (extent_columns from.now until.now first end) }
+    ensures short { length (extent_columns from.now until.now first end) ≤ COLUMNS_LIMIT }
+{
+    push_number(first.tick, out);
+    out.push(b",");
+    push_optional_tick(end, out);
+    out.push(b",");
+    push_optional_time(from, first.date, out);
+    out.push(b",");
+    push_optional_time(until, date_of_end(end), out);
+    out.push(b"\n");
+}
+
+/// Writes the row for an interval.
+#[tactic(auto, using(crate::proofs::LineLemmas::steps))]
+fn push_row(from: &[u8], until: &[u8], interval: &Interval, out: &mut Bytes)
+    requires from { length from.now ≤ TIME_LIMIT }
+    requires until { length until.now ≤ TIME_LIMIT }
+    requires room { LINE_LIMIT ≤ out.old.room }
+    ensures value { out.new ≡ appended out.old (row_of from.now until.now interval.now) }
+    ensures short { length (row_of from.now until.now interval.now) ≤ LINE_LIMIT }
+{
+    let flow = &interval.flow;
+    out.push(b"heard,");
+    push_name(flow.listener, out);
+    out.push(b",");
+    push_optional_peer(flow.listener_at, out);
+    out.push(b",");
+    push_name(flow.talker, out);
+    out.push(b",");
+    push_optional_peer(flow.talker_at, out);
+    out.push(b",");
+    push_context(flow.context, out);
+    out.push(b",");
+    push_extent_columns(from, until, interval.first, interval.end, out);
+}
+
+// ## Objects
+
+/// Writes a peer as a string, or `null`.
+#[tactic(auto, using(crate::proofs::LineLemmas::steps))]
+fn push_peer_value(peer: Option<Peer>, out: &mut Bytes)
+    requires room { 2 + PEER_LIMIT ≤ out.old.room }
+    ensures value { out.new ≡ appended out.old (peer_value peer) }
+    ensures short { length (peer_value peer) ≤ 2 + PEER_LIMIT }
+{
+    match peer {
+        Some(peer) => {
+            out.push(b"\"");
+            push_peer(peer, out);
+            out.push(b"\"");
+        }
+        None => out.push(b"null"),
+    }
+}
+
+/// Writes the tick of an end, or `null`.
+fn push_tick_value(end: Option<Moment>, out: &mut Bytes)
+    requires room { NUMBER_LIMIT ≤ out.old.room }
+    ensures value { out.new ≡ appended out.old (tick_value end) }
+    ensures short { length (tick_value end) ≤ NUMBER_LIMIT }
+{
+    match end {
+        Some(end) => push_number(end.tick, out),
+        None => out.push(b"null"),
+    }
+}
+
+/// Writes a time as a string, or `null`.
+#[tactic(auto, using(crate::proofs::LineLemmas::steps))]
+fn push_time_value(time: &[u8], date: Option<Date>, out: &mut Bytes)
+    requires time { length time.now ≤ TIME_LIMIT }
+    requires room { 2 + TIME_LIMIT ≤ out.old.room }
+    ensures value { out.new ≡ appended out.old (time_value time.now date) }
+    ensures short { length (time_value time.now date) ≤ 2 + TIME_LIMIT }
+{
+    match date {
+        Some(_) => {
+            out.push(b"\"");
+            out.push(time);
+            out.push(b"\"");
+        }
+        None => out.push(b"null"),
+    }
+}
+
+/// Writes the members of a beginning and an end, and ends the object.
+#[tactic(auto, using(crate::proofs::LineLemmas::steps))]
+fn push_extent_members(
+    from: &[u8],
+    until: &[u8],
+    first: Moment,
+    end: Option<Moment>,
+    out: &mut Bytes,
+)
+    requires from { length from.now ≤ TIME_LIMIT }
+    requires until { length until.now ≤ TIME_LIMIT }
+    requires room { MEMBERS_LIMIT ≤ out.old.room }
+    ensures value { out.new ≡ appended out.old (extent_members from.now until.now first end) }
+    ensures short { length (extent_members from.now until.now first end) ≤ MEMBERS_LIMIT }
+{
+    out.push(b",\"first_tick\":");
+    push_number(first.tick, out);
+    out.push(b",\"end_tick\":");
+    push_tick_value(end, out);
+    out.push(b",\"from\":");
+    push_time_value(from, first.date, out);
+    out.push(b",\"until\":");
+    push_time_value(until, date_of_end(end), out);
+    out.push(b"}\n");
+}
+
+/// Writes the object for an interval.
+#[tactic(auto, using(crate::proofs::LineLemmas::steps))]
+fn push_object(from: &[u8], until: &[u8], interval: &Interval, out: &mut Bytes)
+    requires from { length from.now ≤ TIME_LIMIT }
+    requires until { length until.now ≤ TIME_LIMIT }
+    requires room { LINE_LIMIT ≤ out.old.room }
+    ensures value { out.new ≡ appended out.old (object_of from.now until.now interval.now) }
+    ensures short { length (object_of from.now until.now interval.now) ≤ LINE_LIMIT }
+{
+    let flow = &interval.flow;
+    out.push(b"{\"kind\":\"heard\",\"listener\":\"");
+    push_name(flow.listener, out);
+    out.push(b"\",\"listener_at\":");
+    push_peer_value(flow.listener_at, out);
+    out.push(b",\"talker\":\"");
+    push_name(flow.talker, out);
+    out.push(b"\",\"talker_at\":");
+    push_peer_value(flow.talker_at, out);
+    out.push(b",\"context\":");
+    push_context(flow.context, out);
+    push_extent_members(from, until, interval.first, interval.end, out);
+}
+
+// ## Each format
+
+/// Writes what precedes all lines: in CSV, the names of the columns.
+pub(crate) fn push_head(format: Format, out: &mut Bytes)
+    requires room { LINE_LIMIT ≤ out.old.room }
+    ensures value { out.new ≡ appended out.old (head_of format) }
+{
+    match format {
+        Format::Csv => out.push(
+            b"kind,listener,listener_at,talker,talker_at,context,first_tick,end_tick,from,until\n",
+        ),
+        Format::Text => {}
+        Format::Json => {}
+    }
+}
+
+/// Writes the line for an interval.
+fn push_interval(format: Format, from: &[u8], until: &[u8], interval: &Interval, out: &mut Bytes)
+    requires from { length from.now ≤ TIME_LIMIT }
+    requires until { length until.now ≤ TIME_LIMIT }
+    requires room { LINE_LIMIT ≤ out.old.room }
+    ensures value { out.new ≡ appended out.old (interval_line format from.now until.now interval.now) }
+    ensures short { length (interval_line format from.now until.now interval.now) ≤ LINE_LIMIT }
+{
+    match format {
+        Format::Text => push_sentence(from, until, interval, out),
+        Format::Csv => push_row(from, until, interval, out),
+        Format::Json => push_object(from, until, interval, out),
+    }
+}
+
+/// Writes the line for a gap.
+#[tactic(auto, using(crate::proofs::LineLemmas::steps))]
+fn push_gap(format: Format, from: &[u8], until: &[u8], gap: &Gap, out: &mut Bytes)
+    requires from { length from.now ≤ TIME_LIMIT }
+    requires until { length until.now ≤ TIME_LIMIT }
+    requires room { LINE_LIMIT ≤ out.old.room }
+    ensures value { out.new ≡ appended out.old (gap_line format from.now until.now gap.now.first gap.now.end) }
+    ensures short { length (gap_line format from.now until.now gap.now.first gap.now.end) ≤ LINE_LIMIT }
+{
+    match format {
+        Format::Text => {
+            out.push(b"gap");
+            push_extent(from, until, gap.first, Some(gap.end), out);
+        }
+        Format::Csv => {
+            out.push(b"gap,,,,,,");
+            push_extent_columns(from, until, gap.first, Some(gap.end), out);
+        }
+        Format::Json => {
+            out.push(b"{\"kind\":\"gap\"");
+            push_extent_members(from, until, gap.first, Some(gap.end), out);
+        }
+    }
+}
+
+/// Writes the line for an interval or a gap, given the texts of its two dates.
+pub(crate) fn push_entry(format: Format, from: &[u8], until: &[u8], entry: &Entry, out: &mut Bytes)
+    requires from { length from.now ≤ TIME_LIMIT }
+    requires until { length until.now ≤ TIME_LIMIT }
+    requires room { LINE_LIMIT ≤ out.old.room }
+    ensures value { out.new ≡ appended out.old (line_of format from.now until.now entry.now) }
+    ensures short { length (line_of format from.now until.now entry.now) ≤ LINE_LIMIT }
+{
+    match entry {
+        Entry::Interval(interval) => push_interval(format, from, until, interval, out),
+        Entry::Gap(gap) => push_gap(format, from, until, gap, out),
+    }
+}
+
+/// Returns the line that says that a talker could not be heard at a time.
+pub(crate) fn not_heard_line(format: Format) -> &'static [u8] {
+    match format {
+        Format::Text => b"could not hear\n",
+        Format::Csv => b"not heard,,,,,,,,,\n",
+        Format::Json => b"{\"kind\":\"not heard\"}\n",
+    }
+}
+
+/// Returns the line that says that a script doesn't answer a question about a time.
+pub(crate) fn unknown_line(format: Format) -> &'static [u8] {
+    match format {
+        Format::Text => b"not known\n",
+        Format::Csv => b"not known,,,,,,,,,\n",
+        Format::Json => b"{\"kind\":\"not known\"}\n",
+    }
+}

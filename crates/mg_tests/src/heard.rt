@@ -3,8 +3,8 @@
 use mg_core::{Config, Peer, RunFault, Stopped};
 use mg_dates::Date;
 use mg_heard::{
-    ClockFault, Entry, Extent, Gap, HeardFault, Interval, Moment, OpenFlow, PartyName, Query, Sink,
-    Verdict, hear, hear_at,
+    ClockFault, Entry, Extent, Format, Gap, HeardFault, Interval, Moment, OpenFlow, PartyName,
+    Query, Report, Sink, Verdict, hear, hear_at,
 };
 use std::alloc::{AllocError, Global};
 use std::io::{Cursor, Read};
@@ -313,6 +313,53 @@ const DATED: &[&[u8]] = &[
     PART,
     b"tick\n# missed 2 ticks\ntick\ntick\ntick\n",
 ];
+
+/// Writes a report about a script.
+fn reported(alloc: Global, format: Format, query: Query) -> Result<Vec<u8>, Fail> {
+    let script = script_of(alloc, DATED)?;
+    let mut report = Report::new(alloc, format, query, Vec::new(alloc))?;
+    report.begin()?;
+    let config = Config::default();
+    let (report, _) = hear(alloc, config, &mut Cursor::new(script.as_slice()), report)?;
+    Ok(report.into_writer())
+}
+
+#[test]
+fn heard_reports_have_three_formats(rt: HostRuntime) -> Result<(), Fail> {
+    let alloc = rt.alloc();
+    let text = reported(alloc, Format::Text, Query::all())?;
+    assert!(rt;
+        text.as_slice()
+            == b"\
+        RTP/1 could hear RTP/2 in context 1 from 2026-11-27T14:03:20Z (tick 0) until 2026-11-27T14:03:20.04Z (tick 2)\n\
+        gap from 2026-11-27T14:03:20.06Z (tick 3) until 2026-11-27T14:03:20.1Z (tick 5)\n\
+        RTP/2 could hear RTP/1 in context 1 from 2026-11-27T14:03:20Z (tick 0) until the end\n"
+                .as_slice()
+    );
+    let rows = reported(alloc, Format::Csv, Query::all())?;
+    assert!(rt;
+        rows.as_slice()
+            == b"\
+        kind,listener,listener_at,talker,talker_at,context,first_tick,end_tick,from,until\n\
+        heard,RTP/1,,RTP/2,,1,0,2,2026-11-27T14:03:20Z,2026-11-27T14:03:20.04Z\n\
+        gap,,,,,,3,5,2026-11-27T14:03:20.06Z,2026-11-27T14:03:20.1Z\n\
+        heard,RTP/2,,RTP/1,,1,0,,2026-11-27T14:03:20Z,\n"
+                .as_slice()
+    );
+    let only = Query {
+        listener: PartyName::of(b"RTP/2"),
+        ..Query::all()
+    };
+    let objects = reported(alloc, Format::Json, only)?;
+    assert!(rt;
+        objects.as_slice()
+            == b"\
+        {\"kind\":\"gap\",\"first_tick\":3,\"end_tick\":5,\"from\":\"2026-11-27T14:03:20.06Z\",\"until\":\"2026-11-27T14:03:20.1Z\"}\n\
+        {\"kind\":\"heard\",\"listener\":\"RTP/2\",\"listener_at\":null,\"talker\":\"RTP/1\",\"talker_at\":null,\"context\":1,\"first_tick\":0,\"end_tick\":null,\"from\":\"2026-11-27T14:03:20Z\",\"until\":null}\n"
+                .as_slice()
+    );
+    Ok(())
+}
 
 /// An answer, without the interval.
 #[derive(Clone, Copy, Debug, PartialEq, Eq)]

@@ -1,6 +1,6 @@
 //! The gateway's timing: when its ticks begin, and when the polls and ticks of `mg_pace` are due.
 //!
-//! There is a tick every 20 ms. Each is due at a fixed time after the start of the clock, so delays do not add up.
+//! There is a tick every 20 ms. Each tick is due at a fixed time after the start of the clock, so delays do not add up.
 //! [`TickSchedule`] waits for one tick after another, and for messages in between:
 //!
 //! ```rust
@@ -14,8 +14,8 @@
 //! [`Watch`] is a clock that can wait, and [`SystemWatch`] is the system's monotonic clock. Times are in nanoseconds
 //! since the start.
 //!
-//! Contracts describe a clock by its readings and by how long it waits. Both are known for a scripted clock, but not
-//! for the system clock.
+//! Contracts describe a clock by its readings and by how long it waits. A scripted clock's readings and waits are
+//! known; the system clock's are not.
 #![tactic(auto)]
 
 mod clock_failed;

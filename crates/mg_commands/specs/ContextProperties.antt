@@ -100,7 +100,7 @@ abbrev pub triples_of : List ℕ → Option ℕ → List ContextProperty → Lis
 triples_of source made ps =
     map (topology_triple_of source made) (unwrap_or (first_of triples_in ps) [])
 
--- how two members hear each other: whether b hears a, and whether a hears b
+-- which of two members hears the other: whether b hears a, and whether a hears b
 abbrev pub pair_item : Bool → Bool → ℕ → ℕ → Item
 pair_item true true a b = replies.Triple (rtp_name a) (rtp_name b) Bothway
 pair_item true false a b = replies.Triple (rtp_name a) (rtp_name b) Oneway

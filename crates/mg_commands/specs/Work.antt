@@ -1,5 +1,5 @@
--- The number of edits that a request caused, counted from the items of its reply. Each costs rows
--- of samples (this project's own rule).
+-- The number of edits that a request caused, counted from the items of its reply. Each edit costs
+-- rows of samples (this project's own rule).
 use Rattle.std.specs.Prelude.{ℕ, Bool, true, false, List, count_by}
 use Rattle.mg_words.specs.declared.command_word.CommandWord.{CommandWord}
 use Rattle.mg_words.specs.declared.command_word.CommandWord.TheVariants.{AuditValue}

@@ -31,7 +31,7 @@ fn audits_more(words: &[ContextWord]) -> bool
         .any(|word| !matches!(word, ContextWord::Topology))
 }
 
-/// Returns the error in a ContextAudit, given the properties before it.
+/// Returns the error in a ContextAudit, if any, given the properties before it.
 fn audit_fault(before: &[ContextProperty], words: &[ContextWord]) -> Option<ErrorNumber>
     ensures value { result ≡ audit_fault before.now words.now }
 {
@@ -41,7 +41,7 @@ fn audit_fault(before: &[ContextProperty], words: &[ContextWord]) -> Option<Erro
     audits_more(words).then_some(ErrorNumber::DescriptorNotServed)
 }
 
-/// Returns the error for a property that is repeated or not supported, given the properties before it.
+/// Returns the error for a property, given the properties before it, or `None` if it is supported and not repeated.
 fn context_property_fault(
     before: &[ContextProperty],
     property: &ContextProperty,
@@ -59,7 +59,7 @@ fn context_property_fault(
     }
 }
 
-/// Returns the first error in the properties, in text order.
+/// Returns the first error in the properties, in text order, or `None` if there is none.
 #[tactic(auto, using(crate::proofs::FaultSteps::walking))]
 fn context_properties_fault(properties: &[ContextProperty]) -> Option<ErrorNumber>
     ensures value { result ≡ first_after context_property_fault [] properties.now }

@@ -55,7 +55,7 @@ fn unless(fault: Option<ErrorNumber>) -> Result<(), ErrorNumber>
     }
 }
 
-/// Returns what the descriptors ask for, if they are supported.
+/// Returns what the descriptors ask for, or the first error in them.
 fn check_descriptors(
     source: &[u8],
     descriptors: &[Descriptor],
@@ -67,7 +67,7 @@ fn check_descriptors(
     Ok(parameters_of(source, descriptors))
 }
 
-/// Returns what a command asks for, if its text is supported.
+/// Returns what a command asks for, or the first error in its text.
 #[tactic(auto, using(crate::proofs::CheckLemmas::by_descriptors))]
 pub fn check_command(source: &[u8], command: &Command) -> Result<CommandParameters, ErrorNumber>
     ensures value { result ≡ check_command source.now command.now }
@@ -91,7 +91,7 @@ pub fn check_new_name(engine: &Engine, name: Name) -> Result<(), ErrorNumber>
     }
 }
 
-/// Returns the number of the termination that a command names.
+/// Returns the number of the termination that a command names, or the error if the name denotes anything else.
 pub fn number_in(name: Name) -> Result<u32, ErrorNumber>
     ensures value { result ≡ number_in name }
 {

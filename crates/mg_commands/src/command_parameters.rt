@@ -81,7 +81,7 @@ fn remote_in(source: &[u8], part: Part) -> Option<MediaSetting>
     }
 }
 
-/// Keeps the first value that was found.
+/// Stores `found` in `kept`, unless a value is already stored there.
 fn keep_first<T: Drop>(kept: &mut Option<T>, found: Option<T>)
     ensures value { kept.new ≡ option_or kept.old found }
 {

@@ -60,7 +60,7 @@ fn is_same_part(source: &[u8], a: Part, b: Part) -> bool
     }
 }
 
-/// Returns the fault in a part: a repeated word, or unsupported content.
+/// Returns the fault in a part, if any: a repeated word, or unsupported content.
 fn fault_of(appeared: bool, part: Part) -> Option<ErrorNumber>
     ensures value { result ≡ fault_of appeared part }
 {
@@ -92,7 +92,7 @@ fn appeared_in_control(source: &[u8], part: &ControlPart, before: &[ControlPart]
     is_single(source, part) && before.iter().any(|other| same_control(source, part, other))
 }
 
-/// Returns the first fault in a stream's LocalControl.
+/// Returns the first fault in a stream's LocalControl, if any.
 #[tactic(auto, using(crate::proofs::FaultSteps::walking))]
 fn controls_fault(source: &[u8], stream: u32, parts: &[ControlPart]) -> Option<ErrorNumber>
     ensures value { result ≡ first_after (control_level source.now stream) [] parts.now }
@@ -123,7 +123,7 @@ fn appears_among(source: &[u8], part: &Part, stream: u32, parts: &[StreamPart]) 
         .any(|other| is_same_word(source, part, stream, other))
 }
 
-/// Returns whether a `MediaPart` contains this part of a stream.
+/// Returns whether a `MediaPart` belongs to the stream with this number and repeats the word of `part`.
 ///
 /// The streams' numbers are compared first, because a message can contain about 700 streams.
 fn appears_in(source: &[u8], part: &Part, stream: u32, other: &MediaPart) -> bool
@@ -138,7 +138,7 @@ fn appears_in(source: &[u8], part: &Part, stream: u32, other: &MediaPart) -> boo
     }
 }
 
-/// Returns whether any of these `MediaPart`s contains this part of a stream.
+/// Returns whether any of these `MediaPart`s belongs to the stream with this number and repeats the word of `part`.
 fn appears_in_media(source: &[u8], part: &Part, stream: u32, media: &[MediaPart]) -> bool
     ensures value { result ≡ list_any (appears_in source.now part.now stream) media.now }
 {
@@ -147,7 +147,7 @@ fn appears_in_media(source: &[u8], part: &Part, stream: u32, media: &[MediaPart]
         .any(|other| appears_in(source, part, stream, other))
 }
 
-/// Returns the first fault in a part of a stream.
+/// Returns the first fault in a part of a stream, if any.
 fn stream_part_fault(
     source: &[u8],
     media: &[MediaPart],
@@ -166,7 +166,7 @@ fn stream_part_fault(
     }
 }
 
-/// Returns the first fault in a Stream, given the parts before it in its Media descriptor.
+/// Returns the first fault in a Stream, if any, given the parts before it in its Media descriptor.
 #[tactic(auto, using(crate::proofs::FaultSteps::walking))]
 fn stream_fault(
     source: &[u8],
@@ -185,7 +185,7 @@ fn stream_fault(
     None
 }
 
-/// Returns whether any of these `MediaPart`s is a TerminationState.
+/// Returns whether any of these `MediaPart`s is a TerminationState descriptor.
 fn has_state(parts: &[MediaPart]) -> bool
     ensures value { result ≡ list_any is_state parts.now }
 {
@@ -194,7 +194,7 @@ fn has_state(parts: &[MediaPart]) -> bool
         .any(|part| matches!(part, MediaPart::TerminationState(_)))
 }
 
-/// Returns the first fault in a `MediaPart`, given the parts before it.
+/// Returns the first fault in a `MediaPart`, if any, given the parts before it.
 fn media_part_fault(source: &[u8], before: &[MediaPart], part: &MediaPart) -> Option<ErrorNumber>
     ensures value { result ≡ media_level source.now before.now part.now }
 {
@@ -233,7 +233,7 @@ fn lookback<'a>(greatest: u32, before: &'a [MediaPart], part: &MediaPart) -> &'a
     }
 }
 
-/// Returns the first fault in a Media descriptor.
+/// Returns the first fault in a Media descriptor, if any.
 #[tactic(auto, using(crate::proofs::FaultSteps::walking))]
 fn media_fault(source: &[u8], parts: &[MediaPart]) -> Option<ErrorNumber>
     ensures value { result ≡ first_after (media_level source.now) [] parts.now }
@@ -257,7 +257,7 @@ fn appeared_in_command(source: &[u8], word: Part, before: &[Descriptor]) -> bool
     before.iter().any(|other| is_same_part(source, word, open_descriptor(other).0))
 }
 
-/// Returns the first fault in a descriptor.
+/// Returns the first fault in a descriptor, if any.
 fn descriptor_fault(
     source: &[u8],
     before: &[Descriptor],
@@ -272,7 +272,7 @@ fn descriptor_fault(
     }
 }
 
-/// Returns the first fault in a command's descriptors: a repeated word, or unsupported content.
+/// Returns the first fault in a command's descriptors, if any: a repeated word, or unsupported content.
 #[tactic(auto, using(crate::proofs::FaultSteps::walking))]
 pub fn descriptors_fault(source: &[u8], descriptors: &[Descriptor]) -> Option<ErrorNumber>
     ensures value { result ≡ descriptors_fault source.now descriptors.now }

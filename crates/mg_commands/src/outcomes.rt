@@ -1,4 +1,4 @@
-//! Commands on one termination, and what a reply reports about each.
+//! Commands on one termination, and what a reply reports about each command.
 
 ghost use Rattle.std.specs.Prelude.{◌≡◌, OnErr, if◌then◌else◌};
 ghost use Rattle.mg_words.specs.Term.{rtp_name};
@@ -99,7 +99,7 @@ fn move_outcome(
     Ok(served_at(Target::Number(moved.context), number, parts))
 }
 
-/// Runs a Subtract (RFC 3525, section 7.2.3). It reports the state as it was before the command.
+/// Runs a Subtract (RFC 3525, section 7.2.3). Reports the state as it was before the command.
 fn subtract_outcome(
     engine: &mut Engine,
     target: Target,
@@ -132,7 +132,7 @@ fn audit_termination(
     Ok(served_at(target, number, parts))
 }
 
-/// Runs an AuditValue on the gateway as a whole. It reports only that the gateway exists.
+/// Runs an AuditValue on the gateway as a whole. Reports only that the gateway exists.
 fn audit_root(target: Target) -> Result<Served, ErrorNumber>
     ensures value { result ≡ audit_root target }
 {

@@ -7,7 +7,8 @@ use crate::part::Part;
 use mg_text::{ControlPart, Descriptor, ErrorNumber, PropertyValue};
 use mg_words::uint16_of;
 
-/// Parses the value of `nt/jit`, in milliseconds: a number of one to five digits, with a value of at most 65535.
+/// Parses the value of `nt/jit`, in milliseconds: a number of one to five digits, at most 65535. Returns `None` if the
+/// value is anything else.
 pub fn jitter_of(source: &[u8], value: Option<PropertyValue>) -> Option<u16>
     ensures value { result ≡ jitter_of source.now value }
 {
@@ -17,8 +18,8 @@ pub fn jitter_of(source: &[u8], value: Option<PropertyValue>) -> Option<u16>
     }
 }
 
-/// Returns the fault in a part of a LocalControl: a reservation, an unsupported property, or a value that is not
-/// allowed.
+/// Returns the fault in a part of a LocalControl, if any: a reservation, an unsupported property, or a value that is
+/// not allowed.
 fn control_fault(source: &[u8], part: &ControlPart) -> Option<ErrorNumber>
     ensures value { result ≡ control_fault source.now part.now }
 {
@@ -37,7 +38,7 @@ fn control_fault(source: &[u8], part: &ControlPart) -> Option<ErrorNumber>
     }
 }
 
-/// Returns the fault in a part. A stream other than 1 is a fault.
+/// Returns the fault in a part, if any. A stream other than 1 is a fault.
 fn property_fault(source: &[u8], part: Part) -> Option<ErrorNumber>
     ensures value { result ≡ property_fault source.now part }
 {
@@ -49,7 +50,7 @@ fn property_fault(source: &[u8], part: Part) -> Option<ErrorNumber>
     }
 }
 
-/// Returns the first property fault in a command's descriptors.
+/// Returns the first property fault in a command's descriptors, if any.
 pub fn properties_fault(source: &[u8], descriptors: &[Descriptor]) -> Option<ErrorNumber>
     ensures value { result ≡ properties_fault source.now descriptors.now }
 {

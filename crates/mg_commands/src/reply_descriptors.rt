@@ -7,11 +7,11 @@ use mg_engine::MediaSetting;
 /// What a reply reports about a termination.
 #[derive(Clone, Copy, Debug, PartialEq, Eq)]
 pub struct ReplyDescriptors {
-    /// All settings of its media.
+    /// Whether the reply has all settings of the termination's media.
     pub media: bool,
-    /// Only its Local, unless all settings are reported.
+    /// Whether the reply has the termination's Local. No effect if `media` is set.
     pub local: bool,
-    /// Its counters.
+    /// Whether the reply has the termination's counters.
     pub statistics: bool,
 }
 

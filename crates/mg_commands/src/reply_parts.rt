@@ -22,7 +22,7 @@ fn media_of_record(termination: Record) -> Media
     }
 }
 
-/// Returns all settings of a termination's media.
+/// Returns all settings of a termination's media, or `None` if the termination doesn't exist.
 fn whole_media(engine: &Engine, number: u32) -> Option<Media>
     ensures value { (w : Gateway) → StandsFor engine.now w → result ≡ whole_media w number }
 {
@@ -32,7 +32,7 @@ fn whole_media(engine: &Engine, number: u32) -> Option<Media>
     }
 }
 
-/// Returns only the Local of a termination.
+/// Returns only the Local of a termination, or `None` if it has no Local or doesn't exist.
 fn local_media(engine: &Engine, number: u32) -> Option<Media>
     ensures value { (w : Gateway) → StandsFor engine.now w → result ≡ local_media w number }
 {
@@ -43,7 +43,8 @@ fn local_media(engine: &Engine, number: u32) -> Option<Media>
     }
 }
 
-/// Returns all settings, or only the Local.
+/// Returns all settings of a termination's media or only its Local, as requested. Returns `None` if neither is
+/// requested, or if the one requested doesn't exist.
 fn reply_media(engine: &Engine, number: u32, descriptors: ReplyDescriptors) -> Option<Media>
     ensures value { (w : Gateway) → StandsFor engine.now w → result ≡ reply_media descriptors w number }
 {
@@ -56,7 +57,7 @@ fn reply_media(engine: &Engine, number: u32, descriptors: ReplyDescriptors) -> O
     }
 }
 
-/// Returns the counters, if they are requested.
+/// Returns a termination's counters if they are requested, and `None` otherwise.
 fn reply_statistics(engine: &Engine, number: u32, is_wanted: bool) -> Option<Stats>
     ensures value { (w : Gateway) → StandsFor engine.now w → result ≡ (if is_wanted then stats_of w number else None) }
 {

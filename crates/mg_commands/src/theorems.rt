@@ -30,7 +30,8 @@ pub fn requests_are_consistent()
     mg_engine::theorems::worlds_are_consistent();
 }
 
-/// If two gateways agree outside some terminations, they still do after the same request.
+/// If two gateways agree except on some terminations, they still agree on everything else after running the same
+/// request.
 ///
 /// The replies can differ only in the counts of received packets and octets.
 pub fn requests_keep_agreement()

@@ -45,8 +45,8 @@ HearsNoneAt some w port =
     AllByRecursion (λ r. slot_port w.rooms.limits r.slot ≡ port → HearsNone some w r.number)
     w.rooms.terminations
 
--- If the termination with this port hears none of them, the next tick sends the same packets from
--- the port in both worlds: the same bytes, or none in either.
+-- If the termination with this port hears none of these terminations, the next tick sends the same
+-- packets from the port in both worlds: the same bytes, or no packet in either world.
 abbrev pub NextTickIsSame : List ℕ → ℕ → World → World → Type 0
 NextTickIsSame some port a b =
     HearsNoneAt some a.gateway port → next_packets port a ≡ next_packets port b
@@ -85,9 +85,9 @@ DifferAtPortsOf some w (SecondOnly port source bytes ∷ xs) =
     IsPortAmong some w.gateway port × DifferAtPortsOf some w xs
 
 -- If two worlds agree outside some terminations, and receive events that differ only in RTP
--- datagrams at the ports of these, they still agree afterwards. The next tick sends the same packet
--- to each listener that hears none of these terminations in that tick, whatever the listener heard
--- before.
+-- datagrams at the ports of those terminations, they still agree afterwards. The next tick sends
+-- the same packet to each listener that hears none of these terminations in that tick, whatever the
+-- listener heard before.
 abbrev pub UnheardChangesNothing : Type 0
 UnheardChangesNothing =
     (some : List ℕ) (port : ℕ) (a b x y : World) (xs : List Happening) (s t : List Sent)

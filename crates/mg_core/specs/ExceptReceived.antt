@@ -30,8 +30,8 @@ pub record AgreeExceptReceived (a b : World) : Type 0 where
 abbrev pub without_rtp : List Event → List Event
 without_rtp events = filter (λ e. not (is_media e)) events
 
--- If two worlds agree except for what was received, they still do after the same events, even if
--- only the first world receives the RTP datagrams.
+-- If two worlds agree except for what was received, they still agree in this way after the same
+-- events, even if only the first world receives the RTP datagrams.
 abbrev pub RtpChangesSpeechOnly : Type 0
 RtpChangesSpeechOnly =
     (a b x y : World) (events : List Event) (s t : List Sent)

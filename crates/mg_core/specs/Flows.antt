@@ -17,8 +17,8 @@ use Rattle.mg_core.specs.World.{World, capped}
 
 -- ## Listeners
 
--- a termination with its context, its UDP port and its mode, and the numbers of all whose speech
--- flows to it, in ascending order
+-- a termination with its context, its UDP port and its mode, and the numbers of the talkers whose
+-- speech flows to it, in ascending order
 pub record Listener : Type 0 where
   pub number : ℕ
   pub context : ℕ

@@ -65,8 +65,8 @@ PacketsAreRecomputed state outbox =
 
 -- A rejected command leaves the gateway unchanged, and adds a kept reply. Flows, totals and the
 -- packets of a tick depend only on the gateway. So take two worlds with the same gateway, whatever
--- replies they keep. The same RTP datagrams and ticks lead to the same packets in both, and both
--- end with the same gateway.
+-- replies they keep. The same RTP datagrams and ticks lead to the same packets in both worlds, and
+-- both worlds end with the same gateway.
 abbrev pub is_of_media : Event → Bool
 is_of_media (Control source bytes) = false
 is_of_media _ = true

@@ -1,5 +1,5 @@
--- Control datagrams and ticks alone determine who could hear whom, and when. So a journal without
--- RTP datagrams shows this.
+-- Control datagrams and ticks alone determine who could hear whom, and when. So a journal can show
+-- this without RTP datagrams.
 use Rattle.std.specs.Prelude.{◌≡◌, ℕ, List, [], ◌∷◌, ◌++◌}
 use Rattle.mg_rooms.specs.Consistent.{IsConsistent}
 use Rattle.mg_engine.specs.declared.config.Config.{Config}

@@ -115,7 +115,7 @@ event_of line =
     else (if bytes_eq line (codes "tick") then an_event Tick
     else datagram_of line))
 
--- the events with one more at the front, if there is one
+-- the events, with this event in front if there is one
 abbrev pub then_all : Option Event → List Event → List Event
 then_all None events = events
 then_all (Some event) events = event ∷ events

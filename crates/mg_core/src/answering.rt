@@ -27,7 +27,7 @@ use mg_words::SENDER_LIMIT;
 /// The maximum length, in bytes, of a reply and the line feed before it.
 pub const REPLY_ROOM: usize = 1 + REPLY_LIMIT;
 
-/// Returns the error that rejects a message with this fault, or `None` if memory ran out.
+/// Returns the error for a message with this fault, or `None` if memory ran out.
 pub fn refusal_of(fault: ReadFault) -> Option<ErrorNumber>
     ensures value { result ≡ refusal_of fault }
 {
@@ -39,7 +39,7 @@ pub fn refusal_of(fault: ReadFault) -> Option<ErrorNumber>
     }
 }
 
-/// Writes the error that rejects a whole message.
+/// Writes the error for a message that is rejected as a whole.
 #[tactic(auto, using(crate::proofs::AnswerLemmas::totals))]
 pub fn put_error(config: &Config, number: ErrorNumber, answer: &mut Bytes)
     requires room { HEAD_LIMIT + ERROR_LIMIT ≤ answer.old.room }
@@ -154,7 +154,7 @@ fn acknowledge(kept: &mut Kept, sender: &[u8], ranges: &[Range])
 
 /// Handles an item of the message `source`. For a request, writes the separator `mark` and then the reply.
 ///
-/// Returns the separator before the next reply.
+/// Returns the separator for the next reply.
 #[tactic(auto, using(crate::proofs::ReplyLemmas::one_reply))]
 fn put_item<'m>(
     state: &mut CoreState,

@@ -9,40 +9,42 @@ use itoa::Buffer;
 use mg_text::Bytes;
 use mg_words::{MEMBERS, Mode};
 
-/// The maximum length, in bytes, of a number in decimal. The other constants are lengths in bytes, too.
+/// The maximum length, in bytes, of a number in decimal.
 const NUMBER_LIMIT: usize = 20;
 
-/// The start of a line: `# `, ` ticks: RTP/` and two numbers.
+/// The maximum length, in bytes, of the start of a line: `# `, ` ticks: RTP/` and two numbers.
 const LINE_HEAD_LIMIT: usize = 14 + 2 * NUMBER_LIMIT;
 
-/// The line for a termination that ended: its start, ` ended` and a line feed.
+/// The maximum length, in bytes, of the line for a termination that ended: its start, ` ended` and a line feed.
 pub const ENDED_LIMIT: usize = 7 + LINE_HEAD_LIMIT;
 
-/// ` made in context `, ` at port ` and two numbers.
+/// The maximum length, in bytes, of a new termination's place: ` made in context `, ` at port ` and two numbers.
 const PLACE_LIMIT: usize = 26 + 2 * NUMBER_LIMIT;
 
-/// The line with a new termination's place: its start, the place and a line feed.
+/// The maximum length, in bytes, of the line with a new termination's place: its start, the place and a line feed.
 const MADE_LIMIT: usize = 1 + LINE_HEAD_LIMIT + PLACE_LIMIT;
 
-/// ` moved to context ` and a number.
+/// The maximum length, in bytes, of ` moved to context ` and a number.
 const MOVED_TO_LIMIT: usize = 18 + NUMBER_LIMIT;
 
-/// The line for a termination that moved: its start, the context and a line feed.
+/// The maximum length, in bytes, of the line for a termination that moved: its start, the context and a line feed.
 const MOVED_LIMIT: usize = 1 + LINE_HEAD_LIMIT + MOVED_TO_LIMIT;
 
-/// The line with a termination's mode: its start, ` mode `, the longest mode (11 bytes) and a line feed.
+/// The maximum length, in bytes, of the line with a termination's mode: its start, ` mode `, the longest mode (11
+/// bytes) and a line feed.
 const MODE_LINE_LIMIT: usize = 18 + LINE_HEAD_LIMIT;
 
-/// A space and a name: ` RTP/` and a number.
+/// The maximum length, in bytes, of a space and a name: ` RTP/` and a number.
 const TALKER_LIMIT: usize = 5 + NUMBER_LIMIT;
 
-/// The names of all members of a context.
+/// The maximum length, in bytes, of the names of all members of a context.
 const TALKERS_LIMIT: usize = MEMBERS * TALKER_LIMIT;
 
-/// The line that says whom a termination hears: its start, ` hears`, names and a line feed.
+/// The maximum length, in bytes, of the line that says whom a termination hears: its start, ` hears`, names and a line
+/// feed.
 const HEARING_LIMIT: usize = 7 + LINE_HEAD_LIMIT + TALKERS_LIMIT;
 
-/// All lines for a new termination.
+/// The maximum length, in bytes, of all lines for a new termination.
 pub const NEW_LIMIT: usize = MADE_LIMIT + MODE_LINE_LIMIT + HEARING_LIMIT;
 
 /// Writes a number in decimal.
@@ -205,7 +207,7 @@ fn is_same_mode(a: Mode, b: Mode) -> bool
     a == b
 }
 
-/// Writes what changed in an existing termination.
+/// Writes the changes to an existing termination.
 #[tactic(auto, using(crate::proofs::ChangeLemmas::steps))]
 fn push_changed(ticks: u64, old: &KeptListener, new: &KeptListener, out: &mut Bytes)
     requires room { NEW_LIMIT ≤ out.old.room }
@@ -223,7 +225,7 @@ fn push_changed(ticks: u64, old: &KeptListener, new: &KeptListener, out: &mut By
     }
 }
 
-/// Returns the listener with this number.
+/// Returns the listener with this number, or `None` if there is none.
 fn listener_at(listeners: &[KeptListener], number: u32) -> Option<&KeptListener>
     ensures value { MatchOption result (listener_at listeners.now number ≡ None)
         (λ x. listener_at listeners.now number ≡ Some x.now) }
@@ -249,7 +251,7 @@ fn push_old(ticks: u64, after: &[KeptListener], old: &KeptListener, out: &mut By
     }
 }
 
-/// Writes what changed in a termination, or everything about it if it is new.
+/// Writes the changes to a termination, or everything about it if it is new.
 #[tactic(auto, using(crate::proofs::ChangeLemmas::steps))]
 fn push_listener(ticks: u64, before: &[KeptListener], new: &KeptListener, out: &mut Bytes)
     requires room { NEW_LIMIT ≤ out.old.room }
@@ -274,7 +276,7 @@ fn push_all_old(ticks: u64, before: &[KeptListener], after: &[KeptListener], out
     }
 }
 
-/// Writes what changed in each termination, and everything about the new ones.
+/// Writes the changes to each existing termination, and everything about each new one.
 #[tactic(auto, using(crate::proofs::ChangeLemmas::steps))]
 fn push_all_new(ticks: u64, before: &[KeptListener], after: &[KeptListener], out: &mut Bytes)
     requires room { NEW_LIMIT * length after.now ≤ out.old.room }

@@ -21,7 +21,7 @@ pub enum EventFault {
 pub enum LineFault {
     /// The line with this number, counted from 1, is not a script line.
     Bad(u64),
-    /// The output can't be written, or a follower stopped.
+    /// The output can't be written, or the follower stopped.
     Write,
     NoMemory,
 }

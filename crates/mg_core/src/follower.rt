@@ -14,18 +14,19 @@ pub trait Follower {
     /// Whether a method can return an error.
     ghost may_stop: { Bool } = { false };
 
-    /// Whether a follower in the first state reaches the second by following these notes of a script, on a gateway that
-    /// was started with this configuration.
+    /// Whether a follower in the first state reaches the second state by following these notes of a script, on a
+    /// gateway that was started with this configuration.
     ghost follows: { Self → Self → Config → List Note → Type 0 };
 
-    /// Follows a comment or an empty line, without its line end.
+    /// Handles a comment or an empty line, given without its line end.
     fn comment(&mut self, line: &[u8]) -> Result<(), Stopped>
         ensures value { (start : Self) (config : Config) (notes : List Note) →
             follows start self.old config notes →
             OnOk result (follows start self.new config (notes ++ Comment line.now ∷ [])) }
         ensures stops { OnErr result (may_stop ≡ true) };
 
-    /// Follows a datagram. `core` is the gateway after it. Only a control datagram can change who hears whom.
+    /// Handles a datagram. `core` is the gateway's state after the datagram. Only a control datagram can change who
+    /// hears whom.
     fn datagram(&mut self, event: &Event, core: &Core) -> Result<(), Stopped>
         requires datagram { event.now ≢ events.Tick }
         ensures value { (start : Self) (config : Config) (notes : List Note) →
@@ -34,9 +35,10 @@ pub trait Follower {
             OnOk result (follows start self.new config (notes ++ Happened event.now ∷ [])) }
         ensures stops { OnErr result (may_stop ≡ true) };
 
-    /// Follows consecutive ticks. `core` is the gateway before the first of them. Ticks don't change who hears whom.
+    /// Handles consecutive ticks. `core` is the gateway's state before the first of them. Ticks don't change who hears
+    /// whom.
     ///
-    /// If there are any ticks, this is called before the next line of another kind, or at the end of the script.
+    /// Called before the next line of another kind or at the end of the script, if there are any ticks.
     fn ticks(&mut self, core: &Core, count: u64) -> Result<(), Stopped>
         ensures value { (start : Self) (config : Config) (notes : List Note) →
             follows start self.old config notes → HasRun config notes core.now.state →

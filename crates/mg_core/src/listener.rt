@@ -16,10 +16,10 @@ use std::marker::Model;
 pub struct KeptListener {
     pub number: u32,
     pub context: u32,
-    /// The UDP port that it receives on.
+    /// The UDP port that the termination receives on.
     pub port: u16,
     pub mode: Mode,
-    /// In order of termination number.
+    /// The talkers, in order of termination number.
     pub talkers: ArrayVec<u32, MEMBERS>,
 }
 

@@ -39,8 +39,8 @@ pub const ANSWER_LIMIT: usize = HEAD_LIMIT + REQUEST_LIMIT * REPLY_ROOM - 1;
 
 /// The gateway as a state machine: datagrams and ticks go in, answers and packets come out.
 ///
-/// It opens nothing, waits for nothing, and reads no clock. It keeps no history, so its contracts hold for every world
-/// that its state represents, before and after a call.
+/// A core opens nothing, waits for nothing, and reads no clock. It keeps no history, so its contracts hold for every
+/// world that its state represents, before and after a call.
 #[derive(Drop)]
 pub struct Core {
     state: CoreState,
@@ -76,8 +76,7 @@ fn no_replies(alloc: Global) -> Result<(Kept, Reply, Bytes), AllocError>
 impl Core {
     /// Starts a gateway with this configuration.
     ///
-    /// It allocates all the memory that the gateway keeps. Fails if the configuration is invalid or the allocation
-    /// fails.
+    /// Allocates all the memory that the gateway keeps. Fails if the configuration is invalid or the allocation fails.
     pub fn new(alloc: Global, config: Config) -> Result<Self, StartFault>
         ensures bad { (result ≡ Err StartFault.BadConfig) ↔ ¬ IsValidConfig config }
         ensures started { IfOk result (λ core. (core.answer ≡ []) × (core.outbox ≡ []) ×
@@ -124,7 +123,7 @@ impl Core {
         }
     }
 
-    /// Reads a control datagram for [`Core::run`]. This touches no core, and is the only step that allocates.
+    /// Reads a control datagram for [`Core::run`]. Needs no core, and is the only step that allocates.
     ///
     /// Fails only if memory runs out. Reading the same datagram later may succeed.
     pub fn read(alloc: Global, bytes: &[u8]) -> Result<Parsed, NoMemory>
@@ -141,8 +140,7 @@ impl Core {
 
     /// Runs a control datagram that [`Core::read`] has read; [`Core::answer`] returns its answer.
     ///
-    /// This allocates nothing and cannot fail, so a datagram can be written to a journal between reading and running
-    /// it.
+    /// Allocates nothing and cannot fail, so a datagram can be written to a journal between reading and running it.
     pub fn run(&mut self, source: Peer, bytes: &[u8], parsed: &Parsed) -> Answer
         requires reading { IsReadingOf bytes.now parsed.now }
         ensures answered { Leads StandsFor self.old.state self.new.state (λ w next.
@@ -256,8 +254,8 @@ impl Core {
 
     /// Advances by `count` ticks at once, without packets; [`Core::outbox`] is then empty.
     ///
-    /// The resulting world is the same as after `count` calls of [`Core::tick`]. No packets are mixed. Once no frame is
-    /// left to play, the remaining ticks take one step.
+    /// The resulting world is the same as after `count` calls of [`Core::tick`]. No payloads are mixed. Once no frame
+    /// is left to play, the remaining ticks take one step.
     pub fn skip(&mut self, count: u64)
         ensures next { (w : World) → StandsFor self.old.state w → StandsFor self.new.state (world_after_ticks count w) }
         ensures headline { ExtendsByTicks self.old.state self.new.state count }
@@ -335,7 +333,7 @@ impl Core {
         self.state.engine.port(slot)
     }
 
-    /// Returns the counters of a termination.
+    /// Returns the counters of a termination, or `None` if it doesn't exist.
     pub fn stats(&self, number: u32) -> Option<Stats>
         ensures value { (w : World) → StandsFor self.now.state w → result ≡ stats_of w.gateway number }
     {

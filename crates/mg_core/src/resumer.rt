@@ -17,7 +17,8 @@ use mg_text::Bytes;
 use std::alloc::Global;
 use std::io::Read;
 
-/// Returns the index of the first line feed. Most lines of a journal are ticks, so those are checked for first.
+/// Returns the index of the first line feed, or `None` if there is none. Most lines of a journal are `tick`, so this
+/// line is tried first.
 fn line_end(text: &[u8]) -> Option<usize>
     ensures value { IsFirstByte (is_byte 10) text.now result }
 {

@@ -16,7 +16,7 @@ use std::io::Read;
 /// Consecutive ticks are run in one step, so hours of ticks cost little more than reading their lines. RTP datagrams in
 /// the script are handled too.
 ///
-/// Fails with `Script` at the first bad line, and with `Write` if the follower stops. It also fails with `Read` after
+/// Fails with `Script` at the first bad line, and with `Write` if the follower stops. Also fails with `Read` after
 /// 4,294,967,295 reads.
 pub fn resume<R: Read, F: Follower>(
     alloc: Global,

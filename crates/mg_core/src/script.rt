@@ -19,7 +19,7 @@ pub const DATAGRAM_LIMIT: usize = 65535;
 /// Why a line was not parsed.
 #[derive(Clone, Copy, Debug, PartialEq, Eq)]
 pub enum ParseFault {
-    /// It is not a script line.
+    /// The line is not a script line.
     Bad,
     NoMemory,
 }
@@ -113,7 +113,7 @@ enum Spelling {
     Digits,
 }
 
-/// Returns the encoding that the first word of a line selects.
+/// Returns the encoding that the first word of a line selects, or `None` if it selects none.
 #[tactic(auto, unfolding(crate::specs::Script::spelling_of))]
 fn spelling_of(key: &[u8]) -> Option<Spelling>
     ensures value { result ≡ spelling_of key.now }
@@ -194,7 +194,7 @@ fn datagram_of(alloc: Global, line: &[u8]) -> Result<Option<Event>, ParseFault>
     control_of(alloc, key, rest)
 }
 
-/// Returns whether a line has no event because it is empty or a comment.
+/// Returns whether a line is empty or a comment, and so has no event.
 fn is_comment(line: &[u8]) -> bool
     ensures value { result ≡ is_comment line.now }
 {

@@ -64,7 +64,8 @@ pub fn outcomes_are_unique()
 
 /// A rejected command changes no flow, total or later packet.
 ///
-/// It leaves the gateway unchanged. Flows, totals and packets depend only on the gateway, not on kept replies.
+/// A rejected command leaves the gateway unchanged. Flows, totals and packets depend only on the gateway, not on kept
+/// replies.
 pub fn refused_commands_change_no_packet()
     ensures theorem { GatewayDeterminesFuture }
 {
@@ -84,7 +85,7 @@ pub fn retransmissions_are_answered_alike()
 
 /// A retransmitted request gets the same answer until its reply is acknowledged or 32 other replies have been kept.
 ///
-/// After that it is run again. No two kept replies answer the same request.
+/// After that, the request is run again. No two kept replies answer the same request.
 pub fn replies_persist()
     ensures last { RepliesPersist }
     ensures newest { NewReplyIsNewest }
@@ -100,8 +101,8 @@ pub fn replies_persist()
 
 /// The terminations and contexts are consistent after any sequence of events.
 ///
-/// They are within the limits; no two have the same number, slot or seat; members and records agree. Terminations are
-/// in order of their numbers, so a tick sends its packets in that order.
+/// Terminations and contexts are within the limits; no two have the same number, slot or seat; members and records
+/// agree. Terminations are in order of their numbers, so a tick sends its packets in that order.
 pub fn worlds_are_consistent()
     ensures theorem { WorldsAreConsistent }
 {
@@ -111,9 +112,9 @@ pub fn worlds_are_consistent()
 
 /// The order of packets from different callers does not matter.
 ///
-/// Suppose two lists of events have the same control datagrams and ticks, and between these each port receives the same
-/// RTP datagrams in the same order. Then the gateway sends the same datagrams and ends in the same world for both
-/// lists.
+/// Suppose two lists of events have the same control datagrams and ticks, and between any two of these, each port
+/// receives the same RTP datagrams in the same order. Then the gateway sends the same datagrams and ends in the same
+/// world for both lists.
 pub fn port_order_is_irrelevant()
     ensures events { PortOrderIsIrrelevant }
     ensures histories { PortOrderInHistories }
@@ -144,8 +145,9 @@ pub fn unheard_changes_nothing()
 /// RTP datagrams change only speech.
 ///
 /// Suppose two gateways receive the same control datagrams and ticks, but only one of them receives RTP datagrams. Then
-/// both have the same terminations, contexts and topology, and keep replies to the same requests. They can differ only
-/// in play lists, current frames, and counters of received packets; their play lists have the same depths.
+/// both gateways have the same terminations, contexts and topology, and keep replies to the same requests. They can
+/// differ only in play lists (but not in their depths), current frames, counts of received or concealed frames, and the
+/// texts of kept replies.
 pub fn rtp_changes_speech_only()
     ensures worlds { RtpChangesSpeechOnly }
     ensures histories { RtpChangesSpeechOnlyInHistories }
@@ -160,7 +162,8 @@ pub fn rtp_changes_speech_only()
 /// RTP datagrams change no flow. So control datagrams and ticks alone determine who could hear whom, and when.
 ///
 /// Suppose two gateways receive the same control datagrams and ticks, but only one of them receives RTP datagrams. Then
-/// the same speech flows in both, and the reports of their changes are equal. So a journal can leave out RTP datagrams.
+/// the same flows are open in both gateways, and both report the same changes. So a journal can leave out RTP
+/// datagrams.
 pub fn rtp_changes_no_flow()
     ensures flows { AgreementHasSameFlows }
     ensures flows_in_histories { HistoriesHaveSameFlows }
@@ -196,7 +199,7 @@ pub fn recordings_are_read()
     ensures cut { CutRecordingsAreRead }
 {}
 
-/// The notes of a script contain its events, in order. A script has notes unless a line is bad.
+/// The notes of a script contain its events, in order. A script has notes unless one of its lines is bad.
 pub fn notes_have_events()
     ensures theorem { NotesHaveEvents }
 {}
@@ -206,7 +209,8 @@ pub fn notes_have_events()
 /// The clauses `headline` and `packets` of a [`Core`](crate::Core) say that after any sequence of events, what the core
 /// returns and sends equals what is recomputed from the resulting world. This theorem states the rest. The events
 /// determine that world and the content of each packet. Packets are sent in order of termination number. A rejected
-/// command changes nothing, not even a later packet. Nobody hears himself, and an isolated participant is not heard.
+/// command changes nothing, not even a later packet. No termination hears itself, and an isolated participant is not
+/// heard.
 pub fn headline()
     ensures world { EventsDetermineOutcome }
     ensures packets { PayloadsAreMixes }

@@ -1,12 +1,12 @@
 /// How a date agrees with the time computed from the ticks before it.
 #[derive(Clone, Copy, Debug, PartialEq, Eq)]
 pub enum Agreement {
-    /// It is the first date.
+    /// The date is the journal's first.
     First,
-    /// It is within a second of that time.
+    /// The date is within a second of that time.
     Agrees,
-    /// It is earlier: the clock was set back.
+    /// The date is earlier than that time: the clock was set back.
     WentBack,
-    /// It is later: the clock was set ahead, or ticks are missing.
+    /// The date is later than that time: the clock was set ahead, or ticks are missing.
     JumpedAhead,
 }

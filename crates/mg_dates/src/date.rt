@@ -24,7 +24,8 @@ impl Date {
         }
     }
 
-    /// Parses the time in a text such as `2026-11-27T14:03:20.5Z`.
+    /// Parses the time in a text such as `2026-11-27T14:03:20.5Z`. Returns `None` if the text has another form, or if
+    /// the time is before 1970.
     pub fn of_text(text: &str) -> Option<Date> {
         let Ok(timestamp) = text.parse::<Timestamp>() else {
             return None;
@@ -35,7 +36,7 @@ impl Date {
         }
     }
 
-    /// Returns the time as `jiff` represents it, unless it is after the year 9999.
+    /// Returns the time as `jiff` represents it, or `None` if it is after the year 9999.
     pub fn timestamp(self) -> Option<Timestamp> {
         let Ok(millis) = i64::try_from(self.millis) else {
             return None;
@@ -53,7 +54,7 @@ impl Date {
         text
     }
 
-    /// Returns the time this many milliseconds earlier.
+    /// Returns the time that is `millis` milliseconds earlier.
     pub fn before(self, millis: u64) -> Date {
         Date {
             millis: self.millis.saturating_sub(millis),

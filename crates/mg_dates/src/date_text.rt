@@ -46,7 +46,7 @@ impl DateText {
     }
 }
 
-/// Returns the date in a comment line such as `# time 2026-11-27T14:03:20.5Z`, if it has one.
+/// Returns the date in a comment line such as `# time 2026-11-27T14:03:20.5Z`, or `None` if the line has no date.
 pub fn date_in(line: &[u8]) -> Option<Date> {
     let text = line.strip_prefix(b"# time ".as_slice())?;
     match str::from_utf8(text) {

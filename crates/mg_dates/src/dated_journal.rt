@@ -10,7 +10,7 @@ use std::alloc::{AllocError, Global};
 use std::marker::Model;
 use std::time::Clock;
 
-/// The maximum length of lines that can follow a date, in bytes: longer than the line of any message.
+/// The room for the lines after a date, in bytes. Every message's line fits.
 const LINES_ROOM: usize = 140_000;
 
 /// The length of the comment mark and a line feed, in bytes.
@@ -19,13 +19,13 @@ const MARKS: usize = 3;
 /// The capacity of the buffer, in bytes.
 const TEXT_ROOM: usize = LINES_ROOM + TEXT_LIMIT + MARKS;
 
-/// The age of the last date, in milliseconds, at which lines get a new date even if they contain no message.
+/// How old the last date must be, in milliseconds, for lines without a message to get a new date.
 const MAX_AGE: u64 = 60_000;
 
 /// A journal that adds dates to its lines: to the first lines, to the first message of each second, and to ticks if the
 /// last date is a minute old.
 ///
-/// A line that begins with `control` is a message, and all others are ticks.
+/// A line that begins with `control` is a message; all others are ticks.
 #[derive(Drop)]
 pub struct DatedJournal<'a, J: Journal, C: Clock> {
     journal: J,
@@ -87,14 +87,14 @@ impl<'a, J: Journal, C: Clock> DatedJournal<'a, J, C> {
         })
     }
 
-    /// Returns the journal without dates.
+    /// Returns the underlying journal.
     pub fn journal(&self) -> &J
         ensures value { self.now ≡ J.journal result.now }
     {
         &self.journal
     }
 
-    /// Returns the date that these lines need, if any.
+    /// Returns the date that these lines need, or `None` if they need none.
     fn next_date(&self, lines: &[u8]) -> Option<Date> {
         let Ok(now) = Date::now(self.clock) else {
             return None;

@@ -6,7 +6,7 @@ use crate::date::Date;
 use crate::date_text::date_in;
 use mg_core::{Core, Event, Follower, Stopped};
 
-/// The number of ticks that a crash can lose even if the journal works: one second's worth, which are appended
+/// The number of ticks that a crash can lose even if the journal works: one second's worth, as that many are appended
 /// together.
 const LOST: u64 = 50;
 
@@ -77,7 +77,7 @@ impl Timeline {
         Some(Date { millis })
     }
 
-    /// Passes a date, and returns how it agrees with the ticks before it.
+    /// Takes note of a date, and returns how it agrees with the ticks before it.
     pub fn pass_date(&mut self, date: Date) -> Agreement {
         let agreement = match self.next_tick() {
             Some(expected) => agreement_of(expected, date),
@@ -90,14 +90,14 @@ impl Timeline {
         agreement
     }
 
-    /// Passes a comment or an empty line, without its line end. It counts only if it is a date.
+    /// Takes note of a comment or an empty line, given without its line end. Only a date has an effect.
     pub fn pass_comment(&mut self, line: &[u8]) {
         if let Some(date) = date_in(line) {
             let _ = self.pass_date(date);
         }
     }
 
-    /// Passes consecutive ticks.
+    /// Adds consecutive ticks to the count.
     pub fn pass_ticks(&mut self, count: u64) {
         self.ticks = self.ticks.saturating_add(count);
     }

@@ -26,8 +26,8 @@ without_arrivals s =
 abbrev pub unless_among : List ℕ → TerminationMedia → TerminationMedia
 unless_among some s = if has some s.number then without_arrivals s else s
 
--- Two gateways agree outside some terminations if they differ only in what these received: in their
--- play lists, current frames, and counters of received packets.
+-- Two gateways agree outside some terminations if they differ only in what those terminations
+-- received: in their play lists, current frames, and counters of received packets.
 pub record AgreeOutside (some : List ℕ) (a b : Gateway) : Type 0 where
   pub config : a.config ≡ b.config
   pub rooms : a.rooms ≡ b.rooms
@@ -46,7 +46,7 @@ pub record HearsNone (some : List ℕ) (w : Gateway) (listener : ℕ) : Type 0 w
   pub others : (talker : ℕ) → has some talker ≡ true → flow w talker listener ≡ false
   pub own : (has some listener && hears_itself w listener) ≡ false
 
--- a tick sends the same packet, byte for byte, to a listener that hears none of them
+-- a tick sends the same packet, byte for byte, to a listener that hears none of these terminations
 abbrev pub SamePackets : Type 0
 SamePackets =
     (some : List ℕ) (a b : Gateway) (r : Record)

@@ -13,7 +13,7 @@ use Rattle.mg_engine.specs.Flow.{flow, mentions}
 use Rattle.mg_engine.specs.Mix.{mix, is_loopback}
 use Rattle.mg_engine.specs.Tick.{packet, packet_of}
 
--- nobody hears himself: no termination's speech flows back to that termination
+-- no termination hears itself: its speech does not flow back to it
 abbrev pub NoneHearsItself : Type 0
 NoneHearsItself = (w : Gateway) (n : ℕ) → flow w n n ≡ false
 

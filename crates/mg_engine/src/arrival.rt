@@ -24,7 +24,7 @@ fn is_stray(remote: Option<Chosen>, source: Peer) -> bool
     }
 }
 
-/// Returns the law that payloads from a source must use.
+/// Returns the law that payloads from a source must use, or why packets from that source are dropped.
 pub fn law_for(termination: &Record, source: Peer) -> Result<Law, DropCause>
     ensures value { result ≡ law_for termination.now source.address }
 {
@@ -37,7 +37,7 @@ pub fn law_for(termination: &Record, source: Peer) -> Result<Law, DropCause>
     }
 }
 
-/// Decodes a payload, if it is one frame encoded with this law.
+/// Decodes a payload if it is one frame encoded with this law, or returns why the packet is dropped.
 fn frame_of(law: Law, header: Header, payload: &[u8]) -> Result<(Header, Frame), DropCause>
     ensures value { result ≡ decoded law (header, payload.now) }
 {
@@ -53,7 +53,7 @@ fn frame_of(law: Law, header: Header, payload: &[u8]) -> Result<(Header, Frame),
     }
 }
 
-/// Decodes the payload of a packet, if it is one frame encoded with this law.
+/// Decodes the payload of a packet if it is one frame encoded with this law, or returns why the packet is dropped.
 pub fn frame_by_law(
     law: Law,
     packet: Result<Packet<'_>, RtpFault>,

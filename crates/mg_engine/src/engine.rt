@@ -76,7 +76,7 @@ pub struct Engine {
     ports: PortPool,
     /// The media of each slot.
     media: Vec<HeldMedia>,
-    /// The slots of terminations, in order of termination number.
+    /// The slots that terminations hold, in order of termination number.
     held: ArrayVec<u8, TERMINATIONS>,
     /// Who hears whom, in terms of the members' places.
     flows: FlowTable,
@@ -120,7 +120,7 @@ fn idle_media(alloc: Global, slots: u16) -> Result<Vec<HeldMedia>, AllocError>
 
 /// Creates the tables of a gateway without terminations.
 ///
-/// They hold the flows, the slots by place, the frames and totals, and the shared payloads. Fails only if the
+/// The tables hold the flows, the slots by place, the frames and totals, and the shared payloads. Fails only if the
 /// allocation fails.
 fn empty_tables(alloc: Global) -> Result<(FlowTable, Seating, Sums, Shares), AllocError>
     ensures flows { IfOk result (λ (flows, seating, sums, shares). table.StandsFor flows []) }
@@ -139,8 +139,7 @@ fn empty_tables(alloc: Global) -> Result<(FlowTable, Seating, Sums, Shares), All
 impl Engine {
     /// Starts a gateway without terminations.
     ///
-    /// It allocates all memory; no other call allocates. Fails if the configuration is invalid or the allocation
-    /// fails.
+    /// Allocates all memory; no other call allocates. Fails if the configuration is invalid or the allocation fails.
     pub fn new(alloc: Global, config: Config) -> Result<Engine, StartFault>
         ensures bad { (result ≡ Err StartFault.BadConfig) ↔ ¬ IsValidConfig config }
         ensures start { IfOk result (λ engine. StandsFor engine (start_of config)) }
@@ -333,7 +332,7 @@ impl Engine {
 
     /// Applies triples in order to the current members of the action's context (RFC 3525, section 7.1.18).
     ///
-    /// If there is an error, no triple is applied, and the first error is returned. Returns the context's number.
+    /// Returns the context's number. If there are errors, returns the first one and applies no triple.
     pub fn apply_triples(
         &mut self,
         target: Target,
@@ -383,7 +382,7 @@ impl Engine {
         Ok(at.context)
     }
 
-    /// Returns the termination with this port.
+    /// Returns the termination with this port, or `None` if there is none.
     fn at_port(&self, port: u16) -> Option<Record>
         ensures value { result ≡ at_port self.now.rooms port }
         ensures sound { IsSound self.now.rooms }
@@ -512,7 +511,7 @@ impl Engine {
         self.sums.work()
     }
 
-    /// Returns the counters of a termination.
+    /// Returns the counters of a termination, or `None` if it doesn't exist.
     pub fn stats(&self, number: u32) -> Option<Stats>
         ensures value { (w : Gateway) → StandsFor self.now w → result ≡ stats_of w number }
     {
@@ -551,8 +550,8 @@ impl Engine {
     /// Advances by `count` ticks at once, without packets. Returns how many missing frames were concealed, at most
     /// `u64::MAX`.
     ///
-    /// The gateway is then the same as after `count` calls of [`Engine::tick`]. Ticks are run one by one until all play
-    /// lists are idle; the rest take one step. No packets are mixed.
+    /// The gateway is then in the same state as after `count` calls of [`Engine::tick`]. Ticks are run one by one until
+    /// all play lists are idle; the rest take one step. No payloads are mixed.
     pub fn skip(&mut self, count: u64) -> u64
         ensures concealed { (w : Gateway) → StandsFor self.old w →
             result ≡ min (concealed_in_ticks count w) (2 ^ 64 - 1) }
@@ -728,7 +727,7 @@ impl Engine {
         push_payload(outbox, &payload);
     }
 
-    /// Encodes a room's total, minus the listener's frame and those of the talkers silenced for the listener.
+    /// Encodes a room's total, minus the listener's own frame and the frames of the talkers silenced for the listener.
     fn mix(&mut self, listener: &Record, place: Place, law: Law) -> [u8; SAMPLES]
         requires place { IsOnPlace self.old.rooms listener.now.number listener.now place }
         requires listens { IsTrue (listens listener.now.mode) }
@@ -878,7 +877,7 @@ fn topology_room(rooms: &Rooms, target: Target) -> Result<TopologyRoom, ErrorNum
     }
 }
 
-/// Returns the slot of a termination.
+/// Returns the slot of a termination, or `None` if it doesn't exist.
 fn slot_of(rooms: &Rooms, number: u32) -> Option<u8>
     ensures value { result ≡ option_map (λ r. r.slot) (record_at rooms.now number) }
     ensures slot { IfSome result (λ slot. slot < rooms.now.limits.slots) }

@@ -21,7 +21,7 @@ fn room_for(mode: Mode, room: u8) -> Option<Room>
     }
 }
 
-/// Returns whether both are the same room or both are `None`.
+/// Returns whether the two rooms are the same, or both `None`.
 fn is_same(a: Option<Room>, b: Option<Room>) -> bool
     ensures value { IsTrue result ↔ (a ≡ b) }
 {

@@ -1,7 +1,7 @@
 //! The state of a conference gateway, changed by edits, media and ticks.
 //!
-//! [`Engine::new`] allocates all memory. Commands arrive as calls, or as [`Edit`]s. Each is either applied, or rejected
-//! with an [`ErrorNumber`](mg_rooms::ErrorNumber) without any change:
+//! [`Engine::new`] allocates all memory. Commands arrive as calls, or as [`Edit`]s. Each command is either applied, or
+//! rejected with an [`ErrorNumber`](mg_rooms::ErrorNumber), in which case nothing changes:
 //!
 //! ```rust
 //! let mut engine = Engine::new(alloc, Config::default())?;

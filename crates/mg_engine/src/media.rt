@@ -95,7 +95,7 @@ impl HeldMedia {
         self.play.tick()
     }
 
-    /// Returns whether the next tick plays the last frame in place of a missing one.
+    /// Returns whether the next frame is missing and the next tick plays the last frame instead.
     pub fn conceals(&self) -> bool
         ensures value { result ≡ is_concealing self.now }
     {

@@ -26,7 +26,8 @@ pub fn member_place(member: Member) -> Place
     }
 }
 
-/// Returns the place of a termination: the room of its context, and its seat.
+/// Returns the place of a termination: the room of its context, and its seat. Returns `None` if the context doesn't
+/// exist.
 pub fn place_of(rooms: &Rooms, termination: &Record) -> Option<Place>
     ensures value { result ≡ place_of rooms.now termination.now }
 {
@@ -37,7 +38,7 @@ pub fn place_of(rooms: &Rooms, termination: &Record) -> Option<Place>
     })
 }
 
-/// Adds a member at its place. If it talks, its row is joined to the room.
+/// Adds a member at its place. If the member talks, its row is joined to the room.
 pub fn enter(flows: &mut FlowTable, seating: &mut Seating, sums: &mut Sums, member: Member)
     requires within { IsWithinLimits (member_place member) }
     requires slot { member.record.slot < termination_limit }
@@ -65,7 +66,8 @@ pub fn vacate(flows: &mut FlowTable, member: Member)
     flows.on_leave(member_place(member));
 }
 
-/// Changes a member's mode. If it now talks, its row is joined to the room.
+/// Changes a member's mode. If the member now talks, its row is joined to the room; otherwise, the row is joined to no
+/// room.
 pub fn take_mode(flows: &mut FlowTable, sums: &mut Sums, member: Member)
     requires within { IsWithinLimits (member_place member) }
     requires slot { member.record.slot < termination_limit }

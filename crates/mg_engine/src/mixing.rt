@@ -14,7 +14,7 @@ use mg_sums::Row;
 use mg_topology::SEATS;
 use mg_topology::mask::{self, Mask};
 
-/// Returns the listener's own row if the listener talks, because it must not hear itself.
+/// Returns the listener's own row, which it must not hear, or `None` if the listener does not talk.
 pub fn own_row(listener: &Record) -> Option<Row>
     requires slot { listener.now.slot < termination_limit }
     ensures value { result ≡ (if talks listener.now.mode then Some listener.now.slot else None) }

@@ -40,7 +40,7 @@ impl PortPool {
         Ok(PortPool { limits, slots })
     }
 
-    /// Returns the slot of a port, if it is in the pool.
+    /// Returns the slot of a port, or `None` if the port is not in the pool.
     pub fn slot(&self, port: u16) -> Option<u8>
         ensures value { result ≡ slot_of self.now port }
     {

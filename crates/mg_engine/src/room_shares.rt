@@ -43,7 +43,7 @@ impl RoomShares {
         self.shares.clear();
     }
 
-    /// Finds a recent packet that mixes exactly these talkers and uses this law.
+    /// Finds a recent packet that mixes exactly these talkers and uses this law. Returns `None` if there is none.
     ///
     /// If everybody in a room talks, no two members hear the same sum. The room then has a packet for each member, and
     /// searching all of them for every member would be quadratic. Members that only listen find their sum among the
@@ -68,7 +68,7 @@ impl RoomShares {
     }
 }
 
-/// Returns the first packet that mixes exactly these talkers and uses this law.
+/// Returns the first packet that mixes exactly these talkers and uses this law, or `None` if there is none.
 fn packet_among(shares: &[Share], talkers: Mask, law: Law) -> Option<u8>
     ensures found { IfSome result (λ packet. Contains shares.now
         (record { talkers = talkers; law = law; packet = packet })) }

@@ -6,14 +6,14 @@ use arrayvec::ArrayVec;
 use mg_flow::Place;
 use mg_rooms::{MEMBERS, Rooms};
 
-/// A member of a context with its place, both found in one lookup. It is valid until the next edit.
+/// A member of a context with its place, both found in one lookup. The place is valid until the next edit.
 #[derive(Clone, Copy, Debug, Default, PartialEq, Eq)]
 pub struct SeatedMember {
     /// The number of the termination.
     pub number: u32,
     /// The room of its context.
     pub room: u8,
-    /// Its seat in the context.
+    /// The seat of the termination in the context.
     pub seat: u8,
 }
 

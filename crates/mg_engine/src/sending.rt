@@ -26,7 +26,7 @@ pub fn is_loopback(mode: Mode) -> bool
     matches!(mode, Mode::Loopback)
 }
 
-/// Returns the destination of a termination's packets, if the termination sends.
+/// Returns the destination of a termination's packets, or `None` if the termination does not send.
 pub fn sent_to(sender: &Record) -> Option<Chosen>
     ensures value { result ≡ sent_to sender.now }
 {

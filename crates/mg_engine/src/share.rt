@@ -6,9 +6,9 @@ use mg_topology::mask::Mask;
 pub struct Share {
     /// The seats of the talkers whose speech flows to the packet's listener.
     pub talkers: Mask,
-    /// The law that encodes its payload.
+    /// The law in which the payload is encoded.
     pub law: Law,
-    /// Its index in the outbox.
+    /// The packet's index in the outbox.
     pub packet: u8,
 }
 

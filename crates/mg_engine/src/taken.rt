@@ -6,7 +6,7 @@ use mg_rtp::RtpFault;
 pub enum Taken {
     /// The frame was passed to the termination's play list.
     Placed(Placed),
-    /// It was dropped.
+    /// The datagram was dropped.
     Dropped(DropCause),
 }
 

@@ -33,7 +33,7 @@ pub fn one_arrival(bytes: &[u8])
     one_reading(bytes);
 }
 
-/// Nobody hears himself: no termination's speech flows back to that termination.
+/// No termination hears itself: no speech flows back to the termination that it comes from.
 ///
 /// Except in Loopback, what a termination says has no effect on what it is sent.
 pub fn none_hears_itself()
@@ -62,7 +62,7 @@ pub fn triples_are_limited()
     ensures { TRIPLES ≡ triple_limit }
 {}
 
-/// The terminations and contexts of a new gateway are consistent, and each edit and RTP datagram preserves that.
+/// The terminations and contexts of a new gateway are consistent, and each edit and RTP datagram keeps them consistent.
 ///
 /// So they are consistent after any sequence of edits and datagrams. A proof can use this fact even where no
 /// `Engine` is in scope.
@@ -108,10 +108,11 @@ pub fn other_contexts_are_unaffected()
     ensures media { DatagramsDoNotAffectOthers }
 {}
 
-/// If two gateways agree except in some terminations, they still do after the same edit, datagram or tick.
+/// If two gateways agree except on some terminations, they still agree on everything else after the same edit, datagram
+/// or tick.
 ///
-/// They still agree even if only one of them receives an RTP datagram at the port of one of these terminations.
-/// Counters are equal in both, except for received packets.
+/// This holds even if only one of them receives an RTP datagram at the port of such a termination. The counters are
+/// equal in both gateways, except for received packets.
 pub fn agreement_lasts()
     ensures edits { SameEditsKeepAgreement }
     ensures media { SameArrivalKeepsAgreement }

@@ -5,7 +5,7 @@ use mg_words::Association;
 /// The maximum number of triples in an edit. A control datagram cannot hold more, as `read` in `mg_text` ensures.
 pub const TRIPLES: usize = 1200;
 
-/// A number of triples that most edits don't exceed. They take less time, as no large array is made.
+/// Most edits have at most this many triples. Such edits take less time, because they need no large array.
 pub const FEW_TRIPLES: usize = 16;
 
 /// Who hears whom among the members that two terms match (RFC 3525, section 7.1.18).
@@ -19,7 +19,7 @@ pub struct TopologyTriple {
     pub association: Association,
 }
 
-/// The default is a triple that is not allowed, so an edit with it fails.
+/// The default is a triple that is not allowed, so an edit that contains it fails.
 impl Default for TopologyTriple {
     ghost use Rattle.std.specs.Prelude.{◌≡◌};
     ghost use Rattle.mg_engine.specs.Triples.{barred_triple};

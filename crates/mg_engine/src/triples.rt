@@ -31,7 +31,7 @@ fn is_barred(term: TripleTerm) -> bool
     matches!(term, TripleTerm::Barred)
 }
 
-/// Returns the seat of the member with this number.
+/// Returns the seat of the member with this number, as a set of one seat, or `None` if the context has no such member.
 fn seat_of(rooms: &Rooms, context: u32, number: u32) -> Option<Mask>
     requires sound { IsSound rooms.now }
     ensures some { IfSome result (λ seats. IsTrue (has (members_at rooms.now context) number)

@@ -69,7 +69,7 @@ const SCRIPTS: [&str; 57] = [
     "rules/a_mover_is_heard_elsewhere",
 ];
 
-/// The scripts for which an output with the changes after each event is also stored.
+/// The scripts that also have a stored output with the changes after each event.
 const WITH_FLOWS: [&str; 3] = ["coaching", "recording", "journal"];
 
 /// Returns the output of a script on a gateway with the standard configuration.

@@ -52,7 +52,7 @@ is_silenced table talker listener =
     talks_at table talker
     && (are_together (holds table) talker listener && not (hears table talker listener))
 
--- the table represents the edits: both agree on each room and each place
+-- the table represents the edits: the two agree on each room and each place
 pub record StandsFor (table : List RoomFlows) (es : List FlowEdit) : Type 0 where
   pub topologies : (room : ℕ) →
       topology.StandsFor (room_at table room).topology (edits_in room es)

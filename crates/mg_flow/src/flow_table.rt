@@ -45,7 +45,7 @@ impl FlowTable {
 
     /// Creates the table of a gateway whose rooms are all empty.
     ///
-    /// It allocates the memory for all rooms; no other call allocates. Fails only if the allocation fails.
+    /// Allocates the memory for all rooms; no other call allocates. Fails only if the allocation fails.
     pub fn new(alloc: Global) -> Result<Self, AllocError>
         ensures edits { IfOk result (λ table. StandsFor table []) }
     {

@@ -26,8 +26,8 @@ pub fn magnitudes_grow(law: Law, lower: u8, upper: u8)
     ensures a_ends { (magnitude_of Law.A 0 ≡ 8) × (magnitude_of Law.A 127 ≡ 32256) }
 {}
 
-/// A byte survives decoding and encoding, except for mu-law's negative zero: 7f decodes to 0, which encodes as ff. The
-/// sample that a byte decodes to always survives.
+/// A byte survives decoding and encoding, except for mu-law's negative zero: 7f decodes to 0, which encodes as ff.
+/// Every sample that decoding can return survives encoding and decoding.
 pub fn bytes_come_back(law: Law, byte: u8)
     ensures same { (law ≡ Law.Mu → byte ≢ 0x7f) → byte_of law (sample_of law byte) ≡ byte }
     ensures negative_zero { (sample_of Law.Mu 0x7f ≡ pos 0) × (byte_of Law.Mu (pos 0) ≡ 0xff) }
@@ -53,7 +53,7 @@ pub fn errors_are_bounded(law: Law, sample: i16)
     ensures middle { (k : ℕ) → 1 ≤ k → k ≤ 127 → least_of law k + half_step_of law k ≡ magnitude_of law k }
 {}
 
-/// Every value of the type is a frame.
+/// Every value of the type [`Frame`](crate::Frame) is a frame as contracts define it (`IsFrame`).
 ///
 /// A proof knows the range of a signed element only after the code has read that element. A function that receives a
 /// frame as an argument gets the range here, at no cost.

@@ -5,8 +5,8 @@ use Rattle.std.specs.Prelude.{Some, None, if◌then◌else◌}
 use Rattle.mg_heard.specs.declared.open_flow.OpenFlow.{OpenFlow}
 use Rattle.mg_heard.specs.OpenFlow.{has}
 
--- A flow was open before the tick `first`, and before all later ones up to, but not including, the
--- tick `end`; without an end, it was still open at the end of the file.
+-- A flow was open before the tick `first`, and before all later ticks up to, but not including, the
+-- tick `end`; without an end, the flow was still open at the end of the file.
 pub record Interval : Type 0 where
   pub flow : OpenFlow
   pub first : ℕ
@@ -26,7 +26,8 @@ newest (flows ∷ older) = flows
 abbrev pub interval_of : List (List OpenFlow) → Option ℕ → OpenFlow → Interval
 interval_of moments end x = record { flow = x; first = since moments x; end = end }
 
--- the intervals that end at the next moment: their flows are open in the newest one, and not in it
+-- the intervals that end at the next moment: their flows are open in the newest moment, but not in
+-- the next
 abbrev pub ending : List (List OpenFlow) → List OpenFlow → List Interval
 ending moments next =
     map (interval_of moments (Some (length moments)))

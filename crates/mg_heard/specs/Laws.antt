@@ -29,7 +29,7 @@ EventsDetermineIntervals =
 
 -- ## Each tick
 
--- nothing happens before the next tick: it comes first, or nothing comes at all
+-- nothing happens before the next tick: the tick comes first, or nothing comes at all
 abbrev pub IsAtTick : List Event → Type 0
 IsAtTick [] = Unit {0}
 IsAtTick (event ∷ later) = is_tick event ≡ true
@@ -43,14 +43,14 @@ pub record HasIntervals (config : Config) (past future : List Event) (w : World)
   pub tick : IsAtTick future
   pub told : AreIntervals config (past ++ future) ys
 
--- a pair and a tick lie in one of the intervals
+-- one of the intervals contains this tick for this pair
 abbrev pub IsToldAt : ℕ → ℕ → ℕ → List Interval → Type 0
 IsToldAt tick talker listener ys =
     Any (λ y. IsOfPair talker listener y × LiesIn tick y) ys
 
--- A pair and a tick lie in an interval exactly if the talker's speech flows to the listener in the
--- world before that tick. This is the flow of the headline theorem. The same is true of the tick
--- that comes next after all events.
+-- An interval contains a tick for a pair if and only if the talker's speech flows to the listener
+-- in the world before that tick. This is the flow of the headline theorem. The same is true of the
+-- tick that comes next after all events.
 abbrev pub IntervalsTellTheFlow : Type 0
 IntervalsTellTheFlow =
     (config : Config) (past future : List Event) (w : World) (ys : List Interval)
@@ -58,8 +58,8 @@ IntervalsTellTheFlow =
     → (flow w.gateway talker listener ≡ true)
     ↔ IsToldAt (count_by is_tick past) talker listener ys
 
--- What an interval says of the pair, its context and its Remotes, is true in the world before each
--- tick that lies in the interval.
+-- What an interval says about the pair, its context and its Remotes is true in the world before
+-- each tick that the interval contains.
 abbrev pub IntervalsTellTheTruth : Type 0
 IntervalsTellTheTruth =
     (config : Config) (past future : List Event) (w : World) (ys : List Interval) (y : Interval)
@@ -68,7 +68,7 @@ IntervalsTellTheTruth =
 
 -- ## Each pair
 
--- No pair is told twice for a tick.
+-- No two intervals of the same listener and talker contain the same tick.
 abbrev pub NoPairIsToldTwice : Type 0
 NoPairIsToldTwice =
     (config : Config) (events : List Event) (ys : List Interval) → IsStart config
@@ -85,14 +85,14 @@ RtpChangesNoInterval =
 
 -- ## Without changes
 
--- Only control datagrams change what is open.
+-- Only control datagrams change which flows are open.
 abbrev pub OnlyControlChangesFlows : Type 0
 OnlyControlChangesFlows =
     (w next : World) (event : Event) (sent : List Sent) → is_control event ≡ false
     → Step w event sent next → open_flows next.gateway ≡ open_flows w.gateway
 
--- Equal moments in a row end no interval, and the same intervals last. So nothing has to be looked
--- at again until a control datagram arrives.
+-- Equal moments in a row end no interval, and the open intervals stay open. So nothing has to be
+-- compared again until a control datagram arrives.
 abbrev pub EqualMomentsTellNothing : Type 0
 EqualMomentsTellNothing =
     (flows : List OpenFlow) (past : List (List OpenFlow)) (count : ℕ)

@@ -1,6 +1,6 @@
 -- The lines for intervals and gaps: sentences of this project's own, rows (CSV, RFC 4180) and
--- objects (JSON, RFC 8259). The text of a date has no definition, because that of `jiff` has none.
--- So the texts of a line's two dates are parameters.
+-- objects (JSON, RFC 8259). No definition says what the text of a date is, because none says what
+-- `jiff` writes. So the texts of a line's two dates are parameters.
 use Rattle.std.specs.Prelude.{◌≡◌, ℕ, ◌∷◌, ◌++◌, List, [], filter, Option, Some, None, codes}
 use Rattle.std.specs.Prelude.{decimal}
 use Rattle.std.specs.Io.KnownBytes.{Appends}
@@ -27,7 +27,7 @@ at_text (Some peer) = codes " (" ++ (peer_text peer ++ codes ")")
 abbrev pub party_text : ℕ → Option Peer → List ℕ
 party_text n at = rtp_name n ++ at_text at
 
--- a tick, with its time if that is known
+-- a tick, with its time if the time is known
 abbrev pub moment_text : List ℕ → ℕ → Option Date → List ℕ
 moment_text time tick None = codes "tick " ++ decimal tick
 moment_text time tick (Some date) = time ++ (codes " (tick " ++ (decimal tick ++ codes ")"))
@@ -61,7 +61,7 @@ abbrev pub time_column : List ℕ → Option Date → List ℕ
 time_column time None = []
 time_column time (Some date) = time
 
--- the date of a moment, if there is one
+-- the date of a moment, if there is a moment and its date is known
 abbrev pub date_of_end : Option Moment → Option Date
 date_of_end end = option_and_then (λ m. m.date) end
 

@@ -14,8 +14,8 @@ abbrev pub LiesIn : ℕ → Interval → Type 0
 LiesIn tick y = (y.first ≤ tick) × IfSome y.end (λ end. tick < end)
 
 -- The interval has a first tick, and its flow is open before each of its ticks. It can't be
--- extended: the flow is not open before the tick in front of it, if there is one, nor before its
--- end, if it has one.
+-- extended: the flow is not open before the tick that precedes the interval, if there is one, nor
+-- before the interval's end, if it has one.
 pub record IsTrueAndMaximal (moments : List (List OpenFlow)) (y : Interval) : Type 0 where
   pub some : (y.first < length moments) × LiesIn y.first y
   pub throughout : (tick : ℕ) → tick < length moments → LiesIn tick y
@@ -31,7 +31,7 @@ IntervalsAreTrueAndMaximal =
 
 -- ## Pairs
 
--- an interval is of this pair
+-- the interval belongs to this pair
 abbrev pub IsOfPair : ℕ → ℕ → Interval → Type 0
 IsOfPair talker listener y = (y.flow.talker ≡ talker) × (y.flow.listener ≡ listener)
 

@@ -1,4 +1,4 @@
--- When two open flows are the same: all that is printed about them is equal.
+-- When two open flows are the same: everything that is printed about them is equal.
 use Rattle.std.specs.Prelude.{◌==◌, ◌&&◌, Bool, List}
 use Rattle.std.specs.List.{list_any}
 use Rattle.std.specs.Option.{option_eq}

@@ -39,7 +39,7 @@ is_asked name number at = option_map_or (λ n. is_named n number at) name true
 abbrev pub begins_before : Interval → Date → Bool
 begins_before x time = option_map_or (λ date. nat_lt date.millis time.millis) x.first.date true
 
--- without an end or its date, an interval may end after any time
+-- without an end, or without the end's date, an interval may end after any time
 abbrev pub ends_after : Interval → Date → Bool
 ends_after x time = option_map_or
     (λ end. option_map_or (λ date. nat_lt time.millis date.millis) end.date true) x.end true

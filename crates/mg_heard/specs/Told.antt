@@ -1,4 +1,4 @@
--- What a sink is told about a script: all intervals, and what they say about the flows.
+-- What is reported to a sink about a script: all intervals, and what they say about the flows.
 use Rattle.std.specs.Prelude.{◌≡◌, ◌↔◌, ℕ, true, List, [], ◌∷◌, ◌++◌, count_by}
 use Rattle.std.specs.Option.{option_map}
 use Rattle.mg_engine.specs.declared.config.Config.{Config}
@@ -28,8 +28,8 @@ intervals_in (entries.Interval x ∷ xs) = without_dates x ∷ intervals_in xs
 intervals_in (entries.Gap gap ∷ xs) = intervals_in xs
 
 -- Before each tick, and before the tick that comes next after all events, a talker's speech flows
--- to a listener exactly if this pair and this tick lie in one of the intervals. This is the flow of
--- the headline theorem.
+-- to a listener if and only if one of the intervals contains this tick for this pair. This is the
+-- flow of the headline theorem.
 abbrev pub TellsTheFlow : Config → List Event → List Interval → Type 0
 TellsTheFlow config events ys =
     (past future : List Event) (sent : List Sent) (w : World) (talker listener : ℕ)
@@ -37,7 +37,7 @@ TellsTheFlow config events ys =
     → (flow w.gateway talker listener ≡ true)
     ↔ IsToldAt (count_by is_tick past) talker listener ys
 
--- After a whole script all its intervals are told, in order, and each once.
+-- After a whole script, all its intervals have been reported, in order, each once.
 pub record TellsAll (config : Config) (notes : List Note) (Told : List Entry → Type 0)
     : Type 0 where
   pub xs : List Entry

@@ -14,14 +14,14 @@ use Rattle.mg_heard.specs.declared.verdict.Verdict.{Verdict}
 use Rattle.mg_heard.specs.declared.verdict.Verdict.TheVariants.{CouldHear, CouldNotHear, Unknown}
 use Rattle.mg_heard.specs.Query.{covers, selects}
 
--- the first interval that is asked for and in which the time lies
+-- the first interval that the query selects and that contains the time
 abbrev pub heard_at : Query → Date → List Entry → Option Interval
 heard_at query time [] = None
 heard_at query time (entries.Interval x ∷ xs) =
     if selects query x && covers x time then Some x else heard_at query time xs
 heard_at query time (entries.Gap gap ∷ xs) = heard_at query time xs
 
--- the moment is known to be at this time or before it
+-- the moment is known to be at or before this time
 abbrev pub is_past : Moment → Date → Bool
 is_past m time = option_map_or (λ date. nat_le date.millis time.millis) m.date false
 
@@ -32,19 +32,19 @@ is_future m time = option_map_or (λ date. nat_lt time.millis date.millis) m.dat
 abbrev pub is_in_gap : Gap → Date → Bool
 is_in_gap gap time = is_past gap.first time && is_future gap.end time
 
--- the first gap in which the time lies
+-- the first gap that contains the time
 abbrev pub gap_at : Date → List Entry → Option Gap
 gap_at time [] = None
 gap_at time (entries.Interval x ∷ xs) = gap_at time xs
 gap_at time (entries.Gap gap ∷ xs) = if is_in_gap gap time then Some gap else gap_at time xs
 
--- the script covers this time: it is not before the first date, nor at the end or after it
+-- the script covers this time: it is not before the first date, and it is before the end
 abbrev pub is_within : Extent → Date → Bool
 is_within extent time =
     option_map_or (λ first. is_past first time) extent.first false && is_future extent.end time
 
--- The answer, given the interval and the gap in which the time lies. The script doesn't say who
--- could hear whom outside of the time that it covers, and in a gap.
+-- The answer, given the interval and the gap that contain the time, if any. The script doesn't say
+-- who could hear whom in a gap, or outside the time that it covers.
 abbrev pub verdict_of : (is_within : Bool) → Option Gap → Option Interval → Verdict
 verdict_of is_within gap heard =
     if is_some gap || not is_within then Unknown else option_map_or CouldHear heard CouldNotHear

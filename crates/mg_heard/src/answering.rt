@@ -15,9 +15,10 @@ use mg_dates::Date;
 use std::alloc::Global;
 use std::io::Read;
 
-/// Answers whether those who are asked about could hear each other at one time, while a script ran.
+/// Runs a script, and answers whether a listener could hear a talker at one time, for the listeners and talkers that
+/// `query` selects.
 ///
-/// No contract says that dates, gaps and the extent are those of the script.
+/// No contract says that the dates, the gaps and the extent are those of the script.
 pub fn hear_at<R: Read>(
     alloc: Global,
     config: Config,

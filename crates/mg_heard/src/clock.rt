@@ -11,13 +11,13 @@ use mg_dates::{Agreement, Date, Timeline};
 /// The maximum length of a title's line, in bytes.
 const TITLE_LIMIT: usize = 600;
 
-/// Counts the ticks and the lines of a script, and knows when they happened.
+/// Counts the ticks and lines of a script, and keeps track of when the ticks happened.
 #[derive(Drop)]
 pub(crate) struct Clock {
     timeline: Timeline,
     /// The first tick whose time is known.
     first: Option<Moment>,
-    /// The number of ticks so far, which is the number of the next one.
+    /// The number of ticks so far. This is also the index of the next tick, as ticks are counted from 0.
     pub(crate) ticks: u64,
     /// The number of lines so far.
     lines: u64,
@@ -57,7 +57,7 @@ impl Clock {
         }
     }
 
-    /// Returns the tick after some more.
+    /// Returns the tick that follows `count` more ticks.
     fn after(&self, count: u64) -> Moment {
         let mut timeline = self.timeline;
         timeline.pass_ticks(count);
@@ -67,14 +67,14 @@ impl Clock {
         }
     }
 
-    /// Passes the line of a datagram.
+    /// Counts the line of a datagram.
     pub(crate) fn pass_line(&mut self)
         ensures ticks { self.new.ticks ≡ self.old.ticks }
     {
         self.lines = self.lines.saturating_add(1);
     }
 
-    /// Passes the lines of ticks.
+    /// Counts ticks and their lines. Fails if the script then has 2^64 ticks or more.
     pub(crate) fn pass_ticks(&mut self, count: u64) -> Result<(), ClockFault>
         ensures ticks { OnOk result (self.new.ticks ≡ self.old.ticks + count) }
     {
@@ -87,7 +87,8 @@ impl Clock {
         Ok(())
     }
 
-    /// Passes a comment, and returns the gap that begins with it, if any.
+    /// Counts the line of a comment and takes note of what it says. Returns the gap that begins with the comment, if
+    /// any.
     pub(crate) fn pass_comment(&mut self, line: &[u8]) -> Result<Option<Gap>, ClockFault>
         ensures ticks { self.new.ticks ≡ self.old.ticks }
     {
@@ -100,7 +101,7 @@ impl Clock {
         }
     }
 
-    /// Returns the gap of ticks that were missed.
+    /// Returns the gap that `count` missed ticks leave, or `None` if `count` is 0.
     fn missed(&self, count: u64) -> Option<Gap> {
         if count == 0 {
             return None;
@@ -111,7 +112,8 @@ impl Clock {
         })
     }
 
-    /// Passes a date. There is a gap before it if it is later than expected.
+    /// Takes note of a date. If the date is more than a second later than expected, returns the gap before it. Fails if
+    /// the date is more than a second earlier than expected.
     fn pass_date(&mut self, date: Date) -> Result<Option<Gap>, ClockFault>
         ensures ticks { self.new.ticks ≡ self.old.ticks }
     {
@@ -130,7 +132,7 @@ impl Clock {
         }
     }
 
-    /// Passes a title, which must be the same each time.
+    /// Takes note of a title. Fails if it differs from the first title. Returns no gap.
     fn pass_title(&mut self, title: &[u8]) -> Result<Option<Gap>, ClockFault>
         ensures ticks { self.new.ticks ≡ self.old.ticks }
     {

@@ -1,4 +1,4 @@
-//! Two lists of intervals in the order of their pairs, walked through in step.
+//! Compares two lists of intervals, each in order of its pairs, by walking through both in step.
 
 ghost use Rattle.std.specs.Prelude.{◌≡◌, ◌≤◌, length, map, take};
 ghost use Rattle.mg_heard.specs.aids.Opening.{beginning_among, continued, flows_of, without_flows, AreBefore, IsRising};
@@ -7,7 +7,7 @@ use crate::moment::Moment;
 use crate::open_flow::OpenFlow;
 use crate::open_interval::OpenInterval;
 
-/// Lets each interval begin with the earlier one of the same flow, if there is one.
+/// Gives each interval the beginning of the earlier interval of the same flow, if there is one.
 pub(crate) fn continue_each(intervals: &mut [OpenInterval], earlier: &[OpenInterval])
     ensures value { IsRising intervals.old → IsRising earlier.now →
         intervals.new ≡ map (continued earlier.now) intervals.old }
@@ -21,7 +21,7 @@ pub(crate) fn continue_each(intervals: &mut [OpenInterval], earlier: &[OpenInter
     }
 }
 
-/// Moves the intervals whose flows are not among the next ones to the front. Returns how many there are.
+/// Moves to the front all intervals whose flows have no interval in `next`. Returns how many such intervals there are.
 pub(crate) fn keep_ended(intervals: &mut [OpenInterval], next: &[OpenInterval]) -> usize
     ensures within { result ≤ length intervals.old }
     ensures value { IsRising intervals.old → IsRising next.now →
@@ -39,8 +39,8 @@ pub(crate) fn keep_ended(intervals: &mut [OpenInterval], next: &[OpenInterval]) 
     kept
 }
 
-/// Returns when the interval of a flow began, if there is one at this place or behind it. Moves on to the first place
-/// whose pair is not in front of the flow's.
+/// Returns when a flow's interval began, or `None` if the flow has no interval at the place `from` or later. Advances
+/// `from` to the first place whose pair does not come before the flow's pair.
 fn beginning_from(intervals: &[OpenInterval], from: &mut usize, flow: &OpenFlow) -> Option<Moment>
     requires within { from.old ≤ length intervals.now }
     ensures within { from.new ≤ length intervals.now }

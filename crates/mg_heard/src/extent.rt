@@ -9,7 +9,7 @@ use mg_dates::Date;
 pub struct Extent {
     /// The first tick whose time is known.
     pub first: Option<Moment>,
-    /// The tick that comes next.
+    /// The tick that follows the last tick of the script.
     pub end: Moment,
 }
 

@@ -17,7 +17,8 @@ use mg_words::MEMBERS;
 /// The maximum number of open flows: each termination hears at most [`MEMBERS`] others.
 pub(crate) const FLOWS: usize = TERMINATIONS * MEMBERS;
 
-/// Stores an interval in the first places for each flow that is open in a core. Returns how many there are.
+/// Stores, in the first places, an interval for each flow that is open in a core. Returns how many intervals were
+/// stored.
 pub(crate) fn fill_places(places: &mut [OpenInterval], core: &Core, first: Moment) -> usize
     requires places { length places.old ≡ FLOWS }
     ensures within { result ≤ FLOWS }
@@ -34,7 +35,7 @@ pub(crate) fn fill_places(places: &mut [OpenInterval], core: &Core, first: Momen
     count
 }
 
-/// Stores an interval for each flow to a listener, behind the first places. Returns how many are in use then.
+/// Stores an interval for each flow to a listener, after the places in use. Returns how many places are then in use.
 fn push_flows(
     places: &mut [OpenInterval],
     mut count: usize,
@@ -69,7 +70,7 @@ fn is_open(core: &Core, talker: &Party, listener: &Party) -> bool
     talker.context == listener.context && core.flow(talker.number, listener.number)
 }
 
-/// Stores an interval at a place, if there is such a place. Returns the next one.
+/// Stores an interval at a place, if there is such a place. Returns the next place.
 fn put(places: &mut [OpenInterval], place: usize, interval: OpenInterval) -> usize
     requires within { place ≤ length places.old }
     ensures within { result ≤ length places.old }

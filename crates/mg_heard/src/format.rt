@@ -1,10 +1,10 @@
 /// How intervals and gaps are written.
 #[derive(Clone, Copy, Debug, PartialEq, Eq)]
 pub enum Format {
-    /// A sentence a line.
+    /// One sentence per line.
     Text,
     /// Comma-separated values, after a line with the names of the columns (RFC 4180).
     Csv,
-    /// A JSON object a line.
+    /// One JSON object per line.
     Json,
 }

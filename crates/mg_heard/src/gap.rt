@@ -4,10 +4,10 @@ ghost use Rattle.mg_heard.specs.Verdict.{is_in_gap};
 use crate::moment::Moment;
 use mg_dates::Date;
 
-/// A time in which the gateway did not run, or for which the script has no ticks.
+/// A period in which the gateway did not run, or for which the script has no ticks.
 ///
-/// If the gateway was restarted, its script has a tick for each one that was missed. If the clock was set ahead, there
-/// is no tick between the two moments.
+/// If the gateway was restarted, its script has a line for each tick that was missed. If the clock was set ahead, the
+/// script has no ticks between `first` and `end`.
 #[derive(Clone, Copy, Debug, PartialEq, Eq)]
 pub struct Gap {
     pub first: Moment,

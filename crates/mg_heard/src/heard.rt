@@ -18,12 +18,12 @@ use crate::theorems::{intervals_tell_the_flow, only_control_changes_intervals};
 use mg_core::{Core, Event, Follower, Stopped};
 use std::alloc::{AllocError, Global};
 
-/// Follows who can hear whom, and tells a sink each interval when it ends.
+/// Follows who can hear whom, and reports each interval to a sink when the interval ends.
 #[derive(Drop)]
 pub(crate) struct Heard<S: Sink> {
     pub(crate) sink: S,
     pub(crate) clock: Clock,
-    /// Why the follower stopped, if it did and the sink did not.
+    /// Why the follower stopped, or `None` if it has not stopped or if the sink made it stop.
     pub(crate) fault: Option<ClockFault>,
     /// Whether the open flows may have changed since the stored intervals were last compared with them.
     pub(crate) is_changed: bool,
@@ -51,13 +51,13 @@ impl<S: Sink> Heard<S> {
         })
     }
 
-    /// Stores why it stops.
+    /// Stores why the follower stops.
     fn stop(&mut self, fault: ClockFault) -> Stopped {
         self.fault = Some(fault);
         Stopped
     }
 
-    /// Compares the stored intervals with the flows that are open in a core, if these may have changed.
+    /// Compares the stored intervals with the flows that are open in a core, if those flows may have changed.
     fn update(&mut self, core: &Core) -> Result<(), Stopped>
         ensures value { (w : World) (past : List (List OpenFlow)) (start : S) → StandsFor core.now.state w →
             self.old.clock.ticks ≡ length past →
@@ -72,7 +72,7 @@ impl<S: Sink> Heard<S> {
         Ok(())
     }
 
-    /// Compares the stored intervals with the flows that are open in a core, and tells the intervals that have ended.
+    /// Compares the stored intervals with the flows that are open in a core, and reports the intervals that have ended.
     fn tell_changes(&mut self, core: &Core) -> Result<(), Stopped>
         ensures value { (w : World) (past : List (List OpenFlow)) (start : S) → StandsFor core.now.state w →
             self.old.clock.ticks ≡ length past → TellsPast past self.old.open (S.told start self.old.sink) →
@@ -85,7 +85,7 @@ impl<S: Sink> Heard<S> {
         tell_intervals(self.ended.as_slice(), Some(now), &mut self.sink)
     }
 
-    /// Tells the intervals that have not ended at the end of a script. `core` is the gateway then.
+    /// Reports the intervals that have not ended at the end of a script. `core` is the gateway's state at that point.
     pub(crate) fn finish(&mut self, core: &Core) -> Result<(), Stopped>
         ensures value { (start : S) (config : Config) (notes : List Note) → HasRun config notes core.now.state →
             KeepsOpen config notes self.old.clock.ticks self.old.is_changed self.old.open (S.told start self.old.sink) →

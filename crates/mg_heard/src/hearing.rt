@@ -19,10 +19,10 @@ use mg_core::{Config, Core, RunFault, resume};
 use std::alloc::Global;
 use std::io::Read;
 
-/// Tells a sink who could hear whom while a script ran, as intervals. Returns the sink, and the time that the script
-/// covers.
+/// Runs a script, and reports to a sink, as intervals, who could hear whom. Returns the sink, and the time that the
+/// script covers.
 ///
-/// An interval is told when it ends, so a script of any length takes the same memory. Sends nothing.
+/// An interval is reported when it ends, so the memory needed does not grow with the script. No packets are sent.
 pub fn hear<R: Read, S: Sink>(
     alloc: Global,
     config: Config,
@@ -48,7 +48,7 @@ where
     }
 }
 
-/// Tells the last intervals. Returns the sink, and the time that the script covers.
+/// Reports the last intervals. Returns the sink, and the time that the script covers.
 fn finish<S: Sink>(mut heard: Heard<S>, core: &Core) -> Result<(S, Extent), HeardFault>
 where
     S: Drop,

@@ -18,14 +18,14 @@ use mg_dates::Date;
 pub struct Instant {
     pub query: Query,
     pub time: Date,
-    /// The first interval that is asked for and in which the time lies.
+    /// The first interval that the query selects and that contains the time.
     pub heard: Option<Interval>,
-    /// The first gap in which the time lies.
+    /// The first gap that contains the time.
     pub gap: Option<Gap>,
 }
 
 impl Instant {
-    /// Asks about a time.
+    /// Creates a sink that looks for the intervals and gaps that contain a time.
     pub fn new(query: Query, time: Date) -> Self
         ensures value { result ≡ record { query = query; time = time; heard = None; gap = None } }
     {
@@ -50,7 +50,7 @@ impl Instant {
         }
     }
 
-    /// Returns an interval if it is asked for and the time lies in it.
+    /// Returns the interval if the query selects it and it contains the time, and `None` otherwise.
     fn heard_in(&self, interval: &Interval) -> Option<Interval>
         ensures value { result ≡ heard_at self.now.query self.now.time (entries.Interval interval.now ∷ []) }
     {
@@ -61,7 +61,7 @@ impl Instant {
         }
     }
 
-    /// Returns a gap if the time lies in it.
+    /// Returns the gap if it contains the time, and `None` otherwise.
     fn gap_in(&self, gap: &Gap) -> Option<Gap>
         ensures value { result ≡ gap_at self.now.time (entries.Gap gap.now ∷ []) }
     {
@@ -72,7 +72,7 @@ impl Instant {
         }
     }
 
-    /// Stores an interval, if it is the first one that is asked for and in which the time lies.
+    /// Stores an interval if it is the first that the query selects and that contains the time.
     fn take_interval(&mut self, interval: &Interval)
         ensures value { self.new ≡ record self.old {
           heard = option_or self.old.heard (heard_at self.old.query self.old.time (entries.Interval interval.now ∷ []));
@@ -81,7 +81,7 @@ impl Instant {
         self.heard = self.heard.or(self.heard_in(interval));
     }
 
-    /// Stores a gap, if it is the first one in which the time lies.
+    /// Stores a gap if it is the first that contains the time.
     fn take_gap(&mut self, gap: &Gap)
         ensures value { self.new ≡ record self.old {
           gap = option_or self.old.gap (gap_at self.old.time (entries.Gap gap.now ∷ []));

@@ -1,17 +1,19 @@
 //! Who could hear whom, and when: the intervals in which a talker's speech flowed to a listener.
 //!
-//! [`hear`] runs a script, such as a journal or a recording, and tells a [`Sink`] each interval when it ends:
+//! [`hear`] runs a script, such as a journal or a recording, and reports each interval to a [`Sink`] when the interval
+//! ends:
 //!
 //! ```rust
 //! let (sink, extent) = hear(alloc, config, &mut input, sink)?;
 //! ```
 //!
 //! [`hear_at`] answers whether a talker could be heard at one time. A [`Report`] is a sink that writes a line for each
-//! interval that is asked for, and for each gap.
+//! interval that a query selects, and for each gap.
 //!
-//! A pair and a tick lie in an interval exactly if the talker's speech flows to the listener in the world before that
-//! tick (`specs/Laws.antt`). The intervals are read off the flows that are open before each tick
-//! (`specs/Intervals.antt`); those that have not ended are stored, and compared with the flows of the next tick.
+//! An interval contains a tick for a pair if and only if the talker's speech flows to the listener in the world before
+//! that tick (`specs/Laws.antt`). The intervals follow from the flows that are open before each tick
+//! (`specs/Intervals.antt`). Intervals that have not ended are stored, and compared with the flows before the next
+//! tick.
 //!
 //! Dates come from the script's comments. No proof covers dates and gaps.
 #![tactic(auto)]

@@ -19,31 +19,32 @@ use mg_reply::{Bytes, write_address, write_port};
 /// The maximum length of a line, in bytes.
 pub(crate) const LINE_LIMIT: usize = 512;
 
-/// The maximum length, in bytes, of a time. The other constants are lengths in bytes, too.
+/// The maximum length, in bytes, of a time.
 pub(crate) const TIME_LIMIT: usize = 64;
 
-/// A number in decimal.
+/// The maximum length, in bytes, of a number in decimal.
 const NUMBER_LIMIT: usize = 20;
 
-/// `RTP/` and a number.
+/// The maximum length, in bytes, of a name: `RTP/` and a number.
 const NAME_LIMIT: usize = 4 + NUMBER_LIMIT;
 
-/// An address, a colon and a port.
+/// The maximum length, in bytes, of a peer: an address, a colon and a port.
 const PEER_LIMIT: usize = 21;
 
-/// A name, and a peer in brackets after a space.
+/// The maximum length, in bytes, of a name, a space, and a peer in brackets.
 const PARTY_LIMIT: usize = 3 + NAME_LIMIT + PEER_LIMIT;
 
-/// A time, and a tick in brackets.
+/// The maximum length, in bytes, of a moment: a time, and a tick in brackets.
 const MOMENT_LIMIT: usize = 8 + TIME_LIMIT + NUMBER_LIMIT;
 
-/// The end of a sentence: ` from `, ` until `, two moments and a line feed.
+/// The maximum length, in bytes, of the end of a sentence: ` from `, ` until `, two moments and a line feed.
 const EXTENT_LIMIT: usize = 14 + 2 * MOMENT_LIMIT;
 
-/// The last columns of a row: two numbers, two times, commas and a line feed.
+/// The maximum length, in bytes, of the last columns of a row: two numbers, two times, commas and a line feed.
 const COLUMNS_LIMIT: usize = 4 + 2 * NUMBER_LIMIT + 2 * TIME_LIMIT;
 
-/// The last members of an object: their names, two numbers, two times in quotes, a brace and a line feed.
+/// The maximum length, in bytes, of the last members of an object: their names, two numbers, two times in quotes, a
+/// brace and a line feed.
 const MEMBERS_LIMIT: usize = 49 + 2 * NUMBER_LIMIT + 2 * TIME_LIMIT;
 
 /// Writes a number in decimal.
@@ -92,7 +93,7 @@ fn push_peer(peer: Peer, out: &mut Bytes)
 
 // ## Sentences
 
-/// Writes a peer in brackets after a space, if there is one.
+/// Writes a space and a peer in brackets, or nothing if there is no peer.
 #[tactic(auto, using(crate::proofs::LineLemmas::steps))]
 fn push_at(at: Option<Peer>, out: &mut Bytes)
     requires room { 3 + PEER_LIMIT ≤ out.old.room }
@@ -117,7 +118,7 @@ fn push_party(number: u32, at: Option<Peer>, out: &mut Bytes)
     push_at(at, out);
 }
 
-/// Writes a tick, and its time if that is known.
+/// Writes a tick, and its time if the time is known.
 #[tactic(auto, using(crate::proofs::LineLemmas::steps))]
 fn push_moment(time: &[u8], tick: u64, date: Option<Date>, out: &mut Bytes)
     requires time { length time.now ≤ TIME_LIMIT }
@@ -189,7 +190,7 @@ fn push_sentence(from: &[u8], until: &[u8], interval: &Interval, out: &mut Bytes
 
 // ## Rows
 
-/// Writes a peer, if there is one.
+/// Writes a peer, or nothing if there is none.
 fn push_optional_peer(peer: Option<Peer>, out: &mut Bytes)
     requires room { PEER_LIMIT ≤ out.old.room }
     ensures value { out.new ≡ appended out.old (peer_column peer) }
@@ -200,7 +201,7 @@ fn push_optional_peer(peer: Option<Peer>, out: &mut Bytes)
     }
 }
 
-/// Writes the tick of an end, if there is one.
+/// Writes the tick of an end, or nothing if there is no end.
 fn push_optional_tick(end: Option<Moment>, out: &mut Bytes)
     requires room { NUMBER_LIMIT ≤ out.old.room }
     ensures value { out.new ≡ appended out.old (tick_column end) }
@@ -211,7 +212,7 @@ fn push_optional_tick(end: Option<Moment>, out: &mut Bytes)
     }
 }
 
-/// Writes a time, if there is one.
+/// Writes a time, or nothing if it is not known.
 fn push_optional_time(time: &[u8], date: Option<Date>, out: &mut Bytes)
     requires time { length time.now ≤ TIME_LIMIT }
     requires room { TIME_LIMIT ≤ out.old.room }
@@ -223,7 +224,7 @@ fn push_optional_time(time: &[u8], date: Option<Date>, out: &mut Bytes)
     }
 }
 
-/// Returns the date of an end, if there is one.
+/// Returns the date of an end, or `None` if there is no end or its date is not known.
 fn date_of_end(end: Option<Moment>) -> Option<Date>
     ensures value { result ≡ date_of_end end }
 {
@@ -233,7 +234,7 @@ fn date_of_end(end: Option<Moment>) -> Option<Date>
     }
 }
 
-/// Writes the four columns of a beginning and an end.
+/// Writes the four columns for a beginning and an end.
 #[tactic(auto, using(crate::proofs::LineLemmas::steps))]
 fn push_extent_columns(
     from: &[u8],
@@ -284,7 +285,7 @@ fn push_row(from: &[u8], until: &[u8], interval: &Interval, out: &mut Bytes)
 
 // ## Objects
 
-/// Writes a peer as a string, or `null`.
+/// Writes a peer as a string, or `null` if there is none.
 #[tactic(auto, using(crate::proofs::LineLemmas::steps))]
 fn push_peer_value(peer: Option<Peer>, out: &mut Bytes)
     requires room { 2 + PEER_LIMIT ≤ out.old.room }
@@ -301,7 +302,7 @@ fn push_peer_value(peer: Option<Peer>, out: &mut Bytes)
     }
 }
 
-/// Writes the tick of an end, or `null`.
+/// Writes the tick of an end, or `null` if there is no end.
 fn push_tick_value(end: Option<Moment>, out: &mut Bytes)
     requires room { NUMBER_LIMIT ≤ out.old.room }
     ensures value { out.new ≡ appended out.old (tick_value end) }
@@ -313,7 +314,7 @@ fn push_tick_value(end: Option<Moment>, out: &mut Bytes)
     }
 }
 
-/// Writes a time as a string, or `null`.
+/// Writes a time as a string, or `null` if it is not known.
 #[tactic(auto, using(crate::proofs::LineLemmas::steps))]
 fn push_time_value(time: &[u8], date: Option<Date>, out: &mut Bytes)
     requires time { length time.now ≤ TIME_LIMIT }
@@ -331,7 +332,7 @@ fn push_time_value(time: &[u8], date: Option<Date>, out: &mut Bytes)
     }
 }
 
-/// Writes the members of a beginning and an end, and ends the object.
+/// Writes the members for a beginning and an end, and closes the object.
 #[tactic(auto, using(crate::proofs::LineLemmas::steps))]
 fn push_extent_members(
     from: &[u8],
@@ -382,7 +383,7 @@ fn push_object(from: &[u8], until: &[u8], interval: &Interval, out: &mut Bytes)
 
 // ## Each format
 
-/// Writes what precedes all lines: in CSV, the names of the columns.
+/// Writes what precedes all lines: the names of the columns in CSV, and nothing in the other formats.
 pub(crate) fn push_head(format: Format, out: &mut Bytes)
     requires room { LINE_LIMIT ≤ out.old.room }
     ensures value { out.new ≡ appended out.old (head_of format) }

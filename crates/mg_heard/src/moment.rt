@@ -6,14 +6,14 @@ use mg_dates::Date;
 /// A tick, and when it happened.
 #[derive(Clone, Copy, Debug, PartialEq, Eq)]
 pub struct Moment {
-    /// The number of ticks before it.
+    /// The number of ticks before this one.
     pub tick: u64,
     /// The time of the tick, if a date precedes it in the script.
     pub date: Option<Date>,
 }
 
 impl Moment {
-    /// Returns whether this is known to be at a time or before it.
+    /// Returns whether the tick is known to have happened at or before a time.
     pub(crate) fn is_past(&self, time: Date) -> bool
         ensures value { result ≡ is_past self.now time }
     {
@@ -23,7 +23,7 @@ impl Moment {
         }
     }
 
-    /// Returns whether this is known to be after a time.
+    /// Returns whether the tick is known to have happened after a time.
     pub(crate) fn is_future(&self, time: Date) -> bool
         ensures value { result ≡ is_future self.now time }
     {

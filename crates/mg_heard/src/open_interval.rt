@@ -29,7 +29,7 @@ impl OpenInterval {
         }
     }
 
-    /// Returns the interval with this end, or without one.
+    /// Returns the interval with this end, or without an end if `end` is `None`.
     pub(crate) fn until(&self, end: Option<Moment>) -> Interval
         ensures value { result ≡ record { flow = self.now.flow; first = self.now.first; end = end } }
     {

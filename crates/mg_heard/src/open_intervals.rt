@@ -15,7 +15,7 @@ use std::alloc::{AllocError, Global};
 use std::marker::Model;
 use std::mem;
 
-/// Intervals that have not ended, in order of their listeners and then of their talkers.
+/// Intervals that have not ended, ordered by listener, then by talker.
 #[derive(Drop)]
 pub(crate) struct OpenIntervals {
     /// A place for each possible flow. The first `len` places are in use.
@@ -36,7 +36,7 @@ impl Model for OpenIntervals {
 }
 
 impl OpenIntervals {
-    /// Makes an empty store. No other call allocates.
+    /// Creates an empty store. No other call allocates.
     pub(crate) fn new(alloc: Global) -> Result<Self, AllocError>
         ensures value { IfOk result (λ x. x ≡ []) }
     {
@@ -52,8 +52,8 @@ impl OpenIntervals {
         &self.places[..self.len]
     }
 
-    /// Moves on to a moment. Afterwards there is an interval for each flow that is open in the core, and `ended` has
-    /// those that end at this moment.
+    /// Advances to a moment. Afterwards, an interval is stored for each flow that is open in the core, and `ended`
+    /// holds the intervals that end at this moment.
     pub(crate) fn advance(&mut self, ended: &mut OpenIntervals, core: &Core, now: Moment)
         ensures value { (w : World) (past : List (List OpenFlow)) → StandsFor core.now.state w →
             now.tick ≡ length past → AreLasting past self.old →
@@ -66,7 +66,7 @@ impl OpenIntervals {
         ended.remove_continued(self);
     }
 
-    /// Replaces the stored intervals: each flow that is open in a core has one that begins at this moment.
+    /// Replaces the stored intervals: for each flow that is open in a core, stores one that begins at this moment.
     fn fill(&mut self, core: &Core, first: Moment)
         ensures value { (w : World) → StandsFor core.now.state w →
             self.new ≡ map (beginning_at first) (open_flows w.gateway) }
@@ -75,14 +75,14 @@ impl OpenIntervals {
         self.len = fill_places(&mut self.places, core, first);
     }
 
-    /// Lets each interval begin with the earlier one of the same flow, if there is one.
+    /// Gives each interval the beginning of the earlier interval of the same flow, if there is one.
     fn continue_from(&mut self, earlier: &OpenIntervals)
         ensures value { IsRising self.old → IsRising earlier.now → self.new ≡ map (continued earlier.now) self.old }
     {
         continue_front(&mut self.places, self.len, earlier.as_slice());
     }
 
-    /// Removes the intervals whose flows are among the next ones.
+    /// Removes the intervals whose flows have an interval in `next`.
     fn remove_continued(&mut self, next: &OpenIntervals)
         ensures value { IsRising self.old → IsRising next.now →
             self.new ≡ without_flows (flows_of next.now) self.old }
@@ -91,7 +91,8 @@ impl OpenIntervals {
     }
 }
 
-/// Continues the intervals in the first places.
+/// Gives each interval in the first `len` places the beginning of the earlier interval of the same flow, if there is
+/// one.
 fn continue_front(places: &mut [OpenInterval], len: usize, earlier: &[OpenInterval])
     requires within { len ≤ length places.old }
     ensures value { IsRising (take len places.old) → IsRising earlier.now →
@@ -100,7 +101,8 @@ fn continue_front(places: &mut [OpenInterval], len: usize, earlier: &[OpenInterv
     continue_each(&mut places[..len], earlier);
 }
 
-/// Keeps those of the intervals in the first places that have ended. Returns how many there are.
+/// Keeps only those intervals in the first `len` places whose flows have no interval in `next`. Returns how many there
+/// are.
 fn keep_front(places: &mut [OpenInterval], len: usize, next: &[OpenInterval]) -> usize
     requires within { len ≤ length places.old }
     ensures within { result ≤ len }

@@ -14,7 +14,7 @@ use mg_core::{Core, Peer, Record, TERMINATIONS};
 pub(crate) struct Party {
     pub(crate) number: u32,
     pub(crate) context: u32,
-    /// The address and port of its Remote.
+    /// The address and port of the termination's Remote, if it has one.
     pub(crate) at: Option<Peer>,
 }
 

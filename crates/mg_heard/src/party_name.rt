@@ -16,7 +16,7 @@ pub enum PartyName {
 }
 
 impl PartyName {
-    /// Parses `RTP/7`, an IPv4 address, or an IPv4 address with a port.
+    /// Parses `RTP/7`, an IPv4 address, or an IPv4 address with a port. Returns `None` if the text is anything else.
     pub fn of(text: &[u8]) -> Option<PartyName>
         ensures value { result ≡ party_name_of text.now }
     {
@@ -29,7 +29,7 @@ impl PartyName {
         Some(PartyName::Address(address_of(text)?))
     }
 
-    /// Returns whether this names a termination with this number and this Remote.
+    /// Returns whether the name applies to a termination with this number and this Remote.
     pub fn names(&self, number: u32, at: Option<Peer>) -> bool
         ensures value { result ≡ is_named self.now number at }
     {

@@ -11,9 +11,9 @@ use mg_dates::Date;
 /// Which intervals are asked for.
 #[derive(Clone, Copy, Debug, PartialEq, Eq)]
 pub struct Query {
-    /// `None` for any listener.
+    /// The listener, or `None` for any listener.
     pub listener: Option<PartyName>,
-    /// `None` for any talker.
+    /// The talker, or `None` for any talker.
     pub talker: Option<PartyName>,
     /// Leaves out intervals that end at this time or earlier.
     pub from: Option<Date>,
@@ -31,7 +31,7 @@ fn is_asked(name: Option<PartyName>, number: u32, at: Option<Peer>) -> bool
     }
 }
 
-/// Returns whether an interval begins before a time. An interval without a date may begin at any time.
+/// Returns whether an interval may begin before a time. An interval may begin at any time if its beginning has no date.
 fn begins_before(interval: &Interval, time: Date) -> bool
     ensures value { result ≡ begins_before interval.now time }
 {
@@ -41,7 +41,8 @@ fn begins_before(interval: &Interval, time: Date) -> bool
     }
 }
 
-/// Returns whether an interval ends after a time. An interval without an end or its date may end at any time.
+/// Returns whether an interval may end after a time. An interval may end at any time if it has no end, or if its end
+/// has no date.
 fn ends_after(interval: &Interval, time: Date) -> bool
     ensures value { result ≡ ends_after interval.now time }
 {
@@ -54,7 +55,7 @@ fn ends_after(interval: &Interval, time: Date) -> bool
     }
 }
 
-/// Returns whether an interval ends after a time, if there is one.
+/// Returns whether an interval may end after the time `from`, or true if `from` is `None`.
 fn ends_after_from(interval: &Interval, from: Option<Date>) -> bool
     ensures value { result ≡ option_map_or (ends_after interval.now) from true }
 {
@@ -64,7 +65,7 @@ fn ends_after_from(interval: &Interval, from: Option<Date>) -> bool
     }
 }
 
-/// Returns whether an interval begins before a time, if there is one.
+/// Returns whether an interval may begin before the time `until`, or true if `until` is `None`.
 fn begins_before_until(interval: &Interval, until: Option<Date>) -> bool
     ensures value { result ≡ option_map_or (begins_before interval.now) until true }
 {
@@ -75,7 +76,7 @@ fn begins_before_until(interval: &Interval, until: Option<Date>) -> bool
 }
 
 impl Query {
-    /// Asks for all intervals.
+    /// Returns a query that selects all intervals.
     pub fn all() -> Query
         ensures value { result ≡ record { listener = None; talker = None; from = None; until = None } }
     {
@@ -87,7 +88,7 @@ impl Query {
         }
     }
 
-    /// Returns whether an entry is asked for. Each gap is.
+    /// Returns whether the query selects an entry. A query selects every gap.
     pub fn selects_entry(&self, entry: &Entry) -> bool
         ensures value { result ≡ selects_entry self.now entry.now }
     {
@@ -97,7 +98,7 @@ impl Query {
         }
     }
 
-    /// Returns whether an interval is asked for.
+    /// Returns whether the query selects an interval.
     pub fn selects(&self, interval: &Interval) -> bool
         ensures value { result ≡ selects self.now interval.now }
     {
@@ -108,7 +109,7 @@ impl Query {
             && begins_before_until(interval, self.until)
     }
 
-    /// Returns whether an interval is asked for, and a time that the script covers lies in it.
+    /// Returns whether the query selects an interval, and the interval contains a time that the script covers.
     pub(crate) fn selects_at(&self, interval: &Interval, time: Date) -> bool
         ensures value { result ≡ (selects self.now interval.now && covers interval.now time) }
     {
@@ -116,7 +117,8 @@ impl Query {
     }
 }
 
-/// Returns whether an interval has begun at a time. One without a date began before the script's first date.
+/// Returns whether an interval has begun by a time. An interval whose beginning has no date began before the script's
+/// first date.
 fn has_begun(interval: &Interval, time: Date) -> bool
     ensures value { result ≡ has_begun interval.now time }
 {
@@ -126,8 +128,8 @@ fn has_begun(interval: &Interval, time: Date) -> bool
     }
 }
 
-/// Returns whether an interval ends after a time, or not at all. One whose end has no date ended before the script's
-/// first date.
+/// Returns whether an interval ends after a time, or not at all. An interval whose end has no date ended before the
+/// script's first date.
 fn lasts_beyond(interval: &Interval, time: Date) -> bool
     ensures value { result ≡ lasts_beyond interval.now time }
 {
@@ -140,7 +142,7 @@ fn lasts_beyond(interval: &Interval, time: Date) -> bool
     }
 }
 
-/// Returns whether a time that the script covers lies in an interval.
+/// Returns whether an interval contains a time that the script covers.
 fn covers(interval: &Interval, time: Date) -> bool
     ensures value { result ≡ covers interval.now time }
 {

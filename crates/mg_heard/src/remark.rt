@@ -14,7 +14,7 @@ pub(crate) enum Remark<'a> {
     Other,
 }
 
-/// Returns the number in a comment such as `# missed 1500 ticks`, if it is one.
+/// Returns the number in a comment such as `# missed 1500 ticks`, or `None` if the line is not such a comment.
 fn missed_in(line: &[u8]) -> Option<u64> {
     let rest = line.strip_prefix(b"# missed ".as_slice())?;
     let digits = rest.strip_suffix(b" ticks".as_slice())?;

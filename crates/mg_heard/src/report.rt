@@ -16,7 +16,7 @@ use std::alloc::{AllocError, Global};
 use std::io::Write;
 use std::marker::Model;
 
-/// Writes the intervals that a question asks for, and all gaps: a line for each.
+/// Writes a line for each interval that a query selects, and for each gap.
 #[derive(Drop)]
 pub struct Report<W: Write> {
     format: Format,
@@ -119,7 +119,7 @@ impl<W: Write> Report<W> {
         }
     }
 
-    /// Writes what precedes all lines: in CSV, the names of the columns.
+    /// Writes what precedes all lines: the names of the columns in CSV, and nothing in the other formats.
     pub fn begin(&mut self) -> Result<(), Stopped>
         ensures same { (self.new.format ≡ self.old.format) × (self.new.query ≡ self.old.query) }
         ensures head { OnOk result (Appends self.old.written self.new.written (head_of self.old.format)) }

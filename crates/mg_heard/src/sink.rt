@@ -6,10 +6,10 @@ use mg_core::Stopped;
 
 /// Receives the intervals of a script in the order in which they end, and its gaps when they begin.
 pub trait Sink {
-    /// Whether a sink in the first state reaches the second by receiving these entries, one after another.
+    /// Whether a sink in the first state reaches the second state by receiving these entries, one after another.
     ghost told: { Self → Self → List Entry → Type 0 };
 
-    /// Receives an entry. After an error, nothing more is passed.
+    /// Receives an entry. After an error, the sink receives nothing more.
     fn tell(&mut self, entry: &Entry) -> Result<(), Stopped>
         ensures value { (start : Self) (before : List Entry) → told start self.old before →
             OnOk result (told start self.new (before ++ entry.now ∷ [])) };

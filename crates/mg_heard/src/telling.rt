@@ -1,4 +1,4 @@
-//! Entries for a sink.
+//! Reports intervals and gaps to a sink.
 
 ghost use Rattle.std.specs.Prelude.{◌≡◌, ◌++◌, ◌∷◌, [], map, List, OnOk};
 ghost use Rattle.mg_heard.specs.aids.Keeping.{entry_until};
@@ -12,7 +12,7 @@ use crate::open_interval::OpenInterval;
 use crate::sink::Sink;
 use mg_core::Stopped;
 
-/// Tells a sink intervals that have this end, or none.
+/// Reports intervals to a sink, all with this end, or without an end if `end` is `None`.
 pub(crate) fn tell_intervals<S: Sink>(
     intervals: &[OpenInterval],
     end: Option<Moment>,
@@ -27,7 +27,7 @@ pub(crate) fn tell_intervals<S: Sink>(
     Ok(())
 }
 
-/// Tells a sink a gap.
+/// Reports a gap to a sink.
 pub(crate) fn tell_gap<S: Sink>(gap: Gap, sink: &mut S) -> Result<(), Stopped>
     ensures value { (start : S) (before : List Entry) → S.told start sink.old before →
         OnOk result (S.told start sink.new (before ++ entries.Gap gap ∷ [])) }

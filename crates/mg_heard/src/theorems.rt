@@ -10,12 +10,12 @@ ghost use Rattle.mg_heard.specs.declared.open_flow.OpenFlow.{OpenFlow};
 
 use mg_core::Event;
 
-/// Flows that are the same are equal, so what is printed about a flow determines it.
+/// What is printed about a flow determines the flow: two flows that are printed alike are equal.
 pub fn same_flows_are_equal()
     ensures theorem { (a b : OpenFlow) → (is_same a b ≡ true) ↔ (a ≡ b) }
 {}
 
-/// Any events on a gateway have intervals.
+/// Every list of events on a gateway has intervals.
 pub fn intervals_exist(events: &[Event])
     ensures theorem { (config : Config) → (ys : List Interval) × AreIntervals config events.now ys }
 {
@@ -31,8 +31,8 @@ pub fn intervals_are_unique()
     mg_core::theorems::outcomes_are_unique();
 }
 
-/// A pair and a tick lie in an interval exactly if the talker's speech flows to the listener in the world before that
-/// tick. What the interval says of their context and Remotes is true there too.
+/// An interval contains a tick for a pair if and only if the talker's speech flows to the listener in the world before
+/// that tick. What the interval says about the pair's context and Remotes is also true in that world.
 pub fn intervals_tell_the_flow()
     ensures flow { IntervalsTellTheFlow }
     ensures truth { IntervalsTellTheTruth }
@@ -40,12 +40,12 @@ pub fn intervals_tell_the_flow()
     mg_core::theorems::outcomes_are_unique();
 }
 
-/// The intervals are exactly those in which a flow is open before each tick, and that can't be extended.
+/// The intervals are exactly the maximal ones in which a flow is open before each tick.
 pub fn intervals_are_true_and_maximal()
     ensures theorem { IntervalsAreTrueAndMaximal }
 {}
 
-/// No pair is told twice for a tick.
+/// No pair is reported twice for the same tick.
 pub fn no_pair_is_told_twice()
     ensures theorem { NoPairIsToldTwice }
 {
@@ -59,8 +59,8 @@ pub fn rtp_changes_no_interval()
     mg_core::theorems::rtp_changes_speech_only();
 }
 
-/// Only control datagrams change what is open, and while that stays the same, no interval ends and the same intervals
-/// last.
+/// Only control datagrams change which flows are open. As long as the open flows stay the same, no interval ends and
+/// none begins.
 pub fn only_control_changes_intervals()
     ensures flows { OnlyControlChangesFlows }
     ensures moments { EqualMomentsTellNothing }

@@ -3,9 +3,9 @@ use crate::interval::Interval;
 /// The answer to a question about one time.
 #[derive(Clone, Copy, Debug, PartialEq, Eq)]
 pub enum Verdict {
-    /// With the first interval that is asked for and in which the time lies.
+    /// The answer is yes, as shown by the first interval that the query selects and that contains the time.
     CouldHear(Interval),
     CouldNotHear,
-    /// The time is before the script's first date, at its end or later, or in a gap.
+    /// The time is before the script's first date, at or after the script's end, or in a gap.
     Unknown,
 }

@@ -36,8 +36,8 @@ appended lines durability old = record old {
   synced = if is_synced durability then append_known old.text lines else old.synced;
 }
 
--- The journal is broken: nobody knows how many of the lines were written. If it was broken before,
--- none were.
+-- The journal is broken: nobody knows how many of the lines were written. If the journal was broken
+-- before, none of them were.
 pub record Breaks (lines : List ℕ) (old new : JournalState) : Type 0 where
   pub front : ℕ
   pub state : new ≡ record old {

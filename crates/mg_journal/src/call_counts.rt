@@ -10,7 +10,7 @@ pub(crate) struct CallCounts {
 }
 
 impl CallCounts {
-    /// Counts a call. Returns its number, counted from 0.
+    /// Counts a call. Returns how many calls of the same kind came before it.
     pub(crate) fn count(&mut self, call: FileCall) -> u64 {
         let before = *self;
         match call {

@@ -5,7 +5,7 @@ use crate::opening::Opening;
 use std::fs::{Files, OpenFile, OpenOptions};
 use std::io::{self, ErrorKind, Read, Seek, SeekFrom, Write};
 
-/// A file of the operating system. Contracts say nothing about it, so its behavior is only tested.
+/// A file of the operating system. Contracts say nothing about the file, so its behavior is tested, not proved.
 #[derive(Drop)]
 pub struct DiskFile<T: Read + Write + Seek + OpenFile + Drop> {
     file: T,
@@ -36,7 +36,7 @@ impl<T: Read + Write + Seek + OpenFile + Drop> JournalFile for DiskFile<T> {
         self.file.write(bytes)
     }
 
-    /// Fails if the file is shorter, because the system would extend it with zeros.
+    /// Fails if the file is shorter than `len`, because the system would extend it with zeros.
     fn cut(&mut self, len: u64) -> io::Result<()> {
         if self.file.metadata()?.len() < len {
             return Err(io::Error::from(ErrorKind::UnexpectedEof));

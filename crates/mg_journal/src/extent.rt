@@ -19,7 +19,7 @@ impl Extent {
         Extent { whole: 0, all: 0 }
     }
 
-    /// Returns the extent of a text that grew by `part`, unless its length does not fit in 64 bits.
+    /// Returns the extent after `part` is appended to the text, or `None` if the new length does not fit in 64 bits.
     pub(crate) fn after(self, part: &[u8]) -> Option<Extent>
         ensures value { (text : List ℕ) → IsExtent self text →
             IfSome result (λ extent. IsExtent extent (text ++ part.now)) }

@@ -51,7 +51,7 @@ impl<F: JournalFile> FileJournal<F> {
         &self.file
     }
 
-    /// Returns the file error behind the most recent failed append.
+    /// Returns the most recent file error that made an append fail, or `None` if there was none.
     pub fn last_error(&self) -> Option<&io::Error> {
         self.last_error.as_ref()
     }

@@ -10,8 +10,8 @@ pub trait Journal {
     /// What is known about the journal.
     ghost journal: { Self → JournalState };
 
-    /// Appends all the lines or, unless the journal breaks, none of them. The last line must end in a line feed.
-    /// `durability` says when the call returns.
+    /// Appends all of the lines or none, unless the journal breaks. The last line must end in a line feed. `durability`
+    /// says when the call returns.
     fn append(&mut self, lines: &[u8], durability: Durability) -> Result<(), AppendFault>
         requires line_feed { EndsInLineFeed lines.now }
         ensures value { Appends lines.now durability (journal self.old) (journal self.new) result };

@@ -7,7 +7,7 @@ pub trait JournalFile {
     /// What is known about the file.
     ghost file: { Self → FileState } = { λ _. unknown };
 
-    /// Reads bytes at an offset. Returns how many bytes were read, and 0 if the file ends there.
+    /// Reads bytes at an offset. Returns how many bytes were read, which is 0 if the file ends there.
     fn read(&mut self, at: u64, buffer: &mut [u8]) -> io::Result<usize>
         ensures value { ReadsAt at buffer.new (file self.old) (file self.new) result };
 
@@ -15,7 +15,7 @@ pub trait JournalFile {
     fn write(&mut self, bytes: &[u8]) -> io::Result<usize>
         ensures value { WritesSome bytes.now (file self.old) (file self.new) result };
 
-    /// Cuts the file to a length, if it is longer.
+    /// Truncates the file to this length, if the file is longer.
     fn cut(&mut self, len: u64) -> io::Result<()>
         ensures value { Cuts len (file self.old) (file self.new) result };
 

@@ -18,8 +18,8 @@
 //!
 //! `specs/Text.antt` defines complete lines, and `specs/Journal.antt` what [`Journal::append`] does. The proof of a
 //! [`FileJournal`] relies only on what `specs/JournalFile.antt` says about a [`JournalFile`]. A [`MemoryFile`] is
-//! proved to satisfy that. Nothing is proved about a [`DiskFile`], because no contract says what the system does with a
-//! file.
+//! proved to do what `specs/JournalFile.antt` says. Nothing is proved about a [`DiskFile`], because no contract says
+//! what the system does with a file.
 #![tactic(auto)]
 
 mod append_fault;

@@ -19,7 +19,7 @@ pub struct MemoryFile {
     ghost front: { synced ≤ length bytes.items },
 }
 
-/// Copies as much of `from` as fits.
+/// Copies as much of `from` as fits. Returns how many bytes were copied.
 fn copy_front(from: &[u8], to: &mut [u8]) -> usize
     ensures count { result ≡ min (length from.now) (length to.old) }
     ensures copied { to.new ≡ take result from.now ++ drop result to.old }
@@ -57,7 +57,7 @@ impl MemoryFile {
         &self.bytes.as_slice()[..self.synced]
     }
 
-    /// Begins a call. Returns the number of bytes after which the call stops.
+    /// Begins a call. Returns the number of bytes after which the call stops, or the error that is injected into it.
     fn begin(&mut self, call: FileCall) -> io::Result<usize>
         ensures bytes { self.new.bytes ≡ self.old.bytes }
         ensures synced { self.new.synced ≡ self.old.synced }

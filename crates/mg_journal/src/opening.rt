@@ -38,7 +38,7 @@ impl<F: JournalFile> Model for Opening<F> {
     ghost invariant = { λ o. HasExtent (F.file o.file) o.extent × IsSound (F.file o.file) × (o.read ≤ o.extent.whole) };
 }
 
-/// Reads the next bytes of a file, and adds them to the measured extent. Returns `None` if the file ends there.
+/// Reads the next bytes of a file, and adds them to the measured extent. Returns `None` at the end of the file.
 fn measure_part<F: JournalFile>(
     extent: Extent,
     buffer: &mut [u8],
@@ -60,7 +60,7 @@ fn measure_part<F: JournalFile>(
     }
 }
 
-/// Measures a file.
+/// Returns the extent of a file.
 fn measure<F: JournalFile>(file: &mut F) -> io::Result<Extent>
     ensures same { F.file file.new ≡ F.file file.old }
     ensures extent { IfOk result (λ extent. HasExtent (F.file file.old) extent) }
@@ -91,7 +91,7 @@ fn cut_partial<F: JournalFile>(extent: Extent, file: &mut F) -> io::Result<()>
 }
 
 impl<F: JournalFile> Opening<F> {
-    /// Finds the complete lines of a file. This reads the whole file, and doesn't change it.
+    /// Finds the complete lines of a file. Reads the whole file, and doesn't change it.
     pub fn new(mut file: F) -> io::Result<Self>
     where
         F: Drop,

@@ -39,7 +39,7 @@ impl Kept {
         Ok(Kept { places, len: 0 })
     }
 
-    /// Returns the kept reply to the sender's request with this number.
+    /// Returns the kept reply to the sender's request with this number, or `None` if none is kept.
     pub fn find(&self, sender: &[u8], number: u32) -> Option<&[u8]>
         ensures value { MatchOption result (kept_text self.now sender.now number ≡ None)
             (λ text. kept_text self.now sender.now number ≡ Some text.now) }

@@ -7,8 +7,8 @@
 //! }
 //! ```
 //!
-//! Contracts apply to readers whose remaining input is known, and to writers whose content is known. Both are known for
-//! in-memory readers and writers. `specs/Lines.antt` defines what a line is.
+//! Contracts apply to readers whose remaining input is known, and to writers whose content is known. The input of an
+//! in-memory reader and the content of an in-memory writer are always known. `specs/Lines.antt` defines what a line is.
 #![tactic(auto)]
 
 mod line;

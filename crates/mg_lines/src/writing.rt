@@ -4,8 +4,8 @@ ghost use Rattle.mg_lines.specs.aids.Writing.{WritesSome};
 use crate::write_failed::WriteFailed;
 use std::io::{ErrorKind, Write};
 
-/// Passes `text` to a writer once. Returns how many bytes the writer wrote (0 if the write was interrupted). A writer
-/// that writes zero bytes counts as failed.
+/// Calls a writer once to write `text`. Returns how many bytes the writer wrote (0 if the write was interrupted). A
+/// writer that writes zero bytes counts as failed.
 fn write_some<W: Write>(text: &[u8], writer: &mut W) -> Result<usize, WriteFailed>
     ensures value { WritesSome text.now (W.contents writer.old) (W.contents writer.new) result }
 {

@@ -45,7 +45,7 @@ impl Delays {
         self.micros = self.micros.saturating_add(micros);
     }
 
-    /// Writes the samples of this histogram. `labels` are its other labels, without braces.
+    /// Writes the samples of this histogram. `labels` are the labels that all its samples have, without braces.
     pub fn write<W: Write>(&self, name: &str, labels: &str, writer: &mut W) -> io::Result<()> {
         for (within, (_, limit)) in self.within.iter().zip(BUCKETS) {
             writeln!(

@@ -121,7 +121,7 @@ pub fn put_journal<W: Write>(report: &TickReport<'_>, page: &mut Page<'_, W>) ->
     )
 }
 
-/// Returns a port's number and totals, if a termination has the port or datagrams have arrived at it.
+/// Returns a port's number and totals, or `None` if no termination has the port and no datagram has arrived at it.
 fn seen_port(report: &TickReport<'_>, ports: &[PortTotals], slot: u8) -> Option<(u16, PortTotals)> {
     if u16::from(slot) >= report.config.slots {
         return None;

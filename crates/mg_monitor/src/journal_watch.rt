@@ -17,7 +17,8 @@ impl JournalWatch {
         }
     }
 
-    /// Notes the journal's state after a tick. Returns a line for the operator if the state changed.
+    /// Takes note of the journal's state after a tick. Returns a line for the operator if the state changed, and `None`
+    /// otherwise.
     pub fn take(&mut self, report: &JournalReport) -> Option<&'static str> {
         let has_failed = report.failed > self.failed;
         // Each tick adds one to the ticks that the journal lacks, unless an append succeeded.

@@ -1,8 +1,8 @@
 //! What an operator sees of a gateway: reports on standard error, and metrics for Prometheus.
 //!
-//! Both are [`Monitor`](mg_serve::Monitor)s of a server, so they can't change what the gateway does. [`Reports`] prints
-//! the totals since the start and a line for each media port that has had trouble. [`Metrics`] passes text in
-//! Prometheus' format to a [`Sink`] every five seconds. [`Both`] combines two monitors into one.
+//! [`Reports`] and [`Metrics`] are [`Monitor`](mg_serve::Monitor)s of a server, so they can't change what the gateway
+//! does. [`Reports`] prints the totals since the start and a line for each media port that has had trouble. [`Metrics`]
+//! passes text in Prometheus' format to a [`Sink`] every five seconds. [`Both`] combines two monitors into one.
 //!
 //! ```rust
 //! let mut monitor = Reports::new(alloc, 60, &mut errors)?;

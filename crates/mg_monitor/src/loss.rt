@@ -7,13 +7,13 @@ const WINDOW: u16 = 64;
 /// Counts RTP packets that never arrived, by their sequence numbers (RFC 3550, A.3).
 ///
 /// A packet counts as lost once a packet with a sequence number at least 64 higher has arrived, or once another stream
-/// begins: with a packet that has another SSRC, or is [`MAX_DROPOUT`] or more ahead, or more than [`MAX_MISORDER`]
-/// behind. So reordered packets don't count as lost, and the count never falls.
+/// begins. A stream begins with a packet that has another SSRC, or whose sequence number is [`MAX_DROPOUT`] or more
+/// ahead or more than [`MAX_MISORDER`] behind. So reordered packets don't count as lost, and the count never falls.
 #[derive(Clone, Copy, Debug, PartialEq, Eq)]
 pub struct Loss {
     ssrc: u32,
     newest: u16,
-    /// Which of the last 64 sequence numbers arrived. Bit 0 is the newest one.
+    /// Which of the last 64 sequence numbers arrived. Bit 0 is the newest.
     arrived: u64,
     /// How many of the last 64 sequence numbers belong to the stream. It is 0 before the first packet.
     known: u16,

@@ -111,7 +111,7 @@ impl<'a, C: Clock, S: Sink + Drop> Metrics<'a, C, S> {
         put_ports(report, self.ports.as_slice(), &mut page)
     }
 
-    /// Returns the totals of a media socket. Media sockets are numbered from 1.
+    /// Returns the totals of a media socket, or `None` for any other socket. Media sockets are numbered from 1.
     fn port(&mut self, socket: u16) -> Option<&mut PortTotals> {
         self.ports.get_mut(usize::from(socket).wrapping_sub(1))
     }

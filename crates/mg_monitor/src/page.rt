@@ -22,13 +22,13 @@ impl<'a, W: Write> Page<'a, W> {
         writeln!(self.writer, "# TYPE lobbysorrel_{name} {kind}")
     }
 
-    /// Writes a sample without any other label.
+    /// Writes a sample whose only label names the gateway.
     pub fn sample<V: Display>(&mut self, name: &str, value: &V) -> io::Result<()> {
         let gateway = self.gateway;
         writeln!(self.writer, "lobbysorrel_{name}{{{gateway}}} {value}")
     }
 
-    /// Writes a sample with another label.
+    /// Writes a sample with one more label.
     pub fn sample_for<L: Display, V: Display>(
         &mut self,
         name: &str,

@@ -70,8 +70,9 @@ impl PortCounts {
         }
     }
 
-    /// Returns whether the caller would sound bad (packets were lost, dropped, late, too early or duplicated, frames
-    /// were concealed, or the play list restarted), or whether somebody else sent packets to the port.
+    /// Returns whether the caller would sound bad, or somebody else sent packets to the port. A caller sounds bad if
+    /// packets were lost, dropped, late, too early or duplicated, if frames were concealed, or if the play list
+    /// restarted.
     pub fn has_trouble(&self) -> bool {
         let [started, _, pushed, again, late] = self.counts.placed;
         started > 1

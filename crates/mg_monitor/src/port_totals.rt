@@ -12,7 +12,7 @@ pub struct PortTotals {
     /// Missing frames that were replaced by the previous one.
     pub concealed: u64,
     pub loss: Loss,
-    /// How many ticks had passed when a play list last accepted a packet, if one has.
+    /// How many ticks had passed when a play list last accepted a packet, or `None` if none has been accepted.
     heard: Option<u64>,
 }
 

@@ -17,8 +17,8 @@ type Text = ArrayVec<u8, 512>;
 /// Prints reports for an operator.
 ///
 /// At the given interval, it prints the totals since the start, and a line for each media port that has had trouble
-/// since the last report. After a stall, it prints how many packets were too late to be sent. If the journal can't be
-/// written, or can be written again, it says so at once. It skips what it can't print.
+/// since the last report. After a stall, it prints how many packets were too late to be sent. If appends to the journal
+/// begin to fail or work again, it says so at once. It skips what it can't print.
 #[derive(Drop)]
 pub struct Reports<'a, E: Write> {
     every: u64,
@@ -47,7 +47,7 @@ impl<'a, E: Write> Reports<'a, E> {
         })
     }
 
-    /// Returns the counts of a media socket. Media sockets are numbered from 1.
+    /// Returns the counts of a media socket, or `None` for any other socket. Media sockets are numbered from 1.
     fn port(&mut self, socket: u16) -> Option<&mut PortCounts> {
         self.ports.get_mut(usize::from(socket).wrapping_sub(1))
     }
@@ -153,8 +153,8 @@ impl<'a, E: Write> Monitor for Reports<'a, E> {
     }
 }
 
-/// Returns the number of the termination, if its caller should send packets: the termination has a Local and is set to
-/// talk.
+/// Returns the number of the termination if its caller should send packets, and `None` otherwise. The caller should
+/// send packets if the termination has a Local and a mode in which it talks.
 fn expected(held: Option<Record>) -> Option<u32> {
     match held {
         Some(record) if record.local.is_some() && mode_talks(record.mode) => Some(record.number),

@@ -23,7 +23,8 @@ fn report_error<E: Write>(error: &io::Error, errors: &mut E) -> Status
     Status::Usage
 }
 
-/// Returns the running program's arguments without its name. If they cannot be read, returns the exit status.
+/// Returns the arguments of the running program, without the program's name. If they cannot be read, returns the exit
+/// status.
 ///
 /// Reading them fails if an argument is not valid UTF-8, which is a usage error, or if memory runs out. Errors are
 /// reported to `errors`.

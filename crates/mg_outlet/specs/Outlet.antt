@@ -9,7 +9,7 @@ use Rattle.mg_outlet.specs.declared.outlet.Outlet.{Outlet}
 use Rattle.mg_outlet.specs.declared.overflow.Overflow.{Overflow}
 use Rattle.mg_outlet.specs.declared.overflow.Overflow.TheVariants.{End, Skip}
 
--- whether all text is dropped after the first that didn't fit
+-- whether all later text is dropped once a text didn't fit
 abbrev pub ends : Overflow → Bool
 ends End = true
 ends Skip = false
@@ -23,7 +23,7 @@ module _ {W R : Type 0} where
   abbrev pub limit : Outlet W R → ℕ
   limit o = o.queue.capacity
 
-  -- which text is dropped once a text doesn't fit
+  -- what is dropped when a text doesn't fit in the queue
   abbrev pub overflow : Outlet W R → Overflow
   overflow o = o.overflow
 

@@ -15,17 +15,18 @@ use std::io::{self, Write};
 use std::net::Net;
 use std::os::fd::AsRawFd;
 
-/// The maximum number of chunks that one flush passes on: 1 MiB.
+/// The maximum number of chunks that one flush passes on (1 MiB in total).
 const FLUSH_CHUNKS: u16 = 256;
 
 /// A writer that never waits for its reader.
 ///
 /// A write adds all of its text to a queue in memory, or none of it. [`flush`](Write::flush) passes on what it can
-/// without waiting, in order. So does [`write`](Write::write), if 4,096 bytes are queued already. A flush passes on at
-/// most 1 MiB and a write at most 4,096 bytes, so even a reader that catches up doesn't delay the caller for long.
+/// without waiting, in order. So does [`write`](Write::write), if at least 4,096 bytes are queued already. A flush
+/// passes on at most 1 MiB and a write at most 4,096 bytes, so even a reader that catches up doesn't delay the caller
+/// for long.
 ///
-/// If the other writer fails, each later call returns its error, and nothing more is written. If it was interrupted or
-/// would have waited, the outlet tries again later.
+/// If the other writer fails, each later call returns its error, and nothing more is written. If that writer was
+/// interrupted or would have waited, the outlet tries again later.
 #[derive(Drop)]
 pub struct Outlet<W, R> {
     writer: W,
@@ -38,7 +39,8 @@ pub struct Outlet<W, R> {
 }
 
 impl<W: Write + AsRawFd + Drop> Outlet<W, SystemReady> {
-    /// Creates an outlet for a descriptor, such as standard output. It asks the system whether a write would wait.
+    /// Creates an outlet for a descriptor, such as standard output. The outlet asks the system whether a write would
+    /// wait.
     ///
     /// A regular file or `/dev/null` is always ready: a write to it goes to the page cache. A terminal may report that
     /// it is ready with less than 4,096 bytes free, so a write to it can wait.

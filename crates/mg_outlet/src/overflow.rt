@@ -1,4 +1,4 @@
-/// Which text an outlet drops once its queue has no room for a text.
+/// What an outlet drops when a text doesn't fit in its queue.
 #[derive(Clone, Copy, Debug, PartialEq, Eq)]
 pub enum Overflow {
     /// Drops that text and all later text. The reader gets a prefix of everything that was written.

@@ -77,7 +77,7 @@ fn pass_chunk<W: Write>(queue: &mut HeapCircularBuffer<u8>, writer: &mut W) -> i
     Ok(())
 }
 
-/// Returns the oldest bytes of a queue, at most 4,096 and at least one if it isn't empty.
+/// Returns the oldest bytes of a queue: at most 4,096, and at least one unless the queue is empty.
 fn oldest(queue: &HeapCircularBuffer<u8>) -> &[u8]
     ensures front { StartsWith queue.now.items result.now }
     ensures small { length result.now ≤ 4096 }

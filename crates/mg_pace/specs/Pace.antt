@@ -39,7 +39,7 @@ abbrev pub Waits : Pace → ℕ → ℕ → Type 0
 Waits p t d = IsTimeTo p.polls (steps_past p) t d
 
 -- What happens at these readings, in order, with these waits: one after each reading, except after
--- a last one at which the run ends.
+-- a last reading at which the run ends.
 abbrev pub Paces : Pace → List ℕ → List ℕ → Pace → Type 0
 Paces p [] [] q = q ≡ p
 Paces p [] (d ∷ ds) q = ⊥

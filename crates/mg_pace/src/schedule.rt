@@ -6,7 +6,7 @@ use mg_clock::{MAX_POLLS, steps_due, time_to_step};
 use std::marker::Model;
 use std::time::Duration;
 
-/// The maximum number of ticks that are written at once after a delay: one second's worth. Older ones are skipped.
+/// The maximum number of ticks that are written at once after a delay: one second's worth. Older ticks are skipped.
 const CATCH_UP: u64 = 50;
 
 /// The progress of a run. A step is a poll. The last poll in every 20 ms comes with a tick.

@@ -69,7 +69,7 @@ const ENDLESS: Options = Options {
     polls: 1,
 };
 
-/// Counts the lines `tick`.
+/// Counts the `tick` lines.
 fn ticks(lines: &[u8]) -> usize {
     lines.iter().filter(|byte| **byte == b't').count()
 }

@@ -5,7 +5,7 @@ use Rattle.mg_playout.specs.declared.played.Played.{Played}
 use Rattle.mg_playout.specs.declared.played.Played.TheVariants.{Silence, Frame, Concealed}
 
 -- what is played, given the frame that is due and the last frame. A missing frame is replaced by
--- the last one, halved toward zero.
+-- the last frame, halved toward zero.
 abbrev pub given : Option (List ℤ) → Option (List ℤ) → Played
 given (Some frame) last = Frame frame
 given None (Some last) = Concealed (map halved last)

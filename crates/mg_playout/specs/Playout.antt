@@ -65,11 +65,11 @@ abbrev pub is_idle : Phase → Bool
 is_idle Idle = true
 is_idle _ = false
 
--- whether the list has no source yet, or another one
+-- whether the list has no source yet, or another source
 abbrev pub is_new_source : PlayList → ℕ → Bool
 is_new_source list ssrc = option_map_or (λ source. not (ssrc == source.ssrc)) list.source true
 
--- how far a frame is ahead of the next one, if there is a source
+-- how far a frame is ahead of the next sequence number, if there is a source
 abbrev pub distance_in : PlayList → ℕ → ℤ
 distance_in list sequence =
     option_map_or (λ source. distance_of source.next sequence) list.source (pos 0)

@@ -1,9 +1,9 @@
 //! The jitter buffer, called a play list: RTP frames in order of sequence number.
 //!
-//! It plays one frame in each tick of 20 ms.
+//! A play list plays one frame in each tick of 20 ms.
 //!
 //! A [`Playout`] has a place for each of the next sequence numbers (RFC 3550, section 5.1); the number of places is its
-//! depth. A frame is placed by its sequence number, no matter when it arrives. After it starts, the list waits half as
+//! depth. A frame is placed by its sequence number, no matter when it arrives. After the list starts, it waits half as
 //! many ticks as it has places, so that late and reordered frames can still find their places. Then each tick plays the
 //! next frame, until none is left. A missing frame is replaced by the previous one at half its level; if the next frame
 //! is missing too, silence is played for it.

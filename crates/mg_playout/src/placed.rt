@@ -3,12 +3,12 @@
 pub enum Placed {
     /// The play list restarted with this frame, and dropped all others.
     Started,
-    /// The frame was put at its place.
+    /// The frame was stored at the position for its sequence number.
     Placed,
-    /// The frame was put at the last place. Frames at the first places were dropped to make room.
+    /// The frame was stored at the end. Frames at the front were dropped to make room.
     Pushed,
-    /// A frame with this sequence number is already there. The new one was dropped.
+    /// The play list already had a frame with this sequence number. The new frame was dropped.
     Again,
-    /// This sequence number's turn is over. The frame was dropped.
+    /// The play list had already passed this sequence number. The frame was dropped.
     Late,
 }

@@ -83,7 +83,7 @@ impl Places {
         matches!(self.ring.get(place + 1), Some(Some(_)))
     }
 
-    /// Puts a frame at a place.
+    /// Stores a frame at a place.
     pub(crate) fn put(&mut self, place: usize, frame: Frame)
         requires { place < length self.old.places }
         ensures last { self.new.last ≡ self.old.last }
@@ -95,7 +95,7 @@ impl Places {
         }
     }
 
-    /// Drops all frames and puts one at place 0.
+    /// Drops all frames, and stores a new one at place 0.
     pub(crate) fn start(&mut self, frame: Frame)
         ensures last { self.new.last ≡ None }
         ensures places { self.new.places ≡ started_with frame (length self.old.places) }
@@ -135,7 +135,7 @@ impl Places {
         played
     }
 
-    /// Returns whether the last frame would be played in place of a missing frame at place 0.
+    /// Returns whether the frame at place 0 is missing and the last frame would be played instead.
     pub(crate) fn conceals(&self) -> bool
         ensures { result ≡ is_concealed (given (frame_at self.now.places 0) self.now.last) }
     {

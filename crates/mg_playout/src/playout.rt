@@ -45,7 +45,7 @@ impl Playout {
 
     /// Creates an idle play list without a source, with a depth of four places.
     ///
-    /// It allocates memory for the maximum depth. Fails only if the allocation fails.
+    /// Allocates memory for the maximum depth. Fails only if the allocation fails.
     pub fn new(alloc: Global) -> Result<Self, AllocError>
         ensures first { IfOk result (λ playout. playout ≡ first_list) }
     {
@@ -80,8 +80,8 @@ impl Playout {
         }
     }
 
-    /// Advances by 20 ms, and returns the frame that is due. A missing frame is replaced by the last one at half its
-    /// level.
+    /// Advances by 20 ms, and returns the frame that is due. A missing frame is replaced by the previous one at half
+    /// its level.
     pub fn tick(&mut self) -> Played
         ensures step { ticked self.old ≡ (self.new, result) }
         ensures frame { IfSome (sound_of result) IsFrame }
@@ -105,7 +105,7 @@ impl Playout {
         }
     }
 
-    /// Returns whether the next tick plays the last frame in place of a missing one.
+    /// Returns whether the next frame is missing and the next tick plays the last frame instead.
     pub fn conceals(&self) -> bool
         ensures value { result ≡ is_concealed ((ticked self.now).1) }
     {
@@ -130,7 +130,7 @@ impl Playout {
         self.places.set_depth(depth);
     }
 
-    /// Resets to a new play list, with a depth of four places.
+    /// Resets the play list to its initial state: idle, without a source, with a depth of four places.
     pub fn clear(&mut self)
         ensures first { self.new ≡ first_list }
     {

@@ -57,7 +57,8 @@ pub fn other_frames_keep_their_numbers()
 
 /// Without new frames, a running play list plays its frames in order of sequence number, one per tick.
 ///
-/// If a place is empty, no received frame is played for it. A list that is waiting does the same once its wait is over.
+/// If a place is empty, no received frame is played for it. A waiting list plays its frames in this way once its wait
+/// is over.
 pub fn ticks_give_frames_in_order()
     ensures run { (list : PlayList) (ticks : ℕ) → list.phase ≡ Phase.Run →
         given_after ticks list ≡ given_at list.places list.last ticks }

@@ -16,8 +16,8 @@ use mg_journal::{AppendFault, Durability, FileJournal, Journal, MemoryFile};
 use mg_words::Peer;
 use std::alloc::{AllocError, Global};
 
-/// In-memory ports for tests. Each call is logged, as long as there is memory for it. They have no journal unless one
-/// is added. Lines are appended to it without comments.
+/// In-memory ports for tests. Each call is logged, as long as there is memory for it. The ports have no journal unless
+/// one is added; lines are appended to it without comments.
 #[derive(Drop)]
 pub struct FakePorts {
     alloc: Global,
@@ -68,7 +68,7 @@ impl FakePorts {
         }
     }
 
-    /// Returns the file of the journal, if there is a journal.
+    /// Returns the file of the journal, or `None` if there is no journal.
     pub fn journal_file(&self) -> Option<&MemoryFile> {
         match &self.journal {
             Some(journal) => Some(journal.file()),

@@ -4,7 +4,7 @@
 //!
 //! [`Ports`] is what a gateway needs from its sockets and its journal: to receive a datagram without blocking, to send
 //! one, to append lines to the journal, and to count the receives and sends that failed. [`FakePorts`] provides
-//! in-memory ports for tests: it returns given datagrams, fails on chosen calls, and logs each call.
+//! in-memory ports for tests: it returns given datagrams, makes chosen calls fail, and logs each call.
 //!
 //! ```rust
 //! let mut ports = FakePorts::new(alloc, waiting, failing);
@@ -15,8 +15,9 @@
 //! ```
 //!
 //! Contracts describe ports by the calls on them (`specs/Calls.antt`) and by what those calls do to the journal
-//! (`specs/Journaled.antt`). Ports may log each receive with its result, each send with its arguments, and each append
-//! with both, in one list, which shows their order. Ports on the operating system's sockets log nothing.
+//! (`specs/Journaled.antt`). Ports may log the calls in one list, which shows their order: each receive with its
+//! result, each send with its arguments, and each append with its arguments and result. Ports on the operating system's
+//! sockets log nothing.
 #![tactic(auto)]
 
 mod arrival;

@@ -30,7 +30,7 @@ impl Log {
         }
     }
 
-    /// Appends a call. If it is `None`, the list is lost.
+    /// Appends a call. If the call is `None`, the list is lost.
     pub fn add_call(&mut self, call: Option<Call>)
         ensures value { LogsNext self.old self.new call }
     {

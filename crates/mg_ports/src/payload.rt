@@ -18,7 +18,7 @@ impl Model for Payload {
 }
 
 impl Payload {
-    /// Creates a copy of these bytes.
+    /// Creates a payload with a copy of these bytes.
     pub fn new(alloc: Global, bytes: &[u8]) -> Result<Self, AllocError>
         ensures value { IfOk result (λ p. p ≡ bytes.now) }
     {

@@ -26,8 +26,8 @@ pub trait Ports {
 
     /// Receives a datagram if one is waiting.
     ///
-    /// Returns how many bytes it put at the front of the buffer, and the datagram's source. It never blocks. A datagram
-    /// that is longer than the buffer is truncated.
+    /// Stores the datagram at the front of the buffer, and returns its length and its source. Returns `None` if no
+    /// datagram is waiting. Never blocks. A datagram that is longer than the buffer is truncated.
     fn receive(
         &mut self,
         socket: usize,
@@ -38,7 +38,7 @@ pub trait Ports {
         ensures fault { OnErr result (IsCounted (failed self.old) (failed self.new)) }
         ensures journal { journal self.new ≡ journal self.old };
 
-    /// Sends a datagram. It never blocks.
+    /// Sends a datagram. Never blocks.
     fn send(&mut self, socket: usize, to: Peer, bytes: &[u8]) -> Result<(), PortFault>
         ensures logged { Logged (calls self.old) (calls self.new) (Send socket to bytes.now ∷ []) }
         ensures fault { OnErr result (IsCounted (failed self.old) (failed self.new)) }
@@ -50,8 +50,8 @@ pub trait Ports {
         ensures logged { Logged (calls self.old) (calls self.new) (BeginTick timing ∷ []) }
         ensures journal { journal self.new ≡ journal self.old };
 
-    /// Appends either all of the lines to the journal or none, unless the journal breaks. The last line must end in a
-    /// line feed. A comment with the time of day may precede the lines. Fails if there is no journal.
+    /// Appends all of the lines to the journal or none, unless the journal breaks. The last line must end in a line
+    /// feed. A comment with the time of day may precede the lines. Fails if there is no journal.
     fn append(&mut self, lines: &[u8], durability: Durability) -> Result<(), AppendFault>
         requires line_feed { EndsInLineFeed lines.now }
         ensures logged { Logged (calls self.old) (calls self.new) (Append lines.now durability result ∷ []) }

@@ -12,7 +12,7 @@ use Rattle.mg_serve.specs.Journaled.{tick_lines}
 abbrev pub title_line : Config → List ℕ
 title_line config = codes "# " ++ (title_text config ++ codes "\n")
 
--- A journal that is new, so that no times are known of it, begins with its title.
+-- A new journal, for which no times are known, begins with its title.
 abbrev pub title_before : Option Timeline → Config → List ℕ
 title_before None config = title_line config
 title_before (Some timeline) config = []

@@ -110,7 +110,7 @@ config_at address control found = record standard {
   timestamp = number_or 4294967296 (codes "timestamp") standard.timestamp found;
 }
 
--- the address that an option names, or another one if it isn't given
+-- the address that an option names, or another address if the option isn't given
 abbrev pub address_in : Text → List ℕ → List Row → Result (List ℕ) AddressFault
 address_in name otherwise found = option_map_or own_address (first_of name found) (Ok otherwise)
 

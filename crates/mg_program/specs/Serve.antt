@@ -41,8 +41,9 @@ FailsToStart config Failed = Unit {0}
 FailsToStart config BadJournal = Unit {0}
 FailsToStart config status = ⊥
 
--- How the configuration of a gateway is chosen, given the one that the options name. Numbers may be
--- drawn, or a journal has another configuration, which agrees with the options that are given.
+-- How the configuration of a gateway is chosen, given the configuration that the options name.
+-- Numbers may be drawn, or a journal has another configuration, which agrees with the options that
+-- are given.
 abbrev pub IsChosen : (journal : Option (List ℕ)) → Given → Draws → (config chosen : Config) → Type 0
 IsChosen None given draws config chosen = IsDrawn draws config chosen
 IsChosen (Some path) given draws config chosen =
@@ -109,7 +110,7 @@ ServesChosen remaining contents config service input rest old new status =
     outcome)
     ⊎ (FailsToStart config status × (rest ≡ input) × (new ≡ old))
 
--- A configuration was chosen without drawing a number, or there is none.
+-- A configuration was chosen without drawing a number, or the gateway failed to start.
 abbrev pub Serves : {R W : Type 0} → (R → Option (List ℕ)) → (W → Option (List ℕ)) → Config
     → Service → R → R → W → W → Status → Type 0
 Serves remaining contents config service input rest old new status =
@@ -140,7 +141,7 @@ ServesChosenByClock contents config service late old new status =
     × ServesByClockOnPorts config service late (contents old) (contents new) fault)
     ⊎ (FailsToStart config status × (new ≡ old))
 
--- A configuration was chosen, and perhaps some numbers were drawn; or there is none.
+-- A configuration was chosen, and perhaps some numbers were drawn; or the gateway failed to start.
 abbrev pub ServesByClock : {W : Type 0} → (W → Option (List ℕ)) → Config → Service → Draws → ℕ → W
     → W → Status → Type 0
 ServesByClock contents config service draws late old new status =

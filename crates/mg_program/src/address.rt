@@ -4,14 +4,14 @@ ghost use Rattle.mg_program.specs.Address.{bind_address, is_multicast, own_addre
 use crate::bind_address_fault::BindAddressFault;
 use mg_words::address_of;
 
-/// Why a string is not an address that a gateway can have.
+/// Why a string can't be a gateway's own address.
 #[derive(Clone, Copy, Debug, PartialEq, Eq)]
 pub enum AddressFault {
-    /// It is not an IPv4 address in dotted decimal.
+    /// The string is not an IPv4 address in dotted decimal.
     Unreadable,
-    /// It is 0.0.0.0, which means all addresses of a machine: nobody can send to it.
+    /// The address is 0.0.0.0, which means all addresses of a machine: nobody can send to it.
     Unspecified,
-    /// It is 224.0.0.0 or above: a multicast, reserved or broadcast address.
+    /// The address is 224.0.0.0 or above: a multicast, reserved or broadcast address.
     Multicast,
 }
 

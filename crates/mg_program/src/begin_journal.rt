@@ -14,7 +14,7 @@ use std::io::Write;
 use std::time::Clock;
 
 /// Starts appending to the journal, if there is one, and skips the ticks that the gateway missed. If that fails,
-/// returns the program's exit status. A fault is reported to `errors`.
+/// reports the fault to `errors` and returns the program's exit status.
 pub fn begin_journal<'a, F: JournalFile, C: Clock, E: Write>(
     alloc: Global,
     config: &Config,

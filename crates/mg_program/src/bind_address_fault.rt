@@ -1,9 +1,9 @@
-/// Why a text is not an address to bind sockets to.
+/// Why a string can't be an address to bind sockets to.
 #[derive(Clone, Copy, Debug, PartialEq, Eq)]
 pub enum BindAddressFault {
-    /// It is not an IPv4 address in dotted decimal.
+    /// The string is not an IPv4 address in dotted decimal.
     Unreadable,
-    /// It is 224.0.0.0 or above: a multicast, reserved or broadcast address.
+    /// The address is 224.0.0.0 or above: a multicast, reserved or broadcast address.
     Multicast,
 }
 

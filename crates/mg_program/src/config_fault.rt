@@ -21,7 +21,7 @@ pub enum ConfigFault {
 }
 
 impl ConfigFault {
-    /// Returns the first invalid option, if there is one.
+    /// Returns the first invalid option, or `None` if the configuration is valid.
     pub fn of(config: &Config) -> Option<Self>
         ensures sound { IfNone result (IsValidConfig config.now) }
         ensures fault { IfSome result (λ fault. ¬ IsValidConfig config.now) }

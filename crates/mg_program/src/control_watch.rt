@@ -10,7 +10,7 @@ const GAP_MS: u64 = 1;
 
 /// The system's monotonic clock. A datagram at the control socket ends a wait.
 ///
-/// The wait after that lasts at least a millisecond, so a flood of messages ends at most a thousand waits a second.
+/// The next wait lasts at least a millisecond, so a flood of messages can end at most a thousand waits per second.
 #[derive(Drop)]
 pub struct ControlWatch<'a, C: Clock> {
     watch: SystemWatch<'a, C>,

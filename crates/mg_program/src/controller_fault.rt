@@ -1,9 +1,9 @@
 /// Why a list of strings is not a valid list of controllers.
 #[derive(Clone, Copy, Debug, PartialEq, Eq)]
 pub enum ControllerFault {
-    /// One of them is not an IPv4 address in dotted decimal.
+    /// A string is not an IPv4 address in dotted decimal.
     Unreadable,
-    /// There are more than eight.
+    /// There are more than eight strings.
     TooMany,
 }
 

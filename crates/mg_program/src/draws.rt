@@ -14,7 +14,7 @@ pub struct Draws {
 }
 
 impl Draws {
-    /// No number is drawn.
+    /// Returns the choice to draw no number.
     pub fn none() -> Self
         ensures value { result ≡ no_draws }
     {

@@ -23,7 +23,7 @@ impl Model for FilePath {
 }
 
 impl FilePath {
-    /// Creates a path from a text.
+    /// Creates a path from a string. Fails if the string is empty or too long.
     pub fn of(text: &str) -> Result<Self, FilePathFault>
         ensures value { result ≡ file_path text.now }
     {

@@ -1,9 +1,9 @@
-/// Why a text is not the path of a file.
+/// Why a string can't be the path of a file.
 #[derive(Clone, Copy, Debug, PartialEq, Eq)]
 pub enum FilePathFault {
-    /// It is empty.
+    /// The string is empty.
     Empty,
-    /// It has more than 4,000 bytes.
+    /// The string has more than 4,000 bytes.
     TooLong,
 }
 

@@ -23,7 +23,7 @@ type TitleLine = ArrayVec<u8, TITLE_ROOM>;
 /// The maximum number of ticks in one append.
 const BATCH: usize = 1000;
 
-/// The lines for as many ticks as one append may hold.
+/// The lines for the maximum number of ticks in one append.
 const TICK_LINES: [[u8; 5]; BATCH] = [*b"tick\n"; BATCH];
 
 /// A journal before anything is appended to it.

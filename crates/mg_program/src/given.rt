@@ -19,7 +19,7 @@ pub struct Given {
 }
 
 impl Given {
-    /// Returns the first given option whose value differs between two configurations.
+    /// Returns the first given option whose value differs between two configurations, or `None` if there is none.
     pub fn first_difference(&self, wanted: &Config, actual: &Config) -> Option<&'static str>
         ensures value { IfNone result (Agrees self.now wanted.now actual.now) }
     {

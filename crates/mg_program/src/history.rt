@@ -25,7 +25,7 @@ pub struct History {
     pub timeline: Timeline,
 }
 
-/// Returns the title at the start of a journal's text: the first line, if it is a comment.
+/// Returns the title at the start of a journal's text: the first line, if it is a comment, and `None` otherwise.
 fn title_in(front: &[u8]) -> Option<&[u8]> {
     let end = front.iter().position(|b| *b == b'\n')?;
     front[..end].strip_prefix(b"# ".as_slice())
@@ -77,7 +77,7 @@ fn fault_of(fault: RunFault) -> JournalFault {
 }
 
 impl History {
-    /// Runs the events of a journal, or returns `None` if it is empty. Sends nothing.
+    /// Runs the events of a journal without sending anything, or returns `None` if the journal is empty.
     pub fn of<F: JournalFile>(
         alloc: Global,
         given: &Given,

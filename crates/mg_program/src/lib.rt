@@ -10,8 +10,8 @@
 //!
 //! [`requested_run`] returns what the arguments ask for. [`Sockets`] holds a gateway's sockets, which are bound at
 //! startup. None of its calls blocks, and a media socket is not read unless the system reported a datagram.
-//! [`UdpPorts`] lends them to a session (`mg_serve`), and sends no packet in a late tick. [`ControlWatch`] is a clock
-//! that also waits for messages.
+//! [`UdpPorts`] lends the sockets to a session (`mg_serve`), and sends no packet in a late tick. [`ControlWatch`] is a
+//! clock that also waits for messages.
 //!
 //! `specs/Program.antt` defines how a run ends, and `specs/Options.antt` defines what the arguments ask for.
 #![tactic(auto)]

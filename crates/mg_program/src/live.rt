@@ -101,7 +101,7 @@ fn live_on_sockets<J: Journal + Drop, C: Clock, W: Write, M: Monitor>(
 }
 
 /// Runs a gateway on UDP ports, driven by the system's clock: a poll and a tick every 20 ms, and a poll when a message
-/// arrives in between. It ends only on a fault, which is reported to `errors`.
+/// arrives in between. Ends only on a fault, which is reported to `errors`.
 ///
 /// The gateway is new, with some numbers drawn at random, or resumes from the journal.
 ///
@@ -243,8 +243,8 @@ fn monitor<'a, C: Clock, F: Files, E: Write, T: Write>(
     Ok(Both { first, second })
 }
 
-/// Starts a clock that watches the control socket. If that fails, returns the program's exit status. A fault is
-/// reported to `errors`.
+/// Starts a clock that watches the control socket. If that fails, reports the fault to `errors` and returns the
+/// program's exit status.
 fn watch_control<'a, N: Net, C: Clock, E: Write>(
     net: &N,
     clock: &'a C,

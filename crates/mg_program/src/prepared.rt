@@ -52,7 +52,7 @@ impl<F: JournalFile> Prepared<F> {
     }
 }
 
-/// Creates a new gateway. If that fails, returns the program's exit status. A fault is reported to `errors`.
+/// Creates a new gateway. If that fails, reports the fault to `errors` and returns the program's exit status.
 fn new_gateway<G: RandomSource, F: JournalFile, E: Write>(
     random: &G,
     alloc: Global,
@@ -98,8 +98,8 @@ where
     }
 }
 
-/// Prepares a gateway: a new one, or one that resumes from the journal. If that fails, returns the program's exit
-/// status. A fault is reported to `errors`.
+/// Prepares a gateway: a new one, or one that resumes from the journal. If that fails, reports the fault to `errors`
+/// and returns the program's exit status.
 ///
 /// Nothing is sent, and nothing is written to a journal.
 pub fn prepare<G: RandomSource, F: Files, E: Write>(

@@ -51,8 +51,8 @@ impl Readiness {
             .register(socket, Token(slot), Interest::READABLE)
     }
 
-    /// Asks the system which sockets have received a datagram since the last call. It doesn't block. If the system
-    /// can't report, all sockets count as ready.
+    /// Asks the system which sockets have received a datagram since the last call. Doesn't block. If the system can't
+    /// report, all sockets count as ready.
     pub fn refresh(&mut self)
         ensures kept { AreStillReady self.old self.new }
     {

@@ -55,7 +55,7 @@ fn check_metrics<F: Files, E: Write>(
 }
 
 /// Binds the ports of a prepared gateway, checks that its metrics can be written, and starts appending to its journal.
-/// If that fails, returns the program's exit status. A fault is reported to `errors`.
+/// If that fails, reports the fault to `errors` and returns the program's exit status.
 pub fn make_ready<'a, N: Net, C: Clock, G: RandomSource, F: Files, J: JournalFile + Drop, E: Write>(
     system: &System<'a, N, C, G, F>,
     alloc: Global,

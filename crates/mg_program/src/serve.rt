@@ -33,7 +33,7 @@ use std::net::Net;
 use std::random::RandomSource;
 use std::time::Clock;
 
-/// Binds the sockets of a gateway. If that fails, returns the program's exit status. A fault is reported to `errors`.
+/// Binds the sockets of a gateway. If that fails, reports the fault to `errors` and returns the program's exit status.
 ///
 /// An invalid configuration is reported before a port is bound.
 pub fn bind<N: Net, E: Write>(
@@ -127,8 +127,8 @@ fn serve_on_sockets<J: Journal + Drop, C: Clock, R: Read, W: Write, M: Monitor>(
 /// Runs a gateway on UDP ports, driven by input lines. The gateway is new, or resumes from the journal. A fault is
 /// reported to `errors`. Periodic reports, if they are enabled, go to `reports`.
 ///
-/// An invalid configuration is reported before a port is bound, and a port that can't be bound is reported before a
-/// line is read and before anything is appended to the journal.
+/// An invalid configuration is reported before a port is bound. A port that can't be bound is reported before a line is
+/// read, and before anything is appended to the journal.
 pub fn serve<N: Net, C: Clock, G: RandomSource, F: Files, R: Read, W: Write, E: Write, T: Write>(
     system: &System<'_, N, C, G, F>,
     alloc: Global,

@@ -47,7 +47,7 @@ impl Service {
         )
     }
 
-    /// Returns the title of the output, if it is a recording.
+    /// Returns the title of the output if it is a recording, and `None` otherwise.
     pub fn title<'t>(&self, text: &'t [u8]) -> Option<&'t [u8]>
         ensures value { option_map (λ title. title.now) result ≡ if_recorded self.now.records text.now }
     {

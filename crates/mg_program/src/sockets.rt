@@ -126,7 +126,7 @@ impl Sockets {
         }
     }
 
-    /// Returns the socket of a slot, if it has one.
+    /// Returns the socket of a slot, or a fault if the slot has no socket.
     fn socket(&self, slot: usize) -> Result<&UdpSocket, PortFault> {
         match self.sockets.get(slot) {
             Some(Some(socket)) => Ok(socket),

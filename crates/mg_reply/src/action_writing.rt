@@ -105,7 +105,7 @@ fn close(draft: &mut Draft, is_empty: bool)
     }
 }
 
-/// Appends an item, preceded by the mark, if the item is of this kind. Returns whether the next part is the first.
+/// Appends an item, preceded by the mark, if the item is of this kind. Returns whether the list still has no parts.
 #[tactic(auto, using(crate::proofs::ListedLemmas::one_other), unfolding(crate::specs::Listed::listed))]
 fn put_if_of(
     draft: &mut Draft,
@@ -129,7 +129,7 @@ fn put_if_of(
 
 /// Appends the items of a kind, with `opening` before the first part of the list and commas between parts.
 ///
-/// Returns whether the next part is the first.
+/// Returns whether the list still has no parts.
 fn put_all(
     draft: &mut Draft,
     opening: &[u8],
@@ -148,7 +148,7 @@ fn put_all(
     is_next_first
 }
 
-/// Appends the topology as the first entry. Returns whether the next entry is the first.
+/// Appends the topology as the first entry. Returns whether no entry has been written yet.
 fn put_topology(draft: &mut Draft, items: &[Item]) -> bool
     ensures value { draft.new ≡ drafted draft.old
         (listed (codes "{") (topology_entry (texts_of EntryKind.Triples items.now))) }

@@ -47,7 +47,7 @@ impl Bytes {
         })
     }
 
-    /// Returns a buffer without capacity that uses another buffer's allocator. It does not allocate.
+    /// Returns a buffer without capacity that uses another buffer's allocator. Does not allocate.
     pub(crate) fn empty_like(other: &Bytes) -> Self
         ensures value { result ≡ record { text = []; room = 0 } }
     {
@@ -82,7 +82,7 @@ impl Bytes {
         self.len = end;
     }
 
-    /// Appends a name. If there is room, it copies all 16 bytes of the name's storage.
+    /// Appends a name. If there is room, copies all 16 bytes of the name's storage.
     pub(crate) fn push_name(&mut self, name: &RtpName)
         requires fits { length name.now ≤ self.old.room }
         ensures value { self.new ≡ appended self.old name.now }

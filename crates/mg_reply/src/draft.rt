@@ -49,7 +49,7 @@ impl Draft {
         }
     }
 
-    /// Appends to the reply, unless that makes it too long.
+    /// Appends to the reply, unless that would make it too long.
     #[tactic(auto, unfolding(crate::specs::aids::Draft::drafted))]
     pub fn put(&mut self, part: &[u8])
         ensures value { self.new ≡ drafted self.old part.now }
@@ -62,7 +62,7 @@ impl Draft {
         }
     }
 
-    /// Appends a name to the reply, unless that makes it too long.
+    /// Appends a name to the reply, unless that would make it too long.
     #[tactic(auto, unfolding(crate::specs::aids::Draft::drafted))]
     pub fn put_name(&mut self, name: &RtpName)
         ensures value { self.new ≡ drafted self.old name.now }
@@ -77,7 +77,7 @@ impl Draft {
 
     /// Returns the buffer, and whether the reply was too long.
     ///
-    /// If it was, the buffer is unchanged; otherwise it contains the whole reply.
+    /// If the reply was too long, the buffer is unchanged. Otherwise, the buffer contains the whole reply.
     pub fn close(self) -> (Bytes, bool)
         ensures value { closed self result.0 result.1 }
     {

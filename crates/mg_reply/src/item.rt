@@ -10,11 +10,11 @@ use mg_words::{Association, CommandWord, ContextId, ErrorNumber, Term};
 /// A part of a reply.
 #[derive(Drop)]
 pub enum Item {
-    /// Who hears whom between two terminations of the action's context.
+    /// Two terminations of the action's context, and which of them hears the other.
     Triple(RtpName, RtpName, Association),
     /// A command that was tried, the termination that it names, and its outcome.
     Command(CommandWord, Term, Outcome),
-    /// The error that rejects an action or, if this is the only item, the whole request.
+    /// The error for a rejected action or, if this is the only item, for the whole request.
     Fault(ErrorNumber),
     /// The end of an action in this context. The action consists of the items since the end of the previous action.
     /// They are written in the order topology, commands, errors, regardless of the order in which they were added.
@@ -34,7 +34,7 @@ impl Item {
         }
     }
 
-    /// Returns the context of the action that ends with this item, if any.
+    /// Returns the context of the action that ends with this item, or `None` if no action ends with it.
     pub(crate) fn action_id(&self) -> Option<ContextId>
         ensures value { result ≡ action_id self.now }
     {

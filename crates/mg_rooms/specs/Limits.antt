@@ -15,7 +15,8 @@ pub record HasPool (limits : Limits) : Type 0 where
   pub even : limits.base_port % 2 ≡ 0
   pub last : slot_port limits (limits.slots - 1) ≤ 65535
 
--- the first numbers are valid: context 0 is the null context, and those above the last are $ and *
+-- the first numbers are valid: context 0 is the null context, and the numbers above the last
+-- context's denote $ and *
 pub record HasFirstNumbers (limits : Limits) : Type 0 where
   pub termination : 0 < limits.first_termination
   pub context : 0 < limits.first_context

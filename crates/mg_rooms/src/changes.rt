@@ -54,7 +54,7 @@ impl Tables {
         }
     }
 
-    /// Removes a member from its context, which ends if it has no other member.
+    /// Removes a member from its context. The context ends if it has no other member.
     pub(crate) fn leave(&mut self, old: Member)
         ensures value { self.new ≡ left self.old old.record.context old.record.number }
     {

@@ -28,7 +28,7 @@ impl Target {
 }
 
 impl Tables {
-    /// Returns the termination that a command names.
+    /// Returns the termination that a command names, or an error if it doesn't exist.
     pub(crate) fn named(&self, number: u32) -> Result<Record, ErrorNumber>
         ensures value { result ≡ named self.now number }
         ensures there { IfOk result (λ r. record_at self.now r.number ≡ Some r) }
@@ -46,7 +46,8 @@ impl Tables {
         }
     }
 
-    /// Checks that a termination may enter the action's context.
+    /// Checks that a termination may enter the action's context. Fails for the null context, and for a context that
+    /// doesn't exist.
     pub(crate) fn may_enter(&self, target: Target) -> Result<(), ErrorNumber>
         ensures value { result ≡ may_enter self.now target }
     {
@@ -67,7 +68,7 @@ impl Tables {
         }
     }
 
-    /// Returns a member of the action's context.
+    /// Returns a member of the action's context, or the error with which a command on it is rejected.
     pub(crate) fn member(&self, target: Target, number: u32) -> Result<Record, ErrorNumber>
         ensures value { result ≡ member self.now target number }
         ensures there { IfOk result (λ r. record_at self.now r.number ≡ Some r) }
@@ -82,7 +83,7 @@ impl Tables {
         }
     }
 
-    /// Returns the slot for a new termination.
+    /// Returns the slot for a new termination, or an error if slots or termination numbers are exhausted.
     pub(crate) fn new_slot(&self) -> Result<u8, ErrorNumber>
         ensures value { result ≡ new_slot self.now }
         ensures free { IfOk result (λ slot. free_slot self.now ≡ Some slot) }
@@ -125,7 +126,7 @@ impl Tables {
         }
     }
 
-    /// Returns the place where a termination enters the action's context.
+    /// Returns the place where a termination enters the action's context, or the error if it can't enter.
     pub(crate) fn new_place(&self, target: Target) -> Result<EntryPlace, ErrorNumber>
         ensures value { result ≡ new_place self.now target }
         ensures can { IfOk result (CanEnter self.now) }
@@ -137,7 +138,7 @@ impl Tables {
         }
     }
 
-    /// Returns a termination with a command's settings applied.
+    /// Returns a termination with a command's settings applied, or the error if the Local or Remote is not acceptable.
     pub(crate) fn with_settings(
         &self,
         settings: &Settings,

@@ -22,7 +22,7 @@ pub fn empty_table<T: Drop>(alloc: Global, len: usize) -> Result<Vec<Option<T>>,
     Ok(table)
 }
 
-/// Returns the first empty entry.
+/// Returns the index of the first empty entry, or `None` if no entry is empty.
 #[tactic(auto, using(crate::proofs::TableLemmas::position_within))]
 pub fn empty_place<T>(table: &[Option<T>]) -> Option<usize>
     ensures value { result ≡ position_from is_none 0 table.now }
@@ -31,14 +31,14 @@ pub fn empty_place<T>(table: &[Option<T>]) -> Option<usize>
     table.iter().position(|entry| entry.is_none())
 }
 
-/// Returns whether a slot has the termination with this number.
+/// Returns whether a slot holds the termination with this number.
 fn has_termination(entry: &Option<Record>, number: u32) -> bool
     ensures { result ≡ has_key (λ r. r.number) number entry.now }
 {
     entry.is_some_and(|record| record.number == number)
 }
 
-/// Returns whether a room has the context with this number.
+/// Returns whether a room holds the context with this number.
 fn has_context(entry: &Option<Context>, number: u32) -> bool
     ensures { result ≡ has_key (λ x. x.number) number entry.now }
 {
@@ -48,7 +48,7 @@ fn has_context(entry: &Option<Context>, number: u32) -> bool
     }
 }
 
-/// Finds the slot of a termination: first at the hint, and then by searching.
+/// Finds a termination's slot: tries the hint first, then searches. Returns `None` if no slot holds the termination.
 pub fn slot_of(slots: &[Option<Record>], hint: u8, number: u32) -> Option<usize>
     requires once { HoldsOnce (λ r. r.number) slots.now }
     ensures value { result ≡ position_from (has_key (λ r. r.number) number) 0 slots.now }
@@ -63,7 +63,7 @@ pub fn slot_of(slots: &[Option<Record>], hint: u8, number: u32) -> Option<usize>
     }
 }
 
-/// Finds the room of a context: first at the hint, and then by searching.
+/// Finds a context's room: tries the hint first, then searches. Returns `None` if no room holds the context.
 pub fn room_of(rooms: &[Option<Context>], hint: u8, number: u32) -> Option<usize>
     requires once { HoldsOnce (λ x. x.number) rooms.now }
     ensures value { result ≡ position_from (has_key (λ x. x.number) number) 0 rooms.now }
@@ -103,7 +103,7 @@ pub fn held_seats(slots: &[Option<Record>], context: u32) -> [bool; MEMBERS]
     held
 }
 
-/// Returns the first free seat.
+/// Returns the first free seat, or `None` if every seat is held.
 pub fn first_free(held: &[bool; MEMBERS]) -> Option<usize>
     ensures value { result ≡ position_from not 0 held.now }
     ensures in_range { IfSome result (λ seat. seat < MEMBERS) }

@@ -1,7 +1,7 @@
 /// The number of hints: one for each value of the last eight bits of a number.
 const HINTS: usize = 256;
 
-/// The places where numbers were last put in a table, indexed by the last eight bits of the number.
+/// For each value of a number's last eight bits, the place in a table where such a number was last stored.
 ///
 /// Numbers that differ by 256 share a hint. So a hint only says where to look first, and the caller compares the number
 /// there.
@@ -16,7 +16,7 @@ impl Hints {
         Hints { places: [0; HINTS] }
     }
 
-    /// Records where a number was put.
+    /// Records where a number was stored.
     pub(crate) fn note(&mut self, number: u32, place: u8) {
         self.places[number as usize % HINTS] = place;
     }

@@ -6,8 +6,8 @@
 //! room to a context, and a seat to a member of a context. Slots, rooms and seats are small numbers that are reused, so
 //! that the crates above can use fixed-size tables. Termination and context numbers only go up, and none is used twice.
 //!
-//! Each command names the action's context as a [`Target`] and, except for an Add, a termination by its number. The
-//! command either succeeds, or is rejected by the first check that fails, and nothing changes:
+//! Each command names the action's context as a [`Target`] and, except for an Add, a termination by its number. Either
+//! the command succeeds, or the first check that fails rejects it and nothing changes:
 //!
 //! ```rust
 //! let mut rooms = Rooms::new(alloc, limits)?;
@@ -21,7 +21,7 @@
 //! In contracts, a [`Rooms`] appears as a registry: the terminations and contexts in numerical order
 //! (`specs/Registry.antt`). The contract of each call states the outcome of its command on that registry
 //! (`specs/Outcome.antt`). It also states that the new registry is sound (`specs/aids/Sound.antt`), and what the call
-//! leaves unchanged (`specs/Lasting.antt`). Each call returns the termination with the room of its context.
+//! leaves unchanged (`specs/Lasting.antt`). Each call returns the termination, together with the room of its context.
 //! [`theorems`] states when a resource is exhausted.
 #![tactic(auto)]
 

@@ -21,7 +21,7 @@ impl Model for Members {
 }
 
 impl Members {
-    /// Returns the members of a new context: its first member.
+    /// Returns the members of a new context, which has only this member.
     pub(crate) fn alone(number: u32) -> Members
         ensures value { result ≡ number ∷ [] }
     {
@@ -62,7 +62,7 @@ impl Members {
     }
 }
 
-/// Returns the first position at which a member occurs.
+/// Returns the first position at which a member occurs, or `None` if it doesn't occur.
 fn place_of(members: &[u32], number: u32) -> Option<usize>
     ensures value { result ≡ position_from (λ m. m == number) 0 members.now }
     ensures in_range { IfSome result (λ place. place < length members.now) }

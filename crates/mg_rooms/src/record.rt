@@ -12,9 +12,9 @@ pub struct Record {
     pub number: u32,
     /// The number of its context.
     pub context: u32,
-    /// The slot that it holds until it is subtracted, below the gateway's number of slots.
+    /// The slot, below the gateway's number of slots, which the termination holds until it is subtracted.
     pub slot: u8,
-    /// The seat that it holds while it is in this context, below [`MEMBERS`](crate::MEMBERS).
+    /// The seat, below [`MEMBERS`](crate::MEMBERS), which the termination holds while it is in this context.
     pub seat: u8,
     /// The mode of its stream.
     pub mode: Mode,

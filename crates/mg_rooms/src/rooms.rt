@@ -52,7 +52,7 @@ impl Rooms {
         Ok(Rooms { tables })
     }
 
-    /// Returns the termination with this number.
+    /// Returns the termination with this number, or `None` if it doesn't exist.
     pub fn record(&self, number: u32) -> Option<Record>
         ensures value { result ≡ record_at self.now number }
         ensures slot { IfSome result (λ r. r.slot < self.now.limits.slots) }
@@ -60,7 +60,7 @@ impl Rooms {
         self.tables.record(number)
     }
 
-    /// Returns the termination with this number and the room of its context.
+    /// Returns the termination with this number and the room of its context, or `None` if it doesn't exist.
     pub fn member(&self, number: u32) -> Option<Member>
         ensures some { IfSome result (ExistsAs self.now number) }
         ensures none { IfNone result (record_at self.now number ≡ None) }
@@ -77,7 +77,7 @@ impl Rooms {
         self.tables.members(context)
     }
 
-    /// Returns the room of a context, below [`CONTEXTS`](crate::CONTEXTS).
+    /// Returns the room of a context, below [`CONTEXTS`](crate::CONTEXTS), or `None` if the context doesn't exist.
     ///
     /// No other existing context has the same room.
     pub fn room(&self, context: u32) -> Option<u8>
@@ -86,7 +86,7 @@ impl Rooms {
         self.tables.room(context)
     }
 
-    /// Returns the termination in a slot.
+    /// Returns the termination in a slot, or `None` if the slot is free.
     pub fn held(&self, slot: u8) -> Option<Record>
         ensures value { result ≡ holder_of self.now slot }
         ensures slot { IfSome result (λ r. r.slot < self.now.limits.slots) }
@@ -94,7 +94,7 @@ impl Rooms {
         self.tables.held(slot)
     }
 
-    /// Returns the number of the termination in a slot.
+    /// Returns the number of the termination in a slot, or `None` if the slot is free.
     pub fn at_slot(&self, slot: u8) -> Option<u32>
         ensures value { result ≡ option_map (λ r. r.number) (holder_of self.now slot) }
     {
@@ -102,7 +102,7 @@ impl Rooms {
         Some(record.number)
     }
 
-    /// Returns a member of the action's context, or the error for a command that names it.
+    /// Returns a member of the action's context, or the error with which a command on it is rejected.
     pub fn find(&self, target: Target, number: u32) -> Result<Record, ErrorNumber>
         ensures value { result ≡ member self.now target number }
     {

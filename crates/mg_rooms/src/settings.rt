@@ -77,7 +77,7 @@ impl Settings {
     }
 }
 
-/// Returns the choice from a Local's alternatives, if there are any.
+/// Returns the choice from a Local's alternatives, if there are any. Fails if none of them is acceptable.
 #[tactic(auto, using(crate::proofs::SettingsLemmas::rules))]
 fn chosen_local(
     sessions: &Sessions,
@@ -93,7 +93,7 @@ fn chosen_local(
     Ok(Some(chosen))
 }
 
-/// Returns the choice from a Remote's alternatives, if there are any.
+/// Returns the choice from a Remote's alternatives, if there are any. Fails if none of them is acceptable.
 #[tactic(auto, using(crate::proofs::SettingsLemmas::rules))]
 fn chosen_remote(sessions: &Sessions) -> Result<Option<Chosen>, ErrorNumber>
     ensures value { result ≡ offered remote_choice sessions.now }

@@ -59,7 +59,7 @@ impl Tables {
         })
     }
 
-    /// Returns the record of a termination.
+    /// Returns the record of a termination, or `None` if it doesn't exist.
     pub(crate) fn record(&self, number: u32) -> Option<Record>
         ensures value { result ≡ record_at self.now number }
         ensures slot { IfSome result (λ r. r.slot < self.now.limits.slots) }
@@ -82,7 +82,7 @@ impl Tables {
         }
     }
 
-    /// Returns the room of a context.
+    /// Returns the room of a context, or `None` if it doesn't exist.
     pub(crate) fn room(&self, context: u32) -> Option<u8>
         ensures value { result ≡ option_map (λ x. x.room) (context_at self.now context) }
     {
@@ -103,7 +103,7 @@ impl Tables {
         }
     }
 
-    /// Returns the record of the termination in a slot.
+    /// Returns the record of the termination in a slot, or `None` if the slot is free.
     pub(crate) fn held(&self, slot: u8) -> Option<Record>
         ensures value { result ≡ holder_of self.now slot }
         ensures slot { IfSome result (λ r. r.slot < self.now.limits.slots) }
@@ -116,7 +116,7 @@ impl Tables {
         }
     }
 
-    /// Returns the lowest free slot.
+    /// Returns the lowest free slot, or `None` if no slot is free.
     pub(crate) fn free_slot(&self) -> Option<u8>
         ensures value { result ≡ free_slot self.now }
         ensures below { IfSome result (λ slot. slot < self.now.limits.slots) }
@@ -125,7 +125,7 @@ impl Tables {
         Some(slot as u8)
     }
 
-    /// Returns the lowest free seat of the context.
+    /// Returns the lowest free seat of the context, or `None` if no seat is free.
     pub(crate) fn free_seat(&self, context: u32) -> Option<u8>
         ensures value { result ≡ free_seat self.now context }
     {

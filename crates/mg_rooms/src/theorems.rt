@@ -35,8 +35,8 @@ pub fn exhausted_resources_are_refused()
         ((CONTEXTS ≤ length w.contexts) ⊎ (LAST_CONTEXT < w.next_context)) }
 {}
 
-/// A new gateway is consistent, and every command preserves that. So it is consistent after any sequence of commands. A
-/// proof can use this fact even where no tables are in scope.
+/// A new gateway is consistent, and every command preserves consistency. So it is consistent after any sequence of
+/// commands. A proof can use this fact even where no tables are in scope.
 pub fn outcomes_are_consistent()
     ensures start { (limits : Limits) → AreValidLimits limits → limits.first_termination ≤ LAST_TERMINATION →
         IsConsistent (start_of limits) }

@@ -10,7 +10,7 @@ use Rattle.mg_rtp.specs.Header.{Layout}
 use Rattle.mg_rtp.specs.Packet.{Begins, AreSources, IsExtension}
 
 -- the bytes end before the four bytes that start an extension, or before the words that the last
--- two of these count
+-- two of these four bytes count
 abbrev pub EndsInExtension : List ℕ → Type 0
 EndsInExtension rest = (length rest < 4) ⊎ (length rest < 4 + 4 * big_number 2 (drop 2 rest))
 

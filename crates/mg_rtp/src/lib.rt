@@ -1,7 +1,7 @@
 //! Reads and writes RTP packets (RFC 3550, section 5.1).
 //!
 //! [`read`] parses a datagram and borrows its payload. [`write`] builds a packet from one frame of 160 samples. Neither
-//! allocates.
+//! function allocates.
 //!
 //! ```rust
 //! let header = Header { marker: true, payload_type: 0, sequence: 7, timestamp: 1120, ssrc: 99 };

@@ -25,7 +25,7 @@ const SOURCE_COUNT: u8 = 0x0f;
 /// The marker bit of the second byte.
 const MARKER: u8 = 0x80;
 
-/// Parses a datagram of any length as a packet.
+/// Parses a datagram of any length as a packet, or returns the first fault in it.
 ///
 /// The payload starts after the header, the contributing sources and the extension, which are skipped. It ends before
 /// the padding.

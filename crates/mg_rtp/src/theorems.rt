@@ -13,7 +13,7 @@ pub fn one_packet()
         IsPacket bytes h p → IsPacket bytes k q → (h ≡ k) × (p ≡ q) }
 {}
 
-/// Every datagram is either exactly one packet, or has exactly one fault.
+/// Every datagram either is exactly one packet or has exactly one fault.
 pub fn one_reading(bytes: &[u8])
     ensures some { (reading : Reading) × IsPacketReading bytes.now reading }
     ensures at_most_one { (list : List ℕ) (a b : Reading) → IsPacketReading list a → IsPacketReading list b → a ≡ b }

@@ -1,7 +1,7 @@
 /// Why a source has no more tokens.
 #[derive(Clone, Copy, Debug, PartialEq, Eq)]
 pub enum ScanFault {
-    /// A byte starts no token, or a session description contains a zero byte.
+    /// A byte can't start a token, or a session description contains a zero byte.
     BadByte,
     /// A line or the source ends before a quotation mark is closed.
     OpenQuote,

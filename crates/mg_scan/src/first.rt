@@ -10,7 +10,8 @@ use crate::octets::content_len;
 use memchr::memchr3;
 use mg_words::is_word_byte;
 
-/// Returns the quoted text that the bytes start with, given that the first byte is a quotation mark.
+/// Returns the quoted text that the bytes start with, or the fault if it is not closed. The first byte must be a
+/// quotation mark.
 fn quoted_at(bytes: &[u8]) -> Option<Result<Found, ScanFault>>
     requires { 0 < length bytes.now }
     ensures { FindsAs bytes.now (quoted_at (drop 1 bytes.now)) result }
@@ -52,7 +53,7 @@ fn token_at(bytes: &[u8]) -> Option<Result<Found, ScanFault>>
     }
 }
 
-/// Returns the session description that the bytes start with, given that the first byte is a brace.
+/// Returns the session description that the bytes start with, or the fault in it. The first byte must be a brace.
 fn octets_at(bytes: &[u8]) -> Option<Result<Found, ScanFault>>
     requires { 0 < length bytes.now }
     ensures { FindsAs bytes.now (octets_at (drop 1 bytes.now)) result }
@@ -78,8 +79,8 @@ fn octets_at(bytes: &[u8]) -> Option<Result<Found, ScanFault>>
     }))
 }
 
-/// Returns the token that the bytes start with. `named` says whether the token before it announces a session
-/// description.
+/// Returns the token that the bytes start with, or `None` if there are no bytes. `named` says whether the previous
+/// token announces a session description.
 #[tactic(auto, unfolding(crate::specs::Tokens::token_after))]
 pub fn token_after(named: bool, bytes: &[u8]) -> Option<Result<Found, ScanFault>>
     ensures { FindsAs bytes.now (token_after named bytes.now) result }

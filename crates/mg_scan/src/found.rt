@@ -12,7 +12,7 @@ pub struct Found {
 impl Found {
     ghost use Rattle.std.specs.Prelude.{◌≡◌};
 
-    /// Returns a mark that is one byte long.
+    /// Returns a mark of this kind, which is one byte long.
     pub fn mark(kind: TokenKind) -> Self
         ensures { result ≡ record { kind = kind; start = 0; end = 1; next = 1 } }
     {

@@ -9,7 +9,7 @@ pub enum TokenKind {
     Close,
     Comma,
     Equals,
-    /// Text between quotation marks, on one line. Its span excludes the marks.
+    /// Text between quotation marks, on one line. Its span excludes the quotation marks.
     Quoted,
     /// The session description in braces after `Local` or `Remote`. Its span excludes the braces. A closing brace
     /// inside it has a backslash before it.

@@ -9,8 +9,8 @@
 //! ```
 //!
 //! A token's text is the part of the source that its [`Span`] covers. After the words `Local` and `Remote`, a brace
-//! opens a session description, which is one token up to its closing brace. A byte that starts no token, or a missing
-//! closing mark, is a [`ScanFault`]. After a fault there are no more tokens.
+//! opens a session description, which is one token up to its closing brace. A byte that can't start a token, or a
+//! missing closing mark, is a [`ScanFault`]. After a fault there are no more tokens.
 #![tactic(auto)]
 
 mod bytes;

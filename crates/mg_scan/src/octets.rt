@@ -6,7 +6,7 @@ use memchr::memchr;
 /// The byte that escapes a closing brace.
 const ESCAPE: u8 = b'\\';
 
-/// Returns how many bytes precede the brace that closes a session description, if the description is closed.
+/// Returns how many bytes precede the brace that closes a session description, or `None` if no brace closes it.
 ///
 /// The closing brace is the first one without a backslash before it.
 pub fn content_len(bytes: &[u8]) -> Option<usize>

@@ -41,7 +41,7 @@ impl<'a> Scanner<'a> {
         }
     }
 
-    /// Returns the next token, or the fault in its place. Returns `None` at the end and after a fault.
+    /// Returns the next token or a fault. Returns `None` at the end of the source and after a fault.
     pub fn next(&mut self) -> Option<Result<Token, ScanFault>>
         ensures source { self.new.source ≡ self.old.source }
         ensures answer { IsStep self.old result self.new }

@@ -9,7 +9,7 @@ impl Span {
     ghost use Rattle.std.specs.Prelude.{◌≡◌};
     ghost use Rattle.mg_scan.specs.Span.{text_of};
 
-    /// Returns the text of the span. It is truncated at the end of the source.
+    /// Returns the text of the span, truncated at the end of the source.
     pub fn text(self, source: &[u8]) -> &[u8]
         ensures value { result.now ≡ text_of source.now self }
     {

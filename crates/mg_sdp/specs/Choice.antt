@@ -9,7 +9,7 @@ use Rattle.mg_g711.specs.declared.law.Law.TheVariants.{Mu}
 use Rattle.mg_sdp.specs.declared.offer.Offer.{Offer}
 use Rattle.mg_sdp.specs.declared.chosen.Chosen.{Chosen}
 
--- the address is left to the gateway, or is its own
+-- the address is left to the gateway, or is the gateway's own
 abbrev pub is_own_address : List ℕ → Option (List ℕ) → Bool
 is_own_address own asked = option_map_or (λ address. bytes_eq address own) asked true
 

@@ -17,7 +17,7 @@ abbrev pub is_filled : List ℕ → Bool
 is_filled [] = false
 is_filled (b ∷ text) = true
 
--- text without spaces and tabs at its end, and without those at both ends
+-- text without the spaces and tabs at its end; and text without the spaces and tabs at both ends
 abbrev pub trimmed_end : List ℕ → List ℕ
 trimmed_end text = take (length text - suffix_len is_space_or_tab text) text
 

@@ -18,7 +18,7 @@ pub struct Alternative {
     pub connection: AlternativePart<Option<[u8; 4]>>,
 }
 
-/// Returns whether an attribute is supported: a packet time must be 20 ms. All other attributes are ignored.
+/// Returns whether an attribute is supported: false only for a packet time other than 20 ms.
 fn is_served_attribute(value: &[u8]) -> bool
     ensures value { result ≡ is_served_attribute value.now }
 {

@@ -47,7 +47,7 @@ fn is_served_remote(offer: &Offer) -> bool
     offer.port.is_some_and(|port| port != 0) && offer.address.is_some() && offer.law.is_some()
 }
 
-/// Returns the first offer whose media the gateway can receive.
+/// Returns the first offer whose media the gateway can receive, or `None` if there is no such offer.
 fn first_local(offers: &[Option<Offer>], address: [u8; 4], port: u16) -> Option<Offer>
     ensures value { result ≡ find (is_served_local address port) (offers_of offers.now) }
 {
@@ -57,7 +57,7 @@ fn first_local(offers: &[Option<Offer>], address: [u8; 4], port: u16) -> Option<
         .find(|offer| is_served_local(offer, address, port))
 }
 
-/// Returns the first offer whose media the gateway can send.
+/// Returns the first offer whose media the gateway can send, or `None` if there is no such offer.
 fn first_remote(offers: &[Option<Offer>]) -> Option<Offer>
     ensures value { result ≡ find is_served_remote (offers_of offers.now) }
 {

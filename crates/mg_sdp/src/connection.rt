@@ -7,7 +7,7 @@ ghost use Rattle.mg_words.specs.Address.{address_of};
 use crate::fields::Fields;
 use mg_words::address_of;
 
-/// Parses the address field: `$` or an IPv4 address.
+/// Parses the address field: `$` or an IPv4 address. Returns `None` if it is neither, and `Some(None)` for `$`.
 fn requested_address(field: &[u8]) -> Option<Option<[u8; 4]>>
     ensures value { result ≡ requested_in_field address_of field.now }
 {
@@ -17,7 +17,8 @@ fn requested_address(field: &[u8]) -> Option<Option<[u8; 4]>>
     }
 }
 
-/// Parses the value of a connection line. The inner `None` leaves the address to the gateway.
+/// Parses the value of a connection line. Returns `None` if the line is not supported, and `Some(None)` if it leaves
+/// the address to the gateway.
 #[tactic(auto, unfolding(crate::specs::Connection::connection_in))]
 pub fn connection_of(value: &[u8]) -> Option<Option<[u8; 4]>>
     ensures value { result ≡ connection_in (fields_of value.now) }

@@ -15,7 +15,7 @@ pub struct MediaLine {
     pub law: Option<Law>,
 }
 
-/// Returns the law that a format asks for. Returns `None` if the format is not supported.
+/// Returns the law that a format asks for: `None` if the format is not supported, and `Some(None)` for `$`.
 #[tactic(auto, unfolding(crate::specs::Media::law_of))]
 fn law_of(format: &[u8]) -> Option<Option<Law>>
     ensures value { result ≡ law_of format.now }
@@ -28,7 +28,7 @@ fn law_of(format: &[u8]) -> Option<Option<Law>>
     }
 }
 
-/// Returns the law that the first supported format asks for.
+/// Returns the law that the first supported format asks for, or `None` if no format is supported.
 fn first_law(formats: Fields<'_>) -> Option<Option<Law>>
     ensures value { result ≡ first_law (fields_left formats.entry) }
 {
@@ -40,7 +40,7 @@ fn first_law(formats: Fields<'_>) -> Option<Option<Law>>
     None
 }
 
-/// Parses the port field: `$` or a port.
+/// Parses the port field: `$` or a port. Returns `None` if it is neither, and `Some(None)` for `$`.
 fn requested_port(field: &[u8]) -> Option<Option<u16>>
     ensures value { result ≡ requested_in_field port_of field.now }
 {

@@ -156,7 +156,7 @@ LivesFollow =
 
 -- ## Cuts
 
--- These events are what had happened, except for RTP datagrams, at an earlier moment: before a
+-- These events are what had happened, except for RTP datagrams, by an earlier moment: before a
 -- session, or at a moment of it, perhaps with a message that was announced then.
 abbrev pub WereTold : (told : List Event) → (front : List TraceEntry) → List Event → Type 0
 WereTold told front first =
@@ -167,7 +167,7 @@ WereTold told front first =
     × (first ≡ (told ++ without_rtp (events_of_trace past)) ++ events.Control source bytes ∷ []))))
 
 -- If the text of a journal is cut after any byte, its complete lines are a script of its first
--- events. These are what had happened at some moment.
+-- events. These are what had happened by some moment.
 abbrev pub AnyCutIsAMoment : Type 0
 AnyCutIsAMoment =
     (setup : Setup) (durability : Durability) (w : World) (told : List Event)

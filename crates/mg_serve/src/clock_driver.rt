@@ -26,7 +26,8 @@ pub struct ClockDriver<'a, M: Monitor> {
 }
 
 impl<'a, M: Monitor> ClockDriver<'a, M> {
-    /// Creates a driver for a gateway, before the first tick. A tick may be at most `allowed` ticks late.
+    /// Creates a driver for a gateway, before the first tick. If a tick is more than `allowed` ticks late, its packets
+    /// are not sent.
     pub fn new(
         alloc: Global,
         core: Core,

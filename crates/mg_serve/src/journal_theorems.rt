@@ -12,7 +12,8 @@ pub fn each_part_is_a_moment()
 /// Nothing answered is forgotten.
 ///
 /// When a gateway with a journal sends an answer, the journal already contains everything except RTP datagrams: each
-/// tick and each message, including the one that is answered. If messages are synced, all of it is on the disk.
+/// tick and each message, including the one that is answered. If messages are synced, all of the journal's text is on
+/// the disk.
 pub fn nothing_answered_is_forgotten()
     ensures theorem { NothingAnsweredIsForgotten }
 {
@@ -21,9 +22,9 @@ pub fn nothing_answered_is_forgotten()
 
 /// A crash loses speech and a few ticks, and nothing else.
 ///
-/// Running the journal's events leads to a world that agrees with the one before the crash, except for the RTP that was
-/// received and for the last ticks, which the journal lacked. A message that was appended but not handled yet is run,
-/// too; it had not been answered. The same holds each time a gateway resumes from its journal.
+/// Running the journal's events leads to a world that agrees with the one before the crash, except for received RTP and
+/// the last ticks, which the journal lacked. A message that was appended but not handled yet is run, too; it had not
+/// been answered. The same holds each time a gateway resumes from its journal.
 pub fn crashes_lose_speech_only()
     ensures crash { CrashesLoseSpeechOnly }
     ensures lives { LivesFollow }
@@ -36,10 +37,10 @@ pub fn crashes_lose_speech_only()
 
 /// A journal describes a moment, wherever it is cut off.
 ///
-/// If a journal is cut off after any byte, for example by a power cut, its complete lines say what had happened at an
-/// earlier moment, perhaps with a message that had been appended but not handled yet. A gateway that resumes from these
-/// lines is in the state of that moment, except for the RTP that was received. If messages are synced, that moment
-/// isn't earlier than the last answer.
+/// If a journal is cut off after any byte, for example by a power cut, its complete lines say what had happened by an
+/// earlier moment. They may end with a message that had been appended but not handled yet. A gateway that resumes from
+/// these lines is in the state of that moment, except for received RTP. If messages are synced, that moment isn't
+/// earlier than the last answer.
 pub fn any_cut_is_a_moment()
     ensures cut { AnyCutIsAMoment }
     ensures resumes { CutsResumeAMoment }
@@ -53,7 +54,7 @@ pub fn any_cut_is_a_moment()
 
 /// A journal shows who could hear whom.
 ///
-/// If the journal's events are run up to any moment before a crash, the same speech flows as at that moment.
+/// Running the journal's events up to any moment before a crash opens the same flows as were open at that moment.
 pub fn journals_tell_who_hears()
     ensures theorem { JournalsTellWhoHears }
 {

@@ -19,7 +19,7 @@ use std::marker::Model;
 /// The maximum number of ticks in one append.
 const BATCH: usize = 1000;
 
-/// The lines of as many ticks as fit in one append.
+/// The lines for the maximum number of ticks in one append.
 const TICK_LINES: [[u8; 5]; BATCH] = [*b"tick\n"; BATCH];
 
 /// How many ticks the journal may lack before they are appended: one second's worth.

@@ -49,7 +49,7 @@ impl<'a, M: Monitor> LineDriver<'a, M> {
         })
     }
 
-    /// Executes the partial line, which ends here. Returns whether it is the last line.
+    /// Executes the partial line, which ends here. Returns whether the line is `quit`.
     fn end_line<P: Ports, W: Write>(
         &mut self,
         alloc: Global,
@@ -82,7 +82,7 @@ impl<'a, M: Monitor> LineDriver<'a, M> {
         Ok(quit)
     }
 
-    /// Handles the next bytes of the input. Returns whether a line among them was the last.
+    /// Handles the next bytes of the input. Returns whether they complete a `quit` line.
     fn take_bytes<P: Ports, W: Write>(
         &mut self,
         alloc: Global,

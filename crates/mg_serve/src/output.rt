@@ -7,7 +7,7 @@ pub type Text = ArrayVec<u8, 512>;
 
 /// Returns the counts as a line, without a line feed.
 ///
-/// They are the numbers of control datagrams, RTP datagrams, ticks, sends, failures, dropped RTP datagrams by cause,
+/// The counts are those of control datagrams, RTP datagrams, ticks, sends, failures, dropped RTP datagrams by cause,
 /// and concealed frames.
 pub fn counts_text(counts: &Counts) -> Text {
     let Counts {

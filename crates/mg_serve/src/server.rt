@@ -100,7 +100,7 @@ fn is_remote(remote: Option<Chosen>, peer: Peer) -> bool
     }
 }
 
-/// States what the types of a datagram's parts imply. Has no effect.
+/// Exposes to a proof what the types of a datagram's parts imply. Has no effect.
 fn parts_fit(address: &[u8], port: u16, bytes: &[u8])
     requires four { length address.now ≡ 4 }
     requires short { length bytes.now ≤ DATAGRAM_LIMIT }
@@ -240,7 +240,7 @@ impl<'a, M: Monitor> Server<'a, M> {
         !setup.symmetric_rtp() || is_remote(self.remote((socket - 1) as u8), source)
     }
 
-    /// Returns the Remote of the termination in a slot.
+    /// Returns the Remote of the termination in a slot, or `None` if there is no Remote or no termination.
     fn remote(&self, slot: u8) -> Option<Chosen>
         ensures value { (w : World) → StandsFor self.now.core.state w →
             result ≡ option_and_then (λ r. r.remote) (holder_of w.gateway.rooms slot) }

@@ -19,15 +19,15 @@ use std::io::{Read, Write};
 
 /// Runs a gateway on the given ports, driven by lines of text. The gateway is new, or was resumed from a journal.
 ///
-/// It prints `ready`, and executes the lines of the input up to the first `quit` or the end of the input. Sockets that
-/// the configuration does not include are not used.
+/// Prints `ready`, and executes the lines of the input up to the first `quit` or the end of the input. Sockets that the
+/// configuration does not include are not used.
 ///
 /// - `poll` reads at most 64 datagrams from each socket: first from the control socket, then from the media sockets in
 ///   ascending order. A control message is answered at once; a message from an address that isn't a controller's is
 ///   dropped. A failed receive ends that socket's turn.
 /// - `tick` advances by 20 ms and sends the packets. If a send fails, only that packet is lost.
 /// - `stats` prints `control=a media=b ticks=c sent=d failed=e dropped=f,g,h,i,j,k concealed=l`: [`Counts`] explains
-///   them.
+///   these numbers.
 /// - Any other line prints `unknown command`.
 ///
 /// With a title, the output is a recording: a script with one line for each event (`control`, `rtp` or `tick`), in
@@ -40,11 +40,11 @@ use std::io::{Read, Write};
 /// sent whether or not appends work. The journal's text contains the session's events, except for RTP datagrams and for
 /// ticks that it still lacks.
 ///
-/// It reports datagrams and ticks to the monitor.
+/// Reports datagrams and ticks to the monitor.
 ///
-/// On return, with or without an error, the complete lines that it read and their effects form a session of the
-/// gateway. `Read` and `Write` mean that the input or the output failed; it also returns `Read` after 4,294,967,295
-/// reads without reaching the end of the input. It returns `NoMemory` only before it has read anything.
+/// On return, with or without an error, the complete lines that were read and their effects form a session of the
+/// gateway. `Read` and `Write` mean that the input or the output failed. `Read` is also returned after 4,294,967,295
+/// reads that did not reach the end of the input. `NoMemory` is returned only before anything is read.
 pub fn serve<P: Ports, R: Read, W: Write, M: Monitor>(
     alloc: Global,
     setup: &Setup<'_>,
@@ -104,16 +104,15 @@ fn drive<P: Ports, R: Read, W: Write, M: Monitor>(
 
 /// Runs a gateway on the given ports in real time. The gateway is new, or was resumed from a journal.
 ///
-/// It prints `ready`. Then, every 20 ms by the clock, it executes what [`serve`] executes for the lines `poll` and
-/// `tick`. If a message arrives in between, it also executes what [`serve`] executes for `poll`, up to 20 times before
-/// each tick.
+/// Prints `ready`. Then, every 20 ms by the clock, executes what [`serve`] executes for the lines `poll` and `tick`. If
+/// a message arrives in between, also executes what [`serve`] executes for `poll`, up to 20 times before each tick.
 ///
 /// The k-th tick begins when a reading of the clock first shows that it is due: `k * 20 ms` after the clock's start.
 /// After a delay, all missed ticks are executed at once. If a tick is more than `allowed` ticks late, its packets are
 /// not sent.
 ///
-/// It ends only on a fault: `Read` if the clock can't be read, `Write` if printing failed, or `NoMemory` before
-/// anything is executed.
+/// Ends only on a fault: `Read` if the clock can't be read, `Write` if printing failed, or `NoMemory` before anything
+/// is executed.
 pub fn serve_by_clock<P: Ports, K: Watch, W: Write, M: Monitor>(
     alloc: Global,
     setup: &Setup<'_>,
@@ -179,7 +178,7 @@ fn drive_by_clock<P: Ports, K: Watch, W: Write, M: Monitor>(
     driver.take_all(alloc, setup, ports, buffer.as_mut_slice(), watch, writer)
 }
 
-/// Returns the form of the output: a recording, if there is a title.
+/// Returns the form of the output: a recording if there is a title, and plain lines otherwise.
 fn form_of(title: Option<&[u8]>) -> Form
     ensures value { result ≡ form_of (option_map (λ text. text.now) title.entry) }
 {

@@ -9,8 +9,8 @@ pub fn sessions_are_runs()
 
 /// A recording of a session is a script of its events.
 ///
-/// Running it writes the lines for the datagrams that the session sent, and ends in the session's world. If a recording
-/// is truncated, its complete lines are a script of the first events.
+/// Running the recording writes the lines for the datagrams that the session sent, and ends in the session's world. If
+/// a recording is truncated, its complete lines are a script of the first events.
 pub fn recordings_are_the_session()
     ensures read { SessionsAreReadBack }
     ensures cut { CutSessionsAreReadBack }

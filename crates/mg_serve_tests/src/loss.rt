@@ -14,7 +14,7 @@ fn header(ssrc: u32, sequence: u16) -> Header {
     }
 }
 
-/// Counts `count` packets of the stream 7, from this sequence number on.
+/// Counts `count` packets of stream 7, from this sequence number on.
 fn count_all(loss: &mut Loss, first: u16, count: u16) {
     for i in 0..count {
         loss.count(header(7, first.wrapping_add(i)));

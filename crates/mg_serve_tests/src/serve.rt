@@ -95,9 +95,10 @@ pub fn ports(
     Ok(FakePorts::new(alloc, arrivals, failing.to_vec(alloc)?))
 }
 
-/// For a receive or a send, returns a letter and the socket: a datagram `c`ame in, `n`one did, or the receive `f`ailed;
-/// an `a`nswer or a `p`acket was sent. For an append to the journal, returns a letter and the number of lines, which
-/// were `w`ritten, `s`ynced or `r`efused, or `b`roke the journal.
+/// For a receive or a send, returns its socket and a letter: `c` for a received datagram, `n` for none, `f` for a
+/// failed receive, `a` for an answer, and `p` for a packet. For an append to the journal, returns the number of lines
+/// and a letter: `w` if they were written, `s` if they were synced, `r` if they were refused, and `b` if the journal
+/// broke.
 fn letter(call: &Call) -> Option<(char, usize)> {
     match call {
         Call::Receive(socket, Receipt::Delivered(_, _)) => Some(('c', *socket)),
@@ -179,7 +180,7 @@ fn prints(alloc: Global, lines: &[u8], wanted: &[u8]) -> Result<bool, AllocError
     Ok(outcome.result.is_ok() && outcome.printed.as_slice() == wanted)
 }
 
-/// Returns the first bytes of the last datagram that was sent.
+/// Returns the first 12 bytes of the datagram that the last call sent, or `None` if the last call is not a send.
 fn last_head(ports: &FakePorts) -> Option<&[u8]> {
     match ports.calls()?.last()? {
         Call::Send(_, _, payload) => payload.as_slice().get(..12),
@@ -271,7 +272,7 @@ fn reads_a_megabyte_without_a_line_feed(rt: HostRuntime) -> Result<(), Fail> {
     Ok(())
 }
 
-/// Returns how many lines, control datagrams and ticks a session counted, if it ended without a fault.
+/// Returns how many lines, control datagrams and ticks a session counted, or `None` if it ended with a fault.
 fn counted(outcome: &Outcome) -> Option<(u64, u64, u64)> {
     match &outcome.result {
         Ok(counts) => Some((counts.lines, counts.control, counts.ticks)),
@@ -495,7 +496,7 @@ fn takes_messages_of_controllers_alone(rt: HostRuntime) -> Result<(), Fail> {
 }
 
 /// Returns the reports of a session of 50 ticks. A termination's Remote is port 40000 of 127.0.0.1. Packets arrive at
-/// its port from there and from port 40001, and at a port without a termination.
+/// its port from ports 40000 and 40001, and at a port without a termination.
 fn reported_with(alloc: Global, symmetric_rtp: bool) -> Result<Vec<u8>, AllocError> {
     let mut arrivals = Vec::new(alloc);
     let waiting: [(usize, u16, &[u8]); 4] = [

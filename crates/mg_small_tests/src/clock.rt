@@ -9,7 +9,8 @@ use std::time::{Duration, Instant};
 
 const MS: u64 = 1_000_000;
 
-/// A clock that returns the given readings, and then fails. It records how long it waits. Messages end its first waits.
+/// A clock that returns the given readings, and then fails. It records how long it waits. Its first waits are ended by
+/// messages.
 #[derive(Drop)]
 struct Script<'a> {
     times: &'a [u64],

@@ -34,7 +34,7 @@ fn journal(alloc: Global, faults: &[InjectedFault]) -> io::Result<FileJournal<Me
     opening(alloc, b"tick\n", faults)?.accept()
 }
 
-/// Returns the kind of a journal's last error.
+/// Returns the kind of a journal's last error, or `None` if there was no error.
 fn last_kind(journal: &FileJournal<MemoryFile>) -> Option<ErrorKind> {
     journal.last_error().map(|error| error.kind())
 }
@@ -78,7 +78,7 @@ fn appends_without_a_sync(rt: HostRuntime) -> Result<(), Fail> {
     Ok(())
 }
 
-/// A write that fails, even partway, leaves nothing behind, and the next one succeeds.
+/// A write that fails, even partway, leaves nothing behind, and the next write succeeds.
 #[test]
 fn refuses_lines_that_cannot_be_written(rt: HostRuntime) -> Result<(), Fail> {
     let failures = [

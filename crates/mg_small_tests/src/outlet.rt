@@ -51,7 +51,7 @@ impl<'a> Write for Script<'a> {
     }
 }
 
-/// Returns the answers in `first`, and `last` from then on.
+/// A readiness test that returns the answers in `first`, and then always `last`.
 #[derive(Drop)]
 struct Answers<'a> {
     first: &'a [bool],

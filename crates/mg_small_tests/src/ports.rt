@@ -74,7 +74,7 @@ fn is_datagram(call: &Call, at: usize, text: &[u8]) -> bool {
     }
 }
 
-/// Returns whether a call is a receive at a socket that returned `n`othing, or `f`ailed.
+/// Returns whether a call is a receive at a socket that returned nothing (`n`) or failed (`f`).
 fn is_receive(call: &Call, at: usize, letter: u8) -> bool {
     match call {
         Call::Receive(socket, Receipt::Nothing) => *socket == at && letter == b'n',
@@ -169,8 +169,8 @@ fn logs_appends_between_sends(rt: HostRuntime) -> Result<(), Fail> {
     Ok(())
 }
 
-/// A journal that can't be written refuses a line, and one whose sync fails is broken from then on. Neither is a
-/// failure of a socket.
+/// A journal refuses a line if the write fails, and is broken once a sync fails. Neither failure counts as a failed
+/// receive or send.
 #[test]
 fn logs_appends_that_fail(rt: HostRuntime) -> Result<(), Fail> {
     let full = FaultEffect::Fail(ErrorKind::StorageFull);

@@ -128,7 +128,7 @@ fn is_joined(sums: &Sums, room: Room, row: Row) -> bool
     }
 }
 
-/// Returns whether at most two rows are left out, and these are joined to the room and differ.
+/// Returns whether at most two rows are left out, all of them are joined to the room, and no two are the same.
 fn can_mix(sums: &Sums, room: Room, base: Option<Row>, minus: &[Row]) -> bool
     ensures { IsTrue result → AreOfRoom sums.now.rooms room (left_out_by base minus.now) }
 {

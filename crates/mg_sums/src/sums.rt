@@ -117,7 +117,7 @@ impl Sums {
     /// once.
     ///
     /// The base is the listener's own row, or `None` if the listener does not talk. `minus` lists the rows that are
-    /// silenced for the listener. All must be joined to the room, and no two may be the same.
+    /// silenced for the listener. All these rows must be joined to the room, and no two may be the same.
     pub fn mix(&mut self, room: Room, base: Option<Row>, minus: &[Row], law: Law) -> [u8; SAMPLES]
         requires rows { AreOfRoom self.old.rooms room (left_out_by base minus.now) }
         ensures mix { result
@@ -162,7 +162,7 @@ impl Sums {
         self.frames[row.number()].is_silent()
     }
 
-    /// Returns the room that a row is joined to, if any.
+    /// Returns the room that a row is joined to, or `None` if it is joined to no room.
     pub fn room(&self, row: Row) -> Option<Room>
         ensures value { result ≡ room_of self.now row }
         ensures valid { AreValidSums self.now }

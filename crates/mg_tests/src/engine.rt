@@ -1,4 +1,4 @@
-//! The engine: causes of drops, totals, who hears whom by number, and the cost of a tick.
+//! The engine: causes of drops, totals, who hears whom by termination number, and the cost of a tick.
 
 use mg_engine::{
     Association, Config, Done, DropCause, Edit, Engine, ErrorNumber, MediaSetting, Mode, Outbox,
@@ -71,7 +71,7 @@ fn add(engine: &mut Engine, target: Target, settings: &Settings) -> Result<Targe
     Ok(Target::Number(added.context))
 }
 
-/// Creates a conference of the first callers.
+/// Creates a conference of the first `callers` callers.
 fn add_callers(engine: &mut Engine, callers: usize) -> Result<(), Fail> {
     let mut target = Target::New;
     for remote in REMOTES.iter().take(callers) {
@@ -81,7 +81,7 @@ fn add_callers(engine: &mut Engine, callers: usize) -> Result<(), Fail> {
     Ok(())
 }
 
-/// Starts an engine with a conference of the first callers.
+/// Starts an engine with a conference of the first `callers` callers.
 fn conference(alloc: Global, callers: usize) -> Result<Engine, Fail> {
     let mut engine = Engine::new(alloc, Config::default()).map_err(|_| "sound")?;
     add_callers(&mut engine, callers)?;
@@ -116,7 +116,7 @@ fn payloads(alloc: Global, outbox: &Outbox) -> Result<Vec<u8>, Fail> {
     Ok(bytes)
 }
 
-/// Totals follow a Move.
+/// After a Move, a termination counts toward the new context's total, and no longer toward the old context's total.
 fn leave_the_total(rt: &impl Abort, engine: &mut Engine, outbox: &mut Outbox) -> Result<(), Fail> {
     speak(engine, outbox);
     assert_eq!(rt; engine.total(1, 0), Some(32124));
@@ -145,7 +145,8 @@ fn set_byte(packet: &mut [u8], at: usize, byte: u8) {
     }
 }
 
-/// Returns the index of the first datagram that a port accepts, or drops for a cause other than the expected one.
+/// Returns the index of the first datagram that a port accepts, or drops for an unexpected cause. Returns `None` if
+/// there is no such datagram.
 fn first_wrong(
     engine: &mut Engine,
     port: u16,
@@ -273,7 +274,7 @@ fn isolates_by_an_edit(rt: HostRuntime) -> Result<(), Fail> {
     isolate_by_an_edit(&rt, rt.alloc(), &mut engine)
 }
 
-/// A Oneway lets the third hear the first.
+/// A Oneway lets the third caller hear the first.
 fn lead_one_way(rt: &impl Abort, alloc: Global, engine: &mut Engine) -> Result<(), Fail> {
     let oneway = triple(FIRST, THIRD, Association::Oneway);
     assert_eq!(rt; apply(engine, &[oneway]), Ok(1));
@@ -327,7 +328,7 @@ fn speak(engine: &mut Engine, outbox: &mut Outbox) {
     tick(engine, outbox, 3);
 }
 
-/// Totals follow the modes of members, and no longer include members that have left.
+/// A total includes the members whose mode lets them talk, and no members that have left.
 fn follow_modes(rt: &impl Abort, engine: &mut Engine, outbox: &mut Outbox) -> Result<(), Fail> {
     speak(engine, outbox);
     assert_eq!(rt; engine.total(1, 0), Some(32124));
@@ -399,7 +400,7 @@ fn speak_at_each_port(engine: &mut Engine) {
 
 /// A tick of a full context costs three rows for each member that talks.
 ///
-/// The total is the sum over all members, and each hears the loudest possible sample.
+/// The total is the sum over all members, and each member hears the loudest possible sample.
 fn tick_with_many(
     rt: &impl Abort,
     alloc: Global,
@@ -473,7 +474,8 @@ fn engine_about_to_wrap(alloc: Global) -> Result<Engine, Fail> {
     Ok(engine)
 }
 
-/// Starts an engine whose first and last terminations have frames to play. The first lacks its third frame.
+/// Starts an engine whose first and last terminations have frames to play. The first termination's third frame is
+/// missing.
 fn engine_with_frames(alloc: Global) -> Result<Engine, Fail> {
     let mut engine = engine_about_to_wrap(alloc)?;
     for sequence in [1, 2, 4] {
@@ -515,7 +517,7 @@ fn let_all_send(engine: &mut Engine) -> Result<(), Fail> {
     set_mode(engine, 4, Mode::SendReceive)
 }
 
-/// Skips these ticks on one engine and runs them on the other. Then both go on alike.
+/// Skips these ticks on one engine and runs them on the other. Both engines then behave alike.
 fn compare_skip_with_ticks(
     rt: &impl Abort,
     skipped: &mut Engine,

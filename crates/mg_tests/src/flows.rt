@@ -17,7 +17,7 @@ const SCRIPT: &[u8] = b"tick\n\
     say 127.0.0.1:2945 !/1 [127.0.0.1]:2945 T=5{C=1{S=RTP/2{AT{}}}}\n";
 
 /// Worked out from the script by hand. The first and the third no longer hear each other. Nobody hears the second once
-/// it only listens. Nobody hears the one that moves away.
+/// it only listens. Nobody hears the third once it has moved away.
 const WRITTEN: &[u8] =
     b"say 127.0.0.1:2945 MEGACO/1 [127.0.0.1]:2944\\nReply=1{Context=1{Add=RTP/1,Add=RTP/2,Add=RTP/3}}\n\
     # 1 ticks: RTP/1 made in context 1 at port 30000\n\

@@ -31,7 +31,7 @@ impl Sink for Listed {
     }
 }
 
-/// Hears a script with a given configuration.
+/// Runs `hear` on a script, with a given configuration.
 fn hear_on<R: Read>(
     alloc: Global,
     config: Config,
@@ -44,7 +44,7 @@ fn hear_on<R: Read>(
     hear(alloc, config, reader, listed)
 }
 
-/// Hears a script with the standard configuration.
+/// Runs `hear` on a script, with the standard configuration.
 fn heard(alloc: Global, script: &[u8]) -> Result<(Listed, Extent), HeardFault> {
     hear_on(alloc, Config::default(), &mut Cursor::new(script))
 }
@@ -110,10 +110,10 @@ const PAIR: &[u8] =
 /// The first caller doesn't hear the second.
 const PART: &[u8] = b"say 127.0.0.1:2945 !/1 [127.0.0.1]:2945 T=2{C=1{TP{RTP/1,RTP/2,OW}}}\n";
 
-/// Both hear each other again.
+/// The two callers hear each other again.
 const JOIN: &[u8] = b"say 127.0.0.1:2945 !/1 [127.0.0.1]:2945 T=3{C=1{TP{RTP/1,RTP/2,BW}}}\n";
 
-/// Both move to a new context.
+/// Both callers move to a new context.
 const MOVE: &[u8] = b"say 127.0.0.1:2945 !/1 [127.0.0.1]:2945 T=4{C=${MV=RTP/1,MV=RTP/2}}\n";
 
 /// Returns the lines of a script.
@@ -239,7 +239,7 @@ fn heard_times_come_from_dates(rt: HostRuntime) -> Result<(), Fail> {
     Ok(())
 }
 
-/// Returns why a script can't be heard.
+/// Returns why `hear` fails on a script, or `None` if it succeeds.
 fn fault_of(alloc: Global, script: &[u8]) -> Option<HeardFault> {
     heard(alloc, script).err()
 }
@@ -274,7 +274,7 @@ fn heard_refuses_bad_input(rt: HostRuntime) {
     );
 }
 
-/// A sink that refuses everything, as one does whose writer fails.
+/// A sink that refuses everything, like a sink whose writer fails.
 #[derive(Drop)]
 struct Refusing;
 
@@ -286,7 +286,7 @@ impl Sink for Refusing {
     }
 }
 
-/// Hears a script with a sink that refuses each interval.
+/// Runs `hear` on a script, with a sink that refuses everything. Returns why it fails, or `None` if it succeeds.
 fn refused(alloc: Global, config: Config, script: &[u8]) -> Option<HeardFault> {
     hear(alloc, config, &mut Cursor::new(script), Refusing).err()
 }
@@ -369,7 +369,7 @@ enum Answer {
     Unknown,
 }
 
-/// Asks whether the first caller could hear the second at a time after the start.
+/// Returns whether the first caller could hear the second at a time after the start.
 fn asked(alloc: Global, parts: &[&[u8]], millis: i64) -> Result<Answer, Fail> {
     let script = script_of(alloc, parts)?;
     let query = Query {

@@ -1,8 +1,8 @@
 //! Tests of the larger crates through their public functions.
 //!
-//! They are in a separate crate, because a crate with tests is proved twice, and that costs more the larger the crate
-//! is. Whatever a script can show is in a script (`mg_examples`). These tests cover the rest: causes, counts, failed
-//! starts, readers and writers that fail, and each public call of a lower crate once.
+//! The tests are in a separate crate, because a crate with tests is proved twice, which takes longer the larger the
+//! crate is. Whatever a script can show is in a script (`mg_examples`). These tests cover the rest: causes, counts,
+//! failed starts, readers and writers that fail, and each public call of a lower crate once.
 #![tactic(auto)]
 
 #[cfg(test)]

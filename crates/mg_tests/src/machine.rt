@@ -66,7 +66,7 @@ const FULL: &[u8] = b"!/1 [127.0.0.1]:2945 T=3{C=1{A=$}}";
 const FULL_REPLY: &[u8] = b"MEGACO/1 [127.0.0.1]:2944\n\
     Reply=3{Context=1{Add=${Error=432{\"no termination or port left\"}}}}";
 
-/// A heartbeat, silence, an Add, and an Add that finds no slot.
+/// A core answers a heartbeat, an Add, and an Add that finds no slot, but not an acknowledgement.
 fn answer_in_turn(rt: &impl Abort, alloc: Global, core: &mut Core) -> Result<(), Fail> {
     assert!(rt; is_answered(alloc, core, HEARTBEAT, REPLY)?);
     assert!(rt; is_silent(alloc, core, b"MEGACO/1 mg K{7}")?);
@@ -93,7 +93,7 @@ fn runs(core: &mut Core, bytes: &[u8], parsed: &Parsed, text: &[u8]) -> bool
     core.run(CONTROLLER, bytes, parsed) == Answer::Send && core.answer() == text
 }
 
-/// Runs an Add before and after a message that was read before both.
+/// Runs an Add, then a message that was read before the Add, then the Add again.
 fn run_around(
     rt: &impl Abort,
     alloc: Global,
@@ -116,7 +116,7 @@ fn read_then_run(rt: &impl Abort, alloc: Global, core: &mut Core) -> Result<(), 
     run_around(rt, alloc, core, FULL, &full)
 }
 
-/// A datagram is run when it is passed to `run`, in the world of that moment, and not when it is read.
+/// A datagram is run when it is passed to `run`, in the world at that moment, and not when it is read.
 #[test]
 fn runs_what_was_read(rt: HostRuntime) -> Result<(), Fail> {
     let one_slot = Config {
@@ -130,7 +130,7 @@ fn runs_what_was_read(rt: HostRuntime) -> Result<(), Fail> {
     Ok(())
 }
 
-/// Returns the error that rejects a datagram, if it is rejected.
+/// Returns the error with which a datagram is rejected, or `None` if it is not rejected.
 fn refusal(alloc: Global, bytes: &[u8]) -> Result<Option<ErrorNumber>, NoMemory> {
     Ok(match Core::read(alloc, bytes)? {
         Parsed::Message(_) => None,
@@ -169,7 +169,7 @@ fn runs_a_refusal(rt: HostRuntime) -> Result<(), Fail> {
     Ok(())
 }
 
-/// Returns why a gateway does not start with a configuration.
+/// Returns why a gateway does not start with a configuration, or `None` if it starts.
 fn start_fault(alloc: Global, config: Config) -> Option<StartFault> {
     Core::new(alloc, config).err()
 }
@@ -549,7 +549,7 @@ fn context_numbers_end(rt: HostRuntime) -> Result<(), Fail> {
 const CALLER: &[u8] =
     b"!/1 [127.0.0.1]:2945 T=1{C=${A=${M{O{MO=SR},L{v=0\nc=IN IP4 $\nm=audio $ RTP/AVP 0\n},R{v=0\nc=IN IP4 127.0.0.1\nm=audio 40000 RTP/AVP 0\n}}}}}";
 
-/// Returns the header of a tick's only packet.
+/// Returns the header of a tick's only packet, or `None` if the tick sends another number of packets.
 fn sent_header(core: &mut Core) -> Option<[u8; 12]> {
     core.tick();
     match core.outbox() {

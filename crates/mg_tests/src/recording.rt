@@ -24,7 +24,7 @@ const LAST: Peer = Peer {
     port: 65535,
 };
 
-/// Returns the first bytes, as many as a datagram can hold.
+/// Returns as many of the first bytes as a datagram can hold.
 fn sized(bytes: &[u8]) -> &[u8]
     ensures short { length result.now ≤ 65535 }
 {

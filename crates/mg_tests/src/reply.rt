@@ -147,8 +147,8 @@ fn writes_a_refusal(rt: HostRuntime) -> Result<(), Fail> {
     Ok(())
 }
 
-/// Puts 231 commands of 68 bytes each, and one with a name of `len` bytes. Together they have 15,963 bytes, plus that
-/// name.
+/// Adds 231 commands of 68 bytes each, and one command with a name of `len` bytes. Once its action has ended, the
+/// reply's text has 15,963 + `len` bytes.
 fn put_many(reply: &mut Reply, len: usize) -> Result<(), Fail>
     requires { len ≤ 64 }
 {

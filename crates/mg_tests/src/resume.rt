@@ -16,8 +16,8 @@ const CONTROLLER: Peer = Peer {
     port: 2945,
 };
 
-/// What a script says: its comments, its datagrams with the counts of control and RTP datagrams after each, and its runs
-/// of ticks with the count of ticks before each.
+/// What a script says: its comments, its datagrams with the counts of control and RTP datagrams after each, and its
+/// groups of consecutive ticks with the count of ticks before each.
 #[derive(Drop)]
 struct Notes {
     text: Vec<u8>,
@@ -69,7 +69,7 @@ fn resumed(
     resume_on(alloc, Config::default(), &mut reader, notes)
 }
 
-/// Returns the fault that ends a resumption, if there is one.
+/// Returns the fault that ends a resumption, or `None` if it succeeds.
 fn fault_of(alloc: Global, script: &[u8]) -> Option<RunFault> {
     let mut notes = Notes {
         text: Vec::new(alloc),
@@ -260,7 +260,7 @@ fn conference(alloc: Global) -> Result<Vec<u8>, AllocError> {
     Ok(script)
 }
 
-/// Audits a termination, and who hears whom.
+/// Audits a termination, and the topology of its context.
 const AUDIT: &[u8] = b"!/1 [127.0.0.1]:2945 T=3{C=1{AV=RTP/1{AT{M,SA}}},C=1{CA{TP}}}";
 
 const AUDIT_LINE: &[u8] =
@@ -338,7 +338,7 @@ fn same_events(a: &Counts, b: &Counts) -> bool {
     a.ticks == b.ticks && a.media == b.media && a.placed == b.placed && a.control == b.control
 }
 
-/// Resumes a gateway from a script. Returns its counts after the audit and four ticks, and what it sent in them.
+/// Resumes a gateway from a script. Returns its counts after the audit and four ticks, and the lines for what it sent.
 fn resume_and_continue(
     rt: &impl Abort,
     alloc: Global,
@@ -355,7 +355,7 @@ fn resume_and_continue(
     Ok((core.counts(), text))
 }
 
-/// A core that was resumed from a script continues like one that ran it.
+/// A core that was resumed from a script continues like a core that ran the script.
 fn goes_on(rt: &impl Abort, alloc: Global, script: &[u8]) -> Result<(), Fail> {
     let (counts, text) = resume_and_continue(rt, alloc, script)?;
     let (counted, written) = run_at_once(alloc, script)?;

@@ -26,7 +26,7 @@ fn numbers(member: Member) -> (u32, u32)
     (member.record.context, member.record.number)
 }
 
-/// The slots that a full context and a context with two members need.
+/// Limits with enough slots for a full context and a context with two members.
 const CROWDED: Limits = Limits {
     slots: MEMBERS as u16 + 2,
     ..LIMITS
@@ -115,7 +115,7 @@ const CLEARED: Record = Record {
     ..SET
 };
 
-/// Returns why a change of the first termination is rejected.
+/// Returns why a change of the first termination is rejected, or `None` if it succeeds.
 fn modify_fault(rooms: &mut Rooms, settings: &Settings) -> Option<ErrorNumber> {
     rooms.modify(Target::Number(1), 1, settings).err()
 }
@@ -202,12 +202,12 @@ fn terminations_move(rt: HostRuntime) -> Result<(), Fail> {
     Ok(())
 }
 
-/// Returns why an Add is rejected.
+/// Returns why an Add is rejected, or `None` if it succeeds.
 fn add_fault(rooms: &mut Rooms, target: Target) -> Option<ErrorNumber> {
     rooms.add(target, &Settings::default()).err()
 }
 
-/// The last context number, and the last two termination numbers.
+/// Uses up the last context number and the last two termination numbers.
 fn use_up_numbers(rt: &impl Abort, rooms: &mut Rooms) {
     assert_eq!(rt; add_fault(rooms, Target::New), None);
     assert_eq!(rt;

@@ -34,7 +34,7 @@ fn is_text(span: Span, source: &[u8], text: &[u8]) -> bool {
     span.text(source) == text
 }
 
-/// Returns whether a message with this text after the head is a syntax fault.
+/// Returns whether a message with this text after the head is rejected with a syntax fault.
 fn is_fault(alloc: Global, text: &[u8]) -> Result<bool, AllocError> {
     let source = repeated(alloc, text, b"", 0, b"")?;
     Ok(matches!(read(alloc, source.as_slice()), Err(ReadFault::Syntax(_))))
@@ -142,7 +142,7 @@ fn is_empty_audit(descriptors: &[Descriptor]) -> bool {
     }
 }
 
-/// Returns whether commands are the three expected ones.
+/// Returns whether the commands are the three expected ones.
 fn are_commands(commands: &[Command]) -> bool {
     let [add, subtract, notify] = commands else {
         return false;
@@ -162,7 +162,7 @@ fn are_commands(commands: &[Command]) -> bool {
         && notify.descriptors.as_slice().is_empty()
 }
 
-/// Returns whether a message is one request with that action.
+/// Returns whether a message is one request with the expected action.
 fn is_request_9(items: &[MessageItem]) -> bool {
     let [MessageItem::Request(request)] = items else {
         return false;

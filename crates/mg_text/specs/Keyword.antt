@@ -88,6 +88,6 @@ keywords =
 unfoldable pub keyword_of : List ℕ → Option Keyword
 keyword_of text = find (is_named text) keywords
 
--- the long form of that keyword
+-- the long form of the keyword that the text spells
 abbrev pub long_word : List ℕ → Option (List ℕ)
 long_word text = option_map (λ keyword. (forms_of keyword).0) (keyword_of text)

@@ -7,9 +7,10 @@ use mg_words::CommandWord;
 #[derive(Drop)]
 pub struct Command {
     pub word: CommandWord,
-    /// The prefix `O-`: if the command fails, the next commands are still tried.
+    /// Whether the command has the prefix `O-`: if it fails, the next commands are still tried.
     pub is_optional: bool,
-    /// The prefix `W-`, which may follow `O-`: it requests one answer for all matching terminations.
+    /// Whether the command has the prefix `W-`, which may follow `O-` and requests one answer for all matching
+    /// terminations.
     pub wants_wildcard: bool,
     /// The span of the termination's name: a word of 1 to 64 bytes.
     pub term: Span,

@@ -4,7 +4,7 @@ ghost use Rattle.mg_text.specs.Head.{version_after, version_in_head};
 use crate::from_word::FromWord;
 use mg_words::{after_prefix, version_in_digits};
 
-/// Returns the version that follows one form of the protocol's name.
+/// Returns the version that follows one form of the protocol's name, or `None` if the text has another form.
 #[tactic(auto, unfolding(crate::specs::Head::version_after))]
 fn version_after(name: &[u8], text: &[u8]) -> Option<u8>
     ensures value { result ≡ version_after name.now text.now }

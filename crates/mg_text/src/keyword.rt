@@ -163,7 +163,7 @@ impl Keyword {
 
 /// Compares two words of equal length, ignoring case.
 ///
-/// This is separate from [`same_word`], because most words differ in length.
+/// This function is separate from [`same_word`], which rarely calls it, because most words differ in length.
 #[inline(never)]
 #[tactic(auto, using(crate::proofs::KeywordLemmas::exact))]
 fn same_letters(a: &[u8], b: &[u8]) -> bool
@@ -258,7 +258,7 @@ fn words_by(letter: u8) -> &'static [Keyword]
     }
 }
 
-/// Returns the first of these keywords that the text spells, in either form.
+/// Returns the first of these keywords that the text spells, in either form, or `None` if it spells none of them.
 fn word_among(words: &[Keyword], text: &[u8]) -> Option<Keyword>
     ensures value { result ≡ find (is_named text.now) words.now }
 {
@@ -268,7 +268,7 @@ fn word_among(words: &[Keyword], text: &[u8]) -> Option<Keyword>
         .find(|keyword| is_named(text, *keyword))
 }
 
-/// Returns the keyword that the text spells, in either form.
+/// Returns the keyword that the text spells, in either form, or `None` if it spells no keyword.
 ///
 /// Only forms with the text's first letter and length are compared.
 pub fn keyword_of(text: &[u8]) -> Option<Keyword>

@@ -140,7 +140,7 @@ fn answered(message: Result<Message, ReadFault>, len: usize) -> Result<Message, 
     }
 }
 
-/// Parses a datagram as a message. It allocates memory for the tokens and the tree.
+/// Parses a datagram as a message. Allocates memory for the tokens and the tree.
 ///
 /// Returns `TooMany` for a datagram of more than 8192 bytes. Otherwise returns `Version` if the head has a version
 /// other than 1, whatever follows the head. Returns `Syntax` for anything else that does not follow the grammar.

@@ -3,7 +3,7 @@ use crate::context_property::ContextProperty;
 use crate::tree_list::TreeList;
 use mg_words::ContextId;
 
-/// An action on one context: properties and then commands, at least one of either.
+/// An action on one context: properties, and then commands. There is at least one property or command.
 #[derive(Drop)]
 pub struct Action {
     pub context: ContextId,

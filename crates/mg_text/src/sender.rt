@@ -59,8 +59,8 @@ fn is_domain_host(text: &[u8]) -> bool
 
 /// Returns whether a word names a sender.
 ///
-/// It is an IPv4 address in brackets, a domain name in angle brackets, or a device name of 1 to 64 bytes. A port may
-/// follow a closing bracket.
+/// A sender is an IPv4 address in brackets, a domain name in angle brackets, or a device name of 1 to 64 bytes. A port
+/// may follow a closing bracket.
 pub fn is_sender(text: &[u8]) -> bool
     ensures value { result ≡ is_sender text.now }
 {

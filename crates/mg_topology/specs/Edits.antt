@@ -25,7 +25,8 @@ last_word (Enter n ∷ es) a b = if (a == n) || (b == n) then None else last_wor
 last_word (Leave n ∷ es) a b = last_word es a b
 last_word (Apply triple ∷ es) a b = if mentions triple a b then Some triple else last_word es a b
 
--- whether a last word lets the listener hear the talker; without a last word, the listener does
+-- whether a last word lets the listener hear the talker; without a last word, the listener hears
+-- the talker
 abbrev pub allows : Option Triple → ℕ → ℕ → Bool
 allows None talker listener = true
 allows (Some triple) talker listener = word_of triple talker listener

@@ -22,7 +22,7 @@ hears kept talker listener =
     && (holds kept listener
     && (not (talker == listener) && has_seat (slice_index kept.rows listener) talker))
 
--- the state represents the edits: both agree on each seat and each pair
+-- the state represents the edits: the two agree on each seat and each pair
 pub record StandsFor (kept : TopologyState) (es : List TopologyEdit) : Type 0 where
   pub seats : (seat : ℕ) → holds kept seat ≡ is_held es seat
   pub pairs : (talker listener : ℕ) → hears kept talker listener ≡ hears_in es talker listener

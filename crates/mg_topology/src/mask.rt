@@ -100,7 +100,7 @@ pub fn is_disjoint(a: Mask, b: Mask) -> bool
     intersection(a, b) == EMPTY
 }
 
-/// Returns an iterator over the seats of the set, in ascending order. It takes one step for each seat.
+/// Returns an iterator over the seats of the set, in ascending order. The iterator takes one step for each seat.
 pub fn seats(mask: Mask) -> Seats
     ensures value { result ≡ seats_of mask }
     ensures each { All (λ seat. (seat < seat_limit) × IsTrue (has_seat mask seat)) result }

@@ -101,7 +101,7 @@ pub fn each_member_has_a_seat()
 
 /// The list of a mask's seats has exactly those seats, in ascending order.
 ///
-/// Any test that agrees with the mask on each seat gives the same list.
+/// Filtering all seats with any test that agrees with the mask gives this list.
 pub fn seats_are_listed()
     ensures seats { (mask seat : ℕ) →
         Contains (seats_of mask) seat ↔ ((seat < seat_limit) × IsTrue (has_seat mask seat)) }

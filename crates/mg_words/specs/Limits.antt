@@ -2,11 +2,11 @@
 -- number. Where another definition says 2^32 or 4294967295, it means the range of 32 bits.
 use Rattle.std.specs.Prelude.{ℕ}
 
--- the members of a context
+-- the maximum number of members in a context
 abbrev pub member_limit : ℕ
 member_limit = 64
 
--- the contexts of the gateway, and the terminations in all of them
+-- the maximum number of contexts of the gateway, and of terminations in all of them
 abbrev pub context_limit : ℕ
 context_limit = 64
 
@@ -23,34 +23,35 @@ greatest_depth = 16
 abbrev pub first_depth : ℕ
 first_depth = 4
 
--- bytes of a datagram that is read
+-- the maximum size of a datagram that is read, in bytes
 abbrev pub message_limit : ℕ
 message_limit = 8192
 
--- requests in a message, and commands in all of them
+-- the maximum number of requests in a message, and of commands in all of them
 abbrev pub request_limit : ℕ
 request_limit = 4
 
 abbrev pub command_limit : ℕ
 command_limit = 64
 
--- bytes of a termination's name, of a domain name and of a device name
+-- the maximum length, in bytes, of a termination's name, of a domain name and of a device name
 abbrev pub name_limit : ℕ
 name_limit = 64
 
--- bytes of a sender's name: a domain name in angle brackets, a colon and a five-digit port
+-- the maximum length of a sender's name, in bytes: a domain name in angle brackets, a colon and a
+-- five-digit port
 abbrev pub sender_limit : ℕ
 sender_limit = 72
 
--- alternatives in a session description
+-- the maximum number of alternatives in a session description
 abbrev pub alternative_limit : ℕ
 alternative_limit = 8
 
--- bytes of a reply
+-- the maximum size of a reply, in bytes
 abbrev pub reply_limit : ℕ
 reply_limit = 16000
 
--- replies that are kept to answer retransmissions
+-- the maximum number of replies that are kept to answer retransmissions
 abbrev pub kept_limit : ℕ
 kept_limit = 32
 

@@ -9,7 +9,8 @@ use itoa::Buffer;
 /// The length of the longest IPv4 address in dotted decimal, in bytes.
 pub const ADDRESS_LIMIT: usize = 15;
 
-/// Parses an IPv4 address in dotted decimal: four numbers of one to three digits, each at most 255.
+/// Parses an IPv4 address in dotted decimal: four numbers of one to three digits, each at most 255. Returns `None` if
+/// the text is anything else.
 #[tactic(auto, unfolding(crate::specs::Address::address_of))]
 pub fn address_of(text: &[u8]) -> Option<[u8; 4]>
     ensures value { result ≡ address_of text.now }

@@ -16,7 +16,8 @@ pub enum ContextId {
     Number(u32),
 }
 
-/// Parses a context identifier. The numbers 0, 4294967294 and 4294967295 are other spellings of `-`, `$` and `*`.
+/// Parses a context identifier. Returns `None` if the text is anything else. The numbers 0, 4294967294 and 4294967295
+/// are other spellings of `-`, `$` and `*`.
 #[tactic(auto, unfolding(crate::specs::ContextId::context_id_of))]
 pub fn context_id_of(text: &[u8]) -> Option<ContextId>
     ensures value { result ≡ context_id_of text.now }

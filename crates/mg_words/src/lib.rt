@@ -1,8 +1,8 @@
 //! The protocol's keywords, names, numbers and errors, and the gateway's limits.
 //!
 //! This crate has types for modes, associations, commands, contexts, terminations and errors (Megaco, RFC 3525), each
-//! with its text. Another type holds a termination's counters. It also has parsers for the numbers, ports and IPv4
-//! addresses in control messages, session descriptions and scripts.
+//! with its text. Another type holds a termination's counters. The crate also has parsers for the numbers, ports and
+//! IPv4 addresses in control messages, session descriptions and scripts.
 //!
 //! Each parser takes a whole string and returns the string's value, or `None` if it has no value. Leading zeros are
 //! allowed; signs and spaces are not:

@@ -33,7 +33,7 @@ fn all_word_bytes(text: &[u8]) -> bool
     text.iter().all(|b| is_word_byte(*b))
 }
 
-/// Returns whether a string is the name of a termination: a word of 1 to 64 bytes.
+/// Returns whether a string is a valid termination name: a word of 1 to 64 bytes.
 pub fn is_term(text: &[u8]) -> bool
     ensures value { result ≡ is_term text.now }
 {

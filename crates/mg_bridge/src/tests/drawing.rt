@@ -30,7 +30,7 @@ impl Clock for ShortClock {
     }
 }
 
-/// A random source whose bytes count up from 1, or that has none.
+/// A random source whose bytes count up from 1, or that has no bytes.
 #[derive(Drop)]
 struct Counting {
     works: bool,

@@ -15,8 +15,8 @@ use std::marker::Model;
 
 /// The frame played last, and the waiting frames by place. Place 0 is played next.
 ///
-/// The ring's first item is the last frame, followed by an item for each place. So a tick moves no frame in memory: the
-/// frame at place 0 becomes the last frame. In contracts, the frames appear as the record `KeptFrames` from
+/// The ring's first item is the last frame, followed by an item for each place. So a tick doesn't move any frame in
+/// memory: the frame at place 0 becomes the last frame. In contracts, the frames appear as the record `KeptFrames` from
 /// `specs/aids/Ring.antt`.
 #[derive(Drop)]
 pub struct Places {
@@ -38,7 +38,7 @@ impl Model for Places {
 impl Places {
     ghost use Rattle.mg_playout.specs.Places.{ArePlaces};
 
-    /// Returns the empty places of a new play list, without a last frame.
+    /// Returns the places of a new play list, all empty, with no last frame.
     pub(crate) fn new(alloc: Global) -> Result<Self, AllocError>
         ensures last { IfOk result (λ kept. kept.last ≡ None) }
         ensures places { IfOk result (λ kept. kept.places ≡ empty_places FIRST_DEPTH) }

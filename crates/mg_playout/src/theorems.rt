@@ -17,7 +17,8 @@ use crate::played::Played;
 use crate::playout::Playout;
 use crate::source::Source;
 
-/// Every play list has 2 to 16 places and valid frames and, while it is waiting, at least one tick left to wait.
+/// Every play list has 2 to 16 places, holds only valid frames and, while it is waiting, has at least one tick left to
+/// wait.
 pub fn play_lists_are_valid(list: &Playout)
     ensures { IsValidList list.now }
 {

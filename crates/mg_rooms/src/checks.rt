@@ -68,7 +68,7 @@ impl Tables {
         }
     }
 
-    /// Returns a member of the action's context, or the error with which a command on it is rejected.
+    /// Returns a member of the action's context, or the error if the termination isn't one.
     pub(crate) fn member(&self, target: Target, number: u32) -> Result<Record, ErrorNumber>
         ensures value { result ≡ member self.now target number }
         ensures there { IfOk result (λ r. record_at self.now r.number ≡ Some r) }

@@ -299,7 +299,7 @@ fn cuts_a_file_only_once_it_is_accepted(rt: HostRuntime) -> Result<(), Fail> {
     Ok(())
 }
 
-/// Another program emptied the file between the calls.
+/// Another program empties the file after it is opened and before it is read.
 #[test]
 fn never_extends_a_file(rt: HostRuntime) -> Result<(), Fail> {
     let path = temporary(&rt, "mg_journal_never_extends.txt")?;

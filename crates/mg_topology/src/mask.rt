@@ -9,7 +9,7 @@ ghost use Rattle.mg_topology.specs.Mask.{seat_limit, has_seat, seats_of, seat_co
 
 use crate::seats::Seats;
 
-/// A set of seats, one bit for each of [`SEATS`].
+/// A set of seats: one bit for each of the [`SEATS`] seats.
 pub type Mask = u64;
 
 /// The number of seats, which is the number of bits in a mask. Each seat is a number below `SEATS`.

@@ -1,4 +1,4 @@
-ghost use Rattle.std.specs.Prelude.{◌≡◌, ℕ, ◌+◌, ◌<◌, ◌≤◌, false, length, take, List, Option, IfOk, IfSome, OnOk};
+ghost use Rattle.std.specs.Prelude.{◌≡◌, ◌≢◌, ℕ, ◌+◌, ◌<◌, ◌≤◌, true, false, [], length, take, List, Option, IfOk, IfSome, OnOk};
 ghost use Rattle.std.specs.Io.KnownBytes.{Consumes};
 ghost use Rattle.mg_journal.specs.Text.{whole_lines};
 ghost use Rattle.mg_journal.specs.Opening.{IsSound, left_to_read, text_in};
@@ -115,6 +115,14 @@ impl<F: JournalFile> Opening<F> {
         ensures value { IfSome self.now.file.bytes (λ bytes. length (whole_lines bytes) + result ≡ length bytes) }
     {
         self.extent.all.saturating_sub(self.extent.whole)
+    }
+
+    /// Returns whether the file has a complete line.
+    pub fn has_lines(&self) -> bool
+        ensures none { result ≡ false → IfSome (text_in self.now.file) (λ text. text ≡ []) }
+        ensures some { result ≡ true → IfSome (text_in self.now.file) (λ text. text ≢ []) }
+    {
+        self.extent.whole != 0
     }
 
     /// Copies the beginning of the file's complete lines into the buffer, and returns the number of bytes copied, or 0

@@ -5,3 +5,4 @@ pub mod ControllerLemmas
 pub mod EndLemmas
 pub mod ReadinessLemmas
 pub mod JournalLemmas
+pub mod ResumeLemmas

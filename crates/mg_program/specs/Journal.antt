@@ -1,5 +1,5 @@
--- What a gateway appends to its journal before it starts.
-use Rattle.std.specs.Prelude.{◌≡◌, ℕ, false, List, [], ◌++◌, codes, Option, Some, None}
+-- What a gateway finds in its journal, and what it appends to it before it starts.
+use Rattle.std.specs.Prelude.{◌≡◌, ◌≢◌, ℕ, false, List, [], ◌++◌, codes, Option, Some, None, IfSome}
 use Rattle.std.specs.Io.KnownBytes.{append_known}
 use Rattle.mg_dates.specs.declared.timeline.Timeline.{Timeline}
 use Rattle.mg_engine.specs.declared.config.Config.{Config}
@@ -8,6 +8,11 @@ use Rattle.mg_core.specs.World.{World, StandsFor, world_after_ticks}
 use Rattle.mg_journal.specs.Journal.{JournalState}
 use Rattle.mg_program.specs.Title.{title_text}
 use Rattle.mg_serve.specs.Journaled.{tick_lines}
+
+-- Times are kept for a journal exactly if it has lines, as far as its text is known.
+abbrev pub KeepsTimes : Option Timeline → (found : Option (List ℕ)) → Type 0
+KeepsTimes None found = IfSome found (λ text. text ≡ [])
+KeepsTimes (Some timeline) found = IfSome found (λ text. text ≢ [])
 
 abbrev pub title_line : Config → List ℕ
 title_line config = codes "# " ++ (title_text config ++ codes "\n")

@@ -1,4 +1,4 @@
-ghost use Rattle.std.specs.Prelude.{◌≡◌, IfOk, IfSome};
+ghost use Rattle.std.specs.Prelude.{◌≡◌, ◌≢◌, IfOk, IfSome, IsSome, None, []};
 ghost use Rattle.mg_journal.specs.Opening.{left_to_read, text_in};
 ghost use Rattle.mg_core.specs.Resume.{IsResumed};
 ghost use Rattle.mg_engine.specs.Config.{IsValidConfig};
@@ -37,10 +37,14 @@ fn config_in<F: JournalFile>(
     opening: &mut Opening<F>,
 ) -> Result<Option<Config>, JournalFault>
     ensures same { opening.new ≡ opening.old }
+    ensures empty { IfOk result (λ config. config ≡ None → IfSome (text_in opening.old.file) (λ text. text ≡ [])) }
+    ensures lines { IfOk result (λ config. IsSome config → IfSome (text_in opening.old.file) (λ text. text ≢ [])) }
 {
+    if !opening.has_lines() {
+        return Ok(None);
+    }
     let mut buffer = [0; FRONT];
     let n = match opening.peek(&mut buffer) {
-        Ok(0) => return Ok(None),
         Ok(n) => n,
         Err(error) => return Err(JournalFault::Read(error)),
     };
@@ -85,6 +89,8 @@ impl History {
         opening: &mut Opening<F>,
     ) -> Result<Option<History>, JournalFault>
         requires front { opening.old.read ≡ 0 }
+        ensures empty { IfOk result (λ found. found ≡ None → IfSome (text_in opening.old.file) (λ text. text ≡ [])) }
+        ensures lines { IfOk result (λ found. IsSome found → IfSome (text_in opening.old.file) (λ text. text ≢ [])) }
         ensures sound { IfOk result (λ found. IfSome found (λ h. IsValidConfig h.config)) }
         ensures agrees { IfOk result (λ found. IfSome found (λ h. Agrees given.now wanted.now h.config)) }
         ensures resumed { IfOk result (λ found. IfSome found (λ h.

@@ -1,11 +1,16 @@
-ghost use Rattle.std.specs.Prelude.{◌≡◌, IfErr, IfOk, IsSome, OnOk};
+ghost use Rattle.std.specs.Prelude.{◌≡◌, ◌⊎◌, ℕ, List, Option, IfErr, IfOk, IfSome, IsNone, IsSome, OnOk};
 ghost use Rattle.mg_engine.specs.Config.{IsValidConfig};
+ghost use Rattle.mg_core.specs.Resume.{IsResumed};
 ghost use Rattle.mg_core.specs.World.{StandsFor, start_of};
+ghost use Rattle.mg_journal.specs.Opening.{text_in};
 ghost use Rattle.mg_program.specs.Draws.{IsDrawn};
+ghost use Rattle.mg_program.specs.Given.{Agrees};
+ghost use Rattle.mg_program.specs.Journal.{KeepsTimes};
 ghost use Rattle.mg_program.specs.Serve.{CanResume, FailsToStart, IsChosen};
 
 use crate::config_fault::ConfigFault;
 use crate::draws::Draws;
+use crate::file_path::FilePath;
 use crate::found_journal::FoundJournal;
 use crate::history::History;
 use crate::journal_fault::JournalFault;
@@ -67,6 +72,7 @@ where
     ensures drawn { IfOk result (λ p. IsDrawn draws config p.config) }
     ensures start { IfOk result (λ p. StandsFor p.core.state (start_of p.config)) }
     ensures journal { IfOk result (λ p. IsSome opening → IsSome p.journal) }
+    ensures times { IfOk result (λ p. IfSome p.journal (λ j. IsNone j.timeline)) }
     ensures quiet { OnOk result (errors.new ≡ errors.old) }
     ensures ends { IfErr result (FailsToStart config) }
 {
@@ -98,6 +104,45 @@ where
     }
 }
 
+/// Resumes a gateway from its journal, or creates a new one if the journal is empty. If that fails, reports
+/// the fault to `errors` and returns the program's exit status.
+fn resume_or_create<G: RandomSource, F: JournalFile, E: Write>(
+    random: &G,
+    alloc: Global,
+    config: Config,
+    service: &Service,
+    path: &FilePath,
+    draws: Draws,
+    opening: Opening<F>,
+    errors: &mut E,
+) -> Result<Prepared<F>, Status>
+where
+    F: Drop,
+    requires front { opening.read ≡ 0 }
+    ensures sound { IfOk result (λ p. IsValidConfig p.config) }
+    ensures chosen { IfOk result (λ p. IsDrawn draws config p.config ⊎ Agrees service.now.given config p.config) }
+    ensures resumed { IfOk result (λ p. (rest : Option (List ℕ)) ×
+        IsResumed p.config (text_in opening.file) rest p.core.state) }
+    ensures times { IfOk result (λ p. IfSome p.journal (λ j. KeepsTimes j.timeline (text_in opening.file))) }
+    ensures found { IfOk result (λ p. IsSome p.journal) }
+    ensures quiet { OnOk result (errors.new ≡ errors.old) }
+    ensures ends { IfErr result (FailsToStart config) }
+{
+    let mut opening = opening;
+    match History::of(alloc, &service.given, &config, &mut opening) {
+        Ok(Some(history)) => Ok(Prepared {
+            config: history.config,
+            core: history.core,
+            journal: Some(FoundJournal {
+                opening,
+                timeline: Some(history.timeline),
+            }),
+        }),
+        Ok(None) => new_gateway(random, alloc, config, draws, Some(opening), errors),
+        Err(fault) => Err(fault.report(path, errors)),
+    }
+}
+
 /// Prepares a gateway: a new one, or one that resumes from the journal. If that fails, reports the fault to `errors`
 /// and returns the program's exit status.
 ///
@@ -121,20 +166,9 @@ pub fn prepare<G: RandomSource, F: Files, E: Write>(
     let Some(path) = &service.journal else {
         return new_gateway(random, alloc, config, draws, None, errors);
     };
-    let mut opening = match open_journal(files, path.as_str()) {
+    let opening = match open_journal(files, path.as_str()) {
         Ok(opening) => opening,
         Err(error) => return Err(JournalFault::Open(error).report(path, errors)),
     };
-    match History::of(alloc, &service.given, &config, &mut opening) {
-        Ok(Some(history)) => Ok(Prepared {
-            config: history.config,
-            core: history.core,
-            journal: Some(FoundJournal {
-                opening,
-                timeline: Some(history.timeline),
-            }),
-        }),
-        Ok(None) => new_gateway(random, alloc, config, draws, Some(opening), errors),
-        Err(fault) => Err(fault.report(path, errors)),
-    }
+    resume_or_create(random, alloc, config, service, path, draws, opening, errors)
 }

@@ -1,0 +1,43 @@
+-- A gateway that is new because its journal is empty.
+use Rattle.std.proofs.Common.{◌≡◌, ℕ, List, [], Option, Some, None, Result, Ok, Err, refl, IfOk, IfSome}
+use Rattle.mg_core.specs.declared.state.CoreState.{CoreState}
+use Rattle.std.proofs.lemmas.List.Elements.{All-nil}
+use Rattle.mg_core.proofs.RecordingLemmas.{recordings_are_read}
+use Rattle.mg_core.specs.Recording.{IsRecorded}
+use Rattle.mg_core.specs.Resume.{IsResumed}
+use Rattle.mg_core.specs.World.{StandsFor, start_of}
+use Rattle.mg_engine.specs.declared.config.Config.{Config}
+
+-- it is resumed from no line, so from no event
+pub new_resumed : (config : Config) (found : Option (List ℕ)) (state : CoreState)
+    → IfSome found (λ text. text ≡ []) → StandsFor state (start_of config)
+    → (rest : Option (List ℕ)) × IsResumed config found rest state
+new_resumed config None state empty stands = (
+  None,
+  record {
+    script = [];
+    read = record { consumed = tt; at_end = λ ended. tt };
+    events = [];
+    are = recordings_are_read [] (All-nil IsRecorded);
+    sent = [];
+    world = start_of config;
+    history = ((refl, refl), stands);
+  },
+)
+new_resumed config (Some text) state empty stands = (
+  Some [],
+  record {
+    script = [];
+    read = record { consumed = empty; at_end = λ ended. refl };
+    events = [];
+    are = recordings_are_read [] (All-nil IsRecorded);
+    sent = [];
+    world = start_of config;
+    history = ((refl, refl), stands);
+  },
+)
+
+pub if_ok_map : {A E : Type 0} {P Q : A → Type 0} (result : Result A E) → ((a : A) → P a → Q a) → IfOk result P
+    → IfOk result Q
+if_ok_map (Ok a) f p = f a p
+if_ok_map (Err e) f p = tt

@@ -106,9 +106,11 @@ init(Config = #{name := Name, address := {Address, Port}, here := Here}) ->
     {ok, Own} = inet:sockname(Socket),
     %% From the clock, so that the numbers are higher than those of an earlier run under the same name.
     First = 1 + erlang:system_time(100) band 16#7FFFFFFF,
-    Data = #data{config = Config, handle = {Name, make_ref()}, socket = Socket,
-                 transactions = lobby_transactions:new(Own, First, maps:with([retry, tries, quiet], Config))},
-    {State, Data1} = kept(lobby_store:get(lobby_gateways, Name), lobby_store:run(), Data),
+    Kept = lobby_store:get(lobby_gateways, Name),
+    Again = case Kept of {ok, #{unknown := Unknown}} -> Unknown; error -> [] end,
+    Transactions = lobby_transactions:new(Own, First, Again, maps:with([retry, tries, quiet], Config)),
+    Data = #data{config = Config, handle = {Name, make_ref()}, socket = Socket, transactions = Transactions},
+    {State, Data1} = kept(Kept, lobby_store:run(), Data),
     {ok, State, Data1}.
 
 kept(error, _, Data) ->

@@ -6,7 +6,7 @@
 %%% reply was acknowledged. So an acknowledgement follows only after a quiet time, in which no copy can be under way.
 -module(lobby_transactions).
 
--export([new/3, submit/4, resubmit/4, received/4, expired/2, deadline/1, hold/1, resume/2, abandon/1, making/1]).
+-export([new/4, submit/4, resubmit/4, received/4, expired/2, deadline/1, hold/1, resume/2, abandon/1, making/1]).
 -export_type([transactions/0, options/0, effect/1, reply/0, sent/0]).
 
 %% Half of the 32 replies that a gateway keeps for all its controllers.
@@ -35,10 +35,13 @@
                        held = none :: {#{lobby_h248:transaction() => #request{}}, queue:queue(term())} | none}).
 -opaque transactions() :: #transactions{}.
 
-%% @doc Numbers ascend from the first one. It has to be higher than those that the gateway may have replies for.
--spec new(Sender :: lobby_h248:endpoint(), First :: lobby_h248:transaction(), options()) -> transactions().
-new(Sender, First, Options) ->
-    #transactions{sender = Sender, options = Options, next = First}.
+%% @doc Numbers ascend from the first one. It has to be higher than those that the gateway may have replies for. Numbers of
+%% requests that may be submitted again are left to them.
+-spec new(Sender :: lobby_h248:endpoint(), First :: lobby_h248:transaction(), Again :: [sent()], options()) ->
+          transactions().
+new(Sender, First, Again, Options) ->
+    Next = lists:max([First | [following(Number) || {_, Number, _} <- Again]]),
+    #transactions{sender = Sender, options = Options, next = Next}.
 
 %% @doc Sends a request, now or as soon as the window allows it. An urgent one is the next, and never refused. With
 %% `forever', it is repeated until it is answered.

@@ -13,7 +13,8 @@ all() ->
      a_room_waits_for_a_gateway, one_with_a_journal_comes_back, one_that_comes_back_soon_is_not_missed, one_that_comes_back_soon_is_seen,
      requests_wait_for_one_with_a_journal, one_that_does_not_come_back_is_replaced, one_that_lost_its_journal_is_noticed,
      one_that_comes_back_with_less_is_corrected, another_run_takes_over,
-     rooms_that_are_gone_end_when_a_gateway_returns, one_that_began_anew_between_two_runs, processes_fail, a_room_fails_in_the_middle_of_a_request,
+     rooms_that_are_gone_end_when_a_gateway_returns, rooms_that_are_gone_end_while_a_gateway_is_cleaned,
+     one_that_began_anew_between_two_runs, processes_fail, a_room_fails_in_the_middle_of_a_request,
      somebody_else_changes_the_topology, lost_and_doubled_datagrams, anything_for_some_seconds].
 
 init_per_testcase(_, Config) ->
@@ -462,6 +463,28 @@ rooms_that_are_gone_end_when_a_gateway_returns(Config) ->
     event({gateway, <<"a">>, returned}),
     lobby_case:until(fun() -> length(gateway:contexts(lists:seq(1, 9), G)) =:= 2 end),
     ?assertEqual([{alice, carol}, {carol, alice}], heard(<<"100">>, #{<<"a">> => G})).
+
+%% The second run restores the rooms while a request of the first run has no answer yet.
+rooms_that_are_gone_end_while_a_gateway_is_cleaned(_) ->
+    G = gateway:start(),
+    Relay = relay:start(gateway:address(G), #{lose => 0.0, double => 0.0, delay => 1}),
+    run([{<<"a">>, G}], #{address => relay:address(Relay), retry => 1000}),
+    [join(Room, Id, <<"member">>) || {Room, Id} <- [{<<"100">>, alice}, {<<"200">>, bob}]],
+    relay:drop(Relay, <<"C=$">>),
+    Joining = spawn(fun() -> join(<<"300">>, carol, <<"member">>) end),
+    lobby_case:until(fun() -> [{_, #{unknown := Unknown}}] = lobby_store:all(lobby_gateways), length(Unknown) =:= 1 end),
+    exit(Joining, kill),
+    ok = application:stop(lobby),
+    ok = lobby_store:delete(lobby_rooms, <<"300">>),
+    {ok, _} = application:ensure_all_started(lobby),
+    lobby_case:until(fun() -> cleaning =:= element(1, sys:get_state(process({gateway, <<"a">>}))) end),
+    ok = lobby_store:delete(lobby_rooms, <<"200">>),
+    Before = killed(lobby_room_sup),
+    lobby_case:until(fun() -> is_up(lobby_room_sup, Before) end),
+    ?assertEqual([], lobby_gateway:serving()),
+    relay:pass(Relay),
+    lobby_case:until(fun() -> [{U, C} || {_, #{terminations := U, contexts := C}} <- lobby_gateway:serving()] =:= [{2, 2}] end),
+    ?assertEqual(2, length(gateway:contexts(lists:seq(1, 9), G))).
 
 one_that_began_anew_between_two_runs(_) ->
     G = gateway:start(),

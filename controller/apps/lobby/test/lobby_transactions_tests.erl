@@ -10,7 +10,7 @@
 -define(OPTIONS, #{retry => 100, tries => 4, quiet => 5000}).
 -define(ACTION, #{context => null, commands => [{audit, root, []}]}).
 
-new() -> lobby_transactions:new({{127, 0, 0, 1}, 2945}, 1000, ?OPTIONS).
+new() -> lobby_transactions:new({{127, 0, 0, 1}, 2945}, 1000, [], ?OPTIONS).
 
 %%% The network: messages under way to the gateway and numbers of replies under way from it, with the time they left.
 -record(net, {t = new(), now = 0, requests = [], replies = [], kept = [], runs = #{}, submitted = 0, answered = [], lost = false, held = false}).
@@ -157,8 +157,15 @@ what_is_held_back_is_sent_again_under_its_number_test() ->
 an_abandoned_request_keeps_its_names_test() ->
     {[{send, Message}], Table0} = lobby_transactions:submit({queued, me}, ?ACTION, 0, new()),
     {_, [Abandoned], Table1} = lobby_transactions:abandon(Table0),
-    Other = lobby_transactions:new({{127, 0, 0, 1}, 9}, 5000, #{retry => 100, tries => 4, quiet => 5000}),
+    Other = lobby_transactions:new({{127, 0, 0, 1}, 9}, 5000, [], #{retry => 100, tries => 4, quiet => 5000}),
     [?assertMatch({[{send, Message}], _}, lobby_transactions:resubmit(Abandoned, me, 1, T)) || T <- [Table1, Other]].
+
+%% Otherwise, one of the two would never be answered.
+a_number_that_is_sent_again_is_not_given_again_test() ->
+    Abandoned = [{{{127, 0, 0, 1}, 9}, Number, ?ACTION} || Number <- [900, 1003]],
+    T = lobby_transactions:new({{127, 0, 0, 1}, 2945}, 1000, Abandoned, ?OPTIONS),
+    {[{send, Message}], _} = lobby_transactions:submit({queued, me}, ?ACTION, 0, T),
+    ?assertMatch({match, _}, re:run(Message, "T=1004")).
 
 what_makes_a_context_is_known_until_it_is_answered_test() ->
     New = #{context => new, commands => [{add, #{mode => inactive}}]},

@@ -1,3 +1,6 @@
+ghost use Rattle.std.specs.Prelude.{◌≡◌};
+ghost use Rattle.mg_dates.specs.Dates.{date_of_text};
+
 use arrayvec::ArrayVec;
 use jiff::Timestamp;
 use std::io::{self, Write};
@@ -26,7 +29,9 @@ impl Date {
 
     /// Parses the time in a text such as `2026-11-27T14:03:20.5Z`. Returns `None` if the text has another form, or if
     /// the time is before 1970.
-    pub fn of_text(text: &str) -> Option<Date> {
+    pub fn of_text(text: &str) -> Option<Date>
+        ensures value { result ≡ date_of_text text.now }
+    {
         let Ok(timestamp) = text.parse::<Timestamp>() else {
             return None;
         };

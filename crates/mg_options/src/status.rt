@@ -11,6 +11,10 @@ pub enum Status {
     Usage,
     /// A gateway didn't answer.
     NoAnswer,
+    /// A talker could not be heard at one time.
+    CouldNotHear,
+    /// A script doesn't say who could be heard at one time.
+    Unknown,
     /// A read, a write or the clock failed.
     Failed,
     NoMemory,
@@ -32,6 +36,8 @@ impl Status {
             Status::BadLine => 1,
             Status::Usage => 2,
             Status::NoAnswer => 2,
+            Status::CouldNotHear => 1,
+            Status::Unknown => 2,
             Status::Failed => 3,
             Status::NoMemory => 4,
             Status::NoPort => 5,

@@ -15,3 +15,4 @@ pub mod KeepingLemmas
 pub mod FindingLemmas
 pub mod LineLemmas
 pub mod ReportLemmas
+pub mod ReportingLemmas

@@ -16,6 +16,8 @@ use Rattle.mg_heard.specs.declared.format.Format.TheVariants.{Text, Csv, Json}
 use Rattle.mg_heard.specs.declared.interval.Interval.{Interval}
 use Rattle.mg_heard.specs.declared.moment.Moment.{Moment}
 use Rattle.mg_heard.specs.declared.query.Query.{Query}
+use Rattle.mg_heard.specs.declared.verdict.Verdict.{Verdict}
+use Rattle.mg_heard.specs.declared.verdict.Verdict.TheVariants.{CouldHear, CouldNotHear, Unknown}
 use Rattle.mg_heard.specs.Query.{selects_entry}
 
 -- ## Sentences
@@ -134,6 +136,26 @@ line_of format from until (entries.Gap gap) = gap_line format from until gap.fir
 abbrev pub IsLine : Format → Entry → List ℕ → Type 0
 IsLine format entry line =
     (from : List ℕ) × (until : List ℕ) × (line ≡ line_of format from until entry)
+
+-- ## Answers about one time
+
+abbrev pub not_heard_line : Format → List ℕ
+not_heard_line Text = codes "could not hear\n"
+not_heard_line Csv = codes "not heard,,,,,,,,,\n"
+not_heard_line Json = codes "{\"kind\":\"not heard\"}\n"
+
+abbrev pub unknown_line : Format → List ℕ
+unknown_line Text = codes "not known\n"
+unknown_line Csv = codes "not known,,,,,,,,,\n"
+unknown_line Json = codes "{\"kind\":\"not known\"}\n"
+
+-- the line of an answer: that of the interval, if there is one
+abbrev pub IsVerdictLine : Format → Verdict → List ℕ → Type 0
+IsVerdictLine format (CouldHear x) line = IsLine format (entries.Interval x) line
+IsVerdictLine format CouldNotHear line = line ≡ not_heard_line format
+IsVerdictLine format Unknown line = line ≡ unknown_line format
+
+-- ## All lines
 
 -- a line for each entry, in order
 abbrev pub AreLines : Format → List Entry → List ℕ → Type 0

@@ -7,8 +7,8 @@
 //! let (sink, extent) = hear(alloc, config, &mut input, sink)?;
 //! ```
 //!
-//! [`hear_at`] answers whether a talker could be heard at one time. A [`Report`] is a sink that writes a line for each
-//! interval that a query selects, and for each gap.
+//! [`hear_at`] answers whether a talker could be heard at one time. [`write_report`] writes a line for each interval
+//! that a query selects, and for each gap; [`write_answer`] writes the answer about one time.
 //!
 //! An interval contains a tick for a pair if and only if the talker's speech flows to the listener in the world before
 //! that tick (`specs/Laws.antt`). The intervals follow from the flows that are open before each tick
@@ -33,6 +33,7 @@ mod hearing;
 mod instant;
 mod interval;
 mod line;
+mod line_writer;
 mod moment;
 mod open_flow;
 mod open_interval;
@@ -42,6 +43,7 @@ mod party_name;
 mod query;
 mod remark;
 mod report;
+mod reporting;
 mod sink;
 mod telling;
 pub mod theorems;
@@ -61,6 +63,6 @@ pub use crate::moment::Moment;
 pub use crate::open_flow::OpenFlow;
 pub use crate::party_name::PartyName;
 pub use crate::query::Query;
-pub use crate::report::Report;
+pub use crate::reporting::{write_answer, write_report};
 pub use crate::sink::Sink;
 pub use crate::verdict::Verdict;

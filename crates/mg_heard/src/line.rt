@@ -4,7 +4,7 @@ ghost use Rattle.std.specs.Prelude.{◌≡◌, ◌≤◌, ◌+◌, ◌++◌, cod
 ghost use Rattle.mg_words.specs.Term.{rtp_name};
 ghost use Rattle.mg_core.specs.Peer.{peer_text};
 ghost use Rattle.mg_reply.specs.Bytes.{appended};
-ghost use Rattle.mg_heard.specs.Lines.{at_text, date_of_end, end_text, extent_columns, extent_members, extent_text, gap_line, head_of, interval_line, line_of, moment_text, object_of, party_text, peer_column, peer_value, row_of, sentence_of, tick_column, tick_value, time_column, time_value};
+ghost use Rattle.mg_heard.specs.Lines.{at_text, date_of_end, end_text, extent_columns, extent_members, extent_text, gap_line, head_of, interval_line, line_of, moment_text, not_heard_line, object_of, party_text, peer_column, peer_value, row_of, sentence_of, tick_column, tick_value, time_column, time_value, unknown_line};
 
 use crate::entry::Entry;
 use crate::format::Format;
@@ -452,7 +452,9 @@ pub(crate) fn push_entry(format: Format, from: &[u8], until: &[u8], entry: &Entr
 }
 
 /// Returns the line that says that a talker could not be heard at a time.
-pub(crate) fn not_heard_line(format: Format) -> &'static [u8] {
+pub(crate) fn not_heard_line(format: Format) -> &'static [u8]
+    ensures value { result.now ≡ not_heard_line format }
+{
     match format {
         Format::Text => b"could not hear\n",
         Format::Csv => b"not heard,,,,,,,,,\n",
@@ -461,7 +463,9 @@ pub(crate) fn not_heard_line(format: Format) -> &'static [u8] {
 }
 
 /// Returns the line that says that a script doesn't answer a question about a time.
-pub(crate) fn unknown_line(format: Format) -> &'static [u8] {
+pub(crate) fn unknown_line(format: Format) -> &'static [u8]
+    ensures value { result.now ≡ unknown_line format }
+{
     match format {
         Format::Text => b"not known\n",
         Format::Csv => b"not known,,,,,,,,,\n",

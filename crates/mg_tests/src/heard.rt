@@ -4,7 +4,7 @@ use mg_core::{Config, Peer, RunFault, Stopped};
 use mg_dates::Date;
 use mg_heard::{
     ClockFault, Entry, Extent, Format, Gap, HeardFault, Interval, Moment, OpenFlow, PartyName,
-    Query, Report, Sink, Verdict, hear, hear_at,
+    Query, Sink, Verdict, hear, hear_at, write_answer, write_report,
 };
 use std::alloc::{AllocError, Global};
 use std::io::{Cursor, Read};
@@ -317,11 +317,17 @@ const DATED: &[&[u8]] = &[
 /// Writes a report about a script.
 fn reported(alloc: Global, format: Format, query: Query) -> Result<Vec<u8>, Fail> {
     let script = script_of(alloc, DATED)?;
-    let mut report = Report::new(alloc, format, query, Vec::new(alloc))?;
-    report.begin()?;
-    let config = Config::default();
-    let (report, _) = hear(alloc, config, &mut Cursor::new(script.as_slice()), report)?;
-    Ok(report.into_writer())
+    let mut reader = Cursor::new(script.as_slice());
+    let mut writer = Vec::new(alloc);
+    write_report(
+        alloc,
+        Config::default(),
+        &mut reader,
+        format,
+        query,
+        &mut writer,
+    )?;
+    Ok(writer)
 }
 
 #[test]
@@ -358,6 +364,56 @@ fn heard_reports_have_three_formats(rt: HostRuntime) -> Result<(), Fail> {
         {\"kind\":\"heard\",\"listener\":\"RTP/2\",\"listener_at\":null,\"talker\":\"RTP/1\",\"talker_at\":null,\"context\":1,\"first_tick\":0,\"end_tick\":null,\"from\":\"2026-11-27T14:03:20Z\",\"until\":null}\n"
                 .as_slice()
     );
+    Ok(())
+}
+
+/// Writes the answer about the first caller and a time after the start.
+fn answered(alloc: Global, format: Format, millis: u64) -> Result<Vec<u8>, Fail> {
+    let script = script_of(alloc, DATED)?;
+    let mut reader = Cursor::new(script.as_slice());
+    let mut writer = Vec::new(alloc);
+    let query = Query {
+        listener: PartyName::of(b"RTP/1"),
+        ..Query::all()
+    };
+    let time = Date {
+        millis: START.saturating_add(millis),
+    };
+    let _ = write_answer(
+        alloc,
+        Config::default(),
+        &mut reader,
+        format,
+        query,
+        time,
+        &mut writer,
+    )?;
+    Ok(writer)
+}
+
+#[test]
+fn heard_answers_are_one_line(rt: HostRuntime) -> Result<(), Fail> {
+    let alloc = rt.alloc();
+    for (format, millis, line) in [
+        (
+            Format::Text,
+            0,
+            b"RTP/1 could hear RTP/2 in context 1 from 2026-11-27T14:03:20Z (tick 0) until 2026-11-27T14:03:20.04Z (tick 2)\n".as_slice(),
+        ),
+        (Format::Text, 40, b"could not hear\n".as_slice()),
+        (Format::Text, 60, b"not known\n".as_slice()),
+        (
+            Format::Csv,
+            20,
+            b"heard,RTP/1,,RTP/2,,1,0,2,2026-11-27T14:03:20Z,2026-11-27T14:03:20.04Z\n".as_slice(),
+        ),
+        (Format::Csv, 40, b"not heard,,,,,,,,,\n".as_slice()),
+        (Format::Csv, 60, b"not known,,,,,,,,,\n".as_slice()),
+        (Format::Json, 40, b"{\"kind\":\"not heard\"}\n".as_slice()),
+        (Format::Json, 60, b"{\"kind\":\"not known\"}\n".as_slice()),
+    ] {
+        assert_eq!(rt; answered(alloc, format, millis)?.as_slice(), line);
+    }
     Ok(())
 }
 

@@ -1,32 +1,18 @@
-use Rattle.std.proofs.Common.{◌++◌, ◌∷◌, [], sym, subst, ◌∙◌}
+use Rattle.std.proofs.Common.{sym, ◌∙◌}
+use Rattle.std.proofs.lemmas.Result.{on_ok_weaker}
 use Rattle.mg_heard.specs.Reported.{HasReported, Reported}
-use Rattle.mg_heard.proofs.ReportLemmas.{reported_more_on, reported_same}
+use Rattle.mg_heard.proofs.ReportLemmas.{reported_more_on}
 use Rattle.mg_heard.proofs.report.ReportSink.tell.Goals as goal
 
 pub returns-then-selects_entry : goal.returns-then-selects_entry
 returns-then-selects_entry g c =
-    let old : Reported = record {
-      format = c.self.inside.format;
-      query = c.self.inside.query;
-      written = g.W.Write.contents c.self.inside.writer;
-    } in
+    let held = g.W.Write.contents in
+    let self = c.args.self.now in
+    let old : Reported = record { format = self.lines.now; query = self.query; written = held self.writer.now } in
     record {
-      value = λ start before h.
-          reported_more_on start old before c.args.entry.now (g.W.Write.contents c.write_entry.new.writer)
-          c.write_entry.result (sym c.selects_entry.ensures.value ∙ c.if-selects_entry.true) c.write_entry.ensures.value
-          (subst (λ (r : Reported). HasReported start r before) (sym c.self.view_is) h);
-    }
-
-pub returns : goal.returns
-returns g c =
-    let old : Reported = record {
-      format = c.self.inside.format;
-      query = c.self.inside.query;
-      written = g.W.Write.contents c.self.inside.writer;
-    } in
-    record {
-      value = λ start before h.
-          subst (λ (r : Reported). HasReported start r (before ++ c.args.entry.now ∷ [])) c.self.view_is
-          (reported_same start old before c.args.entry.now (sym c.selects_entry.ensures.value ∙ c.if-selects_entry.false)
-          (subst (λ (r : Reported). HasReported start r before) (sym c.self.view_is) h));
+      value = λ start before h. rw c.write_entry.ensures.same (on_ok_weaker c.write_entry.result (λ all. (h.0, all))
+          (reported_more_on
+          (record { format = start.lines.now; query = start.query; written = held start.writer.now }) old before
+          c.args.entry.now (held c.write_entry.new.writer) c.write_entry.result
+          (sym c.selects_entry.ensures.value ∙ c.if-selects_entry.true) c.write_entry.ensures.value h.1));
     }

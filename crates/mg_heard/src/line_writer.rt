@@ -1,0 +1,146 @@
+ghost use Rattle.std.specs.Prelude.{◌≡◌, ◌≤◌, ◌+◌, ℕ, length, IfOk, List, OnOk};
+ghost use Rattle.std.specs.Io.KnownBytes.{Appends};
+ghost use Rattle.mg_heard.specs.Lines.{head_of, IsLine, IsVerdictLine};
+
+use crate::entry::Entry;
+use crate::format::Format;
+use crate::interval::Interval;
+use crate::line::{LINE_LIMIT, not_heard_line, push_entry, push_head, unknown_line};
+use crate::verdict::Verdict;
+use mg_core::Stopped;
+use mg_dates::{Date, TimeText};
+use mg_lines::write_whole;
+use mg_reply::Bytes;
+use std::alloc::{AllocError, Global};
+use std::io::Write;
+use std::marker::Model;
+
+/// Writes lines in a format, each as a whole. In contracts, it appears as the format.
+#[derive(Drop)]
+pub(crate) struct LineWriter {
+    format: Format,
+    line: Bytes,
+}
+
+impl Model for LineWriter {
+    ghost use Rattle.std.specs.Prelude.{◌≡◌, ◌+◌, length};
+    ghost use Rattle.mg_heard.specs.declared.format.Format.{Format};
+    ghost use Rattle.mg_heard.specs.declared.line.TheConstants.{LINE_LIMIT};
+
+    ghost Value = { Format };
+
+    ghost view = { λ w. w.format };
+
+    ghost invariant = { λ w. w.line.room + length w.line.text ≡ LINE_LIMIT };
+}
+
+/// Returns the dates of an entry.
+fn dates_of(entry: &Entry) -> (Option<Date>, Option<Date>) {
+    match entry {
+        Entry::Interval(interval) => (interval.first.date, interval.end.and_then(|end| end.date)),
+        Entry::Gap(gap) => (gap.first.date, gap.end.date),
+    }
+}
+
+/// Returns the text of a date, or an empty text if there is none.
+fn text_of(date: Option<Date>) -> TimeText {
+    match date {
+        Some(date) => date.text(),
+        None => TimeText::new(),
+    }
+}
+
+/// Writes a text.
+fn write_text<W: Write>(text: &[u8], writer: &mut W) -> Result<(), Stopped>
+    ensures value { OnOk result (Appends (W.contents writer.old) (W.contents writer.new) text.now) }
+{
+    match write_whole(text, writer) {
+        Ok(_) => Ok(()),
+        Err(_) => Err(Stopped),
+    }
+}
+
+/// Writes a line for an entry.
+fn write_entry<W: Write>(
+    format: Format,
+    entry: &Entry,
+    line: &mut Bytes,
+    writer: &mut W,
+) -> Result<(), Stopped>
+    requires room { LINE_LIMIT ≤ line.old.room + length line.old.text }
+    ensures room { line.new.room + length line.new.text ≡ line.old.room + length line.old.text }
+    ensures value { OnOk result ((text : List ℕ) × IsLine format entry.now text
+        × Appends (W.contents writer.old) (W.contents writer.new) text) }
+{
+    let (from, until) = dates_of(entry);
+    let from = text_of(from);
+    let until = text_of(until);
+    line.clear();
+    push_entry(format, from.as_slice(), until.as_slice(), entry, line);
+    write_text(line.as_slice(), writer)
+}
+
+impl LineWriter {
+    /// Creates a writer. No other call allocates.
+    pub(crate) fn new(alloc: Global, format: Format) -> Result<Self, AllocError>
+        ensures value { IfOk result (λ lines. lines ≡ format) }
+    {
+        Ok(LineWriter {
+            format,
+            line: Bytes::new(alloc, LINE_LIMIT)?,
+        })
+    }
+
+    /// Writes what precedes all lines: the names of the columns in CSV, and nothing in the other formats.
+    pub(crate) fn write_head<W: Write>(&mut self, writer: &mut W) -> Result<(), Stopped>
+        ensures same { self.new ≡ self.old }
+        ensures value { OnOk result (Appends (W.contents writer.old) (W.contents writer.new) (head_of self.old)) }
+    {
+        self.line.clear();
+        push_head(self.format, &mut self.line);
+        write_text(self.line.as_slice(), writer)
+    }
+
+    /// Writes a line for an interval or a gap.
+    pub(crate) fn write_entry<W: Write>(
+        &mut self,
+        entry: &Entry,
+        writer: &mut W,
+    ) -> Result<(), Stopped>
+        ensures same { self.new ≡ self.old }
+        ensures value { OnOk result ((text : List ℕ) × IsLine self.old entry.now text
+            × Appends (W.contents writer.old) (W.contents writer.new) text) }
+    {
+        write_entry(self.format, entry, &mut self.line, writer)
+    }
+
+    /// Writes a line for the interval that is the answer to a question about a time.
+    fn write_interval<W: Write>(
+        &mut self,
+        interval: &Interval,
+        writer: &mut W,
+    ) -> Result<(), Stopped>
+        ensures same { self.new ≡ self.old }
+        ensures value { OnOk result ((text : List ℕ) × IsVerdictLine self.old (Verdict.CouldHear interval.now) text
+            × Appends (W.contents writer.old) (W.contents writer.new) text) }
+    {
+        let entry = Entry::Interval(*interval);
+        self.write_entry(&entry, writer)
+    }
+
+    /// Writes one line that answers a question about a time.
+    pub(crate) fn write_verdict<W: Write>(
+        &mut self,
+        verdict: &Verdict,
+        writer: &mut W,
+    ) -> Result<(), Stopped>
+        ensures value { OnOk result ((text : List ℕ) × IsVerdictLine self.old verdict.now text
+            × Appends (W.contents writer.old) (W.contents writer.new) text) }
+    {
+        match verdict {
+            Verdict::CouldHear(interval) => self.write_interval(interval, writer),
+            Verdict::CouldNotHear => write_text(not_heard_line(self.format), writer),
+            Verdict::Unknown => write_text(unknown_line(self.format), writer),
+        }
+    }
+}

@@ -1,0 +1,113 @@
+ghost use Rattle.std.specs.Prelude.{◌≡◌, IfOk};
+ghost use Rattle.mg_core.specs.Follow.{IsFollowed};
+ghost use Rattle.mg_core.specs.declared.state.CoreState.{CoreState};
+ghost use Rattle.mg_heard.specs.Reported.{HasReported, WritesReport, WritesVerdict};
+ghost use Rattle.mg_heard.specs.Told.{TellsAll};
+ghost use Rattle.mg_heard.specs.Verdict.{verdict_at};
+ghost use Rattle.mg_heard.specs.declared.extent.Extent.{Extent};
+
+use crate::answering::hear_at;
+use crate::format::Format;
+use crate::heard_fault::HeardFault;
+use crate::hearing::hear;
+use crate::line_writer::LineWriter;
+use crate::query::Query;
+use crate::report::Report;
+use crate::verdict::Verdict;
+use mg_core::Config;
+use mg_dates::Date;
+use std::alloc::Global;
+use std::io::{Read, Write};
+
+/// Reports who could hear whom while a script ran. Returns the report.
+fn hear_report<'a, R: Read, W: Write>(
+    alloc: Global,
+    config: Config,
+    reader: &mut R,
+    report: Report<'a, W>,
+) -> Result<Report<'a, W>, HeardFault>
+    ensures same_reference { IfOk result (λ last. last.writer.ghost_name ≡ report.entry.writer.ghost_name) }
+    ensures reported { IfOk result (λ last. (state : CoreState) ×
+        IsFollowed config (R.remaining reader.old) (R.remaining reader.new) state
+        (λ notes. TellsAll config notes (HasReported
+        (record { format = report.entry.lines.now; query = report.entry.query; written = W.contents report.entry.writer.now })
+        (record { format = last.lines.now; query = last.query; written = W.contents last.writer.now })))) }
+{
+    let (report, _) = hear(alloc, config, reader, report)?;
+    Ok(report)
+}
+
+/// Writes who could hear whom while a script ran: a line for each interval that `query` selects, when it ends, and for
+/// each gap.
+pub fn write_report<R: Read, W: Write>(
+    alloc: Global,
+    config: Config,
+    reader: &mut R,
+    format: Format,
+    query: Query,
+    writer: &mut W,
+) -> Result<(), HeardFault>
+    ensures report { IfOk result (λ _. (state : CoreState) ×
+        IsFollowed config (R.remaining reader.old) (R.remaining reader.new) state
+        (λ notes. TellsAll config notes
+        (WritesReport format query (W.contents writer.old) (W.contents writer.new)))) }
+{
+    let Ok(mut lines) = LineWriter::new(alloc, format) else {
+        return Err(HeardFault::NoMemory);
+    };
+    if lines.write_head(writer).is_err() {
+        return Err(HeardFault::Stopped);
+    }
+    let report = Report {
+        lines: &mut lines,
+        query,
+        writer,
+    };
+    let report = hear_report(alloc, config, reader, report)?;
+    let Report { writer, .. } = report;
+    // No effect at run time. The proof reads from this use what the writer holds.
+    let _ = &*writer;
+    Ok(())
+}
+
+/// Writes one line.
+fn write_verdict<W: Write>(
+    alloc: Global,
+    format: Format,
+    verdict: &Verdict,
+    writer: &mut W,
+) -> Result<(), HeardFault>
+    ensures value { IfOk result (λ _. WritesVerdict format verdict.now (W.contents writer.old) (W.contents writer.new)) }
+{
+    let Ok(mut lines) = LineWriter::new(alloc, format) else {
+        return Err(HeardFault::NoMemory);
+    };
+    match lines.write_verdict(verdict, writer) {
+        Ok(_) => Ok(()),
+        Err(_) => Err(HeardFault::Stopped),
+    }
+}
+
+/// Runs a script, and writes one line that answers whether a listener could hear a talker at one time, for the
+/// listeners and talkers that `query` selects. Returns the answer.
+///
+/// No contract says that the dates, the gaps and the extent are those of the script.
+pub fn write_answer<R: Read, W: Write>(
+    alloc: Global,
+    config: Config,
+    reader: &mut R,
+    format: Format,
+    query: Query,
+    time: Date,
+    writer: &mut W,
+) -> Result<Verdict, HeardFault>
+    ensures answer { IfOk result (λ verdict. (state : CoreState) × (extent : Extent) ×
+        IsFollowed config (R.remaining reader.old) (R.remaining reader.new) state
+        (λ notes. TellsAll config notes (λ xs. verdict ≡ verdict_at query time extent xs))) }
+    ensures written { IfOk result (λ verdict.
+        WritesVerdict format verdict (W.contents writer.old) (W.contents writer.new)) }
+{
+    let verdict = hear_at(alloc, config, reader, query, time)?;
+    write_verdict(alloc, format, &verdict, writer)?;
+    Ok(verdict)
+}

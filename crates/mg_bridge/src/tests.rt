@@ -4,6 +4,7 @@ mod commanding;
 mod conversation;
 mod drawing;
 mod ending;
+mod equality;
 mod in_real_time;
 mod journal;
 mod replaying;

@@ -21,7 +21,7 @@ pub struct Query {
     pub until: Option<Date>,
 }
 
-/// Returns whether a termination is asked for.
+/// Returns whether a query asks about this termination.
 fn is_asked(name: Option<PartyName>, number: u32, at: Option<Peer>) -> bool
     ensures value { result ≡ is_asked name number at }
 {

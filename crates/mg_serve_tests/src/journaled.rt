@@ -1,5 +1,6 @@
 //! Sessions with a journal, over in-memory ports.
 
+use crate::equality::assert_equal;
 use crate::serve::{ADD, HEARTBEAT, call_log, config, poll_and_ticks, ports, serve_on};
 use mg_core::{Shown, Taken, run};
 use mg_journal::{FaultEffect, FileCall, InjectedFault, MemoryFile, Opening};
@@ -163,23 +164,26 @@ fn appends_a_message_before_it_is_answered(rt: HostRuntime) -> Result<(), Fail> 
         lines: b"poll\ntick\ntick\npoll\ntick\n",
     };
     let outcome = session(alloc, &case)?;
-    assert_eq!(rt;
+    assert_equal(
+        &rt,
         outcome.call_log.as_str(),
-        "c0s1a0f0n1n2p1p1c0w2s1a0n0n1n2p1"
+        "c0s1a0f0n1n2p1p1c0w2s1a0n0n1n2p1",
     );
     let events = lines_of(alloc, outcome.recording.as_slice(), false)?;
-    assert_eq!(rt; outcome.text.len(), outcome.synced);
-    assert_eq!(rt;
+    assert_equal(&rt, outcome.text.len(), outcome.synced);
+    assert_equal(
+        &rt,
         events.as_slice().strip_suffix(b"tick\n".as_slice()),
-        Some(outcome.text.as_slice())
+        Some(outcome.text.as_slice()),
     );
-    assert_eq!(rt;
+    assert_equal(
+        &rt,
         outcome.report,
         JournalReport {
             lacking: 1,
             failed: 0,
-            unjournaled: 0
-        }
+            unjournaled: 0,
+        },
     );
     Ok(())
 }
@@ -194,8 +198,8 @@ fn appends_messages_without_a_sync(rt: HostRuntime) -> Result<(), Fail> {
         lines: b"poll\n",
     };
     let outcome = session(rt.alloc(), &case)?;
-    assert_eq!(rt; outcome.call_log.as_str(), "c0w1a0n0n1n2");
-    assert_eq!(rt; outcome.synced, 0);
+    assert_equal(&rt, outcome.call_log.as_str(), "c0w1a0n0n1n2");
+    assert_equal(&rt, outcome.synced, 0);
     assert!(rt;
         outcome
             .text
@@ -218,23 +222,25 @@ fn answers_a_refused_message_when_it_is_repeated(rt: HostRuntime) -> Result<(), 
         lines: b"poll\ntick\npoll\ntick\ntick\npoll\nstats\n",
     };
     let outcome = session(alloc, &case)?;
-    assert_eq!(rt;
+    assert_equal(
+        &rt,
         outcome.call_log.as_str(),
-        "c0s1a0f0n1n2p1c0w1r1f0n1n2p1p1c0w2s1a0n0n1n2"
+        "c0s1a0f0n1n2p1c0w1r1f0n1n2p1p1c0w2s1a0n0n1n2",
     );
     let events = lines_of(alloc, outcome.recording.as_slice(), false)?;
-    assert_eq!(rt; outcome.text.as_slice(), events.as_slice());
+    assert_equal(&rt, outcome.text.as_slice(), events.as_slice());
     let wanted: &[u8] = b"# a title\n# ready\n# no journal for a control datagram\n\
         # control=2 media=0 ticks=3 sent=5 failed=2 dropped=0,0,0,0,0,0 concealed=0\n";
     let comments = lines_of(alloc, outcome.recording.as_slice(), true)?;
-    assert_eq!(rt; comments.as_slice(), wanted);
-    assert_eq!(rt;
+    assert_equal(&rt, comments.as_slice(), wanted);
+    assert_equal(
+        &rt,
         outcome.report,
         JournalReport {
             lacking: 2,
             failed: 1,
-            unjournaled: 1
-        }
+            unjournaled: 1,
+        },
     );
     Ok(())
 }
@@ -250,17 +256,19 @@ fn answers_nothing_once_the_journal_is_broken(rt: HostRuntime) -> Result<(), Fai
         lines: b"poll\npoll\ntick\npoll\ntick\n",
     };
     let outcome = session(rt.alloc(), &case)?;
-    assert_eq!(rt;
+    assert_equal(
+        &rt,
         outcome.call_log.as_str(),
-        "c0s1a0f0n1n2c0b1f0n1n2p1c0b1n0n1n2p1"
+        "c0s1a0f0n1n2c0b1f0n1n2p1c0b1n0n1n2p1",
     );
-    assert_eq!(rt;
+    assert_equal(
+        &rt,
         outcome.report,
         JournalReport {
             lacking: 2,
             failed: 2,
-            unjournaled: 2
-        }
+            unjournaled: 2,
+        },
     );
     Ok(())
 }
@@ -277,9 +285,9 @@ fn appends_ticks_once_a_second(rt: HostRuntime) -> Result<(), Fail> {
         lines: lines.as_bytes(),
     };
     let outcome = session(alloc, &case)?;
-    assert_eq!(rt; outcome.call_log.as_str(), "n0n1n2w0");
-    assert_eq!(rt; outcome.text.as_slice(), ticks(alloc, 50)?.as_slice());
-    assert_eq!(rt; outcome.report.lacking, 1);
+    assert_equal(&rt, outcome.call_log.as_str(), "n0n1n2w0");
+    assert_equal(&rt, outcome.text.as_slice(), ticks(alloc, 50)?.as_slice());
+    assert_equal(&rt, outcome.report.lacking, 1);
     Ok(())
 }
 
@@ -295,15 +303,16 @@ fn tries_again_at_each_tick(rt: HostRuntime) -> Result<(), Fail> {
         lines: lines.as_bytes(),
     };
     let outcome = session(alloc, &case)?;
-    assert_eq!(rt; outcome.call_log.as_str(), "n0n1n2r0r1w2");
-    assert_eq!(rt; outcome.text.as_slice(), ticks(alloc, 52)?.as_slice());
-    assert_eq!(rt;
+    assert_equal(&rt, outcome.call_log.as_str(), "n0n1n2r0r1w2");
+    assert_equal(&rt, outcome.text.as_slice(), ticks(alloc, 52)?.as_slice());
+    assert_equal(
+        &rt,
         outcome.report,
         JournalReport {
             lacking: 1,
             failed: 2,
-            unjournaled: 0
-        }
+            unjournaled: 0,
+        },
     );
     Ok(())
 }
@@ -347,9 +356,10 @@ fn runs_a_journal_with_the_same_flows(rt: HostRuntime) -> Result<(), Fail> {
     let flows = flows_of(alloc, outcome.text.as_slice())?;
     assert!(rt; !outcome.text.as_slice().starts_with(b"#"));
     assert!(rt; !flows.is_empty());
-    assert_eq!(rt;
+    assert_equal(
+        &rt,
         flows.as_slice(),
-        flows_of(alloc, outcome.recording.as_slice())?.as_slice()
+        flows_of(alloc, outcome.recording.as_slice())?.as_slice(),
     );
     Ok(())
 }
@@ -367,15 +377,16 @@ fn appends_nothing_unless_it_is_set_up(rt: HostRuntime) -> Result<(), Fail> {
         lines: lines.as_slice(),
     };
     let outcome = session(alloc, &case)?;
-    assert_eq!(rt; outcome.call_log.as_str(), "c0a0n0n1n2p1");
+    assert_equal(&rt, outcome.call_log.as_str(), "c0a0n0n1n2p1");
     assert!(rt; outcome.text.is_empty());
-    assert_eq!(rt;
+    assert_equal(
+        &rt,
         outcome.report,
         JournalReport {
             lacking: 0,
             failed: 0,
-            unjournaled: 0
-        }
+            unjournaled: 0,
+        },
     );
     Ok(())
 }

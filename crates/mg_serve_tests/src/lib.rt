@@ -5,6 +5,8 @@
 #![tactic(auto)]
 
 #[cfg(test)]
+mod equality;
+#[cfg(test)]
 mod journaled;
 #[cfg(test)]
 mod loss;

@@ -1,5 +1,6 @@
 //! How lost packets are counted.
 
+use crate::equality::assert_equal;
 use mg_monitor::Loss;
 use mg_rtp::Header;
 
@@ -25,7 +26,7 @@ fn count_all(loss: &mut Loss, first: u16, count: u16) {
 fn loses_nothing_of_a_whole_stream(rt: HostRuntime) {
     let mut loss = Loss::new();
     count_all(&mut loss, 65500, 300);
-    assert_eq!(rt; loss.lost(), 0);
+    assert_equal(&rt, loss.lost(), 0);
 }
 
 #[test]
@@ -33,11 +34,11 @@ fn loses_a_packet_when_the_window_has_passed_it(rt: HostRuntime) {
     let mut loss = Loss::new();
     count_all(&mut loss, 65530, 3);
     count_all(&mut loss, 65534, 63);
-    assert_eq!(rt; loss.lost(), 0);
+    assert_equal(&rt, loss.lost(), 0);
     loss.count(header(7, 61));
-    assert_eq!(rt; loss.lost(), 1);
+    assert_equal(&rt, loss.lost(), 1);
     count_all(&mut loss, 62, 200);
-    assert_eq!(rt; loss.lost(), 1);
+    assert_equal(&rt, loss.lost(), 1);
 }
 
 #[test]
@@ -50,7 +51,7 @@ fn reordered_packets_are_not_lost(rt: HostRuntime) {
         loss.count(header(7, sequence));
     }
     count_all(&mut loss, 73, 100);
-    assert_eq!(rt; loss.lost(), 0);
+    assert_equal(&rt, loss.lost(), 0);
 }
 
 #[test]
@@ -58,11 +59,11 @@ fn a_late_packet_is_lost_once(rt: HostRuntime) {
     let mut loss = Loss::new();
     loss.count(header(7, 1));
     count_all(&mut loss, 3, 64);
-    assert_eq!(rt; loss.lost(), 1);
+    assert_equal(&rt, loss.lost(), 1);
     loss.count(header(7, 2));
     count_all(&mut loss, 60, 7);
     count_all(&mut loss, 67, 64);
-    assert_eq!(rt; loss.lost(), 1);
+    assert_equal(&rt, loss.lost(), 1);
 }
 
 #[test]
@@ -70,11 +71,11 @@ fn a_long_gap_is_lost(rt: HostRuntime) {
     let mut loss = Loss::new();
     loss.count(header(7, 100));
     loss.count(header(7, 601));
-    assert_eq!(rt; loss.lost(), 437);
+    assert_equal(&rt, loss.lost(), 437);
     count_all(&mut loss, 602, 63);
-    assert_eq!(rt; loss.lost(), 500);
+    assert_equal(&rt, loss.lost(), 500);
     loss.count(header(7, 664 + 2999));
-    assert_eq!(rt; loss.lost(), 500 + 2998 - 63);
+    assert_equal(&rt, loss.lost(), 500 + 2998 - 63);
 }
 
 #[test]
@@ -83,13 +84,13 @@ fn a_new_stream_ends_the_previous_one(rt: HostRuntime) {
     for sequence in [1, 3, 6] {
         loss.count(header(7, sequence));
     }
-    assert_eq!(rt; loss.lost(), 0);
+    assert_equal(&rt, loss.lost(), 0);
     loss.count(header(8, 40000));
-    assert_eq!(rt; loss.lost(), 3);
+    assert_equal(&rt, loss.lost(), 3);
     for sequence in [43000, 42899, 42900] {
         loss.count(header(8, sequence));
     }
-    assert_eq!(rt; loss.lost(), 3);
+    assert_equal(&rt, loss.lost(), 3);
 }
 
 #[test]
@@ -99,7 +100,7 @@ fn a_packet_from_before_the_first_is_ignored(rt: HostRuntime) {
         loss.count(header(7, sequence));
     }
     count_all(&mut loss, 101, 200);
-    assert_eq!(rt; loss.lost(), 0);
+    assert_equal(&rt, loss.lost(), 0);
 }
 
 #[test]
@@ -111,7 +112,7 @@ fn counts_packets_by_their_bytes(rt: HostRuntime) {
         packet[3] = sequence;
         loss.count_packet(&packet);
     }
-    assert_eq!(rt; loss.lost(), 2 + 3);
+    assert_equal(&rt, loss.lost(), 2 + 3);
     loss.count_packet(b"x");
-    assert_eq!(rt; loss.lost(), 2 + 3);
+    assert_equal(&rt, loss.lost(), 2 + 3);
 }

@@ -1,5 +1,6 @@
 //! Metrics, and the lines about lost packets in reports.
 
+use crate::equality::assert_equal;
 use crate::serve::{ADD, CALLER, config, poll_and_ticks, ports, serve_on};
 use mg_monitor::{Both, Metrics, Reports, Sink};
 use mg_ports::{Arrival, FakePorts, Payload, Peer};
@@ -165,7 +166,7 @@ fn writes_metrics_every_five_seconds(rt: HostRuntime) -> Result<(), Fail> {
         &mut busy_ports(alloc, &[1, 2, 4])?,
         lines.as_str(),
     )?;
-    assert_eq!(rt; early.texts, 0);
+    assert_equal(&rt, early.texts, 0);
     let lines = poll_and_ticks(alloc, 500)?;
     let seen = watch(
         alloc,
@@ -173,7 +174,7 @@ fn writes_metrics_every_five_seconds(rt: HostRuntime) -> Result<(), Fail> {
         &mut busy_ports(alloc, &[1, 2, 4])?,
         lines.as_str(),
     )?;
-    assert_eq!(rt; seen.texts, 2);
+    assert_equal(&rt, seen.texts, 2);
     let lines: [&[u8]; 31] = [
         b"# TYPE lobbysorrel_ticks_total counter",
         b"# TYPE lobbysorrel_tick_delay_seconds histogram",

@@ -1,5 +1,6 @@
 //! Recorded sessions over in-memory ports, and replays of their recordings.
 
+use crate::equality::assert_equal;
 use crate::serve::{HEARTBEAT, call_log, config, ports, serve_on};
 use mg_core::{Shown, run};
 use mg_fakes::FailingWriter;
@@ -78,9 +79,9 @@ fn records_what_happens(rt: HostRuntime) -> Result<(), Fail> {
         b"poll\ntick\npol\nstats\nquit\n",
         &mut printed,
     )?;
-    assert_eq!(rt; outcome.result, Ok(1));
-    assert_eq!(rt; outcome.call_log.as_str(), "c0a0n0n1c2n2");
-    assert_eq!(rt; printed.as_slice(), RECORDING);
+    assert_equal(&rt, outcome.result, Ok(1));
+    assert_equal(&rt, outcome.call_log.as_str(), "c0a0n0n1c2n2");
+    assert_equal(&rt, printed.as_slice(), RECORDING);
     Ok(())
 }
 
@@ -95,7 +96,7 @@ fn runs_what_was_recorded(rt: HostRuntime) -> Result<(), Fail> {
     );
     let wanted: &[u8] = b"say 127.0.0.1:40000 MEGACO/1 [127.0.0.1]:2944\\n\
         Reply=2{Context=-{AuditValue=ROOT}}\n";
-    assert_eq!(rt; written.as_slice(), wanted);
+    assert_equal(&rt, written.as_slice(), wanted);
     Ok(())
 }
 
@@ -104,11 +105,11 @@ fn finishes_a_line_whose_print_fails(rt: HostRuntime) -> Result<(), Fail> {
     let alloc = rt.alloc();
     let mut writer = FailingWriter::new(alloc, 1000, 2);
     let outcome = record(alloc, b"", b"poll\ntick\n", &mut writer)?;
-    assert_eq!(rt; outcome.result, Err(RunFault::Write));
-    assert_eq!(rt; outcome.call_log.as_str(), "c0a0n0n1c2n2");
+    assert_equal(&rt, outcome.result, Err(RunFault::Write));
+    assert_equal(&rt, outcome.call_log.as_str(), "c0a0n0n1c2n2");
     let mut writer = FailingWriter::new(alloc, 1000, 1);
     let outcome = record(alloc, b"", b"poll\n", &mut writer)?;
-    assert_eq!(rt; outcome.result, Err(RunFault::Write));
-    assert_eq!(rt; outcome.call_log.as_str(), "");
+    assert_equal(&rt, outcome.result, Err(RunFault::Write));
+    assert_equal(&rt, outcome.call_log.as_str(), "");
     Ok(())
 }

@@ -3,6 +3,7 @@
 ghost use Rattle.std.specs.Prelude.{OnOk};
 ghost use Rattle.mg_engine.specs.Config.{IsValidConfig};
 
+use crate::equality::assert_equal;
 use mg_clock::{ClockFailed, Watch};
 use mg_fakes::{FailingReader, FailingWriter};
 use mg_journal::{AppendFault, Durability};
@@ -207,10 +208,10 @@ fn loses_the_packet_whose_send_fails(rt: HostRuntime) -> Result<(), Fail> {
     assert!(rt; result.is_ok());
     let wanted: &[u8] =
         b"ready\ncontrol=1 media=0 ticks=2 sent=2 failed=1 dropped=0,0,0,0,0,0 concealed=0\n";
-    assert_eq!(rt; printed.as_slice(), wanted);
-    assert_eq!(rt; call_log(alloc, &ports)?.as_str(), "c0a0n0n1n2p1p1");
+    assert_equal(&rt, printed.as_slice(), wanted);
+    assert_equal(&rt, call_log(alloc, &ports)?.as_str(), "c0a0n0n1n2p1p1");
     let head: &[u8] = b"\x80\0\0\x01\0\0\0\xa0\0\0\0\x01";
-    assert_eq!(rt; last_head(&ports), Some(head));
+    assert_equal(&rt, last_head(&ports), Some(head));
     Ok(())
 }
 
@@ -218,10 +219,10 @@ fn loses_the_packet_whose_send_fails(rt: HostRuntime) -> Result<(), Fail> {
 fn polls_the_pool_where_the_control_port_fails(rt: HostRuntime) -> Result<(), Fail> {
     let waiting: [(usize, &[u8]); 3] = [(0, HEARTBEAT), (1, b"x"), (2, b"")];
     let outcome = session(rt.alloc(), &waiting, &[0], b"poll\nstats\n")?;
-    assert_eq!(rt; outcome.call_log.as_str(), "f0c1n1c2n2");
+    assert_equal(&rt, outcome.call_log.as_str(), "f0c1n1c2n2");
     let wanted: &[u8] =
         b"ready\ncontrol=0 media=2 ticks=0 sent=0 failed=1 dropped=2,0,0,0,0,0 concealed=0\n";
-    assert_eq!(rt; outcome.printed.as_slice(), wanted);
+    assert_equal(&rt, outcome.printed.as_slice(), wanted);
     Ok(())
 }
 
@@ -232,7 +233,7 @@ fn takes_64_datagrams_in_a_turn(rt: HostRuntime) -> Result<(), Fail> {
     let wanted: &[u8] =
         b"ready\ncontrol=0 media=64 ticks=0 sent=0 failed=0 dropped=64,0,0,0,0,0 concealed=0\n\
         control=0 media=66 ticks=0 sent=0 failed=0 dropped=66,0,0,0,0,0 concealed=0\n";
-    assert_eq!(rt; outcome.printed.as_slice(), wanted);
+    assert_equal(&rt, outcome.printed.as_slice(), wanted);
     Ok(())
 }
 
@@ -283,7 +284,7 @@ fn counted(outcome: &Outcome) -> Option<(u64, u64, u64)> {
 #[test]
 fn counts_lines_up_to_the_end(rt: HostRuntime) -> Result<(), Fail> {
     let outcome = session(rt.alloc(), &[(0, b"x")], &[], b"poll\npol\nquit\ntick\n")?;
-    assert_eq!(rt; counted(&outcome), Some((3, 1, 0)));
+    assert_equal(&rt, counted(&outcome), Some((3, 1, 0)));
     Ok(())
 }
 
@@ -324,8 +325,12 @@ fn counts_each_call_that_fails(rt: HostRuntime) -> Result<(), Fail> {
     let alloc = rt.alloc();
     let waiting: [(usize, &[u8]); 4] = [(0, ADD), (0, HEARTBEAT), (1, b"x"), (2, b"x")];
     let outcome = session(alloc, &waiting, &[], b"poll\ntick\npoll\ntick\ntick\n")?;
-    assert_eq!(rt; outcome.call_log.as_str(), "c0a0c0a0n0c1n1c2n2p1n0n1n2p1p1");
-    assert_eq!(rt; first_uncounted(alloc, 15)?, None);
+    assert_equal(
+        &rt,
+        outcome.call_log.as_str(),
+        "c0a0c0a0n0c1n1c2n2p1n0n1n2p1p1",
+    );
+    assert_equal(&rt, first_uncounted(alloc, 15)?, None);
     Ok(())
 }
 
@@ -333,10 +338,10 @@ fn counts_each_call_that_fails(rt: HostRuntime) -> Result<(), Fail> {
 fn resends_a_lost_answer(rt: HostRuntime) -> Result<(), Fail> {
     let waiting: [(usize, &[u8]); 2] = [(0, ADD), (0, ADD)];
     let outcome = session(rt.alloc(), &waiting, &[1], b"poll\ntick\nstats\n")?;
-    assert_eq!(rt; outcome.call_log.as_str(), "c0a0c0a0n0n1n2p1");
+    assert_equal(&rt, outcome.call_log.as_str(), "c0a0c0a0n0n1n2p1");
     let wanted: &[u8] =
         b"ready\ncontrol=2 media=0 ticks=1 sent=2 failed=1 dropped=0,0,0,0,0,0 concealed=0\n";
-    assert_eq!(rt; outcome.printed.as_slice(), wanted);
+    assert_equal(&rt, outcome.printed.as_slice(), wanted);
     Ok(())
 }
 
@@ -384,9 +389,10 @@ fn reports_what_had_trouble(rt: HostRuntime) -> Result<(), Fail> {
         dropped=1,0,0,1,0,0 concealed=0\n\
         trouble port=30000 termination=1 packets=0 lost=0 concealed=0 started=0 pushed=0 again=0 late=0 dropped=0,0,0,0,0,0 strangers=0 silent=1\n";
     let both = reported(alloc, 1, 100)?;
-    assert_eq!(rt;
+    assert_equal(
+        &rt,
         both.as_slice().strip_prefix(first.as_slice()),
-        Some(second.as_slice())
+        Some(second.as_slice()),
     );
     Ok(())
 }
@@ -412,7 +418,7 @@ fn ends_where_a_read_fails(rt: HostRuntime) -> Result<(), Fail> {
         &mut reports,
     );
     assert!(rt; matches!(result, Err(RunFault::Read)));
-    assert_eq!(rt; call_log(alloc, &ports)?.as_str(), "n0c1n1n2");
+    assert_equal(&rt, call_log(alloc, &ports)?.as_str(), "n0c1n1n2");
     Ok(())
 }
 
@@ -441,8 +447,12 @@ fn call_log_with_writer(alloc: Global, calls: usize, lines: &[u8]) -> Result<Str
 fn ends_where_a_print_fails(rt: HostRuntime) -> Result<(), Fail> {
     let alloc = rt.alloc();
     let lines: &[u8] = b"poll\npol\npoll\n";
-    assert_eq!(rt; call_log_with_writer(alloc, 1, lines)?.as_str(), "n0c1n1n2");
-    assert_eq!(rt; call_log_with_writer(alloc, 0, lines)?.as_str(), "");
+    assert_equal(
+        &rt,
+        call_log_with_writer(alloc, 1, lines)?.as_str(),
+        "n0c1n1n2",
+    );
+    assert_equal(&rt, call_log_with_writer(alloc, 0, lines)?.as_str(), "");
     Ok(())
 }
 
@@ -489,7 +499,11 @@ fn takes_messages_of_controllers_alone(rt: HostRuntime) -> Result<(), Fail> {
         &mut reports,
     );
     assert!(rt; matches!(result, Ok(counts) if counts.control == 2 && counts.media == 1));
-    assert_eq!(rt; call_log(alloc, &ports)?.as_str(), "c0c0a0c0c0a0n0c1n1n2");
+    assert_equal(
+        &rt,
+        call_log(alloc, &ports)?.as_str(),
+        "c0c0a0c0c0a0n0c1n1n2",
+    );
     let wanted: &[u8] = b"totals control=2 media=1 ticks=50 sent=2 failed=0 strangers=2 ";
     assert!(rt; reports.as_slice().starts_with(wanted));
     Ok(())
@@ -538,7 +552,11 @@ fn takes_packets_from_remotes_alone(rt: HostRuntime) -> Result<(), Fail> {
         dropped=0,0,0,1,0,0 concealed=0\n\
         trouble port=30000 termination=1 packets=1 lost=0 concealed=0 started=0 pushed=0 again=0 late=0 dropped=0,0,0,1,0,0 strangers=1 silent=0\n\
         trouble port=30002 termination=0 packets=0 lost=0 concealed=0 started=0 pushed=0 again=0 late=0 dropped=0,0,0,0,0,0 strangers=1 silent=0\n";
-    assert_eq!(rt; reported_with(alloc, true)?.as_slice(), wanted.as_slice());
+    assert_equal(
+        &rt,
+        reported_with(alloc, true)?.as_slice(),
+        wanted.as_slice(),
+    );
     let wanted: &[u8] = b"totals control=1 media=3 ticks=50 sent=51 failed=0 strangers=0 ";
     assert!(rt; reported_with(alloc, false)?.as_slice().starts_with(wanted));
     Ok(())
@@ -596,10 +614,11 @@ fn begins_ticks_by_the_clock_until_it_fails(rt: HostRuntime) -> Result<(), Fail>
     let mut reports = Vec::new(alloc);
     let fault = serve_late(alloc, &mut ports, &mut printed, &mut reports)?;
     assert!(rt; matches!(fault, RunFault::Read));
-    assert_eq!(rt; printed.as_slice(), b"ready\n".as_slice());
-    assert_eq!(rt;
+    assert_equal(&rt, printed.as_slice(), b"ready\n".as_slice());
+    assert_equal(
+        &rt,
         call_log(alloc, &ports)?.as_str(),
-        "c0a0n0n1n2p1n0n1n2p1n0n1n2p1n0n1n2p1"
+        "c0a0n0n1n2p1n0n1n2p1n0n1n2p1n0n1n2p1",
     );
     let mut late: usize = 0;
     for call in ports.calls().unwrap_or(&[]) {
@@ -607,7 +626,11 @@ fn begins_ticks_by_the_clock_until_it_fails(rt: HostRuntime) -> Result<(), Fail>
             late = late.saturating_add(1);
         }
     }
-    assert_eq!(rt; late, 1);
-    assert_eq!(rt; reports.as_slice(), b"1 packets were too late\n".as_slice());
+    assert_equal(&rt, late, 1);
+    assert_equal(
+        &rt,
+        reports.as_slice(),
+        b"1 packets were too late\n".as_slice(),
+    );
     Ok(())
 }

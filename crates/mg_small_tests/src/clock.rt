@@ -1,5 +1,6 @@
 //! When a clock's ticks begin, and when the steps of `mg_pace` are due.
 
+use crate::equality::assert_equal;
 use mg_clock::{
     ClockFailed, Step, SystemWatch, TickSchedule, Timing, Watch, steps_due, time_to_step,
     time_to_tick,
@@ -52,12 +53,12 @@ fn begins_each_tick_when_it_is_due(rt: HostRuntime) {
         (Timing::OnTime, 25 * MS),
         (Timing::OnTime, 25 * MS),
     ] {
-        assert_eq!(rt; schedule.next_step(&mut watch), Ok(Step::Tick(timing)));
-        assert_eq!(rt; watch.waited, waited);
+        assert_equal(&rt, schedule.next_step(&mut watch), Ok(Step::Tick(timing)));
+        assert_equal(&rt, watch.waited, waited);
     }
-    assert_eq!(rt; schedule.next_step(&mut watch), Err(ClockFailed));
-    assert_eq!(rt; watch.waited, 26 * MS);
-    assert_eq!(rt; schedule.ticks, 4);
+    assert_equal(&rt, schedule.next_step(&mut watch), Err(ClockFailed));
+    assert_equal(&rt, watch.waited, 26 * MS);
+    assert_equal(&rt, schedule.ticks, 4);
 }
 
 #[test]
@@ -70,34 +71,39 @@ fn reports_at_most_twenty_messages_before_a_tick(rt: HostRuntime) {
     };
     let mut schedule = TickSchedule::new(5);
     for _ in 0..20 {
-        assert_eq!(rt; schedule.next_step(&mut watch), Ok(Step::Message));
+        assert_equal(&rt, schedule.next_step(&mut watch), Ok(Step::Message));
     }
     // The last message is not reported: the clock is read again, and fails.
-    assert_eq!(rt; schedule.next_step(&mut watch), Err(ClockFailed));
-    assert_eq!(rt; watch.messages, 0);
+    assert_equal(&rt, schedule.next_step(&mut watch), Err(ClockFailed));
+    assert_equal(&rt, watch.messages, 0);
     let times = [20 * MS, 21 * MS];
     let mut watch = Script {
         times: &times,
         waited: 0,
         messages: 1,
     };
-    assert_eq!(rt;
+    assert_equal(
+        &rt,
         schedule.next_step(&mut watch),
-        Ok(Step::Tick(Timing::OnTime))
+        Ok(Step::Tick(Timing::OnTime)),
     );
-    assert_eq!(rt; schedule.next_step(&mut watch), Ok(Step::Message));
+    assert_equal(&rt, schedule.next_step(&mut watch), Ok(Step::Message));
 }
 
 #[test]
 fn reports_what_is_due(rt: HostRuntime) {
-    assert_eq!(rt; steps_due(3, 6_666_666), 0);
-    assert_eq!(rt; steps_due(3, 6_666_667), 1);
-    assert_eq!(rt; steps_due(1000, u64::MAX), 922_337_203_685_477);
-    assert_eq!(rt; time_to_step(3, 0, 0).as_nanos(), 6_666_667);
-    assert_eq!(rt; time_to_step(3, 1, 30 * MS).as_nanos(), 0);
-    assert_eq!(rt; time_to_tick(2, 39 * MS), Some(Duration::from_millis(1)));
-    assert_eq!(rt; time_to_tick(2, 40 * MS), None);
-    assert_eq!(rt; time_to_tick(0, 0), None);
+    assert_equal(&rt, steps_due(3, 6_666_666), 0);
+    assert_equal(&rt, steps_due(3, 6_666_667), 1);
+    assert_equal(&rt, steps_due(1000, u64::MAX), 922_337_203_685_477);
+    assert_equal(&rt, time_to_step(3, 0, 0).as_nanos(), 6_666_667);
+    assert_equal(&rt, time_to_step(3, 1, 30 * MS).as_nanos(), 0);
+    assert_equal(
+        &rt,
+        time_to_tick(2, 39 * MS),
+        Some(Duration::from_millis(1)),
+    );
+    assert_equal(&rt, time_to_tick(2, 40 * MS), None);
+    assert_equal(&rt, time_to_tick(0, 0), None);
 }
 
 #[test]
@@ -119,7 +125,7 @@ fn is_late_after_the_ticks_that_are_allowed(rt: HostRuntime) {
             waited: 0,
             messages: 0,
         };
-        assert_eq!(rt; schedule.next_step(&mut watch), Ok(Step::Tick(timing)));
+        assert_equal(&rt, schedule.next_step(&mut watch), Ok(Step::Tick(timing)));
     }
 }
 
@@ -136,6 +142,6 @@ fn waits_by_the_system_clock(rt: HostRuntime) -> Result<(), Fail> {
     assert!(rt; passed >= Duration::from_millis(60));
     assert!(rt; passed < Duration::from_secs(10));
     assert!(rt; watch.now()? >= 60 * MS);
-    assert_eq!(rt; schedule.ticks, 3);
+    assert_equal(&rt, schedule.ticks, 3);
     Ok(())
 }

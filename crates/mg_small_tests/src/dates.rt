@@ -1,5 +1,6 @@
 //! Dates in a journal.
 
+use crate::equality::assert_equal;
 use mg_dates::{Date, DatedJournal};
 use mg_journal::{
     AppendFault, Durability, FaultEffect, FileCall, FileJournal, InjectedFault, MemoryFile, Opening,
@@ -38,18 +39,20 @@ fn journal(alloc: Global, faults: &[InjectedFault]) -> io::Result<FileJournal<Me
 
 #[test]
 fn reads_dates(rt: HostRuntime) -> Result<(), Fail> {
-    assert_eq!(rt;
+    assert_equal(
+        &rt,
         Date::of_text("2026-11-27T14:03:20Z"),
-        Some(Date { millis: START })
+        Some(Date { millis: START }),
     );
-    assert_eq!(rt;
+    assert_equal(
+        &rt,
         Date::of_text("2026-11-27T14:03:20.5Z"),
         Some(Date {
-            millis: START + 500
-        })
+            millis: START + 500,
+        }),
     );
-    assert_eq!(rt; Date::of_text("1969-12-31T23:59:59Z"), None);
-    assert_eq!(rt; Date::of_text("today"), None);
+    assert_equal(&rt, Date::of_text("1969-12-31T23:59:59Z"), None);
+    assert_equal(&rt, Date::of_text("today"), None);
     Ok(())
 }
 
@@ -60,20 +63,24 @@ fn dates_messages_and_old_ticks(rt: HostRuntime) -> Result<(), Fail> {
     };
     let mut dated = DatedJournal::new(rt.alloc(), journal(rt.alloc(), &[])?, &clock)?;
     // The first lines get the date of their first tick.
-    assert_eq!(rt; dated.append(b"tick\ntick\n", Durability::Written), Ok(()));
+    assert_equal(
+        &rt,
+        dated.append(b"tick\ntick\n", Durability::Written),
+        Ok(()),
+    );
     // In another second, the first message gets a date and the next one doesn't.
     clock.millis.set(START + 1_250);
-    assert_eq!(rt; dated.append(MESSAGE, Durability::Written), Ok(()));
+    assert_equal(&rt, dated.append(MESSAGE, Durability::Written), Ok(()));
     clock.millis.set(START + 1_900);
-    assert_eq!(rt; dated.append(MESSAGE, Durability::Written), Ok(()));
+    assert_equal(&rt, dated.append(MESSAGE, Durability::Written), Ok(()));
     // Ticks get a date only after a minute.
     clock.millis.set(START + 61_240);
-    assert_eq!(rt; dated.append(b"tick\n", Durability::Written), Ok(()));
+    assert_equal(&rt, dated.append(b"tick\n", Durability::Written), Ok(()));
     clock.millis.set(START + 61_250);
-    assert_eq!(rt; dated.append(b"tick\n", Durability::Written), Ok(()));
+    assert_equal(&rt, dated.append(b"tick\n", Durability::Written), Ok(()));
     let text =
         "# time 2026-11-27T14:03:19.96Z\ntick\ntick\n# time 2026-11-27T14:03:21.25Z\ncontrol 127.0.0.1:2944 00\ncontrol 127.0.0.1:2944 00\ntick\n# time 2026-11-27T14:04:21.23Z\ntick\n";
-    assert_eq!(rt; dated.journal().file().bytes(), text.as_bytes());
+    assert_equal(&rt, dated.journal().file().bytes(), text.as_bytes());
     Ok(())
 }
 
@@ -88,13 +95,14 @@ fn dates_only_what_is_appended(rt: HostRuntime) -> Result<(), Fail> {
         effect: FaultEffect::Fail(ErrorKind::StorageFull),
     }];
     let mut dated = DatedJournal::new(rt.alloc(), journal(rt.alloc(), &faults)?, &clock)?;
-    assert_eq!(rt;
+    assert_equal(
+        &rt,
         dated.append(MESSAGE, Durability::Synced),
-        Err(AppendFault::Refused)
+        Err(AppendFault::Refused),
     );
-    assert_eq!(rt; dated.journal().file().bytes(), b"".as_slice());
-    assert_eq!(rt; dated.append(MESSAGE, Durability::Synced), Ok(()));
+    assert_equal(&rt, dated.journal().file().bytes(), b"".as_slice());
+    assert_equal(&rt, dated.append(MESSAGE, Durability::Synced), Ok(()));
     let text = "# time 2026-11-27T14:03:20Z\ncontrol 127.0.0.1:2944 00\n";
-    assert_eq!(rt; dated.journal().file().bytes(), text.as_bytes());
+    assert_equal(&rt, dated.journal().file().bytes(), text.as_bytes());
     Ok(())
 }

@@ -1,5 +1,6 @@
 //! Masks of who is heard and who is silenced.
 
+use crate::equality::assert_equal;
 use crate::topology::triple;
 use mg_flow::{FlowTable, Place};
 use mg_topology::mask::{self, Mask};
@@ -46,7 +47,7 @@ fn only_talkers_are_silenced(rt: HostRuntime) -> Result<(), Fail> {
     enter(&rt, &mut table, SECOND, true, true);
     enter(&rt, &mut table, THIRD, true, true);
     let isolate = triple(0b001, 0b100, Association::Isolate);
-    assert_eq!(rt; table.on_triples(0, &[isolate]), Ok(()));
+    assert_equal(&rt, table.on_triples(0, &[isolate]), Ok(()));
     assert_masks(&rt, &table, FIRST, 0b010, 0b100);
 
     // The third listens and does not talk.
@@ -73,12 +74,12 @@ fn who_comes_back_hears_all(rt: HostRuntime) -> Result<(), Fail> {
     enter(&rt, &mut table, SECOND, false, false);
     enter(&rt, &mut table, THIRD, false, false);
     let isolate = triple(0b001, table.held(0), Association::Isolate);
-    assert_eq!(rt; table.on_triples(0, &[isolate]), Ok(()));
+    assert_equal(&rt, table.on_triples(0, &[isolate]), Ok(()));
     assert!(rt; !table.hears(SECOND, FIRST));
     leave(&rt, &mut table, FIRST);
     enter(&rt, &mut table, ELSEWHERE, false, false);
-    assert_eq!(rt; table.held(0), 0b110);
-    assert_eq!(rt; table.held(1), 0b001);
+    assert_equal(&rt, table.held(0), 0b110);
+    assert_equal(&rt, table.held(1), 0b001);
     assert!(rt; table.hears(THIRD, SECOND));
     assert!(rt; !table.hears(ELSEWHERE, SECOND));
     leave(&rt, &mut table, ELSEWHERE);
@@ -96,7 +97,7 @@ fn newcomer_on_a_used_seat_hears_all(rt: HostRuntime) -> Result<(), Fail> {
     enter(&rt, &mut table, FIRST, true, true);
     enter(&rt, &mut table, SECOND, true, true);
     let isolate = triple(0b01, 0b10, Association::Isolate);
-    assert_eq!(rt; table.on_triples(0, &[isolate]), Ok(()));
+    assert_equal(&rt, table.on_triples(0, &[isolate]), Ok(()));
     leave(&rt, &mut table, SECOND);
     assert_masks(&rt, &table, FIRST, 0, 0);
     enter(&rt, &mut table, SECOND, true, true);
@@ -115,15 +116,19 @@ fn last_of_two_triples_wins(rt: HostRuntime) -> Result<(), Fail> {
     let all_to_one = triple(mask::FULL, 0b01, Association::Oneway);
 
     // If sets overlap, no triple is applied.
-    assert_eq!(rt; table.on_triples(0, &[isolate, all_to_one]), Err(Overlap));
+    assert_equal(
+        &rt,
+        table.on_triples(0, &[isolate, all_to_one]),
+        Err(Overlap),
+    );
     assert_masks(&rt, &table, FIRST, 0b10, 0);
     assert_masks(&rt, &table, SECOND, 0b01, 0);
 
-    assert_eq!(rt; table.on_triples(0, &[isolate, oneway]), Ok(()));
+    assert_equal(&rt, table.on_triples(0, &[isolate, oneway]), Ok(()));
     assert_masks(&rt, &table, FIRST, 0, 0b10);
     assert_masks(&rt, &table, SECOND, 0b01, 0);
 
-    assert_eq!(rt; table.on_triples(0, &[oneway, isolate]), Ok(()));
+    assert_equal(&rt, table.on_triples(0, &[oneway, isolate]), Ok(()));
     assert_masks(&rt, &table, FIRST, 0, 0b10);
     assert_masks(&rt, &table, SECOND, 0, 0b01);
     Ok(())
@@ -137,7 +142,7 @@ fn places_end_at_the_limits(rt: HostRuntime) -> Result<(), Fail> {
     assert!(rt; table.holds(last));
     assert!(rt; !table.holds(Place { room: 64, seat: 63 }));
     assert!(rt; !table.holds(Place { room: 63, seat: 64 }));
-    assert_eq!(rt; table.held(64), mask::EMPTY);
+    assert_equal(&rt, table.held(64), mask::EMPTY);
     assert!(rt; !table.hears(last, Place { room: 64, seat: 63 }));
     Ok(())
 }

@@ -1,5 +1,6 @@
 //! Samples, bytes and frames of both laws.
 
+use crate::equality::assert_equal;
 use mg_g711::{Law, decode, decode_frame, encode, encode_frame, halve_frame};
 
 #[test]
@@ -35,8 +36,8 @@ fn known_samples_and_bytes(rt: HostRuntime) {
     ] {
         assert_eq!(rt; decode(law, byte), sample, "{law:?} of {byte:#x}");
     }
-    assert_eq!(rt; encode_frame(Law::A, &[256; 160]), [0xc5; 160]);
-    assert_eq!(rt; decode_frame(Law::Mu, &[0x80; 160]), [32124; 160]);
+    assert_equal(&rt, encode_frame(Law::A, &[256; 160]), [0xc5; 160]);
+    assert_equal(&rt, decode_frame(Law::Mu, &[0x80; 160]), [32124; 160]);
 }
 
 #[test]

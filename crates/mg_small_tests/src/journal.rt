@@ -1,5 +1,6 @@
 //! Journals: files to which lines are appended.
 
+use crate::equality::assert_equal;
 use mg_journal::{
     AppendFault, Durability, FaultEffect, FileCall, FileJournal, InjectedFault, Journal,
     MemoryFile, Opening, open_journal,
@@ -52,15 +53,20 @@ fn appends_and_syncs_lines(rt: HostRuntime) -> Result<(), Fail> {
         ),
     ];
     let mut journal = journal(rt.alloc(), &faults)?;
-    assert_eq!(rt; journal.append(b"one\ntwo\n", Durability::Synced), Ok(()));
-    assert_eq!(rt; journal.file().bytes(), b"tick\none\ntwo\n".as_slice());
-    assert_eq!(rt; journal.append(b"three\n", Durability::Synced), Ok(()));
-    assert_eq!(rt;
-        journal.file().bytes(),
-        b"tick\none\ntwo\nthree\n".as_slice()
+    assert_equal(
+        &rt,
+        journal.append(b"one\ntwo\n", Durability::Synced),
+        Ok(()),
     );
-    assert_eq!(rt; journal.file().synced(), journal.file().bytes());
-    assert_eq!(rt; last_kind(&journal), None);
+    assert_equal(&rt, journal.file().bytes(), b"tick\none\ntwo\n".as_slice());
+    assert_equal(&rt, journal.append(b"three\n", Durability::Synced), Ok(()));
+    assert_equal(
+        &rt,
+        journal.file().bytes(),
+        b"tick\none\ntwo\nthree\n".as_slice(),
+    );
+    assert_equal(&rt, journal.file().synced(), journal.file().bytes());
+    assert_equal(&rt, last_kind(&journal), None);
     Ok(())
 }
 
@@ -68,12 +74,13 @@ fn appends_and_syncs_lines(rt: HostRuntime) -> Result<(), Fail> {
 fn appends_without_a_sync(rt: HostRuntime) -> Result<(), Fail> {
     let faults = [fault(FileCall::Sync, 0, FULL)];
     let mut journal = opening(rt.alloc(), b"", &faults)?.accept()?;
-    assert_eq!(rt; journal.append(b"one\n", Durability::Written), Ok(()));
-    assert_eq!(rt; journal.file().bytes(), b"one\n".as_slice());
-    assert_eq!(rt; journal.file().synced(), b"".as_slice());
-    assert_eq!(rt;
+    assert_equal(&rt, journal.append(b"one\n", Durability::Written), Ok(()));
+    assert_equal(&rt, journal.file().bytes(), b"one\n".as_slice());
+    assert_equal(&rt, journal.file().synced(), b"".as_slice());
+    assert_equal(
+        &rt,
         journal.append(b"two\n", Durability::Synced),
-        Err(AppendFault::Broken)
+        Err(AppendFault::Broken),
     );
     Ok(())
 }
@@ -91,16 +98,17 @@ fn refuses_lines_that_cannot_be_written(rt: HostRuntime) -> Result<(), Fail> {
             fault(FileCall::Write, 2, effect),
         ];
         let mut journal = journal(rt.alloc(), &faults)?;
-        assert_eq!(rt; journal.append(b"one\n", Durability::Synced), Ok(()));
-        assert_eq!(rt;
+        assert_equal(&rt, journal.append(b"one\n", Durability::Synced), Ok(()));
+        assert_equal(
+            &rt,
             journal.append(b"two\nthree\n", Durability::Synced),
-            Err(AppendFault::Refused)
+            Err(AppendFault::Refused),
         );
-        assert_eq!(rt; last_kind(&journal), Some(kind));
-        assert_eq!(rt; journal.file().bytes(), b"tick\none\n".as_slice());
-        assert_eq!(rt; journal.file().synced(), b"tick\none\n".as_slice());
-        assert_eq!(rt; journal.append(b"four\n", Durability::Synced), Ok(()));
-        assert_eq!(rt; journal.file().bytes(), b"tick\none\nfour\n".as_slice());
+        assert_equal(&rt, last_kind(&journal), Some(kind));
+        assert_equal(&rt, journal.file().bytes(), b"tick\none\n".as_slice());
+        assert_equal(&rt, journal.file().synced(), b"tick\none\n".as_slice());
+        assert_equal(&rt, journal.append(b"four\n", Durability::Synced), Ok(()));
+        assert_equal(&rt, journal.file().bytes(), b"tick\none\nfour\n".as_slice());
     }
     Ok(())
 }
@@ -114,16 +122,18 @@ fn breaks_if_a_line_cannot_be_cut_off(rt: HostRuntime) -> Result<(), Fail> {
         fault(FileCall::Cut, 0, FaultEffect::Fail(ErrorKind::Other)),
     ];
     let mut journal = journal(rt.alloc(), &faults)?;
-    assert_eq!(rt;
+    assert_equal(
+        &rt,
         journal.append(b"one\ntwo\n", Durability::Synced),
-        Err(AppendFault::Broken)
+        Err(AppendFault::Broken),
     );
-    assert_eq!(rt; last_kind(&journal), Some(ErrorKind::Other));
-    assert_eq!(rt;
+    assert_equal(&rt, last_kind(&journal), Some(ErrorKind::Other));
+    assert_equal(
+        &rt,
         journal.append(b"three\n", Durability::Synced),
-        Err(AppendFault::Broken)
+        Err(AppendFault::Broken),
     );
-    assert_eq!(rt; journal.file().bytes(), b"tick\none\ntw".as_slice());
+    assert_equal(&rt, journal.file().bytes(), b"tick\none\ntw".as_slice());
     assert!(rt; AppendFault::Broken.is_final());
     assert!(rt; !AppendFault::Refused.is_final());
     Ok(())
@@ -132,14 +142,15 @@ fn breaks_if_a_line_cannot_be_cut_off(rt: HostRuntime) -> Result<(), Fail> {
 #[test]
 fn fails_without_a_journal(rt: HostRuntime) -> Result<(), Fail> {
     let mut none: Option<FileJournal<MemoryFile>> = None;
-    assert_eq!(rt;
+    assert_equal(
+        &rt,
         none.append(b"one\n", Durability::Synced),
-        Err(AppendFault::Broken)
+        Err(AppendFault::Broken),
     );
     let mut some = Some(journal(rt.alloc(), &[])?);
-    assert_eq!(rt; some.append(b"one\n", Durability::Synced), Ok(()));
+    assert_equal(&rt, some.append(b"one\n", Durability::Synced), Ok(()));
     let bytes = some.as_ref().map(|journal| journal.file().bytes());
-    assert_eq!(rt; bytes, Some(b"tick\none\n".as_slice()));
+    assert_equal(&rt, bytes, Some(b"tick\none\n".as_slice()));
     Ok(())
 }
 
@@ -147,17 +158,19 @@ fn fails_without_a_journal(rt: HostRuntime) -> Result<(), Fail> {
 fn breaks_if_a_sync_fails(rt: HostRuntime) -> Result<(), Fail> {
     let faults = [fault(FileCall::Sync, 1, FULL)];
     let mut journal = journal(rt.alloc(), &faults)?;
-    assert_eq!(rt; journal.append(b"one\n", Durability::Synced), Ok(()));
-    assert_eq!(rt;
+    assert_equal(&rt, journal.append(b"one\n", Durability::Synced), Ok(()));
+    assert_equal(
+        &rt,
         journal.append(b"two\n", Durability::Synced),
-        Err(AppendFault::Broken)
+        Err(AppendFault::Broken),
     );
-    assert_eq!(rt;
+    assert_equal(
+        &rt,
         journal.append(b"three\n", Durability::Synced),
-        Err(AppendFault::Broken)
+        Err(AppendFault::Broken),
     );
-    assert_eq!(rt; journal.file().bytes(), b"tick\none\ntwo\n".as_slice());
-    assert_eq!(rt; journal.file().synced(), b"tick\none\n".as_slice());
+    assert_equal(&rt, journal.file().bytes(), b"tick\none\ntwo\n".as_slice());
+    assert_equal(&rt, journal.file().synced(), b"tick\none\n".as_slice());
     Ok(())
 }
 
@@ -179,15 +192,15 @@ fn opens_whole_lines(rt: HostRuntime) -> Result<(), Fail> {
             fault(FileCall::Read, 2, FaultEffect::Fail(ErrorKind::Interrupted)),
         ];
         let mut opening = opening(rt.alloc(), text, &faults)?;
-        assert_eq!(rt; opening.partial(), (text.len() - whole.len()) as u64);
+        assert_equal(&rt, opening.partial(), (text.len() - whole.len()) as u64);
         let mut read = Vec::new(rt.alloc());
         opening.read_to_end(&mut read)?;
-        assert_eq!(rt; read.as_slice(), whole);
+        assert_equal(&rt, read.as_slice(), whole);
         let mut journal = opening.accept()?;
-        assert_eq!(rt; journal.file().bytes(), whole);
-        assert_eq!(rt; journal.append(b"three\n", Durability::Synced), Ok(()));
+        assert_equal(&rt, journal.file().bytes(), whole);
+        assert_equal(&rt, journal.append(b"three\n", Durability::Synced), Ok(()));
         read.extend_from_slice(b"three\n")?;
-        assert_eq!(rt; journal.file().bytes(), read.as_slice());
+        assert_equal(&rt, journal.file().bytes(), read.as_slice());
     }
     Ok(())
 }
@@ -196,15 +209,15 @@ fn opens_whole_lines(rt: HostRuntime) -> Result<(), Fail> {
 fn peeks_at_whole_lines(rt: HostRuntime) -> Result<(), Fail> {
     let mut opening = opening(rt.alloc(), b"one\ntwo\nth", &[])?;
     let mut front = [0; 5];
-    assert_eq!(rt; opening.peek(&mut front)?, 5);
-    assert_eq!(rt; front, *b"one\nt");
+    assert_equal(&rt, opening.peek(&mut front)?, 5);
+    assert_equal(&rt, front, *b"one\nt");
     opening.read_exact(&mut front)?;
     let mut all = [0; 16];
-    assert_eq!(rt; opening.peek(&mut all)?, 8);
-    assert_eq!(rt; &all[..8], b"one\ntwo\n".as_slice());
+    assert_equal(&rt, opening.peek(&mut all)?, 8);
+    assert_equal(&rt, &all[..8], b"one\ntwo\n".as_slice());
     let mut rest = Vec::new(rt.alloc());
     opening.read_to_end(&mut rest)?;
-    assert_eq!(rt; rest.as_slice(), b"wo\n".as_slice());
+    assert_equal(&rt, rest.as_slice(), b"wo\n".as_slice());
     Ok(())
 }
 
@@ -225,7 +238,7 @@ fn opens_long_files(rt: HostRuntime) -> Result<(), Fail> {
     let mut text = whole.as_slice().to_vec(rt.alloc())?;
     text.extend_from_slice(&[b'x'; 100_000])?;
     let mut opening = opening(rt.alloc(), text.as_slice(), &[])?;
-    assert_eq!(rt; opening.partial(), 100_000);
+    assert_equal(&rt, opening.partial(), 100_000);
     let mut read = Vec::new(rt.alloc());
     opening.read_to_end(&mut read)?;
     assert!(rt; read.as_slice() == whole.as_slice());
@@ -238,19 +251,21 @@ fn opens_long_files(rt: HostRuntime) -> Result<(), Fail> {
 fn reports_errors_at_opening(rt: HostRuntime) -> Result<(), Fail> {
     let unread = [fault(FileCall::Read, 1, FULL)];
     let opened = opening(rt.alloc(), b"one\n", &unread);
-    assert_eq!(rt;
+    assert_equal(
+        &rt,
         opened.err().map(|e| e.kind()),
-        Some(ErrorKind::StorageFull)
+        Some(ErrorKind::StorageFull),
     );
     let uncut = [fault(FileCall::Cut, 0, FULL)];
     let accepted = opening(rt.alloc(), b"one\ntwo", &uncut)?.accept();
-    assert_eq!(rt;
+    assert_equal(
+        &rt,
         accepted.err().map(|e| e.kind()),
-        Some(ErrorKind::StorageFull)
+        Some(ErrorKind::StorageFull),
     );
     // There is nothing to cut off.
     let whole = opening(rt.alloc(), b"one\n", &uncut)?.accept()?;
-    assert_eq!(rt; whole.file().bytes(), b"one\n".as_slice());
+    assert_equal(&rt, whole.file().bytes(), b"one\n".as_slice());
     Ok(())
 }
 
@@ -270,11 +285,11 @@ fn keeps_a_journal_on_disk(rt: HostRuntime) -> Result<(), Fail> {
         (Durability::Written, b"two\n"),
     ] {
         let mut journal = open_journal(&rt, path.as_str())?.accept()?;
-        assert_eq!(rt; journal.append(line, durability), Ok(()));
-        assert_eq!(rt; journal.append(b"tick\n", durability), Ok(()));
+        assert_equal(&rt, journal.append(line, durability), Ok(()));
+        assert_equal(&rt, journal.append(b"tick\n", durability), Ok(()));
     }
     let text = fs::read(&rt, path.as_str())?;
-    assert_eq!(rt; text.as_slice(), b"one\ntick\ntwo\ntick\n".as_slice());
+    assert_equal(&rt, text.as_slice(), b"one\ntick\ntwo\ntick\n".as_slice());
     fs::remove_file(&rt, path.as_str())?;
     Ok(())
 }
@@ -288,13 +303,13 @@ fn cuts_a_file_only_once_it_is_accepted(rt: HostRuntime) -> Result<(), Fail> {
     let mut read = Vec::new(rt.alloc());
     opening.read_to_end(&mut read)?;
     drop(opening);
-    assert_eq!(rt; read.as_slice(), b"one\n".as_slice());
+    assert_equal(&rt, read.as_slice(), b"one\n".as_slice());
     let text = fs::read(&rt, path.as_str())?;
-    assert_eq!(rt; text.as_slice(), b"one\ntw".as_slice());
+    assert_equal(&rt, text.as_slice(), b"one\ntw".as_slice());
     let mut journal = open_journal(&rt, path.as_str())?.accept()?;
-    assert_eq!(rt; journal.append(b"three\n", Durability::Synced), Ok(()));
+    assert_equal(&rt, journal.append(b"three\n", Durability::Synced), Ok(()));
     let text = fs::read(&rt, path.as_str())?;
-    assert_eq!(rt; text.as_slice(), b"one\nthree\n".as_slice());
+    assert_equal(&rt, text.as_slice(), b"one\nthree\n".as_slice());
     fs::remove_file(&rt, path.as_str())?;
     Ok(())
 }
@@ -308,16 +323,18 @@ fn never_extends_a_file(rt: HostRuntime) -> Result<(), Fail> {
     fs::write(&rt, path.as_str(), "")?;
     let mut buffer = [0; 8];
     let read = opening.read(&mut buffer);
-    assert_eq!(rt;
+    assert_equal(
+        &rt,
         read.err().map(|e| e.kind()),
-        Some(ErrorKind::UnexpectedEof)
+        Some(ErrorKind::UnexpectedEof),
     );
     let accepted = opening.accept();
-    assert_eq!(rt;
+    assert_equal(
+        &rt,
         accepted.err().map(|e| e.kind()),
-        Some(ErrorKind::UnexpectedEof)
+        Some(ErrorKind::UnexpectedEof),
     );
-    assert_eq!(rt; fs::metadata(&rt, path.as_str())?.len(), 0);
+    assert_equal(&rt, fs::metadata(&rt, path.as_str())?.len(), 0);
     fs::remove_file(&rt, path.as_str())?;
     Ok(())
 }
@@ -330,7 +347,7 @@ fn reports_why_a_file_cannot_be_opened(rt: HostRuntime) -> Result<(), Fail> {
         ("/nowhere/journal", ErrorKind::NotFound),
     ] {
         let opened = open_journal(&rt, path);
-        assert_eq!(rt; opened.err().map(|e| e.kind()), Some(kind));
+        assert_equal(&rt, opened.err().map(|e| e.kind()), Some(kind));
     }
     Ok(())
 }

@@ -1,5 +1,6 @@
 //! Options, and what both programs report about their arguments.
 
+use crate::equality::assert_equal;
 use clap::Command;
 use clap::error::ErrorKind;
 use mg_options::{
@@ -29,11 +30,16 @@ fn given(alloc: Global, words: &[&str]) -> Result<(Option<u16>, Option<u32>), Er
 #[test]
 fn reads_what_was_given(rt: HostRuntime) {
     let alloc = rt.alloc();
-    assert_eq!(rt; given(alloc, &[]), Ok((None, None)));
-    assert_eq!(rt; given(alloc, &["--port", "65535"]), Ok((Some(65535), None)));
-    assert_eq!(rt;
+    assert_equal(&rt, given(alloc, &[]), Ok((None, None)));
+    assert_equal(
+        &rt,
+        given(alloc, &["--port", "65535"]),
+        Ok((Some(65535), None)),
+    );
+    assert_equal(
+        &rt,
         given(alloc, &["--ssrc=4294967295", "--port=+0"]),
-        Ok((Some(0), Some(4_294_967_295)))
+        Ok((Some(0), Some(4_294_967_295))),
     );
 }
 
@@ -46,7 +52,11 @@ fn refuses_what_is_no_such_number(rt: HostRuntime) {
         "--port=1.5",
         "--port=ten",
     ] {
-        assert_eq!(rt; given(rt.alloc(), &[word]), Err(ErrorKind::ValueValidation));
+        assert_equal(
+            &rt,
+            given(rt.alloc(), &[word]),
+            Err(ErrorKind::ValueValidation),
+        );
     }
 }
 
@@ -67,9 +77,9 @@ fn end_on(alloc: Global, word: &str, unprinted: Status) -> (Status, Vec<u8>, Vec
 fn prints_the_version(rt: HostRuntime) -> Result<(), Fail> {
     let alloc = rt.alloc();
     let (status, output, errors) = end_on(alloc, "--version", Status::Failed);
-    assert_eq!(rt; status, Status::Done);
+    assert_equal(&rt, status, Status::Done);
     let wanted = format!(in alloc; "gateway {VERSION}\n{TOOLCHAIN}\n")?;
-    assert_eq!(rt; output.as_slice(), wanted.as_bytes());
+    assert_equal(&rt, output.as_slice(), wanted.as_bytes());
     assert!(rt; errors.is_empty());
     Ok(())
 }
@@ -77,7 +87,7 @@ fn prints_the_version(rt: HostRuntime) -> Result<(), Fail> {
 #[test]
 fn reports_a_usage_fault(rt: HostRuntime) {
     let (status, output, errors) = end_on(rt.alloc(), "--colour", Status::Done);
-    assert_eq!(rt; status.code(), 2);
+    assert_equal(&rt, status.code(), 2);
     assert!(rt; output.is_empty());
     assert!(rt; !errors.is_empty());
 }
@@ -101,10 +111,10 @@ fn report_of_help(alloc: Global, unprinted: Status) -> (Status, Vec<u8>) {
 #[test]
 fn reports_that_help_cannot_be_printed(rt: HostRuntime) {
     let (status, errors) = report_of_help(rt.alloc(), Status::Failed);
-    assert_eq!(rt; status, Status::Failed);
-    assert_eq!(rt; errors.as_slice(), b"write failed\n".as_slice());
+    assert_equal(&rt, status, Status::Failed);
+    assert_equal(&rt, errors.as_slice(), b"write failed\n".as_slice());
     let (status, errors) = report_of_help(rt.alloc(), Status::Done);
-    assert_eq!(rt; status, Status::Done);
+    assert_equal(&rt, status, Status::Done);
     assert!(rt; errors.is_empty());
 }
 

@@ -1,5 +1,6 @@
 //! Writers that never wait for their reader.
 
+use crate::equality::assert_equal;
 use mg_outlet::{CHUNK, Outlet, OutletFault, Overflow, Ready, SystemReady};
 use mio::net::UnixStream;
 use std::alloc::{AllocError, Global};
@@ -106,19 +107,24 @@ fn keeps_text_until_the_writer_is_ready(rt: HostRuntime) -> Result<(), Fail> {
     outlet.write_all(b"one ")?;
     outlet.write_all(b"two")?;
     outlet.flush()?;
-    assert_eq!(rt; outlet.queued(), 7);
-    assert_eq!(rt; outlet.get_ref().sizes.len(), 0);
+    assert_equal(&rt, outlet.queued(), 7);
+    assert_equal(&rt, outlet.get_ref().sizes.len(), 0);
     outlet.flush()?;
-    assert_eq!(rt; outlet.queued(), 0);
-    assert_eq!(rt; outlet.get_ref().written.as_slice(), b"one two".as_slice());
+    assert_equal(&rt, outlet.queued(), 0);
+    assert_equal(
+        &rt,
+        outlet.get_ref().written.as_slice(),
+        b"one two".as_slice(),
+    );
     // The queue wraps around to the start of its memory.
     outlet.write_all(b"three four")?;
     outlet.flush()?;
-    assert_eq!(rt;
+    assert_equal(
+        &rt,
         outlet.get_ref().written.as_slice(),
-        b"one twothree four".as_slice()
+        b"one twothree four".as_slice(),
     );
-    assert_eq!(rt; outlet.dropped(), 0);
+    assert_equal(&rt, outlet.dropped(), 0);
     Ok(())
 }
 
@@ -128,14 +134,19 @@ fn asks_before_each_chunk(rt: HostRuntime) -> Result<(), Fail> {
     let answers = [true, true, false];
     let mut outlet = outlet(rt.alloc(), &[], &answers, 10_000, Overflow::End)?;
     outlet.write_all(text.as_slice())?;
-    assert_eq!(rt; outlet.queued(), 10_000);
+    assert_equal(&rt, outlet.queued(), 10_000);
     outlet.flush()?;
-    assert_eq!(rt; outlet.get_ref().sizes.as_slice(), [4096, 4096].as_slice());
-    assert_eq!(rt; outlet.queued(), 1808);
-    outlet.flush()?;
-    assert_eq!(rt;
+    assert_equal(
+        &rt,
         outlet.get_ref().sizes.as_slice(),
-        [4096, 4096, 1808].as_slice()
+        [4096, 4096].as_slice(),
+    );
+    assert_equal(&rt, outlet.queued(), 1808);
+    outlet.flush()?;
+    assert_equal(
+        &rt,
+        outlet.get_ref().sizes.as_slice(),
+        [4096, 4096, 1808].as_slice(),
     );
     assert!(rt; outlet.get_ref().written.as_slice() == text.as_slice());
     Ok(())
@@ -147,10 +158,10 @@ fn passes_on_a_chunk_at_a_write(rt: HostRuntime) -> Result<(), Fail> {
     let mut outlet = outlet(rt.alloc(), &[], &[], MIB, Overflow::End)?;
     outlet.write_all(front.as_slice())?;
     outlet.write_all(b"x")?;
-    assert_eq!(rt; outlet.queued(), CHUNK);
+    assert_equal(&rt, outlet.queued(), CHUNK);
     outlet.write_all(b"yz")?;
-    assert_eq!(rt; outlet.queued(), 2);
-    assert_eq!(rt; outlet.get_ref().sizes.as_slice(), [4096].as_slice());
+    assert_equal(&rt, outlet.queued(), 2);
+    assert_equal(&rt, outlet.get_ref().sizes.as_slice(), [4096].as_slice());
     Ok(())
 }
 
@@ -160,7 +171,7 @@ fn passes_on_a_mebibyte_at_a_flush(rt: HostRuntime) -> Result<(), Fail> {
     let mut outlet = outlet(rt.alloc(), &[], &[], 2 * MIB, Overflow::End)?;
     outlet.write_all(text.as_slice())?;
     outlet.flush()?;
-    assert_eq!(rt; outlet.get_ref().written.len(), MIB);
+    assert_equal(&rt, outlet.get_ref().written.len(), MIB);
     outlet.flush()?;
     assert!(rt; outlet.get_ref().written.as_slice() == text.as_slice());
     Ok(())
@@ -169,32 +180,37 @@ fn passes_on_a_mebibyte_at_a_flush(rt: HostRuntime) -> Result<(), Fail> {
 #[test]
 fn ends_with_the_first_text_that_does_not_fit(rt: HostRuntime) -> Result<(), Fail> {
     let mut outlet = outlet(rt.alloc(), &[], &[], 10, Overflow::End)?;
-    assert_eq!(rt; outlet.write(b"sixsix").ok(), Some(6));
+    assert_equal(&rt, outlet.write(b"sixsix").ok(), Some(6));
     assert!(rt; !outlet.has_ended());
-    assert_eq!(rt; outlet.write(b"fiver").ok(), Some(5));
+    assert_equal(&rt, outlet.write(b"fiver").ok(), Some(5));
     assert!(rt; outlet.has_ended());
-    assert_eq!(rt; outlet.write(b"four").ok(), Some(4));
+    assert_equal(&rt, outlet.write(b"four").ok(), Some(4));
     outlet.flush()?;
-    assert_eq!(rt; outlet.write(b"four").ok(), Some(4));
+    assert_equal(&rt, outlet.write(b"four").ok(), Some(4));
     outlet.flush()?;
-    assert_eq!(rt; outlet.get_ref().written.as_slice(), b"sixsix".as_slice());
-    assert_eq!(rt; outlet.dropped(), 3);
+    assert_equal(
+        &rt,
+        outlet.get_ref().written.as_slice(),
+        b"sixsix".as_slice(),
+    );
+    assert_equal(&rt, outlet.dropped(), 3);
     Ok(())
 }
 
 #[test]
 fn skips_texts_that_do_not_fit(rt: HostRuntime) -> Result<(), Fail> {
     let mut outlet = outlet(rt.alloc(), &[], &[], 10, Overflow::Skip)?;
-    assert_eq!(rt; outlet.write(b"sixsix").ok(), Some(6));
-    assert_eq!(rt; outlet.write(b"fiver").ok(), Some(5));
-    assert_eq!(rt; outlet.write(b"four").ok(), Some(4));
-    assert_eq!(rt; outlet.write(b"1").ok(), Some(1));
+    assert_equal(&rt, outlet.write(b"sixsix").ok(), Some(6));
+    assert_equal(&rt, outlet.write(b"fiver").ok(), Some(5));
+    assert_equal(&rt, outlet.write(b"four").ok(), Some(4));
+    assert_equal(&rt, outlet.write(b"1").ok(), Some(1));
     outlet.flush()?;
-    assert_eq!(rt;
+    assert_equal(
+        &rt,
         outlet.get_ref().written.as_slice(),
-        b"sixsixfour".as_slice()
+        b"sixsixfour".as_slice(),
     );
-    assert_eq!(rt; outlet.dropped(), 2);
+    assert_equal(&rt, outlet.dropped(), 2);
     assert!(rt; !outlet.has_ended());
     Ok(())
 }
@@ -210,10 +226,18 @@ fn tries_again_later(rt: HostRuntime) -> Result<(), Fail> {
     outlet.write_all(b"later")?;
     outlet.flush()?;
     outlet.flush()?;
-    assert_eq!(rt; outlet.queued(), 5);
+    assert_equal(&rt, outlet.queued(), 5);
     outlet.flush()?;
-    assert_eq!(rt; outlet.get_ref().sizes.as_slice(), [5, 5, 5, 3].as_slice());
-    assert_eq!(rt; outlet.get_ref().written.as_slice(), b"later".as_slice());
+    assert_equal(
+        &rt,
+        outlet.get_ref().sizes.as_slice(),
+        [5, 5, 5, 3].as_slice(),
+    );
+    assert_equal(
+        &rt,
+        outlet.get_ref().written.as_slice(),
+        b"later".as_slice(),
+    );
     Ok(())
 }
 
@@ -227,13 +251,13 @@ fn keeps_the_error_of_the_writer(rt: HostRuntime) -> Result<(), Fail> {
         let steps = [Step::Take(2), step];
         let mut outlet = outlet(rt.alloc(), &steps, &[], 10, Overflow::End)?;
         outlet.write_all(b"broken")?;
-        assert_eq!(rt; kind(outlet.flush()), Some(error));
-        assert_eq!(rt; kind(outlet.write(b"more")), Some(error));
-        assert_eq!(rt; kind(outlet.flush()), Some(error));
-        assert_eq!(rt; kind(outlet.finish()), Some(error));
-        assert_eq!(rt; outlet.queued(), 4);
-        assert_eq!(rt; outlet.get_ref().written.as_slice(), b"br".as_slice());
-        assert_eq!(rt; outlet.get_ref().sizes.len(), 2);
+        assert_equal(&rt, kind(outlet.flush()), Some(error));
+        assert_equal(&rt, kind(outlet.write(b"more")), Some(error));
+        assert_equal(&rt, kind(outlet.flush()), Some(error));
+        assert_equal(&rt, kind(outlet.finish()), Some(error));
+        assert_equal(&rt, outlet.queued(), 4);
+        assert_equal(&rt, outlet.get_ref().written.as_slice(), b"br".as_slice());
+        assert_equal(&rt, outlet.get_ref().sizes.len(), 2);
     }
     Ok(())
 }
@@ -245,9 +269,13 @@ fn fails_at_a_write(rt: HostRuntime) -> Result<(), Fail> {
     let steps = [Step::Fail(ErrorKind::StorageFull)];
     let mut outlet = outlet(rt.alloc(), &steps, &[], MIB, Overflow::Skip)?;
     outlet.write_all(text.as_slice())?;
-    assert_eq!(rt; kind(outlet.write(b"more")), Some(ErrorKind::StorageFull));
-    assert_eq!(rt; outlet.queued(), CHUNK);
-    assert_eq!(rt; outlet.dropped(), 0);
+    assert_equal(
+        &rt,
+        kind(outlet.write(b"more")),
+        Some(ErrorKind::StorageFull),
+    );
+    assert_equal(&rt, outlet.queued(), CHUNK);
+    assert_equal(&rt, outlet.dropped(), 0);
     Ok(())
 }
 
@@ -258,9 +286,9 @@ fn finishes_without_asking(rt: HostRuntime) -> Result<(), Fail> {
     let mut outlet = outlet(rt.alloc(), &steps, &[false], 5000, Overflow::End)?;
     outlet.write_all(text.as_slice())?;
     outlet.flush()?;
-    assert_eq!(rt; outlet.queued(), 5000);
+    assert_equal(&rt, outlet.queued(), 5000);
     outlet.finish()?;
-    assert_eq!(rt; outlet.queued(), 0);
+    assert_equal(&rt, outlet.queued(), 0);
     assert!(rt; outlet.get_ref().written.as_slice() == text.as_slice());
     Ok(())
 }
@@ -287,7 +315,7 @@ fn never_waits_for_a_pipe(rt: HostRuntime) -> Result<(), Fail> {
     outlet.flush()?;
     let queued = outlet.queued();
     outlet.flush()?;
-    assert_eq!(rt; outlet.queued(), queued);
+    assert_equal(&rt, outlet.queued(), queued);
     first.extend_from_slice(second.as_slice())?;
     let mut received = Vec::new(rt.alloc());
     let mut buffer = [0; 10_000];
@@ -299,8 +327,8 @@ fn never_waits_for_a_pipe(rt: HostRuntime) -> Result<(), Fail> {
         let n = reader.read(&mut buffer)?;
         received.extend_from_slice(&buffer[..n])?;
     }
-    assert_eq!(rt; outlet.queued(), 0);
-    assert_eq!(rt; outlet.dropped(), 0);
+    assert_equal(&rt, outlet.queued(), 0);
+    assert_equal(&rt, outlet.dropped(), 0);
     assert!(rt; received.as_slice() == first.as_slice());
     Ok(())
 }
@@ -317,10 +345,14 @@ fn reports_that_the_reader_is_gone(rt: HostRuntime) -> Result<(), Fail> {
     assert!(rt; queued > 0);
     assert!(rt; queued < 1_000_000);
     outlet.flush()?;
-    assert_eq!(rt; outlet.queued(), queued);
+    assert_equal(&rt, outlet.queued(), queued);
     drop(far);
-    assert_eq!(rt; kind(outlet.flush()), Some(ErrorKind::BrokenPipe));
-    assert_eq!(rt; kind(outlet.write(b"more")), Some(ErrorKind::BrokenPipe));
+    assert_equal(&rt, kind(outlet.flush()), Some(ErrorKind::BrokenPipe));
+    assert_equal(
+        &rt,
+        kind(outlet.write(b"more")),
+        Some(ErrorKind::BrokenPipe),
+    );
     Ok(())
 }
 
@@ -331,7 +363,7 @@ fn writes_to_files_at_once(rt: HostRuntime) -> Result<(), Fail> {
     let mut outlet = Outlet::watching(&rt, rt.alloc(), null, MIB, Overflow::End)?;
     outlet.write_all(text.as_slice())?;
     outlet.flush()?;
-    assert_eq!(rt; outlet.queued(), 0);
+    assert_equal(&rt, outlet.queued(), 0);
     Ok(())
 }
 
@@ -370,16 +402,18 @@ fn fault<W: Drop>(
 fn says_why_an_outlet_cannot_be_made(rt: HostRuntime) -> Result<(), Fail> {
     let closed = Outlet::watching(&rt, rt.alloc(), Closed, MIB, Overflow::End);
     let why = fault(rt.alloc(), closed)?;
-    assert_eq!(rt;
+    assert_equal(
+        &rt,
         why.as_deref(),
-        Some("cannot watch file descriptor 1000000: Bad file descriptor (os error 9)")
+        Some("cannot watch file descriptor 1000000: Bad file descriptor (os error 9)"),
     );
     let null = fs::create(&rt, "/dev/null")?;
     let large = Outlet::watching(&rt, rt.alloc(), null, usize::MAX, Overflow::End);
     let why = fault(rt.alloc(), large)?;
-    assert_eq!(rt;
+    assert_equal(
+        &rt,
         why.as_deref(),
-        Some("no memory for 18446744073709551615 bytes of output")
+        Some("no memory for 18446744073709551615 bytes of output"),
     );
     Ok(())
 }

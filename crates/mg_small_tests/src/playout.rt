@@ -1,5 +1,6 @@
 //! Play lists.
 
+use crate::equality::assert_equal;
 use mg_g711::Frame;
 use mg_playout::{Placed, Played, Playout};
 use std::process::Abort;
@@ -155,8 +156,8 @@ fn lowered_depth_drops_frames(rt: HostRuntime) -> Result<(), Fail> {
 #[test]
 fn another_source_restarts(rt: HostRuntime) -> Result<(), Fail> {
     let mut playout = Playout::new(rt.alloc())?;
-    assert_eq!(rt; playout.place(1, 7, frame(1)), Placed::Started);
-    assert_eq!(rt; playout.place(2, 8, frame(2)), Placed::Started);
+    assert_equal(&rt, playout.place(1, 7, frame(1)), Placed::Started);
+    assert_equal(&rt, playout.place(2, 8, frame(2)), Placed::Started);
     tick_all(
         &rt,
         &mut playout,
@@ -165,11 +166,11 @@ fn another_source_restarts(rt: HostRuntime) -> Result<(), Fail> {
 
     // A new play list has four places and waits for two ticks.
     playout.set_depth(8);
-    assert_eq!(rt; playout.place(2, 9, frame(3)), Placed::Started);
+    assert_equal(&rt, playout.place(2, 9, frame(3)), Placed::Started);
     playout.clear();
-    assert_eq!(rt; playout.tick(), Played::Silence);
-    assert_eq!(rt; playout.place(2, 9, frame(3)), Placed::Started);
-    assert_eq!(rt; playout.place(2, 13, frame(4)), Placed::Pushed);
+    assert_equal(&rt, playout.tick(), Played::Silence);
+    assert_equal(&rt, playout.place(2, 9, frame(3)), Placed::Started);
+    assert_equal(&rt, playout.place(2, 13, frame(4)), Placed::Pushed);
     Ok(())
 }
 
@@ -180,8 +181,8 @@ fn missing_frame_is_halved(rt: HostRuntime) -> Result<(), Fail> {
     let mut halves = frame(0);
     halves[..4].copy_from_slice(&[-1, 0, 0, 1]);
     let mut playout = Playout::new(rt.alloc())?;
-    assert_eq!(rt; playout.place(1, 1, received), Placed::Started);
-    assert_eq!(rt; playout.place(1, 3, frame(3)), Placed::Placed);
+    assert_equal(&rt, playout.place(1, 1, received), Placed::Started);
+    assert_equal(&rt, playout.place(1, 3, frame(3)), Placed::Placed);
     tick_all(
         &rt,
         &mut playout,
@@ -223,8 +224,8 @@ fn second_missing_frame_is_silent(rt: HostRuntime) -> Result<(), Fail> {
 #[test]
 fn start_forgets_the_last_frame(rt: HostRuntime) -> Result<(), Fail> {
     let mut playout = Playout::new(rt.alloc())?;
-    assert_eq!(rt; playout.place(1, 1, frame(1)), Placed::Started);
-    assert_eq!(rt; playout.place(1, 3, frame(3)), Placed::Placed);
+    assert_equal(&rt, playout.place(1, 1, frame(1)), Placed::Started);
+    assert_equal(&rt, playout.place(1, 3, frame(3)), Placed::Placed);
     tick_all(
         &rt,
         &mut playout,
@@ -232,8 +233,8 @@ fn start_forgets_the_last_frame(rt: HostRuntime) -> Result<(), Fail> {
     );
 
     // The frame that starts the list is pushed out, so the first frame of the source is missing.
-    assert_eq!(rt; playout.place(2, 100, frame(100)), Placed::Started);
-    assert_eq!(rt; playout.place(2, 110, frame(110)), Placed::Pushed);
+    assert_equal(&rt, playout.place(2, 100, frame(100)), Placed::Started);
+    assert_equal(&rt, playout.place(2, 110, frame(110)), Placed::Pushed);
     tick_all(&rt, &mut playout, &[Played::Silence; 3]);
     Ok(())
 }

@@ -1,5 +1,6 @@
 //! In-memory ports.
 
+use crate::equality::assert_equal;
 use mg_journal::{FaultEffect, FileCall, InjectedFault, MemoryFile, Opening};
 use mg_ports::{
     AppendFault, Arrival, Call, Durability, FakePorts, Payload, Peer, PortFault, Ports, Receipt,
@@ -33,13 +34,13 @@ fn ports(alloc: Global, failing: &[u64]) -> Result<FakePorts, AllocError> {
 fn gives_datagrams_by_their_sockets(rt: HostRuntime) -> Result<(), Fail> {
     let mut ports = ports(rt.alloc(), &[])?;
     let mut buffer = [0; 8];
-    assert_eq!(rt; ports.receive(0, &mut buffer), Ok(Some((3, CALLER))));
-    assert_eq!(rt; &buffer[..3], b"one".as_slice());
-    assert_eq!(rt; ports.receive(1, &mut buffer), Ok(None));
-    assert_eq!(rt; ports.receive(0, &mut buffer), Ok(Some((3, CALLER))));
-    assert_eq!(rt; &buffer[..3], b"two".as_slice());
-    assert_eq!(rt; ports.receive(0, &mut buffer), Ok(None));
-    assert_eq!(rt; ports.receive(2, &mut buffer), Ok(Some((5, CALLER))));
+    assert_equal(&rt, ports.receive(0, &mut buffer), Ok(Some((3, CALLER))));
+    assert_equal(&rt, &buffer[..3], b"one".as_slice());
+    assert_equal(&rt, ports.receive(1, &mut buffer), Ok(None));
+    assert_equal(&rt, ports.receive(0, &mut buffer), Ok(Some((3, CALLER))));
+    assert_equal(&rt, &buffer[..3], b"two".as_slice());
+    assert_equal(&rt, ports.receive(0, &mut buffer), Ok(None));
+    assert_equal(&rt, ports.receive(2, &mut buffer), Ok(Some((5, CALLER))));
     Ok(())
 }
 
@@ -47,8 +48,8 @@ fn gives_datagrams_by_their_sockets(rt: HostRuntime) -> Result<(), Fail> {
 fn cuts_to_the_buffer(rt: HostRuntime) -> Result<(), Fail> {
     let mut ports = ports(rt.alloc(), &[])?;
     let mut buffer = [0; 2];
-    assert_eq!(rt; ports.receive(2, &mut buffer), Ok(Some((2, CALLER))));
-    assert_eq!(rt; buffer, *b"th");
+    assert_equal(&rt, ports.receive(2, &mut buffer), Ok(Some((2, CALLER))));
+    assert_equal(&rt, buffer, *b"th");
     Ok(())
 }
 
@@ -56,11 +57,11 @@ fn cuts_to_the_buffer(rt: HostRuntime) -> Result<(), Fail> {
 fn fails_on_request(rt: HostRuntime) -> Result<(), Fail> {
     let mut ports = ports(rt.alloc(), &[0, 2])?;
     let mut buffer = [0; 8];
-    assert_eq!(rt; ports.receive(0, &mut buffer), Err(PortFault));
-    assert_eq!(rt; ports.receive(0, &mut buffer), Ok(Some((3, CALLER))));
-    assert_eq!(rt; ports.send(0, CALLER, b"yes"), Err(PortFault));
-    assert_eq!(rt; ports.send(0, CALLER, b"yes"), Ok(()));
-    assert_eq!(rt; ports.failures(), 2);
+    assert_equal(&rt, ports.receive(0, &mut buffer), Err(PortFault));
+    assert_equal(&rt, ports.receive(0, &mut buffer), Ok(Some((3, CALLER))));
+    assert_equal(&rt, ports.send(0, CALLER, b"yes"), Err(PortFault));
+    assert_equal(&rt, ports.send(0, CALLER, b"yes"), Ok(()));
+    assert_equal(&rt, ports.failures(), 2);
     Ok(())
 }
 
@@ -142,10 +143,14 @@ fn is_append(
 #[test]
 fn logs_appends_between_sends(rt: HostRuntime) -> Result<(), Fail> {
     let mut ports = with_journal(rt.alloc(), &[])?;
-    assert_eq!(rt; ports.append(b"one\n", Durability::Written), Ok(()));
+    assert_equal(&rt, ports.append(b"one\n", Durability::Written), Ok(()));
     let _ = ports.send(0, CALLER, b"yes");
-    assert_eq!(rt; ports.append(b"two\nthree\n", Durability::Synced), Ok(()));
-    assert_eq!(rt; ports.append(b"four\n", Durability::Written), Ok(()));
+    assert_equal(
+        &rt,
+        ports.append(b"two\nthree\n", Durability::Synced),
+        Ok(()),
+    );
+    assert_equal(&rt, ports.append(b"four\n", Durability::Written), Ok(()));
     let calls = ports.calls().unwrap_or(&[]);
     let is_told = match calls {
         [first, second, third, fourth] => {
@@ -158,13 +163,15 @@ fn logs_appends_between_sends(rt: HostRuntime) -> Result<(), Fail> {
     };
     assert!(rt; is_told);
     let file = ports.journal_file();
-    assert_eq!(rt;
+    assert_equal(
+        &rt,
         file.map(|file| file.bytes()),
-        Some(b"one\ntwo\nthree\nfour\n".as_slice())
+        Some(b"one\ntwo\nthree\nfour\n".as_slice()),
     );
-    assert_eq!(rt;
+    assert_equal(
+        &rt,
         file.map(|file| file.synced()),
-        Some(b"one\ntwo\nthree\n".as_slice())
+        Some(b"one\ntwo\nthree\n".as_slice()),
     );
     Ok(())
 }
@@ -189,9 +196,9 @@ fn logs_appends_that_fail(rt: HostRuntime) -> Result<(), Fail> {
     let mut ports = with_journal(rt.alloc(), &faults)?;
     let refused = Err(AppendFault::Refused);
     let broken = Err(AppendFault::Broken);
-    assert_eq!(rt; ports.append(b"one\n", Durability::Synced), refused);
-    assert_eq!(rt; ports.append(b"two\n", Durability::Synced), broken);
-    assert_eq!(rt; ports.append(b"three\n", Durability::Written), broken);
+    assert_equal(&rt, ports.append(b"one\n", Durability::Synced), refused);
+    assert_equal(&rt, ports.append(b"two\n", Durability::Synced), broken);
+    assert_equal(&rt, ports.append(b"three\n", Durability::Written), broken);
     let calls = ports.calls().unwrap_or(&[]);
     let is_told = match calls {
         [first, second, third] => {
@@ -203,8 +210,8 @@ fn logs_appends_that_fail(rt: HostRuntime) -> Result<(), Fail> {
     };
     assert!(rt; is_told);
     let bytes = ports.journal_file().map(|file| file.bytes());
-    assert_eq!(rt; bytes, Some(b"two\n".as_slice()));
-    assert_eq!(rt; ports.failures(), 0);
+    assert_equal(&rt, bytes, Some(b"two\n".as_slice()));
+    assert_equal(&rt, ports.failures(), 0);
     Ok(())
 }
 
@@ -212,7 +219,7 @@ fn logs_appends_that_fail(rt: HostRuntime) -> Result<(), Fail> {
 fn appends_nothing_without_a_journal(rt: HostRuntime) -> Result<(), Fail> {
     let mut ports = ports(rt.alloc(), &[])?;
     let broken = Err(AppendFault::Broken);
-    assert_eq!(rt; ports.append(b"one\n", Durability::Written), broken);
+    assert_equal(&rt, ports.append(b"one\n", Durability::Written), broken);
     let calls = ports.calls().unwrap_or(&[]);
     let is_told = match calls {
         [call] => is_append(call, b"one\n", Durability::Written, broken),

@@ -1,5 +1,6 @@
 //! Packets and faults.
 
+use crate::equality::assert_equal;
 use mg_rtp::{Header, PAYLOAD_LEN, Packet, RtpFault, read, write};
 use std::test::Fail;
 
@@ -23,7 +24,7 @@ fn each_part_is_passed_over(rt: HostRuntime) {
         header,
         payload: &payload,
     };
-    assert_eq!(rt; read(&WHOLE), Ok(packet));
+    assert_equal(&rt, read(&WHOLE), Ok(packet));
 }
 
 #[test]
@@ -33,7 +34,7 @@ fn padding_is_counted_by_the_last_byte(rt: HostRuntime) -> Result<(), Fail> {
     let packet = read(&bytes).ok().ok_or("the bytes are a packet")?;
     assert!(rt; packet.payload.is_empty());
     bytes[27] = 5;
-    assert_eq!(rt; read(&bytes), Err(RtpFault::Padding));
+    assert_equal(&rt, read(&bytes), Err(RtpFault::Padding));
     Ok(())
 }
 
@@ -54,14 +55,14 @@ fn another_version(rt: HostRuntime) {
     let mut bytes = WHOLE;
     for first in [0x31, 0x71, 0xf1] {
         bytes[0] = first;
-        assert_eq!(rt; read(&bytes), Err(RtpFault::Version));
+        assert_equal(&rt, read(&bytes), Err(RtpFault::Version));
     }
 }
 
 #[test]
 fn a_fault_is_printed(rt: HostRuntime) -> Result<(), Fail> {
     let text = RtpFault::Version.to_string(rt.alloc())?;
-    assert_eq!(rt; text.as_str(), "the version is not 2");
+    assert_equal(&rt, text.as_str(), "the version is not 2");
     Ok(())
 }
 
@@ -77,11 +78,11 @@ fn written_text_reads_back(rt: HostRuntime) {
     let payload = [0xffu8; PAYLOAD_LEN];
     let bytes = write(header, &payload);
     let head = [0x80u8, 0x80, 0, 0, 0, 0, 0, 0, 0, 0, 0, 1];
-    assert_eq!(rt; &bytes[..12], head.as_slice());
-    assert_eq!(rt; &bytes[12..], payload.as_slice());
+    assert_equal(&rt, &bytes[..12], head.as_slice());
+    assert_equal(&rt, &bytes[12..], payload.as_slice());
     let packet = Packet {
         header,
         payload: &payload,
     };
-    assert_eq!(rt; read(&bytes), Ok(packet));
+    assert_equal(&rt, read(&bytes), Ok(packet));
 }

@@ -1,5 +1,6 @@
 //! Tokens and faults.
 
+use crate::equality::assert_equal;
 use mg_scan::{ScanFault, Scanner, TokenKind};
 use std::test::Fail;
 
@@ -29,11 +30,11 @@ fn gives_words_marks_and_quoted_texts(rt: HostRuntime) -> Result<(), Fail> {
     let mut scanner = Scanner::new(SHORT);
     for (kind, text) in wanted {
         let token = scanner.next().ok_or("a token")?.map_err(|_| "no fault")?;
-        assert_eq!(rt; token.kind, kind);
-        assert_eq!(rt; token.span.text(SHORT), text);
+        assert_equal(&rt, token.kind, kind);
+        assert_equal(&rt, token.span.text(SHORT), text);
     }
-    assert_eq!(rt; scanner.next(), None);
-    assert_eq!(rt; scanner.next(), None);
+    assert_equal(&rt, scanner.next(), None);
+    assert_equal(&rt, scanner.next(), None);
     Ok(())
 }
 
@@ -51,8 +52,8 @@ fn names_each_fault_once(rt: HostRuntime) {
         if fault == ScanFault::OpenOctets {
             last = scanner.next();
         }
-        assert_eq!(rt; last, Some(Err(fault)));
-        assert_eq!(rt; scanner.next(), None);
+        assert_equal(&rt, last, Some(Err(fault)));
+        assert_equal(&rt, scanner.next(), None);
     }
 }
 
@@ -67,11 +68,11 @@ fn gives_a_session_description_as_one_token(rt: HostRuntime) -> Result<(), Fail>
     for (text, content) in cases {
         let mut scanner = Scanner::new(text);
         let word = scanner.next().ok_or("a token")?.map_err(|_| "no fault")?;
-        assert_eq!(rt; word.kind, TokenKind::Word);
+        assert_equal(&rt, word.kind, TokenKind::Word);
         let octets = scanner.next().ok_or("a token")?.map_err(|_| "no fault")?;
-        assert_eq!(rt; octets.kind, TokenKind::Octets);
-        assert_eq!(rt; octets.span.text(text), content);
-        assert_eq!(rt; scanner.next(), None);
+        assert_equal(&rt, octets.kind, TokenKind::Octets);
+        assert_equal(&rt, octets.span.text(text), content);
+        assert_equal(&rt, scanner.next(), None);
     }
     Ok(())
 }
@@ -82,7 +83,7 @@ fn refuses_a_null_in_a_session_description(rt: HostRuntime) -> Result<(), Fail> 
     for text in cases {
         let mut scanner = Scanner::new(text);
         let _word = scanner.next().ok_or("a token")?.map_err(|_| "no fault")?;
-        assert_eq!(rt; scanner.next(), Some(Err(ScanFault::BadByte)));
+        assert_equal(&rt, scanner.next(), Some(Err(ScanFault::BadByte)));
     }
     Ok(())
 }

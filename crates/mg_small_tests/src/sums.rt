@@ -4,6 +4,7 @@ ghost use Rattle.std.specs.Prelude.{◌≡◌, ℕ, ◌^◌, ◌≤◌, length, 
 ghost use Rattle.mg_sums.specs.Samples.{sample};
 ghost use Rattle.mg_sums.specs.Sums.{AreOfRoom, is_joined, left_out_by};
 
+use crate::equality::assert_equal;
 use mg_g711::{Frame, Law, decode_frame};
 use mg_sums::ranges::assert_sample_range;
 use mg_sums::{Room, Row, Sums, TERMINATIONS, kernels};
@@ -202,16 +203,17 @@ fn mixes_are_limited_once(rt: HostRuntime) -> Result<(), Fail> {
     let room = Room::new(0);
     let (first, second, third) = (Row::new(0), Row::new(1), Row::new(2));
     let mut sums = conference(&rt, room)?;
-    assert_eq!(rt; *sums.total(room, 0), 32124);
-    assert_eq!(rt; mix(&mut sums, room, Some(first), &[], Law::Mu)?, 0xff);
-    assert_eq!(rt; mix(&mut sums, room, Some(third), &[], Law::Mu)?, 0x80);
-    assert_eq!(rt; mix(&mut sums, room, Some(third), &[], Law::A)?, 0xaa);
-    assert_eq!(rt; mix(&mut sums, room, None, &[third], Law::Mu)?, 0x80);
-    assert_eq!(rt;
+    assert_equal(&rt, *sums.total(room, 0), 32124);
+    assert_equal(&rt, mix(&mut sums, room, Some(first), &[], Law::Mu)?, 0xff);
+    assert_equal(&rt, mix(&mut sums, room, Some(third), &[], Law::Mu)?, 0x80);
+    assert_equal(&rt, mix(&mut sums, room, Some(third), &[], Law::A)?, 0xaa);
+    assert_equal(&rt, mix(&mut sums, room, None, &[third], Law::Mu)?, 0x80);
+    assert_equal(
+        &rt,
         mix(&mut sums, room, Some(first), &[second], Law::Mu)?,
-        0x00
+        0x00,
     );
-    assert_eq!(rt; sums.work(), 3 + 3 + 2 + 2);
+    assert_equal(&rt, sums.work(), 3 + 3 + 2 + 2);
     Ok(())
 }
 
@@ -222,16 +224,16 @@ fn totals_are_not_limited(rt: HostRuntime) -> Result<(), Fail> {
     let mut sums = conference(&rt, room)?;
     leave(&mut sums, room, third)?;
     join(&mut sums, other, third)?;
-    assert_eq!(rt; *sums.total(room, 0), 64248);
-    assert_eq!(rt; *sums.total(other, 159), -32124);
-    assert_eq!(rt; mix(&mut sums, room, None, &[], Law::Mu)?, 0x80);
+    assert_equal(&rt, *sums.total(room, 0), 64248);
+    assert_equal(&rt, *sums.total(other, 159), -32124);
+    assert_equal(&rt, mix(&mut sums, room, None, &[], Law::Mu)?, 0x80);
 
     sums.set_frame(second, None);
-    assert_eq!(rt; *sums.total(room, 0), 32124);
-    assert_eq!(rt; *sums.frame(second), [0; 160]);
+    assert_equal(&rt, *sums.total(room, 0), 32124);
+    assert_equal(&rt, *sums.frame(second), [0; 160]);
     assert!(rt; sums.is_silent(second));
     assert!(rt; !sums.is_silent(third));
-    assert_eq!(rt; sums.work(), 3 + 2 + 1 + 2);
+    assert_equal(&rt, sums.work(), 3 + 2 + 1 + 2);
     Ok(())
 }
 
@@ -240,9 +242,9 @@ fn no_total_knows_a_row_that_is_joined_nowhere(rt: HostRuntime) -> Result<(), Fa
     let row = Row::new((TERMINATIONS - 1) as u8);
     let mut sums = Sums::new(rt.alloc())?;
     sums.set_frame(row, Some(&[5; 160]));
-    assert_eq!(rt; sums.room(row), None);
-    assert_eq!(rt; *sums.frame(row), [5; 160]);
-    assert_eq!(rt; *sums.total(Room::new(63), 159), 0);
-    assert_eq!(rt; sums.work(), 0);
+    assert_equal(&rt, sums.room(row), None);
+    assert_equal(&rt, *sums.frame(row), [5; 160]);
+    assert_equal(&rt, *sums.total(Room::new(63), 159), 0);
+    assert_equal(&rt, sums.work(), 0);
     Ok(())
 }

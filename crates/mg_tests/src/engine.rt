@@ -1,5 +1,6 @@
 //! The engine: causes of drops, totals, who hears whom by termination number, and the cost of a tick.
 
+use crate::equality::assert_equal;
 use mg_engine::{
     Association, Config, Done, DropCause, Edit, Engine, ErrorNumber, MediaSetting, Mode, Outbox,
     Peer, Room, Row, Settings, Taken, Target, TopologyTriple, TopologyTriples, TripleTerm,
@@ -119,13 +120,13 @@ fn payloads(alloc: Global, outbox: &Outbox) -> Result<Vec<u8>, Fail> {
 /// After a Move, a termination counts toward the new context's total, and no longer toward the old context's total.
 fn leave_the_total(rt: &impl Abort, engine: &mut Engine, outbox: &mut Outbox) -> Result<(), Fail> {
     speak(engine, outbox);
-    assert_eq!(rt; engine.total(1, 0), Some(32124));
+    assert_equal(rt, engine.total(1, 0), Some(32124));
     let moved = engine.move_to(Target::New, 3, &changed(None, None));
     moved.map_err(|_| "a Move")?;
-    assert_eq!(rt; engine.total(1, 0), Some(64248));
-    assert_eq!(rt; engine.total(2, 0), Some(-32124));
-    assert_eq!(rt; engine.total(3, 0), None);
-    assert_eq!(rt; engine.total(1, 160), None);
+    assert_equal(rt, engine.total(1, 0), Some(64248));
+    assert_equal(rt, engine.total(2, 0), Some(-32124));
+    assert_equal(rt, engine.total(3, 0), None);
+    assert_equal(rt, engine.total(1, 160), None);
     assert!(rt;
         !engine.flow(3, 4) && engine.flow(1, 4) && !engine.flow(1, 1) && !engine.flow(9, 1)
     );
@@ -182,8 +183,8 @@ fn drop_malformed_packets(rt: &impl Abort, engine: &mut Engine) -> Result<(), Fa
         ),
         (&other_law, DropCause::PayloadType),
     ];
-    assert_eq!(rt; first_wrong(engine, 30000, CALLER, &cases), None);
-    assert_eq!(rt; engine.stats(1).map(|stats| stats.pr), Some(0));
+    assert_equal(rt, first_wrong(engine, 30000, CALLER, &cases), None);
+    assert_equal(rt, engine.stats(1).map(|stats| stats.pr), Some(0));
     Ok(())
 }
 
@@ -201,15 +202,15 @@ fn drop_datagrams_without_termination(rt: &impl Abort, engine: &mut Engine) -> R
         port: 40000,
     };
     let stray: [(&[u8], DropCause); 1] = [(&bytes, DropCause::Stray)];
-    assert_eq!(rt; first_wrong(engine, 30000, stranger, &stray), None);
+    assert_equal(rt, first_wrong(engine, 30000, stranger, &stray), None);
     let nobody: [(&[u8], DropCause); 1] = [(&bytes, DropCause::NoTermination)];
-    assert_eq!(rt; first_wrong(engine, 30002, CALLER, &nobody), None);
-    assert_eq!(rt; first_wrong(engine, 30001, CALLER, &nobody), None);
+    assert_equal(rt, first_wrong(engine, 30002, CALLER, &nobody), None);
+    assert_equal(rt, first_wrong(engine, 30001, CALLER, &nobody), None);
     engine
         .add(Target::New, &Settings::default())
         .map_err(|_| "an Add")?;
     let deaf: [(&[u8], DropCause); 1] = [(&bytes, DropCause::NoLocal)];
-    assert_eq!(rt; first_wrong(engine, 30002, CALLER, &deaf), None);
+    assert_equal(rt, first_wrong(engine, 30002, CALLER, &deaf), None);
     Ok(())
 }
 
@@ -260,10 +261,10 @@ fn isolate_by_an_edit(rt: &impl Abort, alloc: Global, engine: &mut Engine) -> Re
         target: Target::Number(1),
         triples: triples(&[triple(FIRST, THIRD, Association::Isolate)]),
     };
-    assert_eq!(rt; engine.edit(&isolate), Ok(Done::Topology(1)));
+    assert_equal(rt, engine.edit(&isolate), Ok(Done::Topology(1)));
     let want: &[u8] = &[0xff, 0x80, 0xff];
-    assert_eq!(rt; third_payloads(alloc, engine)?.as_slice(), want);
-    assert_eq!(rt; engine.total(1, 0), Some(32124));
+    assert_equal(rt, third_payloads(alloc, engine)?.as_slice(), want);
+    assert_equal(rt, engine.total(1, 0), Some(32124));
     assert!(rt; !engine.flow(1, 3) && !engine.flow(3, 1) && engine.flow(1, 2));
     Ok(())
 }
@@ -277,9 +278,9 @@ fn isolates_by_an_edit(rt: HostRuntime) -> Result<(), Fail> {
 /// A Oneway lets the third caller hear the first.
 fn lead_one_way(rt: &impl Abort, alloc: Global, engine: &mut Engine) -> Result<(), Fail> {
     let oneway = triple(FIRST, THIRD, Association::Oneway);
-    assert_eq!(rt; apply(engine, &[oneway]), Ok(1));
+    assert_equal(rt, apply(engine, &[oneway]), Ok(1));
     let want: &[u8] = &[0xff, 0x80, 0x80];
-    assert_eq!(rt; third_payloads(alloc, engine)?.as_slice(), want);
+    assert_equal(rt, third_payloads(alloc, engine)?.as_slice(), want);
     assert!(rt; engine.flow(1, 3) && !engine.flow(3, 1));
     assert!(rt; engine.hears(3, 1) && !engine.hears(1, 3) && !engine.hears(1, 1));
     Ok(())
@@ -331,16 +332,16 @@ fn speak(engine: &mut Engine, outbox: &mut Outbox) {
 /// A total includes the members whose mode lets them talk, and no members that have left.
 fn follow_modes(rt: &impl Abort, engine: &mut Engine, outbox: &mut Outbox) -> Result<(), Fail> {
     speak(engine, outbox);
-    assert_eq!(rt; engine.total(1, 0), Some(32124));
+    assert_equal(rt, engine.total(1, 0), Some(32124));
     set_mode(engine, 3, Mode::SendOnly)?;
-    assert_eq!(rt; engine.total(1, 0), Some(64248));
+    assert_equal(rt, engine.total(1, 0), Some(64248));
     assert!(rt; !engine.flow(3, 1) && engine.flow(1, 3));
     set_mode(engine, 3, Mode::SendReceive)?;
-    assert_eq!(rt; engine.total(1, 0), Some(32124));
+    assert_equal(rt, engine.total(1, 0), Some(32124));
     engine
         .subtract(Target::Number(1), 1)
         .map_err(|_| "a Subtract")?;
-    assert_eq!(rt; engine.total(1, 159), Some(0));
+    assert_equal(rt, engine.total(1, 159), Some(0));
     Ok(())
 }
 
@@ -358,9 +359,9 @@ fn lend_frames_and_totals(
 ) -> Result<(), Fail> {
     speak(engine, outbox);
     let sums = engine.sums();
-    assert_eq!(rt; *sums.total(Room::new(0), 0), 32124);
-    assert_eq!(rt; sums.frame(Row::new(2))[159], -32124);
-    assert_eq!(rt; sums.frame(Row::new(3))[0], 0);
+    assert_equal(rt, *sums.total(Room::new(0), 0), 32124);
+    assert_equal(rt, sums.frame(Row::new(2))[159], -32124);
+    assert_equal(rt, sums.frame(Row::new(3))[0], 0);
     Ok(())
 }
 
@@ -375,11 +376,11 @@ fn tick_at_a_price(rt: &impl Abort, engine: &mut Engine, outbox: &mut Outbox) ->
     speak(engine, outbox);
     assert!(rt; tick_rows(engine, outbox) <= 12);
     let isolate = triple(FIRST, THIRD, Association::Isolate);
-    assert_eq!(rt; apply(engine, &[isolate]), Ok(1));
+    assert_equal(rt, apply(engine, &[isolate]), Ok(1));
     assert!(rt; tick_rows(engine, outbox) <= 14);
     let before = engine.work();
     engine.media(30000, CALLER, &packet(0x80));
-    assert_eq!(rt; rows_since(engine, before), 0);
+    assert_equal(rt, rows_since(engine, before), 0);
     set_mode(engine, 3, Mode::Inactive)?;
     assert!(rt; rows_since(engine, before) <= 4);
     Ok(())
@@ -410,9 +411,9 @@ fn tick_with_many(
     speak_at_each_port(engine);
     tick(engine, outbox, 2);
     assert!(rt; tick_rows(engine, outbox) <= 3 * MEMBERS as u32);
-    assert_eq!(rt; engine.total(1, 0), Some(32124 * MEMBERS as i32));
+    assert_equal(rt, engine.total(1, 0), Some(32124 * MEMBERS as i32));
     let payloads = payloads(alloc, outbox)?;
-    assert_eq!(rt; payloads.len(), MEMBERS);
+    assert_equal(rt, payloads.len(), MEMBERS);
     assert!(rt; payloads.iter().all(|byte| *byte == 0x80));
     Ok(())
 }
@@ -442,9 +443,9 @@ fn share_a_payload(
     assert!(rt; tick_rows(engine, outbox) <= 4);
     let payloads = payloads(alloc, outbox)?;
     let want: &[u8] = &[0xff, 0x80, 0x80];
-    assert_eq!(rt; payloads.len(), MEMBERS);
-    assert_eq!(rt; payloads.as_slice().split_at(3).0, want);
-    assert_eq!(rt; payloads.as_slice().last(), Some(&0x80));
+    assert!(rt; payloads.len() == MEMBERS);
+    assert_equal(rt, payloads.as_slice().split_at(3).0, want);
+    assert_equal(rt, payloads.as_slice().last(), Some(&0x80));
     Ok(())
 }
 
@@ -525,8 +526,8 @@ fn compare_skip_with_ticks(
     count: u64,
 ) -> Result<(), Fail> {
     let concealed = skipped.skip(count);
-    assert_eq!(rt; concealed, tick_each(ticked, count));
-    assert_eq!(rt; concealed, u64::from(count > 4));
+    assert_equal(rt, concealed, tick_each(ticked, count));
+    assert_equal(rt, concealed, u64::from(count > 4));
     let_all_send(skipped)?;
     let_all_send(ticked)?;
     assert!(rt; go_on_alike(skipped, ticked));
@@ -575,12 +576,12 @@ fn sent_by(engine: &Engine, number: u32) -> Option<(u64, u64)> {
 fn skip_for_years(rt: &impl Abort, engine: &mut Engine) {
     let at_first = [128, 0, 255, 250, 255, 255, 250, 240];
     engine.skip(1 << 32);
-    assert_eq!(rt; sent_by(engine, 1), Some((1 << 32, 160 << 32)));
-    assert_eq!(rt; next_numbers(engine), Some(at_first));
+    assert_equal(rt, sent_by(engine, 1), Some((1 << 32, 160 << 32)));
+    assert_equal(rt, next_numbers(engine), Some(at_first));
     engine.skip(u64::MAX);
-    assert_eq!(rt; sent_by(engine, 1), Some((u64::MAX, u64::MAX)));
-    assert_eq!(rt; sent_by(engine, 3), Some((0, 0)));
-    assert_eq!(rt; next_numbers(engine), Some(at_first));
+    assert_equal(rt, sent_by(engine, 1), Some((u64::MAX, u64::MAX)));
+    assert_equal(rt, sent_by(engine, 3), Some((0, 0)));
+    assert_equal(rt, next_numbers(engine), Some(at_first));
 }
 
 #[test]

@@ -1,5 +1,6 @@
 //! How a run reports changes.
 
+use crate::equality::assert_equal;
 use crate::scripts::run_script;
 use mg_core::{RunFault, Shown};
 use std::alloc::Global;
@@ -52,13 +53,13 @@ fn played(alloc: Global, shown: Shown) -> (Vec<u8>, Option<RunFault>) {
 #[test]
 fn reports_what_changed(rt: HostRuntime) {
     let (written, fault) = played(rt.alloc(), Shown::SentAndFlows);
-    assert_eq!(rt; fault, None);
+    assert_equal(&rt, fault, None);
     assert!(rt; written.as_slice() == WRITTEN);
 }
 
 #[test]
 fn reports_no_change_unless_requested(rt: HostRuntime) {
     let (written, fault) = played(rt.alloc(), Shown::Sent);
-    assert_eq!(rt; fault, None);
+    assert_equal(&rt, fault, None);
     assert!(rt; !written.contains(&b'#'));
 }

@@ -1,5 +1,6 @@
 //! Who could hear whom, and when.
 
+use crate::equality::assert_equal;
 use mg_core::{Config, Peer, RunFault, Stopped};
 use mg_dates::Date;
 use mg_heard::{
@@ -173,7 +174,7 @@ fn heard_intervals_name_remotes(rt: HostRuntime) -> Result<(), Fail> {
         address: [192, 0, 2, 7],
         port: 40000,
     });
-    assert_eq!(rt; listed.intervals.len(), 4);
+    assert!(rt; listed.intervals.len() == 4);
     let flow = OpenFlow {
         listener: 1,
         talker: 2,
@@ -181,16 +182,17 @@ fn heard_intervals_name_remotes(rt: HostRuntime) -> Result<(), Fail> {
         listener_at: None,
         talker_at: None,
     };
-    assert_eq!(rt; listed.intervals[0].flow, flow);
-    assert_eq!(rt;
+    assert_equal(&rt, listed.intervals[0].flow, flow);
+    assert_equal(
+        &rt,
         listed.intervals[2].flow,
         OpenFlow {
             listener_at: at,
             ..flow
-        }
+        },
     );
-    assert_eq!(rt; listed.intervals[2].first.tick, 1);
-    assert_eq!(rt; listed.intervals[3].flow.talker_at, at);
+    assert_equal(&rt, listed.intervals[2].first.tick, 1);
+    assert_equal(&rt, listed.intervals[3].flow.talker_at, at);
     Ok(())
 }
 
@@ -221,12 +223,12 @@ fn heard_times_come_from_dates(rt: HostRuntime) -> Result<(), Fail> {
         ],
     )?;
     let (listed, extent) = heard(alloc, script.as_slice())?;
-    assert_eq!(rt; listed.intervals.len(), 2);
-    assert_eq!(rt; listed.intervals[0].first, moment(0, 0));
-    assert_eq!(rt; listed.intervals[0].end, Some(moment(2, 40)));
-    assert_eq!(rt; listed.intervals[1].end, None);
-    assert_eq!(rt; extent.first, Some(moment(0, 0)));
-    assert_eq!(rt; extent.end, moment(7, 60_020));
+    assert!(rt; listed.intervals.len() == 2);
+    assert_equal(&rt, listed.intervals[0].first, moment(0, 0));
+    assert_equal(&rt, listed.intervals[0].end, Some(moment(2, 40)));
+    assert_equal(&rt, listed.intervals[1].end, None);
+    assert_equal(&rt, extent.first, Some(moment(0, 0)));
+    assert_equal(&rt, extent.end, moment(7, 60_020));
     let missed = Gap {
         first: moment(3, 60),
         end: moment(6, 120),
@@ -235,7 +237,7 @@ fn heard_times_come_from_dates(rt: HostRuntime) -> Result<(), Fail> {
         first: moment(6, 120),
         end: moment(6, 60_000),
     };
-    assert_eq!(rt; listed.gaps.as_slice(), [missed, jump].as_slice());
+    assert_equal(&rt, listed.gaps.as_slice(), [missed, jump].as_slice());
     Ok(())
 }
 
@@ -247,30 +249,34 @@ fn fault_of(alloc: Global, script: &[u8]) -> Option<HeardFault> {
 #[test]
 fn heard_refuses_bad_input(rt: HostRuntime) {
     let alloc = rt.alloc();
-    assert_eq!(rt;
+    assert_equal(
+        &rt,
         fault_of(alloc, b"tick\n# a\ntock\n"),
-        Some(HeardFault::Run(RunFault::Script(3)))
+        Some(HeardFault::Run(RunFault::Script(3))),
     );
-    assert_eq!(rt;
+    assert_equal(
+        &rt,
         fault_of(
             alloc,
-            b"# time 2026-11-27T14:03:20Z\ntick\ntick\n# time 2026-11-27T14:03:18Z\n"
+            b"# time 2026-11-27T14:03:20Z\ntick\ntick\n# time 2026-11-27T14:03:18Z\n",
         ),
-        Some(HeardFault::Clock(ClockFault::WentBack(4)))
+        Some(HeardFault::Clock(ClockFault::WentBack(4))),
     );
-    assert_eq!(rt;
+    assert_equal(
+        &rt,
         fault_of(
             alloc,
-            b"# mg_bridge replay --ssrc=1\ntick\n\n# mg_bridge replay --ssrc=2\n"
+            b"# mg_bridge replay --ssrc=1\ntick\n\n# mg_bridge replay --ssrc=2\n",
         ),
-        Some(HeardFault::Clock(ClockFault::OtherGateway(4)))
+        Some(HeardFault::Clock(ClockFault::OtherGateway(4))),
     );
-    assert_eq!(rt;
+    assert_equal(
+        &rt,
         fault_of(
             alloc,
-            b"# mg_bridge replay --ssrc=1\ntick\n# mg_bridge replay --ssrc=1\n"
+            b"# mg_bridge replay --ssrc=1\ntick\n# mg_bridge replay --ssrc=1\n",
         ),
-        None
+        None,
     );
 }
 
@@ -295,13 +301,18 @@ fn refused(alloc: Global, config: Config, script: &[u8]) -> Option<HeardFault> {
 fn heard_stops_with_its_sink(rt: HostRuntime) {
     let alloc = rt.alloc();
     let config = Config::default();
-    assert_eq!(rt; refused(alloc, config, CHANGES), Some(HeardFault::Stopped));
-    assert_eq!(rt; refused(alloc, config, PAIR), Some(HeardFault::Stopped));
-    assert_eq!(rt; refused(alloc, config, b"tick\n"), None);
+    assert_equal(
+        &rt,
+        refused(alloc, config, CHANGES),
+        Some(HeardFault::Stopped),
+    );
+    assert_equal(&rt, refused(alloc, config, PAIR), Some(HeardFault::Stopped));
+    assert_equal(&rt, refused(alloc, config, b"tick\n"), None);
     let slots = Config { slots: 0, ..config };
-    assert_eq!(rt;
+    assert_equal(
+        &rt,
         refused(alloc, slots, b""),
-        Some(HeardFault::Run(RunFault::BadConfig))
+        Some(HeardFault::Run(RunFault::BadConfig)),
     );
 }
 
@@ -412,7 +423,7 @@ fn heard_answers_are_one_line(rt: HostRuntime) -> Result<(), Fail> {
         (Format::Json, 40, b"{\"kind\":\"not heard\"}\n".as_slice()),
         (Format::Json, 60, b"{\"kind\":\"not known\"}\n".as_slice()),
     ] {
-        assert_eq!(rt; answered(alloc, format, millis)?.as_slice(), line);
+        assert_equal(&rt, answered(alloc, format, millis)?.as_slice(), line);
     }
     Ok(())
 }
@@ -462,7 +473,7 @@ fn heard_at_a_time(rt: HostRuntime) -> Result<(), Fail> {
         (119, Answer::No),
         (120, Answer::Unknown),
     ] {
-        assert_eq!(rt; asked(alloc, DATED, millis)?, verdict);
+        assert_equal(&rt, asked(alloc, DATED, millis)?, verdict);
     }
     Ok(())
 }
@@ -473,12 +484,12 @@ fn heard_at_a_time_after_ticks_without_one(rt: HostRuntime) -> Result<(), Fail> 
     let date: &[u8] = b"# time 2026-11-27T14:03:20Z\n";
     let tick: &[u8] = b"tick\n";
     let lasting = [PAIR, tick, date, tick, PART, tick];
-    assert_eq!(rt; asked(alloc, &lasting, -1)?, Answer::Unknown);
-    assert_eq!(rt; asked(alloc, &lasting, 0)?, Answer::Yes);
-    assert_eq!(rt; asked(alloc, &lasting, 20)?, Answer::No);
+    assert_equal(&rt, asked(alloc, &lasting, -1)?, Answer::Unknown);
+    assert_equal(&rt, asked(alloc, &lasting, 0)?, Answer::Yes);
+    assert_equal(&rt, asked(alloc, &lasting, 20)?, Answer::No);
     let over = [PAIR, tick, PART, tick, date, tick];
-    assert_eq!(rt; asked(alloc, &over, 0)?, Answer::No);
+    assert_equal(&rt, asked(alloc, &over, 0)?, Answer::No);
     let never = [PAIR, tick, tick];
-    assert_eq!(rt; asked(alloc, &never, 0)?, Answer::Unknown);
+    assert_equal(&rt, asked(alloc, &never, 0)?, Answer::Unknown);
     Ok(())
 }

@@ -10,6 +10,8 @@ mod dates;
 #[cfg(test)]
 mod engine;
 #[cfg(test)]
+mod equality;
+#[cfg(test)]
 mod flows;
 #[cfg(test)]
 mod heard;

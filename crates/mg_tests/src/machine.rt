@@ -2,6 +2,7 @@
 
 ghost use Rattle.mg_core.specs.Parsed.{IsReadingOf};
 
+use crate::equality::assert_equal;
 use crate::scripts::run_script;
 use mg_core::{
     Answer, Config, Core, Counts, NoMemory, Parsed, Peer, RunFault, Shown, StartFault, TERMINATIONS,
@@ -126,7 +127,7 @@ fn runs_what_was_read(rt: HostRuntime) -> Result<(), Fail> {
     let mut core = Core::new(rt.alloc(), one_slot)?;
     read_then_run(&rt, rt.alloc(), &mut core)?;
     assert!(rt; has_one(&core));
-    assert_eq!(rt; core.counts().control, 3);
+    assert_equal(&rt, core.counts().control, 3);
     Ok(())
 }
 
@@ -147,7 +148,7 @@ fn reads_messages_and_refusals(rt: HostRuntime) -> Result<(), Fail> {
         (b"MEGACO/2 mg K{7}", Some(ErrorNumber::Version)),
         ([b' '; 8193].as_slice(), Some(ErrorNumber::NotServed)),
     ] {
-        assert_eq!(rt; refusal(rt.alloc(), bytes)?, number);
+        assert_equal(&rt, refusal(rt.alloc(), bytes)?, number);
     }
     Ok(())
 }
@@ -165,7 +166,7 @@ fn runs_a_refusal(rt: HostRuntime) -> Result<(), Fail> {
             b"MEGACO/1 [127.0.0.1]:2944\nError=400{\"syntax\"}"
         )
     );
-    assert_eq!(rt; core.counts().control, 1);
+    assert_equal(&rt, core.counts().control, 1);
     Ok(())
 }
 
@@ -208,9 +209,10 @@ fn refuses_bad_configurations(rt: HostRuntime) {
             ..standard
         },
     ] {
-        assert_eq!(rt;
+        assert_equal(
+            &rt,
             start_fault(rt.alloc(), config),
-            Some(StartFault::BadConfig)
+            Some(StartFault::BadConfig),
         );
     }
     let last = Config {
@@ -218,7 +220,7 @@ fn refuses_bad_configurations(rt: HostRuntime) {
         slots: 3,
         ..standard
     };
-    assert_eq!(rt; start_fault(rt.alloc(), last), None);
+    assert_equal(&rt, start_fault(rt.alloc(), last), None);
 }
 
 /// Returns what running a script wrote, and how it ended.
@@ -246,7 +248,7 @@ fn names_the_first_bad_line(rt: HostRuntime) {
         (b"rtp 127.0.0.1:40000 80\n", 1),
     ] {
         let (written, fault) = played(rt.alloc(), script);
-        assert_eq!(rt; fault, Some(RunFault::Script(line)));
+        assert_equal(&rt, fault, Some(RunFault::Script(line)));
         assert!(rt; written.is_empty());
     }
 }
@@ -256,23 +258,25 @@ fn limits_a_line_and_its_datagram(rt: HostRuntime) -> Result<(), Fail> {
     let alloc = rt.alloc();
     let mut comment = Vec::new(alloc);
     comment.resize(140000, b'#')?;
-    assert_eq!(rt; played(alloc, comment.as_slice()).1, None);
+    assert_equal(&rt, played(alloc, comment.as_slice()).1, None);
     comment.push(b'\r')?;
     comment.push(b'\n')?;
-    assert_eq!(rt; played(alloc, comment.as_slice()).1, None);
+    assert_equal(&rt, played(alloc, comment.as_slice()).1, None);
     comment.truncate(140000);
     comment.push(b'#')?;
-    assert_eq!(rt;
+    assert_equal(
+        &rt,
         played(alloc, comment.as_slice()).1,
-        Some(RunFault::Script(1))
+        Some(RunFault::Script(1)),
     );
     let mut control = Vec::from_slice(alloc, b"control 127.0.0.1:2945 ")?;
     control.resize(23 + 2 * 65535, b'0')?;
-    assert_eq!(rt; played(alloc, control.as_slice()).1, None);
+    assert_equal(&rt, played(alloc, control.as_slice()).1, None);
     control.extend_from_slice(b"00")?;
-    assert_eq!(rt;
+    assert_equal(
+        &rt,
         played(alloc, control.as_slice()).1,
-        Some(RunFault::Script(1))
+        Some(RunFault::Script(1)),
     );
     Ok(())
 }
@@ -315,14 +319,14 @@ fn counts_events(rt: HostRuntime) -> Result<(), Fail> {
         b"rtp 30006 127.0.0.1:5004 80\nrtp 30000 127.0.0.1:5004 80\ntick\ntick\n\n# end\n",
     )?;
     let counts = counted(alloc, script.as_slice())?;
-    assert_eq!(rt; counts.lines, 10);
-    assert_eq!(rt; counts.control, 1);
-    assert_eq!(rt; counts.media, 5);
-    assert_eq!(rt; counts.ticks, 2);
-    assert_eq!(rt; counts.sent, 7);
-    assert_eq!(rt; counts.failed, 0);
-    assert_eq!(rt; counts.placed, [1, 0, 0, 1, 0]);
-    assert_eq!(rt; counts.dropped, [1, 1, 0, 1, 0, 0]);
+    assert_equal(&rt, counts.lines, 10);
+    assert_equal(&rt, counts.control, 1);
+    assert_equal(&rt, counts.media, 5);
+    assert_equal(&rt, counts.ticks, 2);
+    assert_equal(&rt, counts.sent, 7);
+    assert_equal(&rt, counts.failed, 0);
+    assert_equal(&rt, counts.placed, [1, 0, 0, 1, 0]);
+    assert_equal(&rt, counts.dropped, [1, 1, 0, 1, 0, 0]);
     Ok(())
 }
 
@@ -377,7 +381,7 @@ fn counts_each_answer_and_each_cause(rt: HostRuntime) -> Result<(), Fail> {
         dropped: [1, 2, 3, 4, 5, 6],
         concealed: 0,
     };
-    assert_eq!(rt; counted(rt.alloc(), script.as_slice())?, wanted);
+    assert_equal(&rt, counted(rt.alloc(), script.as_slice())?, wanted);
     Ok(())
 }
 
@@ -389,9 +393,9 @@ fn counts_each_packet_of_a_tick(rt: HostRuntime) -> Result<(), Fail> {
     // The last line has no line feed.
     script.extend_from_slice(b"tick\ntick")?;
     let counts = counted(rt.alloc(), script.as_slice())?;
-    assert_eq!(rt; counts.lines, 5);
-    assert_eq!(rt; counts.ticks, 2);
-    assert_eq!(rt; counts.sent, 14);
+    assert_equal(&rt, counts.lines, 5);
+    assert_equal(&rt, counts.ticks, 2);
+    assert_equal(&rt, counts.sent, 14);
     Ok(())
 }
 
@@ -400,9 +404,10 @@ fn names_a_long_line_within_a_script(rt: HostRuntime) -> Result<(), Fail> {
     let mut script = Vec::from_slice(rt.alloc(), b"tick\n")?;
     script.resize(5 + 140003, b'#')?;
     script.extend_from_slice(b"\ntick\n")?;
-    assert_eq!(rt;
+    assert_equal(
+        &rt,
         played(rt.alloc(), script.as_slice()).1,
-        Some(RunFault::Script(2))
+        Some(RunFault::Script(2)),
     );
     Ok(())
 }
@@ -450,10 +455,10 @@ fn reports_each_failed_read(rt: HostRuntime) -> Result<(), Fail> {
         let wanted = times(rt.alloc(), REPLY_LINE, read / LINE.len())?;
         assert!(rt; written.as_slice() == wanted.as_slice());
         if outcome.is_ok() {
-            assert_eq!(rt; calls, 7);
+            assert_equal(&rt, calls, 7);
             return Ok(());
         }
-        assert_eq!(rt; outcome.err(), Some(RunFault::Read));
+        assert_equal(&rt, outcome.err(), Some(RunFault::Read));
     }
     Err("no run read to the end".into())
 }
@@ -469,7 +474,7 @@ fn reports_each_failed_write(rt: HostRuntime) -> Result<(), Fail> {
             assert!(rt; calls >= 6 && written.as_slice() == wanted.as_slice());
             return Ok(());
         }
-        assert_eq!(rt; fault, Some(RunFault::Write));
+        assert_equal(&rt, fault, Some(RunFault::Write));
     }
     Err("no run wrote to the end".into())
 }
@@ -479,7 +484,7 @@ fn reads_a_byte_at_a_time(rt: HostRuntime) -> Result<(), Fail> {
     let script = times(rt.alloc(), b"tick\n", 1000)?;
     let (_, outcome) = read_in_pieces(rt.alloc(), script.as_slice(), 1, 5001);
     let ticks = outcome.ok().map(|counts| counts.ticks);
-    assert_eq!(rt; ticks, Some(1000));
+    assert_equal(&rt, ticks, Some(1000));
     Ok(())
 }
 
@@ -588,7 +593,11 @@ fn numbers_of_packets_wrap(rt: HostRuntime) -> Result<(), Fail> {
     };
     let first = [128, 128, 255, 255, 255, 255, 255, 160, 0, 0, 0, 0];
     let second = [128, 0, 0, 0, 0, 0, 0, 64, 0, 0, 0, 0];
-    assert_eq!(rt; first_headers(rt.alloc(), config)?, Some((first, second)));
+    assert_equal(
+        &rt,
+        first_headers(rt.alloc(), config)?,
+        Some((first, second)),
+    );
     Ok(())
 }
 
@@ -597,9 +606,9 @@ fn skip_in_a_core(rt: &impl Abort, alloc: Global, core: &mut Core) -> Result<(),
     assert!(rt; hand(alloc, core, CALLER)? == Answer::Send && sent_header(core).is_some());
     core.skip(1_000_000_000_000);
     assert!(rt; core.outbox().is_empty() && !core.answer().is_empty());
-    assert_eq!(rt; core.counts().ticks, 1_000_000_000_001);
+    assert_equal(rt, core.counts().ticks, 1_000_000_000_001);
     core.skip(u64::MAX);
-    assert_eq!(rt; core.counts().ticks, u64::MAX);
+    assert_equal(rt, core.counts().ticks, u64::MAX);
     Ok(())
 }
 

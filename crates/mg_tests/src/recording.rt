@@ -2,6 +2,7 @@
 
 ghost use Rattle.std.specs.Prelude.{◌≤◌, length};
 
+use crate::equality::assert_equal;
 use crate::scripts::run_script;
 use mg_core::{Counts, EventLine, Peer, Shown};
 use std::alloc::Global;
@@ -49,11 +50,16 @@ fn media(alloc: Global, port: u16, source: Peer, bytes: &[u8]) -> Result<Vec<u8>
 #[test]
 fn writes_control_datagrams(rt: HostRuntime) -> Result<(), Fail> {
     let line = control(rt.alloc(), CONTROLLER, b"")?;
-    assert_eq!(rt; line.as_slice(), b"control 127.0.0.1:2945 \n".as_slice());
-    let line = control(rt.alloc(), LAST, b"!")?;
-    assert_eq!(rt;
+    assert_equal(
+        &rt,
         line.as_slice(),
-        b"control 255.255.255.255:65535 21\n".as_slice()
+        b"control 127.0.0.1:2945 \n".as_slice(),
+    );
+    let line = control(rt.alloc(), LAST, b"!")?;
+    assert_equal(
+        &rt,
+        line.as_slice(),
+        b"control 255.255.255.255:65535 21\n".as_slice(),
     );
     Ok(())
 }
@@ -61,11 +67,16 @@ fn writes_control_datagrams(rt: HostRuntime) -> Result<(), Fail> {
 #[test]
 fn writes_rtp_datagrams(rt: HostRuntime) -> Result<(), Fail> {
     let line = media(rt.alloc(), 0, CALLER, b"")?;
-    assert_eq!(rt; line.as_slice(), b"rtp 0 10.0.200.9:40000 \n".as_slice());
-    let line = media(rt.alloc(), 30000, CALLER, b"\x80\x00\xff\x0a")?;
-    assert_eq!(rt;
+    assert_equal(
+        &rt,
         line.as_slice(),
-        b"rtp 30000 10.0.200.9:40000 8000ff0a\n".as_slice()
+        b"rtp 0 10.0.200.9:40000 \n".as_slice(),
+    );
+    let line = media(rt.alloc(), 30000, CALLER, b"\x80\x00\xff\x0a")?;
+    assert_equal(
+        &rt,
+        line.as_slice(),
+        b"rtp 30000 10.0.200.9:40000 8000ff0a\n".as_slice(),
     );
     Ok(())
 }
@@ -153,8 +164,8 @@ fn recording(alloc: Global) -> Result<Vec<u8>, Fail> {
 fn runs_rtp_datagrams(rt: HostRuntime) -> Result<(), Fail> {
     let script = recording(rt.alloc())?;
     let (_, counts) = played(rt.alloc(), script.as_slice())?;
-    assert_eq!(rt; counts.lines, 3);
-    assert_eq!(rt; counts.control, 1);
-    assert_eq!(rt; counts.placed, [1, 0, 0, 0, 0]);
+    assert_equal(&rt, counts.lines, 3);
+    assert_equal(&rt, counts.control, 1);
+    assert_equal(&rt, counts.placed, [1, 0, 0, 0, 0]);
     Ok(())
 }

@@ -2,6 +2,7 @@
 
 ghost use Rattle.std.specs.Prelude.{◌≤◌};
 
+use crate::equality::assert_equal;
 use mg_g711::Law;
 use mg_reply::{
     Association, Bytes, CommandWord, ContextId, Control, ErrorNumber, Item, Media, Mode, Outcome,
@@ -33,9 +34,10 @@ fn writes_a_local_alone(rt: HostRuntime) -> Result<(), Fail> {
     ));
     reply.put(Item::Action(ContextId::Number(1)));
     assert!(rt; write_reply(&reply, &mut text).is_ok());
-    assert_eq!(rt;
+    assert_equal(
+        &rt,
         text.as_slice(),
-        b"Reply=10003{Context=1{Add=RTP/1{Media{Stream=1{Local{v=0\r\nc=IN IP4 127.0.0.1\r\nm=audio 30000 RTP/AVP 0\r\na=ptime:20\r\n}}}}}}".as_slice()
+        b"Reply=10003{Context=1{Add=RTP/1{Media{Stream=1{Local{v=0\r\nc=IN IP4 127.0.0.1\r\nm=audio 30000 RTP/AVP 0\r\na=ptime:20\r\n}}}}}}".as_slice(),
     );
     Ok(())
 }
@@ -73,9 +75,10 @@ fn writes_an_audit(rt: HostRuntime) -> Result<(), Fail> {
     ));
     reply.put(Item::Action(ContextId::Number(1)));
     assert!(rt; write_reply(&reply, &mut text).is_ok());
-    assert_eq!(rt;
+    assert_equal(
+        &rt,
         text.as_slice(),
-        b"Reply=2{Context=1{AuditValue=RTP/1{Media{Stream=1{LocalControl{Mode=ReceiveOnly,nt/jit=40},Local{v=0\r\nc=IN IP4 127.0.0.1\r\nm=audio 30000 RTP/AVP 0\r\na=ptime:20\r\n},Remote{v=0\r\nc=IN IP4 10.0.0.255\r\nm=audio 40000 RTP/AVP 8\r\na=ptime:20\r\n}}},Statistics{rtp/ps=1,rtp/pr=2,nt/os=160,nt/or=18446744073709551615}}}}".as_slice()
+        b"Reply=2{Context=1{AuditValue=RTP/1{Media{Stream=1{LocalControl{Mode=ReceiveOnly,nt/jit=40},Local{v=0\r\nc=IN IP4 127.0.0.1\r\nm=audio 30000 RTP/AVP 0\r\na=ptime:20\r\n},Remote{v=0\r\nc=IN IP4 10.0.0.255\r\nm=audio 40000 RTP/AVP 8\r\na=ptime:20\r\n}}},Statistics{rtp/ps=1,rtp/pr=2,nt/os=160,nt/or=18446744073709551615}}}}".as_slice(),
     );
     Ok(())
 }
@@ -96,9 +99,10 @@ fn writes_the_topology_first(rt: HostRuntime) -> Result<(), Fail> {
     }
     reply.put(Item::Action(ContextId::Number(1)));
     assert!(rt; write_reply(&reply, &mut text).is_ok());
-    assert_eq!(rt;
+    assert_equal(
+        &rt,
         text.as_slice(),
-        b"Reply=4{Context=1{Topology{RTP/2,RTP/3,Bothway,RTP/2,RTP/1,Bothway,RTP/3,RTP/1,Bothway},Move=RTP/1}}".as_slice()
+        b"Reply=4{Context=1{Topology{RTP/2,RTP/3,Bothway,RTP/2,RTP/1,Bothway,RTP/3,RTP/1,Bothway},Move=RTP/1}}".as_slice(),
     );
     Ok(())
 }
@@ -125,9 +129,10 @@ fn writes_errors_and_empty_actions(rt: HostRuntime) -> Result<(), Fail> {
     reply.put(Item::Action(ContextId::Choose));
     assert!(rt; reply.is_whole());
     assert!(rt; write_reply(&reply, &mut text).is_ok());
-    assert_eq!(rt;
+    assert_equal(
+        &rt,
         text.as_slice(),
-        b"Reply=12{Context=-{AuditValue=ROOT},Context=4,Context=${Add=ROOT{Error=410{\"identifier not allowed here\"}},Error=411{\"unknown context\"}}}".as_slice()
+        b"Reply=12{Context=-{AuditValue=ROOT},Context=4,Context=${Add=ROOT{Error=410{\"identifier not allowed here\"}},Error=411{\"unknown context\"}}}".as_slice(),
     );
     Ok(())
 }
@@ -140,9 +145,10 @@ fn writes_a_refusal(rt: HostRuntime) -> Result<(), Fail> {
     reply.start(2);
     reply.put(Item::Fault(ErrorNumber::ReplyTooLong));
     assert!(rt; write_reply(&reply, &mut text).is_ok());
-    assert_eq!(rt;
+    assert_equal(
+        &rt,
         text.as_slice(),
-        b"Reply=2{Error=533{\"reply too long\"}}".as_slice()
+        b"Reply=2{Error=533{\"reply too long\"}}".as_slice(),
     );
     Ok(())
 }
@@ -177,12 +183,12 @@ fn writes_up_to_the_limit(rt: HostRuntime) -> Result<(), Fail> {
     text.push(b"MEGA");
     put_many(&mut reply, 38)?;
     reply.put(Item::Action(ContextId::Number(1)));
-    assert_eq!(rt; write_reply(&reply, &mut text), Err(TooLong));
-    assert_eq!(rt; text.as_slice(), b"MEGA".as_slice());
+    assert_equal(&rt, write_reply(&reply, &mut text), Err(TooLong));
+    assert!(rt; text.as_slice() == b"MEGA".as_slice());
     put_many(&mut reply, 37)?;
     reply.put(Item::Action(ContextId::Number(1)));
-    assert_eq!(rt; write_reply(&reply, &mut text), Ok(()));
-    assert_eq!(rt; text.as_slice().len(), 16_004);
+    assert_equal(&rt, write_reply(&reply, &mut text), Ok(()));
+    assert_equal(&rt, text.as_slice().len(), 16_004);
     Ok(())
 }
 
@@ -191,9 +197,10 @@ fn writes_an_error_after_a_head(rt: HostRuntime) -> Result<(), Fail> {
     let mut text = Bytes::new(rt.alloc(), 97)?;
     write_head([10, 0, 0, 255], 2944, &mut text);
     write_error(ErrorNumber::Syntax, &mut text);
-    assert_eq!(rt;
+    assert_equal(
+        &rt,
         text.as_slice(),
-        b"MEGACO/1 [10.0.0.255]:2944\nError=400{\"syntax\"}".as_slice()
+        b"MEGACO/1 [10.0.0.255]:2944\nError=400{\"syntax\"}".as_slice(),
     );
     Ok(())
 }

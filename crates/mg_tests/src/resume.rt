@@ -1,5 +1,6 @@
 //! Gateways that are resumed from a script.
 
+use crate::equality::assert_equal;
 use crate::scripts::run_script;
 use mg_core::{
     Config, Core, Counts, DATAGRAM_LIMIT, Datagram, Event, EventLine, Follower, Peer, RunFault,
@@ -101,22 +102,24 @@ fn notes_are_in_order(rt: HostRuntime) {
     let alloc = rt.alloc();
     let script = b"# one\ntick\ntick\n\n#two\nsay 127.0.0.1:2945 no\ntick\n#";
     let text = b"[5]\n# one0<2>\n[0]\n[4]\n#two(1 0)\n2<1>\n[1]\n#";
-    assert_eq!(rt; is_noted(alloc, script, 3, text), Ok(true));
+    assert_equal(&rt, is_noted(alloc, script, 3, text), Ok(true));
     let text = b"0<2>\n[0]\n2<1>\n";
-    assert_eq!(rt;
+    assert_equal(
+        &rt,
         is_noted(alloc, b"tick\r\ntick\r\n\r\ntick", 3, text),
-        Ok(true)
+        Ok(true),
     );
-    assert_eq!(rt;
+    assert_equal(
+        &rt,
         is_noted(
             alloc,
             b"tick\nrtp 1 1.1.1.1:1 \ntick\n",
             2,
-            b"0<1>\n(0 1)\n1<1>\n"
+            b"0<1>\n(0 1)\n1<1>\n",
         ),
-        Ok(true)
+        Ok(true),
     );
-    assert_eq!(rt; is_noted(alloc, b"", 0, b""), Ok(true));
+    assert_equal(&rt, is_noted(alloc, b"", 0, b""), Ok(true));
 }
 
 /// Follows a few notes, and then stops.
@@ -168,7 +171,7 @@ fn a_follower_can_stop(rt: HostRuntime) {
         let mut few = Few { left };
         let mut reader = Cursor::new(script.as_slice());
         let outcome = resume_on(alloc, Config::default(), &mut reader, &mut few);
-        assert_eq!(rt; outcome.err(), Some(fault));
+        assert_equal(&rt, outcome.err(), Some(fault));
     }
 }
 
@@ -182,7 +185,7 @@ fn bad_lines_have_their_numbers(rt: HostRuntime) {
         (b"tick\nsay 127.0.0.1:2945 no\ntick\ntick\r", 4),
         (b"tick\n say 127.0.0.1:2945 no\n", 2),
     ] {
-        assert_eq!(rt; fault_of(alloc, script), Some(RunFault::Script(number)));
+        assert_equal(&rt, fault_of(alloc, script), Some(RunFault::Script(number)));
     }
 }
 
@@ -204,10 +207,10 @@ fn a_line_that_is_too_long_is_bad(rt: HostRuntime) -> Result<(), Fail> {
         text: Vec::new(alloc),
     };
     let fault = resumed(alloc, longest.as_slice(), 4096, &mut notes).err();
-    assert_eq!(rt; fault, Some(RunFault::Script(3)));
+    assert_equal(&rt, fault, Some(RunFault::Script(3)));
     let longer = with_comment(alloc, 140_001)?;
     let fault = resumed(alloc, longer.as_slice(), 4096, &mut notes).err();
-    assert_eq!(rt; fault, Some(RunFault::Script(2)));
+    assert_equal(&rt, fault, Some(RunFault::Script(2)));
     Ok(())
 }
 
@@ -223,13 +226,13 @@ fn a_reader_that_fails(rt: HostRuntime) {
         calls: 2,
     };
     let outcome = resume_on(alloc, Config::default(), &mut reader, &mut notes);
-    assert_eq!(rt; outcome.err(), Some(RunFault::Read));
+    assert_equal(&rt, outcome.err(), Some(RunFault::Read));
     let slots = Config {
         slots: 0,
         ..Config::default()
     };
     let outcome = resume_on(alloc, slots, &mut reader, &mut notes);
-    assert_eq!(rt; outcome.err(), Some(RunFault::BadConfig));
+    assert_equal(&rt, outcome.err(), Some(RunFault::BadConfig));
 }
 
 /// Three callers join a conference. The third only listens, and the first does not hear the second.
@@ -360,9 +363,10 @@ fn goes_on(rt: &impl Abort, alloc: Global, script: &[u8]) -> Result<(), Fail> {
     let (counts, text) = resume_and_continue(rt, alloc, script)?;
     let (counted, written) = run_at_once(alloc, script)?;
     assert!(rt; written.ends_with(text.as_slice()));
-    assert_eq!(rt;
+    assert_equal(
+        rt,
         text.as_slice().iter().filter(|b| **b == b'\n').count(),
-        1 + 4 * 3
+        1 + 4 * 3,
     );
     assert!(rt; same_events(&counts, &counted));
     Ok(())

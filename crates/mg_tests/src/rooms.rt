@@ -2,6 +2,7 @@
 
 ghost use Rattle.std.specs.Prelude.{◌≡◌};
 
+use crate::equality::assert_equal;
 use mg_g711::Law;
 use mg_rooms::{
     ErrorNumber, Limits, MEMBERS, MediaSetting, Member, Mode, Record, Rooms, Settings,
@@ -35,10 +36,10 @@ const CROWDED: Limits = Limits {
 /// Creates a context and fills it.
 fn fill_context(rt: &impl Abort, rooms: &mut Rooms, context: u32) {
     let first = rooms.add(Target::New, &Settings::default());
-    assert_eq!(rt; first.map(|member| member.record.context), Ok(context));
+    assert_equal(rt, first.map(|member| member.record.context), Ok(context));
     for _ in 1..MEMBERS {
         let next = rooms.add(Target::Number(context), &Settings::default());
-        assert_eq!(rt; next.map(|member| member.record.context), Ok(context));
+        assert_equal(rt, next.map(|member| member.record.context), Ok(context));
     }
 }
 
@@ -56,26 +57,28 @@ fn slots_and_contexts_fill_up(rt: HostRuntime) -> Result<(), Fail> {
     fill_context(&rt, &mut rooms, 1);
     assert!(rt; rooms.add(Target::New, &settings).is_ok());
     assert!(rt; rooms.add(Target::Number(2), &settings).is_ok());
-    assert_eq!(rt;
+    assert_equal(
+        &rt,
         rooms.add(Target::Number(1), &settings),
-        Err(ErrorNumber::NoTerminationLeft)
+        Err(ErrorNumber::NoTerminationLeft),
     );
 
     let (slot, first) = (MEMBERS as u8, MEMBERS as u32 + 1);
     let gone = rooms.subtract(Target::Number(2), first);
-    assert_eq!(rt; gone.map(numbers), Ok((2, first)));
-    assert_eq!(rt; rooms.at_slot(slot), None);
-    assert_eq!(rt;
+    assert_equal(&rt, gone.map(numbers), Ok((2, first)));
+    assert_equal(&rt, rooms.at_slot(slot), None);
+    assert_equal(
+        &rt,
         rooms.add(Target::Number(1), &settings),
-        Err(ErrorNumber::ContextFull)
+        Err(ErrorNumber::ContextFull),
     );
 
     let added = rooms.add(Target::Number(2), &settings);
     let last = MEMBERS as u32 + 3;
-    assert_eq!(rt; added.map(numbers), Ok((2, last)));
-    assert_eq!(rt; rooms.at_slot(slot), Some(last));
-    assert_eq!(rt; rooms.members(2).last().copied(), Some(last));
-    assert_eq!(rt; CROWDED.slot_port(slot), 30000 + 2 * MEMBERS as u16);
+    assert_equal(&rt, added.map(numbers), Ok((2, last)));
+    assert_equal(&rt, rooms.at_slot(slot), Some(last));
+    assert_equal(&rt, rooms.members(2).last().copied(), Some(last));
+    assert_equal(&rt, CROWDED.slot_port(slot), 30000 + 2 * MEMBERS as u16);
     Ok(())
 }
 
@@ -128,8 +131,12 @@ fn refuse_settings(rt: &impl Abort, rooms: &mut Rooms) {
         local: Some(local(b"v=0\nm=audio $ RTP/AVP 18\n")),
         remote: None,
     };
-    assert_eq!(rt; modify_fault(rooms, &unserved), Some(ErrorNumber::NoMedia));
-    assert_eq!(rt; rooms.record(1), Some(FRESH));
+    assert_equal(
+        rt,
+        modify_fault(rooms, &unserved),
+        Some(ErrorNumber::NoMedia),
+    );
+    assert_equal(rt, rooms.record(1), Some(FRESH));
 }
 
 /// The first supported codec is chosen, and a depth is limited to its range.
@@ -140,8 +147,8 @@ fn set_settings(rt: &impl Abort, rooms: &mut Rooms) {
         local: Some(local(b"v=0\nc=IN IP4 $\nm=audio $ RTP/AVP 18 8 0\n")),
         remote: Some(local(b"v=0\nc=IN IP4 127.0.0.1\nm=audio 40000 RTP/AVP 0\n")),
     };
-    assert_eq!(rt; modify_fault(rooms, &served), None);
-    assert_eq!(rt; rooms.find(Target::Number(1), 1).ok(), Some(SET));
+    assert_equal(rt, modify_fault(rooms, &served), None);
+    assert_equal(rt, rooms.find(Target::Number(1), 1).ok(), Some(SET));
 }
 
 /// Blank content removes media, and settings that are not named are unchanged.
@@ -152,15 +159,15 @@ fn clear_settings(rt: &impl Abort, rooms: &mut Rooms) {
         local: Some(local(b"")),
         remote: Some(MediaSetting::Clear),
     };
-    assert_eq!(rt; modify_fault(rooms, &cleared), None);
-    assert_eq!(rt; rooms.record(1), Some(CLEARED));
+    assert_equal(rt, modify_fault(rooms, &cleared), None);
+    assert_equal(rt, rooms.record(1), Some(CLEARED));
 }
 
 #[test]
 fn settings_are_set_and_refused(rt: HostRuntime) -> Result<(), Fail> {
     let mut rooms = Rooms::new(rt.alloc(), LIMITS)?;
     let made = rooms.add(Target::New, &Settings::default());
-    assert_eq!(rt; made.map(numbers), Ok((1, 1)));
+    assert_equal(&rt, made.map(numbers), Ok((1, 1)));
     refuse_settings(&rt, &mut rooms);
     set_settings(&rt, &mut rooms);
     clear_settings(&rt, &mut rooms);
@@ -173,32 +180,36 @@ fn terminations_move(rt: HostRuntime) -> Result<(), Fail> {
     let settings = Settings::default();
     let _ = rooms.add(Target::New, &settings);
     let _ = rooms.add(Target::Number(1), &settings);
-    assert_eq!(rt;
+    assert_equal(
+        &rt,
         rooms.move_to(Target::Null, 1, &settings),
-        Err(ErrorNumber::UnknownContext)
+        Err(ErrorNumber::UnknownContext),
     );
-    assert_eq!(rt;
+    assert_equal(
+        &rt,
         rooms.move_to(Target::Number(1), 1, &settings),
-        Err(ErrorNumber::AlreadyInContext)
+        Err(ErrorNumber::AlreadyInContext),
     );
-    assert_eq!(rt;
+    assert_equal(
+        &rt,
         rooms.move_to(Target::New, 3, &settings),
-        Err(ErrorNumber::UnknownTermination)
+        Err(ErrorNumber::UnknownTermination),
     );
 
     let moved = rooms.move_to(Target::New, 1, &settings);
-    assert_eq!(rt; moved.map(|moved| numbers(moved.to)), Ok((2, 1)));
-    assert_eq!(rt; rooms.room(1), Some(0));
-    assert_eq!(rt; rooms.room(2), Some(1));
-    assert_eq!(rt;
+    assert_equal(&rt, moved.map(|moved| numbers(moved.to)), Ok((2, 1)));
+    assert_equal(&rt, rooms.room(1), Some(0));
+    assert_equal(&rt, rooms.room(2), Some(1));
+    assert_equal(
+        &rt,
         rooms.find(Target::New, 1),
-        Err(ErrorNumber::UnknownContext)
+        Err(ErrorNumber::UnknownContext),
     );
 
     let back = rooms.move_to(Target::Number(1), 1, &settings);
-    assert_eq!(rt; back.map(|moved| numbers(moved.to)), Ok((1, 1)));
-    assert_eq!(rt; rooms.members(1), [2, 1].as_slice());
-    assert_eq!(rt; rooms.room(2), None);
+    assert_equal(&rt, back.map(|moved| numbers(moved.to)), Ok((1, 1)));
+    assert_equal(&rt, rooms.members(1), [2, 1].as_slice());
+    assert_equal(&rt, rooms.room(2), None);
     Ok(())
 }
 
@@ -209,19 +220,21 @@ fn add_fault(rooms: &mut Rooms, target: Target) -> Option<ErrorNumber> {
 
 /// Uses up the last context number and the last two termination numbers.
 fn use_up_numbers(rt: &impl Abort, rooms: &mut Rooms) {
-    assert_eq!(rt; add_fault(rooms, Target::New), None);
-    assert_eq!(rt;
+    assert_equal(rt, add_fault(rooms, Target::New), None);
+    assert_equal(
+        rt,
         add_fault(rooms, Target::New),
-        Some(ErrorNumber::NoContextLeft)
+        Some(ErrorNumber::NoContextLeft),
     );
     let last = Target::Number(4294967293);
-    assert_eq!(rt; add_fault(rooms, last), None);
-    assert_eq!(rt;
+    assert_equal(rt, add_fault(rooms, last), None);
+    assert_equal(
+        rt,
         rooms.members(4294967293),
-        [4294967294, 4294967295].as_slice()
+        [4294967294, 4294967295].as_slice(),
     );
     let refused = add_fault(rooms, last);
-    assert_eq!(rt; refused.map(|refusal| refusal.number()), Some(432));
+    assert_equal(rt, refused.map(|refusal| refusal.number()), Some(432));
 }
 
 #[test]
@@ -285,8 +298,8 @@ fn modes_are_seen_from_outside(rt: HostRuntime) -> Result<(), Fail> {
         (Mode::Loopback, false, false),
     ];
     for (mode, talks, listens) in modes {
-        assert_eq!(rt; mode_talks(mode), talks);
-        assert_eq!(rt; mode_listens(mode), listens);
+        assert_equal(&rt, mode_talks(mode), talks);
+        assert_equal(&rt, mode_listens(mode), listens);
     }
     Ok(())
 }

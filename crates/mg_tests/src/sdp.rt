@@ -1,5 +1,6 @@
 //! Session descriptions.
 
+use crate::equality::assert_equal;
 use mg_g711::Law;
 use mg_sdp::{Chosen, SdpFault, choose, choose_remote, read_sessions, write_local, write_remote};
 use std::test::Fail;
@@ -42,7 +43,7 @@ fn chooses_for_local(rt: HostRuntime) {
         ),
     ];
     for (content, law) in served {
-        assert_eq!(rt; law_at(content, 30000), Some(law));
+        assert_equal(&rt, law_at(content, 30000), Some(law));
     }
     let refused = [
         b"m=audio 30002 RTP/AVP 0".as_slice(),
@@ -59,7 +60,7 @@ fn chooses_for_local(rt: HostRuntime) {
         b" \n\t\r\n",
     ];
     for content in refused {
-        assert_eq!(rt; law_at(content, 30000), None);
+        assert_equal(&rt, law_at(content, 30000), None);
     }
 }
 
@@ -72,7 +73,7 @@ fn chooses_for_remote(rt: HostRuntime) {
     };
     let content =
         b"v=0\nc=IN IP4 $\nm=audio 1 RTP/AVP 0\nv=0\nc=IN IP4 10.0.0.7\nm=audio 40000 RTP/AVP 4 8\n";
-    assert_eq!(rt; remote_of(content), Some(chosen));
+    assert_equal(&rt, remote_of(content), Some(chosen));
     let refused = [
         b"m=audio 40000 RTP/AVP 0".as_slice(),
         b"c=IN IP4 10.0.0.7\nm=audio 0 RTP/AVP 0",
@@ -80,32 +81,36 @@ fn chooses_for_remote(rt: HostRuntime) {
         b"c=IN IP4 10.0.0.7\nm=audio 40000 RTP/AVP $ 0",
     ];
     for content in refused {
-        assert_eq!(rt; remote_of(content), None);
+        assert_equal(&rt, remote_of(content), None);
     }
 }
 
 #[test]
 fn reports_faults(rt: HostRuntime) {
     let nine = b"v=0\nv=0\nv=0\nv=0\nv=0\nv=0\nv=0\nv=0\nv=0\n";
-    assert_eq!(rt; read_sessions(nine).err(), Some(SdpFault::TooMany));
-    assert_eq!(rt;
+    assert_equal(&rt, read_sessions(nine).err(), Some(SdpFault::TooMany));
+    assert_equal(
+        &rt,
         read_sessions(b"v=0\nv=0\nv=0\nv=0\nv=0\nv=0\nv=0\nv=0\nv=0\nxyz").err(),
-        Some(SdpFault::Line)
+        Some(SdpFault::Line),
     );
-    assert_eq!(rt;
+    assert_equal(
+        &rt,
         read_sessions(b"v=0\nv=0\nv=0\nv=0\nv=0\nv=0\nv=0\nv=0\n").err(),
-        None
+        None,
     );
-    assert_eq!(rt;
+    assert_equal(
+        &rt,
         read_sessions(b" \t\r\n\n").map(|sessions| sessions.is_blank()),
-        Ok(true)
+        Ok(true),
     );
-    assert_eq!(rt;
+    assert_equal(
+        &rt,
         read_sessions(b"s=x").map(|sessions| sessions.is_blank()),
-        Ok(false)
+        Ok(false),
     );
     for content in [b"xyz".as_slice(), b"v", b"=0", b"1=0", b"v =0"] {
-        assert_eq!(rt; read_sessions(content).err(), Some(SdpFault::Line));
+        assert_equal(&rt, read_sessions(content).err(), Some(SdpFault::Line));
     }
 }
 
@@ -117,16 +122,17 @@ fn writes_what_was_chosen(rt: HostRuntime) -> Result<(), Fail> {
         law: Law::Mu,
     };
     let text = write_local(&chosen);
-    assert_eq!(rt; text.len(), 62);
-    assert_eq!(rt;
+    assert_equal(&rt, text.len(), 62);
+    assert_equal(
+        &rt,
         text.as_slice(),
-        b"v=0\r\nc=IN IP4 127.0.0.1\r\nm=audio 30000 RTP/AVP 0\r\na=ptime:20\r\n".as_slice()
+        b"v=0\r\nc=IN IP4 127.0.0.1\r\nm=audio 30000 RTP/AVP 0\r\na=ptime:20\r\n".as_slice(),
     );
     let chosen = Chosen {
         address: [255, 255, 255, 255],
         port: 65535,
         law: Law::A,
     };
-    assert_eq!(rt; write_remote(&chosen).len(), 68);
+    assert_equal(&rt, write_remote(&chosen).len(), 68);
     Ok(())
 }

@@ -1,5 +1,6 @@
 //! Messages.
 
+use crate::equality::assert_equal;
 use mg_scan::Span;
 use mg_text::{
     Association, AuditWord, Body, Command, CommandWord, ContextId, ContextProperty, ContextWord,
@@ -273,7 +274,7 @@ fn counts_the_braces_of_a_group(rt: HostRuntime) -> Result<(), Fail> {
 #[test]
 fn refuses_a_long_datagram(rt: HostRuntime) -> Result<(), Fail> {
     let mut source = repeated(rt.alloc(), b"", b" ", 8192 - 26 - 9, b"Error=1{}")?;
-    assert_eq!(rt; source.len(), 8192);
+    assert_equal(&rt, source.len(), 8192);
     assert!(rt; read(rt.alloc(), source.as_slice()).is_ok());
     source.push(b' ')?;
     assert!(rt; matches!(read(rt.alloc(), source.as_slice()), Err(ReadFault::TooMany)));

@@ -1,3 +1,4 @@
+use super::equality::assert_equal;
 use super::run_program;
 use std::test::Fail;
 
@@ -14,8 +15,8 @@ const ANSWER: &[u8] =
 fn names_itself_by_its_address(rt: HostRuntime) {
     for address in ["10.0.0.1", "010.00.000.1"] {
         let done = run_program(&rt, &["replay", "--address", address], OFFER);
-        assert_eq!(rt; done.status, 0);
-        assert_eq!(rt; done.output.as_slice(), ANSWER);
+        assert_equal(&rt, done.status, 0);
+        assert_equal(&rt, done.output.as_slice(), ANSWER);
     }
 }
 
@@ -33,7 +34,7 @@ fn refuses_texts_that_are_no_address(rt: HostRuntime) {
         " 1.2.3.4",
     ] {
         let done = run_program(&rt, &["replay", "--address", text], b"");
-        assert_eq!(rt; done.status, 2);
+        assert_equal(&rt, done.status, 2);
         assert!(rt; done.output.is_empty());
         assert!(rt; done.errors.as_slice().starts_with(wanted.as_slice()));
     }
@@ -50,7 +51,7 @@ fn rejects_the_unspecified_address(rt: HostRuntime) {
     ];
     for words in cases {
         let done = run_program(&rt, words, b"");
-        assert_eq!(rt; done.status, 2);
+        assert_equal(&rt, done.status, 2);
         assert!(rt; done.output.is_empty());
         assert!(rt; done.errors.as_slice().starts_with(wanted.as_slice()));
     }
@@ -66,7 +67,7 @@ fn rejects_multicast_addresses(rt: HostRuntime) {
         "255.255.255.255",
     ] {
         let done = run_program(&rt, &["live", "--address", text], b"");
-        assert_eq!(rt; done.status, 2);
+        assert_equal(&rt, done.status, 2);
         assert!(rt; done.output.is_empty());
         assert!(rt; done.errors.as_slice().starts_with(wanted.as_slice()));
     }
@@ -81,7 +82,7 @@ fn takes_one_address(rt: HostRuntime) {
     ];
     for words in cases {
         let done = run_program(&rt, words, b"");
-        assert_eq!(rt; done.status, 2);
+        assert_equal(&rt, done.status, 2);
         assert!(rt; done.output.is_empty());
     }
 }
@@ -108,11 +109,11 @@ fn takes_eight_controllers(rt: HostRuntime) {
             .starts_with(b"bad configuration: --control-port")
     );
     let done = run_program(&rt, &eight, b"");
-    assert_eq!(rt; done.status, 2);
+    assert_equal(&rt, done.status, 2);
     let wanted = b"error: invalid value for '--controller <ADDRESS>': more than 8 controllers\n";
     assert!(rt; done.errors.as_slice().starts_with(wanted.as_slice()));
     let done = run_program(&rt, &["live", "--controller", "localhost"], b"");
-    assert_eq!(rt; done.status, 2);
+    assert_equal(&rt, done.status, 2);
     let wanted =
         b"error: invalid value for '--controller <ADDRESS>': not an IPv4 address in dotted decimal\n";
     assert!(rt; done.errors.as_slice().starts_with(wanted.as_slice()));
@@ -123,12 +124,12 @@ fn takes_an_address_to_bind_to(rt: HostRuntime) {
     let wanted =
         b"error: invalid value for '--bind-address <ADDRESS>': not an IPv4 address in dotted decimal\n";
     let done = run_program(&rt, &["live", "--bind-address", "localhost"], b"");
-    assert_eq!(rt; done.status, 2);
+    assert_equal(&rt, done.status, 2);
     assert!(rt; done.errors.as_slice().starts_with(wanted.as_slice()));
     let wanted = b"error: invalid value for '--bind-address <ADDRESS>': not a unicast address\n";
     let done = run_program(&rt, &["serve", "--bind-address", "224.0.0.1"], b"");
-    assert_eq!(rt; done.status, 2);
+    assert_equal(&rt, done.status, 2);
     assert!(rt; done.errors.as_slice().starts_with(wanted.as_slice()));
     let done = run_program(&rt, &["replay", "--bind-address", "10.0.0.1"], b"");
-    assert_eq!(rt; done.status, 2);
+    assert_equal(&rt, done.status, 2);
 }

@@ -1,3 +1,4 @@
+use super::equality::assert_equal;
 use super::{local, run_program};
 use mg_core::{Config, Core, Peer};
 use mg_program::{HEARTBEAT, answers_heartbeat};
@@ -29,27 +30,28 @@ fn takes_the_reply_of_a_gateway(rt: HostRuntime) -> Result<(), Fail> {
 #[test]
 fn reports_a_gateway_that_is_not_there(rt: HostRuntime) {
     let done = run_program(&rt, &["check", "127.0.0.1:28970"], b"");
-    assert_eq!(rt; done.status, 2);
+    assert_equal(&rt, done.status, 2);
     assert!(rt; done.output.is_empty());
     let wanted = b"127.0.0.1:28970 doesn't answer: Connection refused (os error 111)\n";
-    assert_eq!(rt; done.errors.as_slice(), wanted.as_slice());
+    assert_equal(&rt, done.errors.as_slice(), wanted.as_slice());
 }
 
 #[test]
 fn reports_a_gateway_that_keeps_silent(rt: HostRuntime) -> Result<(), Fail> {
     let gateway = UdpSocket::bind(&rt, local(28972))?;
     let done = run_program(&rt, &["check", "127.0.0.1:28972"], b"");
-    assert_eq!(rt; done.status, 2);
+    assert_equal(&rt, done.status, 2);
     assert!(rt; done.output.is_empty());
-    assert_eq!(rt;
+    assert_equal(
+        &rt,
         done.errors.as_slice(),
-        b"127.0.0.1:28972 doesn't answer: timed out\n".as_slice()
+        b"127.0.0.1:28972 doesn't answer: timed out\n".as_slice(),
     );
     let mut buffer = [0; 100];
     for _ in 0..3 {
         let (n, _) = gateway.recv_from(&mut buffer)?;
         let heartbeat = b"MEGACO/1 <check>\nTransaction=1{Context=-{AuditValue=ROOT}}";
-        assert_eq!(rt; &buffer[..n], heartbeat.as_slice());
+        assert_equal(&rt, &buffer[..n], heartbeat.as_slice());
     }
     Ok(())
 }
@@ -60,11 +62,11 @@ fn takes_an_address_and_a_port(rt: HostRuntime) {
         b"error: invalid value for '<ADDRESS:PORT>': not an IPv4 address, a colon and a port\n";
     for text in ["localhost:2944", "127.0.0.1", "127.0.0.1:65536", ":2944"] {
         let done = run_program(&rt, &["check", text], b"");
-        assert_eq!(rt; done.status, 2);
+        assert_equal(&rt, done.status, 2);
         assert!(rt; done.output.is_empty());
         assert!(rt; done.errors.as_slice().starts_with(wanted.as_slice()));
     }
     let done = run_program(&rt, &["check"], b"");
-    assert_eq!(rt; done.status, 2);
+    assert_equal(&rt, done.status, 2);
     assert!(rt; !done.errors.is_empty());
 }

@@ -1,3 +1,4 @@
+use super::equality::assert_equal;
 use super::local;
 use mg_program::{System, program};
 use std::cell::Cell;
@@ -136,7 +137,7 @@ fn serve_answers_controllers_alone(rt: HostRuntime) -> Result<(), Fail> {
         "--controller=127.0.0.3",
         "--controller=127.0.0.2",
     ];
-    assert_eq!(rt; answered(&rt, 28400, &words)?, (0, 1));
+    assert_equal(&rt, answered(&rt, 28400, &words)?, (0, 1));
     Ok(())
 }
 
@@ -149,7 +150,7 @@ fn live_answers_controllers_alone(rt: HostRuntime) -> Result<(), Fail> {
         "--slots=1",
         "--controller=127.0.0.2",
     ];
-    assert_eq!(rt; answered(&rt, 28420, &words)?, (0, 1));
+    assert_equal(&rt, answered(&rt, 28420, &words)?, (0, 1));
     Ok(())
 }
 
@@ -161,6 +162,6 @@ fn answers_anybody_if_no_controller_is_listed(rt: HostRuntime) -> Result<(), Fai
         "--base-port=28442",
         "--slots=1",
     ];
-    assert_eq!(rt; answered(&rt, 28440, &words)?, (2, 1));
+    assert_equal(&rt, answered(&rt, 28440, &words)?, (2, 1));
     Ok(())
 }

@@ -1,3 +1,4 @@
+use super::equality::assert_equal;
 use super::local;
 use mg_core::{Config, Core, Counts, Peer, RunFault};
 use mg_journal::{FileJournal, MemoryFile};
@@ -127,15 +128,15 @@ fn carry_speech(
     second.send_to(&speech(0), local(29504))?;
     let lines = lines(alloc)?;
     let (result, printed) = serve_lines(alloc, config, ports, lines.as_str())?;
-    assert_eq!(rt; printed.as_slice(), b"ready\n".as_slice());
+    assert_equal(rt, printed.as_slice(), b"ready\n".as_slice());
     let counts = result?;
-    assert_eq!(rt; counts.lines, 204);
-    assert_eq!(rt; counts.sent, 7);
-    assert_eq!(rt; counts.failed, 0);
+    assert_equal(rt, counts.lines, 204);
+    assert_equal(rt, counts.sent, 7);
+    assert_equal(rt, counts.failed, 0);
     let mut buffer = [0; 500];
     let (n, from) = first.recv_from(&mut buffer)?;
-    assert_eq!(rt; &buffer[..n], ANSWER);
-    assert_eq!(rt; from, local(29500));
+    assert_equal(rt, &buffer[..n], ANSWER);
+    assert_equal(rt, from, local(29500));
     assert!(rt; carries(second, 2, &[0x80; 160])?);
     assert!(rt; carries(first, 2, &[0; 160])?);
     Ok(())
@@ -163,7 +164,7 @@ fn lose_packets(
     assert!(rt; result.is_ok());
     let wanted: &[u8] =
         b"ready\ncontrol=1 media=0 ticks=2 sent=3 failed=2 dropped=0,0,0,0,0,0 concealed=0\n";
-    assert_eq!(rt; printed.as_slice(), wanted);
+    assert_equal(rt, printed.as_slice(), wanted);
     assert!(rt; carries(caller, 2, &[0xff; 160])?);
     Ok(())
 }
@@ -193,8 +194,8 @@ fn send_to_unicast_addresses(
     caller.send_to(HELD, local(28700))?;
     let (result, _) = serve_lines(alloc, config, ports, "poll\ntick\n")?;
     let counts = result?;
-    assert_eq!(rt; counts.sent, 2);
-    assert_eq!(rt; counts.failed, 2);
+    assert_equal(rt, counts.sent, 2);
+    assert_equal(rt, counts.failed, 2);
     assert!(rt; carries(caller, 1, &[0xff; 160])?);
     Ok(())
 }
@@ -221,15 +222,16 @@ fn take_at_two_addresses(
     caller.send_to(b"x", media)?;
     let (result, _) = serve_lines(alloc, config, ports, "poll\n")?;
     let counts = result?;
-    assert_eq!(rt; counts.control, 1);
-    assert_eq!(rt; counts.media, 1);
+    assert_equal(rt, counts.control, 1);
+    assert_equal(rt, counts.media, 1);
     let mut buffer = [0; 100];
     let (n, from) = caller.recv_from(&mut buffer)?;
-    assert_eq!(rt;
+    assert_equal(
+        rt,
         &buffer[..n],
-        b"MEGACO/1 [127.0.0.2]:29700\nError=406{\"version\"}".as_slice()
+        b"MEGACO/1 [127.0.0.2]:29700\nError=406{\"version\"}".as_slice(),
     );
-    assert_eq!(rt; from, control);
+    assert_equal(rt, from, control);
     Ok(())
 }
 
@@ -253,26 +255,26 @@ fn receive_what_waits(
     caller: &UdpSocket,
 ) -> Result<(), Fail> {
     let mut buffer = [0; 4];
-    assert_eq!(rt; ports.receive(0, &mut buffer), Ok(None));
+    assert_equal(rt, ports.receive(0, &mut buffer), Ok(None));
     caller.send_to(b"", local(29802))?;
     caller.send_to(b"cut to four", local(29802))?;
     let source = Peer {
         address: [127, 0, 0, 1],
         port: 29810,
     };
-    assert_eq!(rt; ports.receive(0, &mut buffer), Ok(None));
-    assert_eq!(rt; ports.receive(1, &mut buffer), Ok(Some((0, source))));
-    assert_eq!(rt; ports.receive(1, &mut buffer), Ok(Some((4, source))));
-    assert_eq!(rt; buffer, *b"cut ");
-    assert_eq!(rt; ports.receive(1, &mut buffer), Ok(None));
+    assert_equal(rt, ports.receive(0, &mut buffer), Ok(None));
+    assert_equal(rt, ports.receive(1, &mut buffer), Ok(Some((0, source))));
+    assert_equal(rt, ports.receive(1, &mut buffer), Ok(Some((4, source))));
+    assert_equal(rt, buffer, *b"cut ");
+    assert_equal(rt, ports.receive(1, &mut buffer), Ok(None));
     caller.send_to(b"again", local(29802))?;
-    assert_eq!(rt; ports.receive(0, &mut buffer), Ok(None));
-    assert_eq!(rt; ports.receive(1, &mut buffer), Ok(Some((4, source))));
-    assert_eq!(rt; ports.receive(1, &mut buffer), Ok(None));
-    assert_eq!(rt; ports.failures(), 0);
-    assert_eq!(rt; ports.receive(2, &mut buffer), Err(PortFault));
-    assert_eq!(rt; ports.send(2, source, b""), Err(PortFault));
-    assert_eq!(rt; ports.failures(), 2);
+    assert_equal(rt, ports.receive(0, &mut buffer), Ok(None));
+    assert_equal(rt, ports.receive(1, &mut buffer), Ok(Some((4, source))));
+    assert_equal(rt, ports.receive(1, &mut buffer), Ok(None));
+    assert_equal(rt, ports.failures(), 0);
+    assert_equal(rt, ports.receive(2, &mut buffer), Err(PortFault));
+    assert_equal(rt, ports.send(2, source, b""), Err(PortFault));
+    assert_equal(rt, ports.failures(), 2);
     Ok(())
 }
 
@@ -306,13 +308,13 @@ fn take_messages(
         caller.send_to(message.as_slice(), local(29900))?;
     }
     let (result, _) = serve_lines(alloc, config, ports, "poll\n")?;
-    assert_eq!(rt; result?.control, 3);
+    assert_equal(rt, result?.control, 3);
     let answered: &[u8] = b"MEGACO/1 [127.0.0.1]:29900\nReply=1{Context=-{AuditValue=ROOT}}";
     let refused: &[u8] = b"MEGACO/1 [127.0.0.1]:29900\nError=501{\"not served\"}";
     let mut buffer = [0; 200];
     for wanted in [answered, refused, refused] {
         let (n, _) = caller.recv_from(&mut buffer)?;
-        assert_eq!(rt; &buffer[..n], wanted);
+        assert_equal(rt, &buffer[..n], wanted);
     }
     Ok(())
 }

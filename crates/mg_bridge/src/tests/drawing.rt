@@ -1,4 +1,5 @@
 use super::Outcome;
+use super::equality::assert_equal;
 use mg_program::{System, program};
 use std::cell::Cell;
 use std::io;
@@ -125,7 +126,7 @@ fn reports_a_lack_of_random_numbers(rt: HostRuntime) {
         "--timestamp=2",
     ];
     let done = run_live(&rt, &none, &words);
-    assert_eq!(rt; done.status, 3);
+    assert_equal(&rt, done.status, 3);
     assert!(rt; done.output.is_empty());
     assert!(rt;
         done.errors
@@ -142,5 +143,5 @@ fn reports_a_lack_of_random_numbers(rt: HostRuntime) {
         "--timestamp=2",
     ];
     let done = run_live(&rt, &none, &words);
-    assert_eq!(rt; done.output.as_slice(), b"ready\n".as_slice());
+    assert_equal(&rt, done.output.as_slice(), b"ready\n".as_slice());
 }

@@ -1,3 +1,4 @@
+use super::equality::assert_equal;
 use super::{local, run_program};
 use mg_program::{System, program};
 use std::cell::Cell;
@@ -102,10 +103,10 @@ fn turns_a_stall_into_a_gap(rt: HostRuntime) -> Result<(), Fail> {
         &mut errors,
         &mut reports,
     );
-    assert_eq!(rt; status, 3);
-    assert_eq!(rt; input, b"quit\n".as_slice());
-    assert_eq!(rt; output.as_slice(), b"ready\n".as_slice());
-    assert_eq!(rt; errors.as_slice(), b"read failed\n".as_slice());
+    assert_equal(&rt, status, 3);
+    assert_equal(&rt, input, b"quit\n".as_slice());
+    assert_equal(&rt, output.as_slice(), b"ready\n".as_slice());
+    assert_equal(&rt, errors.as_slice(), b"read failed\n".as_slice());
     assert!(rt;
         reports.as_slice().starts_with(
             b"95 packets were too late\ntotals control=1 media=0 ticks=100 sent=6 failed=95 strangers=0 "
@@ -121,7 +122,7 @@ fn turns_a_stall_into_a_gap(rt: HostRuntime) -> Result<(), Fail> {
         (99, 15840),
         (100, 16000),
     ] {
-        assert_eq!(rt; next_packet(&caller)?, (sequence, timestamp));
+        assert_equal(&rt, next_packet(&caller)?, (sequence, timestamp));
     }
     Ok(())
 }
@@ -205,8 +206,8 @@ fn answers_before_the_next_tick(rt: HostRuntime) -> Result<(), Fail> {
         &mut errors,
         &mut reports,
     );
-    assert_eq!(rt; status, 3);
-    assert_eq!(rt; clock.answered.get(), Some(0));
+    assert_equal(&rt, status, 3);
+    assert_equal(&rt, clock.answered.get(), Some(0));
     Ok(())
 }
 
@@ -275,8 +276,8 @@ fn writes_metrics(rt: HostRuntime) -> Result<(), Fail> {
         &mut errors,
         &mut reports,
     );
-    assert_eq!(rt; status, 3);
-    assert_eq!(rt; errors.as_slice(), b"read failed\n".as_slice());
+    assert_equal(&rt, status, 3);
+    assert_equal(&rt, errors.as_slice(), b"read failed\n".as_slice());
     let text = fs::read(&rt, path.as_str())?;
     fs::remove_file(&rt, path.as_str())?;
     assert!(rt; text.as_slice().starts_with(b"# HELP lobbysorrel_info "));
@@ -301,7 +302,7 @@ fn refuses_a_file_that_cannot_be_written(rt: HostRuntime) {
         "/proc/metrics.prom",
     ];
     let done = run_program(&rt, &words, b"");
-    assert_eq!(rt; done.status, 3);
+    assert_equal(&rt, done.status, 3);
     assert!(rt; done.output.is_empty());
     assert!(rt;
         done.errors

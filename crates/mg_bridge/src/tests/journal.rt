@@ -1,3 +1,4 @@
+use super::equality::assert_equal;
 use super::{Outcome, local};
 use mg_program::{System, program};
 use std::io::{self, Read};
@@ -101,7 +102,7 @@ fn goes_on_from_a_journal(rt: HostRuntime) -> Result<(), Fail> {
         28801,
         b"tick\ntick\npoll\ntick\nquit\n",
     );
-    assert_eq!(rt; done.status, 0);
+    assert_equal(&rt, done.status, 0);
     let mut one = [0; 2000];
     let (n, _) = socket.recv_from(&mut one)?;
     let text = fs::read(&rt, path.as_str())?;
@@ -112,7 +113,7 @@ fn goes_on_from_a_journal(rt: HostRuntime) -> Result<(), Fail> {
     // The next gateway takes the first one's options from the title. It knows the message, and doesn't run it again.
     let second = ["serve", "--journal", path.as_str()];
     let done = run_with(&rt, &second, &socket, 28801, b"stats\npoll\nstats\nquit\n");
-    assert_eq!(rt; done.status, 0);
+    assert_equal(&rt, done.status, 0);
     assert!(rt;
         done.output
             .as_slice()
@@ -122,7 +123,7 @@ fn goes_on_from_a_journal(rt: HostRuntime) -> Result<(), Fail> {
     assert!(rt; done.reports.as_slice().ends_with(wanted));
     let mut other = [0; 2000];
     let (m, _) = socket.recv_from(&mut other)?;
-    assert_eq!(rt; &one[..n], &other[..m]);
+    assert_equal(&rt, &one[..n], &other[..m]);
     fs::remove_file(&rt, path.as_str())?;
     Ok(())
 }
@@ -162,10 +163,10 @@ fn refuses_other_files(rt: HostRuntime) -> Result<(), Fail> {
     ];
     for (text, option, message) in cases {
         let (done, left) = run_on(&rt, text, option)?;
-        assert_eq!(rt; done.status, 6);
+        assert_equal(&rt, done.status, 6);
         assert!(rt; done.output.is_empty());
         assert!(rt; done.errors.as_slice().ends_with(message.as_bytes()));
-        assert_eq!(rt; left.as_slice(), text);
+        assert_equal(&rt, left.as_slice(), text);
     }
     Ok(())
 }
@@ -212,15 +213,15 @@ fn passes_the_ticks_that_it_missed(rt: HostRuntime) -> Result<(), Fail> {
         &mut errors,
         &mut reports,
     );
-    assert_eq!(rt; status, 0);
+    assert_equal(&rt, status, 0);
     let wanted =
         b"ready\ncontrol=0 media=0 ticks=500 sent=0 failed=0 dropped=0,0,0,0,0,0 concealed=0\n".as_slice();
-    assert_eq!(rt; output.as_slice(), wanted);
+    assert_equal(&rt, output.as_slice(), wanted);
     for _ in 0..495 {
         text.extend_from_slice(b"tick\n")?;
     }
     let left = fs::read(&rt, path.as_str())?;
-    assert_eq!(rt; left.as_slice(), text.as_slice());
+    assert_equal(&rt, left.as_slice(), text.as_slice());
     fs::remove_file(&rt, path.as_str())?;
     Ok(())
 }

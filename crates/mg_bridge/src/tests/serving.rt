@@ -1,3 +1,4 @@
+use super::equality::assert_equal;
 use super::{local, run_program};
 use std::net::UdpSocket;
 use std::test::Fail;
@@ -14,10 +15,10 @@ fn serves_lines(rt: HostRuntime) {
         "4",
     ];
     let done = run_program(&rt, &words, b"poll\ntick\npol\nstats\nquit\nstats\n");
-    assert_eq!(rt; done.status, 0);
+    assert_equal(&rt, done.status, 0);
     let wanted: &[u8] =
         b"ready\nunknown command\ncontrol=0 media=0 ticks=1 sent=0 failed=0 dropped=0,0,0,0,0,0 concealed=0\n";
-    assert_eq!(rt; done.output.as_slice(), wanted);
+    assert_equal(&rt, done.output.as_slice(), wanted);
     assert!(rt; done.errors.is_empty());
 }
 
@@ -35,11 +36,12 @@ fn reports_a_taken_control_port(rt: HostRuntime) -> Result<(), Fail> {
         "2",
     ];
     let done = run_program(&rt, &words, b"quit\n");
-    assert_eq!(rt; done.status, 5);
+    assert_equal(&rt, done.status, 5);
     assert!(rt; done.output.is_empty());
-    assert_eq!(rt;
+    assert_equal(
+        &rt,
         done.errors.as_slice(),
-        b"cannot bind 127.0.0.1:29100: Address already in use (os error 98)\n".as_slice()
+        b"cannot bind 127.0.0.1:29100: Address already in use (os error 98)\n".as_slice(),
     );
     Ok(())
 }
@@ -58,11 +60,12 @@ fn reports_the_first_taken_media_port(rt: HostRuntime) -> Result<(), Fail> {
         "3",
     ];
     let done = run_program(&rt, &words, b"quit\n");
-    assert_eq!(rt; done.status, 5);
+    assert_equal(&rt, done.status, 5);
     assert!(rt; done.output.is_empty());
-    assert_eq!(rt;
+    assert_equal(
+        &rt,
         done.errors.as_slice(),
-        b"cannot bind 127.0.0.1:29204: Address already in use (os error 98)\n".as_slice()
+        b"cannot bind 127.0.0.1:29204: Address already in use (os error 98)\n".as_slice(),
     );
     Ok(())
 }
@@ -104,9 +107,9 @@ fn names_the_option_at_fault_and_binds_nothing(rt: HostRuntime) -> Result<(), Fa
     ];
     for (words, wanted) in cases {
         let done = run_program(&rt, words, b"quit\n");
-        assert_eq!(rt; done.status, 2);
+        assert_equal(&rt, done.status, 2);
         assert!(rt; done.output.is_empty());
-        assert_eq!(rt; done.errors.as_slice(), wanted);
+        assert_equal(&rt, done.errors.as_slice(), wanted);
     }
     Ok(())
 }
@@ -123,11 +126,12 @@ fn reports_an_address_of_another_machine(rt: HostRuntime) {
         "29402",
     ];
     let done = run_program(&rt, &words, b"quit\n");
-    assert_eq!(rt; done.status, 5);
+    assert_equal(&rt, done.status, 5);
     assert!(rt; done.output.is_empty());
-    assert_eq!(rt;
+    assert_equal(
+        &rt,
         done.errors.as_slice(),
-        b"cannot bind 192.0.2.1:29400: Cannot assign requested address (os error 99)\n".as_slice()
+        b"cannot bind 192.0.2.1:29400: Cannot assign requested address (os error 99)\n".as_slice(),
     );
 }
 
@@ -142,7 +146,7 @@ fn binds_to_another_address_than_it_tells(rt: HostRuntime) {
         "--slots=2",
     ];
     let done = run_program(&rt, &told, b"quit\n");
-    assert_eq!(rt; done.status, 0);
+    assert_equal(&rt, done.status, 0);
     assert!(rt; done.errors.is_empty());
     let elsewhere = [
         "serve",
@@ -152,9 +156,10 @@ fn binds_to_another_address_than_it_tells(rt: HostRuntime) {
         "--slots=2",
     ];
     let done = run_program(&rt, &elsewhere, b"quit\n");
-    assert_eq!(rt; done.status, 5);
-    assert_eq!(rt;
+    assert_equal(&rt, done.status, 5);
+    assert_equal(
+        &rt,
         done.errors.as_slice(),
-        b"cannot bind 192.0.2.1:29510: Cannot assign requested address (os error 99)\n".as_slice()
+        b"cannot bind 192.0.2.1:29510: Cannot assign requested address (os error 99)\n".as_slice(),
     );
 }

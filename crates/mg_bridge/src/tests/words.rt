@@ -1,3 +1,4 @@
+use super::equality::assert_equal;
 use super::run_program;
 use mg_core::Config;
 use mg_options::{TOOLCHAIN, VERSION};
@@ -22,7 +23,7 @@ fn refuses_arguments(rt: HostRuntime) {
     ];
     for words in cases {
         let done = run_program(&rt, words, b"");
-        assert_eq!(rt; done.status, 2);
+        assert_equal(&rt, done.status, 2);
         assert!(rt; done.output.is_empty());
         assert!(rt; !done.errors.is_empty());
     }
@@ -31,9 +32,9 @@ fn refuses_arguments(rt: HostRuntime) {
 #[test]
 fn prints_its_version(rt: HostRuntime) -> Result<(), Fail> {
     let done = run_program(&rt, &["--version"], b"");
-    assert_eq!(rt; done.status, 0);
+    assert_equal(&rt, done.status, 0);
     let wanted = format!(in rt.alloc(); "mg_bridge {VERSION}\n{TOOLCHAIN}\n")?;
-    assert_eq!(rt; done.output.as_slice(), wanted.as_bytes());
+    assert_equal(&rt, done.output.as_slice(), wanted.as_bytes());
     Ok(())
 }
 
@@ -47,7 +48,7 @@ fn prints_help(rt: HostRuntime) {
     ];
     for words in cases {
         let done = run_program(&rt, words, b"");
-        assert_eq!(rt; done.status, 0);
+        assert_equal(&rt, done.status, 0);
         assert!(rt; !done.output.is_empty());
         assert!(rt; done.errors.is_empty());
     }

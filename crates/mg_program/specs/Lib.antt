@@ -1,13 +1,5 @@
 pub mod Status
-pub mod Address
-pub mod Controllers
-pub mod Options
 pub mod Replay
 pub mod Readiness
-pub mod Title
-pub mod Draws
-pub mod Given
-pub mod FilePath
-pub mod Journal
 pub mod Serve
 pub mod Program

@@ -2,8 +2,8 @@
 use Rattle.std.specs.Prelude.{◌≡◌, ◌⊎◌, ℕ, List, Option}
 use Rattle.mg_options.specs.declared.status.Status.{Status}
 use Rattle.mg_options.specs.declared.status.Status.TheVariants.{Done, Failed, NoAnswer}
-use Rattle.mg_program.specs.declared.invocation.Invocation.{Invocation}
-use Rattle.mg_program.specs.declared.invocation.Invocation.TheVariants.{Replay, Serve, Live, Check}
+use Rattle.mg_arguments.specs.declared.invocation.Invocation.{Invocation}
+use Rattle.mg_arguments.specs.declared.invocation.Invocation.TheVariants.{Replay, Serve, Live, Check}
 use Rattle.mg_program.specs.Replay.{Replays}
 use Rattle.mg_program.specs.Serve.{Serves, ServesByClock}
 

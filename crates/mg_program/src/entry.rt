@@ -1,15 +1,14 @@
 ghost use Rattle.std.specs.Prelude.{◌≡◌, ◌≤◌, map};
 ghost use Rattle.mg_options.specs.Ends.{EndsWith};
-ghost use Rattle.mg_program.specs.Options.{requested};
+ghost use Rattle.mg_arguments.specs.Options.{requested};
 ghost use Rattle.mg_program.specs.Program.{Runs};
 
 use crate::check::check;
-use crate::invocation::Invocation;
 use crate::live::live;
-use crate::options::requested_run;
 use crate::replay::replay;
 use crate::serve::serve;
 use crate::system::System;
+use mg_arguments::{Invocation, requested_run};
 use mg_options::{Status, report_error};
 use std::alloc::Global;
 use std::convert::AsStr;

@@ -1,5 +1,5 @@
-use crate::file_path::FilePath;
 use arrayvec::{ArrayString, ArrayVec};
+use mg_arguments::FilePath;
 use mg_monitor::Sink;
 use std::fs::{self, Files};
 use std::io::{self, Write};

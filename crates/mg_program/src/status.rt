@@ -1,7 +1,7 @@
 ghost use Rattle.std.specs.Prelude.{◌≡◌};
 ghost use Rattle.mg_program.specs.Status.{status_of};
 
-use crate::config_fault::ConfigFault;
+use mg_arguments::ConfigFault;
 use mg_core::{Config, Counts, RunFault};
 use mg_options::Status;
 use std::io::Write;

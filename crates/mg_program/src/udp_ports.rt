@@ -3,9 +3,9 @@ ghost use Rattle.std.specs.Option.{option_map_or};
 ghost use Rattle.mg_journal.specs.Journal.{no_journal};
 ghost use Rattle.mg_ports.specs.Calls.{IsCounted};
 
-use crate::address::is_multicast;
 use crate::sockets::Sockets;
 use crate::unsent::Unsent;
+use mg_arguments::is_multicast;
 use mg_core::Peer;
 use mg_dates::DatedJournal;
 use mg_journal::{AppendFault, Durability, Journal};

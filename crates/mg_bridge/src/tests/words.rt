@@ -1,8 +1,8 @@
 use super::equality::assert_equal;
 use super::run_program;
+use mg_arguments::{Invocation, requested_run, title_of};
 use mg_core::Config;
 use mg_options::{TOOLCHAIN, VERSION};
-use mg_program::{Invocation, requested_run, title_of};
 use std::alloc::{AllocError, Global};
 use std::test::Fail;
 

@@ -1,6 +1,6 @@
 use Rattle.std.proofs.Common.{◌≡◌, ap, ◌∙◌}
 use Rattle.std.specs.Option.{option_map}
-use Rattle.mg_program.specs.Title.{if_recorded, title_if}
+use Rattle.mg_arguments.specs.Title.{if_recorded, title_if}
 use Rattle.mg_program.proofs.live.live_on.Goals as goal
 
 pub returns-clause-session : goal.returns-clause-session

@@ -1,0 +1,4 @@
+pub mod TitleLemmas
+pub mod InvocationLemmas
+pub mod RequestedRows
+pub mod ControllerLemmas

@@ -1,0 +1,26 @@
+use Rattle.std.proofs.Common.{◌∙◌, codes}
+use Rattle.clap.specs.Words.{found_of, rows_of}
+use Rattle.clap.proofs.WalkLemmas.{first_value-rows}
+use Rattle.mg_arguments.proofs.InvocationLemmas.{bound_fails, bound_is, unbound}
+use Rattle.mg_arguments.proofs.options.bind_address_of.Goals as goal
+
+pub returns-in-Ok : goal.returns-in-Ok
+returns-in-Ok c =
+    let found = found_of c.args.matches.now in
+    record {
+      value = bound_is (rows_of found) c.in-Some.text.now c.in-Ok.address
+          (c.in-Some.ensures ∙ first_value-rows found (codes "bind-address")) c.in-Ok.ensures.value;
+    }
+
+pub returns-in-Err : goal.returns-in-Err
+returns-in-Err c =
+    let found = found_of c.args.matches.now in
+    record {
+      value = bound_fails (rows_of found) c.in-Some.text.now c.in-Err.fault
+          (c.in-Some.ensures ∙ first_value-rows found (codes "bind-address")) c.in-Err.ensures.value;
+    }
+
+pub returns-in-None : goal.returns-in-None
+returns-in-None c =
+    let found = found_of c.args.matches.now in
+    record { value = unbound (rows_of found) (c.in-None.ensures ∙ first_value-rows found (codes "bind-address")) }

@@ -1,0 +1,29 @@
+-- How the addresses of a gateway are written.
+use Rattle.std.specs.Prelude.{ℕ, Bool, nat_le, List, [], ◌∷◌, slice_index, ok_or, Result, Ok, Err}
+use Rattle.std.specs.Prelude.{if◌then◌else◌}
+use Rattle.std.specs.Str.{bytes_eq}
+use Rattle.mg_words.specs.Address.{address_of}
+use Rattle.mg_words.specs.ResultSteps.{◌>>=◌}
+use Rattle.mg_arguments.specs.declared.address.AddressFault.{AddressFault}
+use Rattle.mg_arguments.specs.declared.address.AddressFault.TheVariants.{Unreadable, Unspecified}
+use Rattle.mg_arguments.specs.declared.address.AddressFault.TheVariants.{Multicast}
+use Rattle.mg_arguments.specs.declared.bind_address_fault.BindAddressFault.{BindAddressFault}
+use Rattle.mg_arguments.specs.declared.bind_address_fault.BindAddressFault.TheVariants as bind_faults
+
+-- an address of 224.0.0.0 or above: multicast, reserved or broadcast
+abbrev pub is_multicast : List ℕ → Bool
+is_multicast address = nat_le 224 (slice_index address 0)
+
+-- The address that a string in dotted decimal names. It appears in session descriptions, or as the
+-- gateway's name. So it is a unicast address, and not 0.0.0.0.
+abbrev pub own_address : List ℕ → Result (List ℕ) AddressFault
+own_address text = do
+  address ← ok_or (address_of text) Unreadable
+  if bytes_eq address (0 ∷ 0 ∷ 0 ∷ 0 ∷ []) then Err Unspecified
+      else (if is_multicast address then Err Multicast else Ok address)
+
+-- The address that sockets are bound to. 0.0.0.0 means all addresses of the machine.
+abbrev pub bind_address : List ℕ → Result (List ℕ) BindAddressFault
+bind_address text = do
+  address ← ok_or (address_of text) bind_faults.Unreadable
+  if is_multicast address then Err bind_faults.Multicast else Ok address

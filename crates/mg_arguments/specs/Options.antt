@@ -1,0 +1,226 @@
+-- The command line, as its parser sees it, and what the arguments request.
+use Rattle.std.specs.Prelude.{ℕ, Bool, true, false, if◌then◌else◌, List, [], ◌∷◌, Option, Some}
+use Rattle.std.specs.Prelude.{None, is_none, is_some, unwrap_or, option_and_then, Result, Ok, Err, codes}
+use Rattle.std.specs.Prelude.{fold}
+use Rattle.std.specs.Option.{option_map_or}
+use Rattle.std.specs.Str.{bytes_eq}
+use Rattle.clap.specs.Walk.{Row, Rule, Text, all_of, first_of}
+use Rattle.clap.specs.Simple.{App, new_app, new_rule, on_top, subcommand_of, with_rule}
+use Rattle.clap.specs.Simple.{with_subcommand}
+use Rattle.clap.specs.Kinds.{Kinds}
+use Rattle.clap.specs.Faults.{fault_of}
+use Rattle.clap.specs.declared.builder.action.ArgAction.TheVariants.{Append, SetTrue}
+use Rattle.clap.specs.declared.error.kind.ErrorKind.TheVariants.{ValueValidation}
+use Rattle.mg_words.specs.ResultSteps.{◌>>=◌}
+use Rattle.mg_options.specs.Requested.{requested_by}
+use Rattle.mg_options.specs.Line.{program_line, text_rule}
+use Rattle.mg_options.specs.Numbers.{number_given, number_or, number_rule}
+use Rattle.mg_core.specs.Peer.{peer_of}
+use Rattle.mg_core.specs.declared.shown.Shown.TheVariants.{Sent, SentAndFlows}
+use Rattle.mg_engine.specs.declared.config.Config.{Config}
+use Rattle.mg_engine.specs.Config.{standard}
+use Rattle.mg_arguments.specs.declared.address.AddressFault.{AddressFault}
+use Rattle.mg_journal.specs.declared.durability.Durability.{Durability}
+use Rattle.mg_journal.specs.declared.durability.Durability.TheVariants.{Written, Synced}
+use Rattle.mg_arguments.specs.declared.draws.Draws.{Draws}
+use Rattle.mg_arguments.specs.declared.given.Given.{Given}
+use Rattle.mg_arguments.specs.declared.invocation.Invocation.{Invocation}
+use Rattle.mg_arguments.specs.declared.invocation.Invocation.TheVariants.{Replay, Serve, Live, Check}
+use Rattle.mg_arguments.specs.declared.service.Service.{Service}
+use Rattle.mg_arguments.specs.declared.controller_fault.ControllerFault.{ControllerFault}
+use Rattle.mg_arguments.specs.declared.bind_address_fault.BindAddressFault.{BindAddressFault}
+use Rattle.mg_arguments.specs.Address.{bind_address, own_address}
+use Rattle.mg_arguments.specs.Controllers.{controllers_of}
+use Rattle.mg_arguments.specs.FilePath.{file_path}
+use Rattle.mg_arguments.specs.declared.file_path_fault.FilePathFault.{FilePathFault}
+
+-- ## The command line
+
+-- the options of every subcommand, each of which may be given once
+unfoldable pub options : List Rule
+options = text_rule (codes "address") ∷ text_rule (codes "control-address")
+    ∷ number_rule (codes "control-port") 0 65535
+    ∷ number_rule (codes "base-port") 0 65535 ∷ number_rule (codes "slots") 0 65535
+    ∷ number_rule (codes "first-termination") 0 4294967295
+    ∷ number_rule (codes "first-context") 0 4294967295
+    ∷ number_rule (codes "ssrc") 0 4294967295 ∷ number_rule (codes "sequence") 0 65535
+    ∷ number_rule (codes "timestamp") 0 4294967295 ∷ []
+
+-- a subcommand
+abbrev pub subcommand_line : Text → App
+subcommand_line name = fold with_rule (new_app name) options
+
+-- the option that may be given several times
+abbrev pub controller_rule : Rule
+controller_rule = record (text_rule (codes "controller")) { action = Some Append }
+
+-- an option with this name and without a value, which is set if it is given
+abbrev pub flag_rule : Text → Rule
+flag_rule name = record (new_rule name) { long = Some name; action = Some SetTrue }
+
+-- a subcommand of a gateway on sockets
+abbrev pub sockets_line : Text → App
+sockets_line name =
+    fold with_rule (subcommand_line name) (text_rule (codes "bind-address") ∷ controller_rule
+    ∷ number_rule (codes "report") 0 65535 ∷ flag_rule (codes "record")
+    ∷ flag_rule (codes "symmetric-rtp") ∷ text_rule (codes "journal") ∷ flag_rule (codes "sync")
+    ∷ [])
+
+-- the subcommand that runs a script
+abbrev pub replay_line : App
+replay_line = with_rule (subcommand_line (codes "replay")) (flag_rule (codes "flows"))
+
+-- the argument that names the gateway to check
+abbrev pub gateway_rule : Rule
+gateway_rule = record (new_rule (codes "gateway")) { value_names = 1; required = true }
+
+-- the subcommand that checks a gateway
+abbrev pub check_line : App
+check_line = with_rule (new_app (codes "check")) gateway_rule
+
+-- the subcommand that is driven by a clock
+abbrev pub live_line : App
+live_line =
+    with_rule (with_rule (sockets_line (codes "live")) (number_rule (codes "late") 0 65535))
+    (text_rule (codes "metrics"))
+
+-- the command line, with one of the subcommands
+unfoldable pub command_line : App
+command_line =
+    with_subcommand (with_subcommand (with_subcommand (with_subcommand
+    (on_top (λ top. record top { subcommand_required = true }) (program_line (codes "mg_bridge")))
+    replay_line.top) (sockets_line (codes "serve")).top) live_line.top) check_line.top
+
+-- ## The values of the options
+
+-- the configuration that the options name, at these addresses for media and for control messages;
+-- options that aren't given have their default values
+unfoldable pub config_at : List ℕ → List ℕ → List Row → Config
+config_at address control found = record standard {
+  address = address;
+  control_address = control;
+  control_port = number_or 65536 (codes "control-port") standard.control_port found;
+  base_port = number_or 65536 (codes "base-port") standard.base_port found;
+  slots = number_or 65536 (codes "slots") standard.slots found;
+  first_termination =
+      number_or 4294967296 (codes "first-termination") standard.first_termination found;
+  first_context = number_or 4294967296 (codes "first-context") standard.first_context found;
+  ssrc = number_or 4294967296 (codes "ssrc") standard.ssrc found;
+  sequence = number_or 65536 (codes "sequence") standard.sequence found;
+  timestamp = number_or 4294967296 (codes "timestamp") standard.timestamp found;
+}
+
+-- the address that an option names, or another address if the option isn't given
+abbrev pub address_in : Text → List ℕ → List Row → Result (List ℕ) AddressFault
+address_in name otherwise found = option_map_or own_address (first_of name found) (Ok otherwise)
+
+-- whether a flag is set
+abbrev pub is_set : Text → List Row → Bool
+is_set name found =
+    option_map_or (λ text. bytes_eq text (codes "true")) (first_of name found) false
+
+-- the controllers that the options name
+abbrev pub controllers_in : List Row → Result (List (List ℕ)) ControllerFault
+controllers_in found = controllers_of (unwrap_or (all_of (codes "controller") found) [])
+
+-- the address that the options name for binding sockets, if they name one
+abbrev pub bind_address_in : List Row → Result (Option (List ℕ)) BindAddressFault
+bind_address_in found = option_map_or (λ text. bind_address text >>= (λ address. Ok (Some address)))
+    (first_of (codes "bind-address") found) (Ok None)
+
+-- the file that an option names, if it is given
+abbrev pub file_in : Text → List Row → Result (Option Text) FilePathFault
+file_in name found = option_map_or (λ text. file_path text >>= (λ path. Ok (Some path)))
+    (first_of name found) (Ok None)
+
+-- how durably messages are appended to a journal; only a journal can be synced
+abbrev pub durability_in : (journal : Option Text) → List Row → Result Durability Kinds
+durability_in journal found =
+    if is_set (codes "sync") found
+    then option_map_or (λ path. Ok Synced) journal (Err (ValueValidation ∷ [])) else Ok Written
+
+abbrev pub is_given : Text → List Row → Bool
+is_given name found = is_some (first_of name found)
+
+-- which options of the configuration are given
+abbrev pub given_in : List Row → Given
+given_in found = record {
+  address = is_given (codes "address") found;
+  control_address = is_given (codes "control-address") found;
+  control_port = is_given (codes "control-port") found;
+  base_port = is_given (codes "base-port") found;
+  slots = is_given (codes "slots") found;
+  first_termination = is_given (codes "first-termination") found;
+  first_context = is_given (codes "first-context") found;
+  ssrc = is_given (codes "ssrc") found;
+  sequence = is_given (codes "sequence") found;
+  timestamp = is_given (codes "timestamp") found;
+}
+
+-- ## What the arguments request
+
+-- a string that doesn't name anything is a fault of the arguments
+abbrev pub valid : {A E : Type 0} → Result A E → Result A Kinds
+valid (Ok value) = Ok value
+valid (Err fault) = Err (ValueValidation ∷ [])
+
+-- what the options request for a gateway on sockets, including the seconds between reports
+abbrev pub service_in : List Row → Result Service Kinds
+service_in found = do
+  controllers ← valid (controllers_in found)
+  bound ← valid (bind_address_in found)
+  metrics ← valid (file_in (codes "metrics") found)
+  journal ← valid (file_in (codes "journal") found)
+  durability ← durability_in journal found
+  Ok (record {
+    controllers = controllers;
+    bind_address = bound;
+    report = number_or 65536 (codes "report") 0 found;
+    records = is_set (codes "record") found;
+    symmetric_rtp = is_set (codes "symmetric-rtp") found;
+    metrics = metrics;
+    journal = journal;
+    durability = durability;
+    given = given_in found;
+  })
+
+-- the numbers that no option sets, which a gateway in real time draws at random
+abbrev pub draws_of : List Row → Draws
+draws_of found = record {
+  ssrc = is_none (number_given 4294967296 (codes "ssrc") found);
+  sequence = is_none (number_given 65536 (codes "sequence") found);
+  timestamp = is_none (number_given 4294967296 (codes "timestamp") found);
+}
+
+-- the run that a subcommand asks for, with the maximum lateness, in ticks, of a tick whose packets
+-- are sent
+abbrev pub run_of : Text → Config → Service → List Row → Invocation
+run_of name config service found =
+    if bytes_eq name (codes "serve") then Serve config service
+    else (if bytes_eq name (codes "live")
+    then Live config service (draws_of found) (number_or 65536 (codes "late") 5 found)
+    else Replay config (if is_set (codes "flows") found then SentAndFlows else Sent))
+
+-- the check of the gateway that the argument names
+abbrev pub check_in : List Row → Result Invocation Kinds
+check_in found = option_map_or (λ gateway. Ok (Check gateway))
+    (option_and_then peer_of (first_of (codes "gateway") found)) (Err (ValueValidation ∷ []))
+
+-- The run of a gateway that a subcommand with these options asks for. A gateway without an address
+-- for control messages uses its address for media.
+abbrev pub gateway_in : Text → List Row → Result Invocation Kinds
+gateway_in name found = do
+  address ← valid (address_in (codes "address") standard.address found)
+  control ← valid (address_in (codes "control-address") address found)
+  service ← service_in found
+  Ok (run_of name (config_at address control found) service found)
+
+-- what a subcommand with these options and arguments asks for
+abbrev pub run_in : Text → List Row → Result Invocation Kinds
+run_in name found = if bytes_eq name (codes "check") then check_in found else gateway_in name found
+
+-- A run of a subcommand, or none. There is none if the parser reports an error, or if a text isn't
+-- an address of the kind that its option takes.
+unfoldable pub requested : List Text → Result Invocation Kinds
+requested words = requested_by (fault_of command_line words) (option_map_or
+    (λ found. run_in found.0 found.1) (subcommand_of command_line words) (Err []))

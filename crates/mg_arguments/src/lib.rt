@@ -1,0 +1,50 @@
+//! What the arguments of `mg_bridge` ask for.
+//!
+//! [`requested_run`] returns the run that the arguments ask for:
+//!
+//! ```rust
+//! let words = ["replay", "--slots", "4"];
+//! match requested_run(alloc, &words) {
+//!     Ok(Invocation::Replay(config, shown)) => run(alloc, config, shown, &mut input, &mut output),
+//!     Err(error) => report_error(&error, Status::Failed, &mut output, &mut errors),
+//!     ..
+//! }
+//! ```
+//!
+//! A [`Service`] holds the options of a gateway on sockets, except for its configuration. [`Draws`] draws the numbers
+//! that no option sets. [`title_of`] returns the first line of a recording, which states a configuration as arguments,
+//! and [`titled`] reads it.
+//!
+//! `specs/Options.antt` defines what the arguments ask for, `specs/Setup.antt` a session's setup, and
+//! `specs/Title.antt` the first line of a recording.
+#![tactic(auto)]
+
+mod address;
+mod bind_address_fault;
+mod config_fault;
+mod controller_fault;
+mod controllers;
+mod draws;
+mod file_path;
+mod file_path_fault;
+mod given;
+mod invocation;
+mod options;
+mod service;
+mod title;
+mod title_reading;
+
+pub use crate::address::is_multicast;
+pub use crate::bind_address_fault::BindAddressFault;
+pub use crate::config_fault::ConfigFault;
+pub use crate::controller_fault::ControllerFault;
+pub use crate::controllers::Controllers;
+pub use crate::draws::Draws;
+pub use crate::file_path::FilePath;
+pub use crate::file_path_fault::FilePathFault;
+pub use crate::given::Given;
+pub use crate::invocation::Invocation;
+pub use crate::options::requested_run;
+pub use crate::service::Service;
+pub use crate::title::{TITLE_LIMIT, Title, title_of};
+pub use crate::title_reading::titled;

@@ -1,0 +1,486 @@
+ghost use Rattle.std.specs.Prelude.{◌≡◌, ◌∷◌, [], Err, IfErr, IfOk, Ok, codes, fold, if◌then◌else◌, map};
+ghost use Rattle.clap.specs.declared.error.kind.ErrorKind.TheVariants.{ValueValidation};
+ghost use Rattle.clap.specs.Words.{app_of, found_of, kind_of, rows_of, rule_of, with_rule};
+ghost use Rattle.mg_options.specs.Requested.{IsRefused};
+ghost use Rattle.mg_options.specs.Line.{text_rule};
+ghost use Rattle.mg_options.specs.Numbers.{number_or};
+ghost use Rattle.mg_arguments.specs.Options.{address_in, requested, command_line, config_at, controller_rule, controllers_in};
+ghost use Rattle.mg_arguments.specs.Options.{bind_address_in, check_in, check_line, draws_of, flag_rule, is_set, live_line, options, replay_line, run_of};
+ghost use Rattle.mg_arguments.specs.Options.{durability_in, file_in, gateway_in, gateway_rule, given_in, is_given, run_in, service_in, sockets_line, subcommand_line};
+
+use crate::address::{AddressFault, bind_address, own_address};
+use crate::bind_address_fault::BindAddressFault;
+use crate::controller_fault::ControllerFault;
+use crate::controllers::Controllers;
+use crate::draws::Draws;
+use crate::file_path::FilePath;
+use crate::file_path_fault::FilePathFault;
+use crate::given::Given;
+use crate::invocation::Invocation;
+use crate::service::Service;
+use clap::error::ErrorKind;
+use clap::{Arg, ArgAction, ArgMatches, Command, Error};
+use mg_core::{Config, Shown, peer_of};
+use mg_journal::Durability;
+use mg_options::{long_number, long_value, program_command, short_number, short_value};
+use std::alloc::Global;
+use std::convert::AsStr;
+
+/// The error message if the gateway to check isn't named by its address and port.
+const NO_GATEWAY: &str =
+    "invalid value for '<ADDRESS:PORT>': not an IPv4 address, a colon and a port";
+
+/// The error message if there is no journal to sync.
+const NO_JOURNAL: &str = "'--sync' needs '--journal <FILE>'";
+
+/// Creates an option that takes an IPv4 address. Its parser accepts any text.
+fn address_option<'a>(alloc: Global, name: &'a str) -> Arg<'a>
+    ensures rule { rule_of result ≡ text_rule name.now }
+{
+    Arg::new(alloc, name).long(name).value_name("ADDRESS")
+}
+
+/// Creates an option that takes the path of a file. Its parser accepts any text.
+fn file_option<'a>(alloc: Global, name: &'a str) -> Arg<'a>
+    ensures rule { rule_of result ≡ text_rule name.now }
+{
+    Arg::new(alloc, name).long(name).value_name("FILE")
+}
+
+/// Adds the options of a gateway, which every subcommand has.
+fn with_options<'a>(alloc: Global, command: Command<'a>) -> Result<Command<'a>, Error>
+    ensures app { IfOk result (λ with. app_of with ≡ fold with_rule (app_of command.entry) options) }
+    ensures memory { IfErr result (λ error. kind_of error ≡ ErrorKind.OutOfMemory) }
+{
+    let command = command
+        .arg(address_option(alloc, "address").help("IPv4 address for media [default: 127.0.0.1]"))?
+        .arg(address_option(alloc, "control-address").help(
+            "IPv4 address for control messages [default: the value of --address]",
+        ))?
+        .arg(short_number(alloc, "control-port").help(
+            "UDP port for control messages, 1–65535 [default: 2944]",
+        ))?
+        .arg(short_number(alloc, "base-port").help(
+            "First UDP port for media, even, 2–65534 [default: 30000]",
+        ))?
+        .arg(short_number(alloc, "slots").help(
+            "Number of media ports, one per termination, 1–256 [default: 256]",
+        ))?
+        .arg(long_number(alloc, "first-termination").help(
+            "Number of the first termination, 1–4294967295 [default: 1]",
+        ))?
+        .arg(long_number(alloc, "first-context").help(
+            "Number of the first context, 1–4294967293 [default: 1]",
+        ))?
+        .arg(long_number(alloc, "ssrc").help(
+            "Base SSRC, to which a termination adds its number, 0–4294967295 [default: 0; live: random]",
+        ))?
+        .arg(short_number(alloc, "sequence").help(
+            "RTP sequence number of a termination's first packet, 0–65535 [default: 0; live: random]",
+        ))?
+        .arg(long_number(alloc, "timestamp").help(
+            "RTP timestamp of a termination's first tick, 0–4294967295 [default: 0; live: random]",
+        ))?;
+    Ok(command)
+}
+
+/// Creates the option for a controller's IPv4 address, which can be given several times.
+fn controller_option<'a>(alloc: Global) -> Arg<'a>
+    ensures rule { rule_of result ≡ controller_rule }
+{
+    Arg::new(alloc, "controller")
+        .long("controller")
+        .value_name("ADDRESS")
+        .action(ArgAction::Append)
+        .help("IPv4 address of a controller, repeatable up to 8 times [default: any address]")
+}
+
+/// Creates a flag: an option without a value, which is set if it occurs.
+fn flag<'a>(alloc: Global, name: &'a str) -> Arg<'a>
+    ensures rule { rule_of result ≡ flag_rule name.now }
+{
+    Arg::new(alloc, name).long(name).action(ArgAction::SetTrue)
+}
+
+/// Creates a subcommand with the options of a gateway.
+fn subcommand<'a>(alloc: Global, name: &'a str, about: &'a str) -> Result<Command<'a>, Error>
+    ensures app { IfOk result (λ command. app_of command ≡ subcommand_line name.now) }
+    ensures memory { IfErr result (λ error. kind_of error ≡ ErrorKind.OutOfMemory) }
+{
+    with_options(alloc, Command::new(alloc, name).about(about))
+}
+
+/// Creates a subcommand for a gateway on sockets.
+fn on_sockets<'a>(alloc: Global, name: &'a str, about: &'a str) -> Result<Command<'a>, Error>
+    ensures app { IfOk result (λ command. app_of command ≡ sockets_line name.now) }
+    ensures memory { IfErr result (λ error. kind_of error ≡ ErrorKind.OutOfMemory) }
+{
+    let command = subcommand(alloc, name, about)?
+        .arg(address_option(alloc, "bind-address").help(
+            "IPv4 address to bind all ports to [default: the values of --address and --control-address]",
+        ))?
+        .arg(controller_option(alloc))?
+        .arg(short_number(alloc, "report").help(
+            "Seconds between reports on standard error, 0–65535, 0 = never [default: 0]",
+        ))?
+        .arg(flag(alloc, "record").help(
+            "Record all events on standard output, for `mg_bridge replay`",
+        ))?
+        .arg(flag(alloc, "symmetric-rtp").help(
+            "Accept RTP only from the address and port of a termination's Remote (RFC 4961)",
+        ))?
+        .arg(file_option(alloc, "journal").help(
+            "File for a journal of messages and ticks, from which a restarted gateway continues",
+        ))?
+        .arg(flag(alloc, "sync").help("Answer each message only once it is on the disk"))?;
+    Ok(command)
+}
+
+/// Creates the subcommand that runs a script.
+fn replay<'a>(alloc: Global) -> Result<Command<'a>, Error>
+    ensures app { IfOk result (λ command. app_of command ≡ replay_line) }
+    ensures memory { IfErr result (λ error. kind_of error ≡ ErrorKind.OutOfMemory) }
+{
+    let about = "Run a script from standard input, and print its answers and packets";
+    let command = subcommand(alloc, "replay", about)?.arg(flag(alloc, "flows").help(
+        "Also print, as comments, how each event changes terminations and who hears whom",
+    ))?;
+    Ok(command)
+}
+
+/// Creates the subcommand for a gateway in real time.
+fn live<'a>(alloc: Global) -> Result<Command<'a>, Error>
+    ensures app { IfOk result (λ command. app_of command ≡ live_line) }
+    ensures memory { IfErr result (λ error. kind_of error ≡ ErrorKind.OutOfMemory) }
+{
+    let command = on_sockets(alloc, "live", "Run a gateway on UDP ports in real time")?
+        .arg(short_number(alloc, "late").help(
+            "Maximum lateness of sent packets, in ticks of 20 ms, 0–65535 [default: 5]",
+        ))?
+        .arg(file_option(alloc, "metrics").help(
+            "File for metrics in Prometheus' text format, replaced every 5 seconds",
+        ))?;
+    Ok(command)
+}
+
+/// Creates the argument that names the gateway to check.
+fn gateway_argument<'a>(alloc: Global) -> Arg<'a>
+    ensures rule { rule_of result ≡ gateway_rule }
+{
+    Arg::new(alloc, "gateway")
+        .value_name("ADDRESS:PORT")
+        .required(true)
+        .help("IPv4 address and control port of the gateway")
+}
+
+/// Creates the subcommand that checks a gateway.
+fn check<'a>(alloc: Global) -> Result<Command<'a>, Error>
+    ensures app { IfOk result (λ command. app_of command ≡ check_line) }
+    ensures memory { IfErr result (λ error. kind_of error ≡ ErrorKind.OutOfMemory) }
+{
+    let command = Command::new(alloc, "check")
+        .about("Check that a gateway answers messages from this machine")
+        .arg(gateway_argument(alloc))?;
+    Ok(command)
+}
+
+/// Creates the program's command line.
+fn command<'a>(alloc: Global) -> Result<Command<'a>, Error>
+    ensures app { IfOk result (λ command. app_of command ≡ command_line) }
+    ensures memory { IfErr result (λ error. kind_of error ≡ ErrorKind.OutOfMemory) }
+{
+    let replay = replay(alloc)?;
+    let serve = on_sockets(
+        alloc,
+        "serve",
+        "Run a gateway on UDP ports, driven by lines on standard input: poll, tick, stats, quit",
+    )?;
+    let about = "A conference media gateway controlled by Megaco/H.248";
+    let command = program_command(alloc, "mg_bridge", about)
+        .subcommand_required(true)
+        .subcommand(replay)?
+        .subcommand(serve)?
+        .subcommand(live(alloc)?)?
+        .subcommand(check(alloc)?)?;
+    Ok(command)
+}
+
+/// Returns the address given by an option, or `otherwise` if the option was not given.
+fn address_of(
+    name: &str,
+    otherwise: [u8; 4],
+    matches: &ArgMatches<'_>,
+) -> Result<[u8; 4], AddressFault>
+    ensures value { result ≡ address_in name.now otherwise (rows_of (found_of matches.now)) }
+{
+    match matches.get_str(name) {
+        Some(text) => own_address(text),
+        None => Ok(otherwise),
+    }
+}
+
+/// Returns the configuration that the options specify, with these addresses for media and for control messages.
+///
+/// An option that was not given keeps its default.
+fn config_at(address: [u8; 4], control_address: [u8; 4], matches: &ArgMatches<'_>) -> Config
+    ensures value { result ≡ config_at address control_address (rows_of (found_of matches.now)) }
+{
+    let standard = Config::default();
+    Config {
+        address,
+        control_address,
+        control_port: short_value(matches, "control-port").unwrap_or(standard.control_port),
+        base_port: short_value(matches, "base-port").unwrap_or(standard.base_port),
+        slots: short_value(matches, "slots").unwrap_or(standard.slots),
+        first_termination: long_value(matches, "first-termination").unwrap_or(
+            standard.first_termination,
+        ),
+        first_context: long_value(matches, "first-context").unwrap_or(standard.first_context),
+        ssrc: long_value(matches, "ssrc").unwrap_or(standard.ssrc),
+        sequence: short_value(matches, "sequence").unwrap_or(standard.sequence),
+        timestamp: long_value(matches, "timestamp").unwrap_or(standard.timestamp),
+    }
+}
+
+/// Returns which numbers are drawn at random because no option sets them.
+fn draws_of(matches: &ArgMatches<'_>) -> Draws
+    ensures value { result ≡ draws_of (rows_of (found_of matches.now)) }
+{
+    Draws {
+        ssrc: long_value(matches, "ssrc").is_none(),
+        sequence: short_value(matches, "sequence").is_none(),
+        timestamp: long_value(matches, "timestamp").is_none(),
+    }
+}
+
+/// Returns the maximum lateness, in ticks, at which a tick's packets are still sent.
+fn late_of(matches: &ArgMatches<'_>) -> u16
+    ensures value { result ≡ number_or 65536 (codes "late") 5 (rows_of (found_of matches.now)) }
+{
+    short_value(matches, "late").unwrap_or(5)
+}
+
+/// Returns the seconds between reports, or 0 for no reports.
+fn report_of(matches: &ArgMatches<'_>) -> u16
+    ensures value { result ≡ number_or 65536 (codes "report") 0 (rows_of (found_of matches.now)) }
+{
+    short_value(matches, "report").unwrap_or(0)
+}
+
+/// Returns whether a flag is set.
+fn is_set(name: &str, matches: &ArgMatches<'_>) -> bool
+    ensures value { result ≡ is_set name.now (rows_of (found_of matches.now)) }
+{
+    match matches.get_str(name) {
+        Some(text) => text == "true",
+        None => false,
+    }
+}
+
+/// Returns what is written for each event of a script.
+fn shown_of(matches: &ArgMatches<'_>) -> Shown
+    ensures value { result ≡ (if is_set (codes "flows") (rows_of (found_of matches.now))
+        then Shown.SentAndFlows else Shown.Sent) }
+{
+    if is_set("flows", matches) {
+        Shown::SentAndFlows
+    } else {
+        Shown::Sent
+    }
+}
+
+/// Returns the controllers named on the command line.
+fn controllers_of(matches: &ArgMatches<'_>) -> Result<Controllers, ControllerFault>
+    ensures value { result ≡ controllers_in (rows_of (found_of matches.now)) }
+{
+    match matches.get_strs("controller") {
+        Some(texts) => Controllers::of(texts),
+        None => Controllers::of(&[]),
+    }
+}
+
+/// Returns the address to bind sockets to, if the command line names one.
+fn bind_address_of(matches: &ArgMatches<'_>) -> Result<Option<[u8; 4]>, BindAddressFault>
+    ensures value { result ≡ bind_address_in (rows_of (found_of matches.now)) }
+{
+    match matches.get_str("bind-address") {
+        Some(text) => match bind_address(text) {
+            Ok(address) => Ok(Some(address)),
+            Err(fault) => Err(fault),
+        },
+        None => Ok(None),
+    }
+}
+
+/// Returns the file that an option names, if it is given.
+fn file_of(name: &str, matches: &ArgMatches<'_>) -> Result<Option<FilePath>, FilePathFault>
+    ensures value { result ≡ file_in name.now (rows_of (found_of matches.now)) }
+{
+    match matches.get_str(name) {
+        Some(text) => match FilePath::of(text) {
+            Ok(path) => Ok(Some(path)),
+            Err(fault) => Err(fault),
+        },
+        None => Ok(None),
+    }
+}
+
+/// Returns how durably messages are appended to the journal, or the error message if there is no journal to sync.
+fn durability_of(
+    journal: &Option<FilePath>,
+    matches: &ArgMatches<'_>,
+) -> Result<Durability, &'static str>
+    ensures value { IfOk result (λ durability.
+        durability_in journal.now (rows_of (found_of matches.now)) ≡ Ok durability) }
+    ensures refused { IfErr result (λ _.
+        durability_in journal.now (rows_of (found_of matches.now)) ≡ Err (ValueValidation ∷ [])) }
+{
+    if !is_set("sync", matches) {
+        return Ok(Durability::Written);
+    }
+    match journal {
+        Some(_) => Ok(Durability::Synced),
+        None => Err(NO_JOURNAL),
+    }
+}
+
+/// Returns whether an option is given.
+fn is_given(name: &str, matches: &ArgMatches<'_>) -> bool
+    ensures value { result ≡ is_given name.now (rows_of (found_of matches.now)) }
+{
+    match matches.get_str(name) {
+        Some(_) => true,
+        None => false,
+    }
+}
+
+/// Returns which options of the configuration are given.
+fn given_of(matches: &ArgMatches<'_>) -> Given
+    ensures value { result ≡ given_in (rows_of (found_of matches.now)) }
+{
+    Given {
+        address: is_given("address", matches),
+        control_address: is_given("control-address", matches),
+        control_port: is_given("control-port", matches),
+        base_port: is_given("base-port", matches),
+        slots: is_given("slots", matches),
+        first_termination: is_given("first-termination", matches),
+        first_context: is_given("first-context", matches),
+        ssrc: is_given("ssrc", matches),
+        sequence: is_given("sequence", matches),
+        timestamp: is_given("timestamp", matches),
+    }
+}
+
+/// Returns the options of a gateway on sockets, or the error message.
+fn service_of(matches: &ArgMatches<'_>) -> Result<Service, &'static str>
+    ensures service { IfOk result (λ service. service_in (rows_of (found_of matches.now)) ≡ Ok service) }
+    ensures refused { IfErr result (λ _. service_in (rows_of (found_of matches.now)) ≡ Err (ValueValidation ∷ [])) }
+{
+    let controllers = match controllers_of(matches) {
+        Ok(controllers) => controllers,
+        Err(fault) => return Err(fault.message()),
+    };
+    let bind_address = match bind_address_of(matches) {
+        Ok(address) => address,
+        Err(fault) => return Err(fault.message()),
+    };
+    let metrics = match file_of("metrics", matches) {
+        Ok(metrics) => metrics,
+        Err(fault) => return Err(fault.metrics_message()),
+    };
+    let journal = match file_of("journal", matches) {
+        Ok(journal) => journal,
+        Err(fault) => return Err(fault.journal_message()),
+    };
+    let durability = durability_of(&journal, matches)?;
+    Ok(Service {
+        controllers,
+        bind_address,
+        report: report_of(matches),
+        records: is_set("record", matches),
+        symmetric_rtp: is_set("symmetric-rtp", matches),
+        metrics,
+        journal,
+        durability,
+        given: given_of(matches),
+    })
+}
+
+/// Returns the run that a subcommand asks for, with this configuration and these options of a gateway on sockets.
+fn run_of(name: &str, config: Config, service: Service, matches: &ArgMatches<'_>) -> Invocation
+    ensures value { result ≡ run_of name.now config service (rows_of (found_of matches.now)) }
+{
+    if name == "serve" {
+        Invocation::Serve(config, service)
+    } else if name == "live" {
+        Invocation::Live(config, service, draws_of(matches), late_of(matches))
+    } else {
+        Invocation::Replay(config, shown_of(matches))
+    }
+}
+
+/// Returns the check that the argument asks for, or the error message.
+fn check_in(matches: &ArgMatches<'_>) -> Result<Invocation, &'static str>
+    ensures run { IfOk result (λ run. check_in (rows_of (found_of matches.now)) ≡ Ok run) }
+    ensures refused { IfErr result (λ _. check_in (rows_of (found_of matches.now)) ≡ Err (ValueValidation ∷ [])) }
+{
+    match matches.get_str("gateway") {
+        Some(text) => match peer_of(text.as_bytes()) {
+            Some(gateway) => Ok(Invocation::Check(gateway)),
+            None => Err(NO_GATEWAY),
+        },
+        None => Err(NO_GATEWAY),
+    }
+}
+
+/// Returns the run of a gateway that a subcommand with these options asks for, or the error message.
+fn gateway_in(name: &str, matches: &ArgMatches<'_>) -> Result<Invocation, &'static str>
+    ensures run { IfOk result (λ run. gateway_in name.now (rows_of (found_of matches.now)) ≡ Ok run) }
+    ensures refused { IfErr result (λ _. gateway_in name.now (rows_of (found_of matches.now)) ≡
+        Err (ValueValidation ∷ [])) }
+{
+    let address = match address_of("address", Config::default().address, matches) {
+        Ok(address) => address,
+        Err(fault) => return Err(fault.message()),
+    };
+    let control = match address_of("control-address", address, matches) {
+        Ok(control) => control,
+        Err(fault) => return Err(fault.control_message()),
+    };
+    let service = service_of(matches)?;
+    let config = config_at(address, control, matches);
+    Ok(run_of(name, config, service, matches))
+}
+
+/// Returns the run that a subcommand with these options and arguments asks for, or the error message.
+fn run_in(name: &str, matches: &ArgMatches<'_>) -> Result<Invocation, &'static str>
+    ensures run { IfOk result (λ run. run_in name.now (rows_of (found_of matches.now)) ≡ Ok run) }
+    ensures refused { IfErr result (λ _. run_in name.now (rows_of (found_of matches.now)) ≡
+        Err (ValueValidation ∷ [])) }
+{
+    if name == "check" {
+        check_in(matches)
+    } else {
+        gateway_in(name, matches)
+    }
+}
+
+/// Returns the run that the arguments ask for. The arguments come without the program's name.
+///
+/// If they don't ask for a run, the caller must report the error: a usage error, a request for help or the version, or
+/// lack of memory.
+pub fn requested_run<'a, S: AsStr>(alloc: Global, words: &'a [S]) -> Result<Invocation, Error>
+    ensures run { IfOk result (λ run. requested (map S.text words.now) ≡ Ok run) }
+    ensures refused { IfErr result (λ error. IsRefused (requested (map S.text words.now)) (kind_of error)) }
+{
+    let mut command = command(alloc)?;
+    let matches = command.try_get_matches_from_mut(words)?;
+    let Some((name, options)) = matches.subcommand() else {
+        unreachable!();
+    };
+    match run_in(name, options) {
+        Ok(run) => Ok(run),
+        Err(fault) => Err(command.error(ErrorKind::ValueValidation, fault)?),
+    }
+}

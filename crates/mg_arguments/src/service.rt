@@ -1,0 +1,56 @@
+ghost use Rattle.std.specs.Prelude.{◌≡◌};
+ghost use Rattle.std.specs.Option.{option_map};
+ghost use Rattle.mg_arguments.specs.Setup.{setup_of};
+ghost use Rattle.mg_arguments.specs.Title.{if_recorded};
+
+use crate::controllers::Controllers;
+use crate::file_path::FilePath;
+use crate::given::Given;
+use mg_core::Config;
+use mg_journal::Durability;
+use mg_serve::Setup;
+
+/// The options of a gateway on sockets, except for its configuration.
+#[derive(Drop)]
+pub struct Service {
+    /// Who may send messages to the gateway.
+    pub controllers: Controllers,
+    /// The address that all ports are bound to, if it isn't the one that callers or controllers send to.
+    pub bind_address: Option<[u8; 4]>,
+    /// The seconds between reports; 0 disables reports.
+    pub report: u16,
+    /// Whether the output is a recording.
+    pub records: bool,
+    /// Whether callers use symmetric RTP: their packets come from the address and port of their Remote.
+    pub symmetric_rtp: bool,
+    /// The file for metrics, if a gateway in real time writes one.
+    pub metrics: Option<FilePath>,
+    /// The file for the journal, if there is one.
+    pub journal: Option<FilePath>,
+    /// How durably messages are appended to the journal.
+    pub durability: Durability,
+    /// Which options of the configuration are given. With a journal, the others come from the journal's title.
+    pub given: Given,
+}
+
+impl Service {
+    /// Returns the setup of a session with this configuration.
+    pub fn setup(&self, config: Config) -> Setup<'_>
+        ensures value { result ≡ setup_of config self.now }
+    {
+        let journal = self.journal.as_ref().map(|_| self.durability);
+        Setup::new(
+            config,
+            self.controllers.as_slice(),
+            self.symmetric_rtp,
+            journal,
+        )
+    }
+
+    /// Returns the title of the output if it is a recording, and `None` otherwise.
+    pub fn title<'t>(&self, text: &'t [u8]) -> Option<&'t [u8]>
+        ensures value { option_map (λ title. title.now) result ≡ if_recorded self.now.records text.now }
+    {
+        if self.records { Some(text) } else { None }
+    }
+}

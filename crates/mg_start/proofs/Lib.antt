@@ -1,0 +1,2 @@
+pub mod JournalLemmas
+pub mod ResumeLemmas

@@ -1,0 +1,46 @@
+ghost use Rattle.std.specs.Prelude.{◌≡◌, IfErr, IfOk, IsSome, OnOk};
+ghost use Rattle.std.specs.Option.{option_map_or};
+ghost use Rattle.mg_journal.specs.Journal.{no_journal};
+ghost use Rattle.mg_start.specs.Start.{CanResume, CanStart, FailsToStart};
+
+use crate::found_journal::FoundJournal;
+use mg_arguments::Service;
+use mg_core::{Config, Core};
+use mg_dates::DatedJournal;
+use mg_journal::{FileJournal, JournalFile};
+use mg_options::Status;
+use std::alloc::Global;
+use std::io::Write;
+use std::time::Clock;
+
+/// Starts appending to the journal, if there is one, and skips the ticks that the gateway missed. If that fails,
+/// reports the fault to `errors` and returns the program's exit status.
+pub fn begin_journal<'a, F: JournalFile, C: Clock, E: Write>(
+    alloc: Global,
+    config: &Config,
+    service: &Service,
+    clock: &'a C,
+    found: Option<FoundJournal<F>>,
+    core: &mut Core,
+    errors: &mut E,
+) -> Result<Option<DatedJournal<'a, FileJournal<F>, C>>, Status>
+where
+    F: Drop,
+    requires resumed { CanResume service.now.journal config.now core.old.state }
+    requires found { IsSome service.now.journal → IsSome found }
+    ensures started { IfOk result (λ journal. CanStart service.now.journal config.now core.new.state
+        (option_map_or (λ j. j) journal no_journal)) }
+    ensures quiet { OnOk result (errors.new ≡ errors.old) }
+    ensures ends { IfErr result (FailsToStart config.now) }
+{
+    let Some(path) = &service.journal else {
+        return Ok(None);
+    };
+    let Some(found) = found else {
+        return Ok(None);
+    };
+    match found.begin(alloc, config, clock, core) {
+        Ok(journal) => Ok(Some(journal)),
+        Err(fault) => Err(fault.report(path, errors)),
+    }
+}

@@ -1,0 +1,41 @@
+ghost use Rattle.std.specs.Prelude.{◌≡◌, ◌⊎◌};
+
+use mg_arguments::{ConfigFault, FilePath};
+use mg_options::Status;
+use std::io::{self, Write};
+use thiserror::Error;
+
+/// Why a gateway can't start with its journal.
+#[derive(Drop, Debug, Error)]
+pub enum JournalFault {
+    #[error("cannot be opened: {0}")]
+    Open(io::Error),
+    #[error("cannot be read: {0}")]
+    Read(io::Error),
+    #[error("line 1 isn't the title of a journal")]
+    NoTitle,
+    #[error("line 1 has a bad configuration: {0}")]
+    BadConfig(ConfigFault),
+    #[error("line 1 has another {0}")]
+    Differs(&'static str),
+    #[error("line {0} isn't a line of a script")]
+    BadLine(u64),
+    #[error("cannot be written: {0}")]
+    Write(io::Error),
+    #[error("out of memory")]
+    NoMemory,
+}
+
+impl JournalFault {
+    /// Reports the fault. Returns the program's exit status.
+    pub fn report<E: Write>(&self, path: &FilePath, errors: &mut E) -> Status
+        ensures ends { (result ≡ Status.NoMemory) ⊎ (result ≡ Status.BadJournal) }
+    {
+        let path = path.as_str();
+        let _ = writeln!(errors, "journal {path}: {self}");
+        match self {
+            JournalFault::NoMemory => Status::NoMemory,
+            _ => Status::BadJournal,
+        }
+    }
+}

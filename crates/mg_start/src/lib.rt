@@ -1,0 +1,28 @@
+//! How a gateway starts: with a new core, or from its journal.
+//!
+//! [`prepare`] creates a new gateway, or runs the events of its journal. After the ports are bound, [`begin_journal`]
+//! skips the ticks that the gateway missed, and starts appending:
+//!
+//! ```rust
+//! let prepared = prepare(&rt, &rt, alloc, config, &service, draws, &mut errors)?;
+//! let mut core = prepared.core;
+//! let journal = begin_journal(alloc, &prepared.config, &service, &rt, prepared.journal, &mut core, &mut errors)?;
+//! ```
+//!
+//! [`FoundJournal`] is a journal before anything is appended to it. If a gateway can't start, its fault is reported,
+//! and the result is the program's exit status.
+//!
+//! `specs/Start.antt` defines how a gateway starts, and `specs/Journal.antt` defines what it finds in its journal and
+//! what it appends.
+#![tactic(auto)]
+
+mod beginning;
+mod found_journal;
+mod history;
+mod journal_fault;
+mod prepared;
+
+pub use crate::beginning::begin_journal;
+pub use crate::found_journal::FoundJournal;
+pub use crate::journal_fault::JournalFault;
+pub use crate::prepared::{Prepared, prepare};

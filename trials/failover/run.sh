@@ -3,7 +3,7 @@
 # is killed and restarts at once. Each time its callers must hear the others again within 3 s, on another gateway.
 # Isolated callers must hear nobody, and the callers of the other gateways must not miss a packet.
 # usage: run.sh
-# It needs gcc and Erlang (erlang-base, erlang-megaco), and takes half a minute. Exits with 0 if all of this holds.
+# It exits with 0 if all of this holds. It needs gcc and Erlang (erlang-base, erlang-megaco), and takes half a minute.
 set -eu
 here=$(CDPATH= cd -- "$(dirname -- "$0")" && pwd)
 . "$here/common.sh"

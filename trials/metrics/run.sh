@@ -1,5 +1,5 @@
 #!/bin/sh
-# Checks the file that `mg_bridge live --metrics` writes, as promtool, node_exporter and Prometheus read it, and that
+# Checks the file that `mg_bridge live --metrics` writes, using promtool, node_exporter and Prometheus, and checks that
 # alerts fire.
 # usage: run.sh [--gateway PATH]
 # It needs python3 and Debian's packages prometheus and prometheus-node-exporter. It tests the program in dist/, or the

@@ -1,8 +1,8 @@
 #!/bin/sh
-# Checks that a gateway behind a 1:1 NAT can be used, as in most clouds: callers and controllers send to 203.0.113.5,
-# and a router translates this address to and from 10.77.0.2, the gateway's own.
+# Checks that a gateway works behind a 1:1 NAT, as in most clouds: callers and controllers send to 203.0.113.5, and a
+# router translates this address to and from 10.77.0.2, the gateway's own.
 # usage: run.sh [--gateway PATH]
-# It needs root, ip (iproute2), nft (nftables) and python3, and tries the program in dist/, or the one at PATH. It takes
+# It needs root, ip (iproute2), nft (nftables) and python3, and tests the program in dist/, or the one at PATH. It takes
 # three seconds.
 set -eu
 here=$(CDPATH= cd -- "$(dirname -- "$0")" && pwd)

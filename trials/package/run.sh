@@ -1,9 +1,9 @@
 #!/bin/sh
-# Builds the Debian package, and installs, upgrades and removes it on a Debian 12 under systemd, in a container.
+# Builds the Debian package, and installs, upgrades and removes it in a Debian 12 container that runs systemd.
 # usage: run.sh [FOLDER]
-# It needs root, python3, and the Debian packages debootstrap, lintian and systemd-container; it installs none. It
-# downloads a Debian 12 (100 MB, two minutes) into FOLDER/debian, unless it is there already, and leaves it unchanged.
-# Without FOLDER, it deletes it afterwards. The trial takes a minute and a half.
+# It needs root, python3, and the Debian packages debootstrap, lintian and systemd-container, which it doesn't install.
+# It downloads Debian 12 (100 MB, two minutes) into FOLDER/debian, unless it is there already, and leaves it unchanged.
+# Without FOLDER, the trial deletes the download afterwards. The trial takes a minute and a half.
 set -eu
 here=$(CDPATH='' cd -- "$(dirname -- "$0")" && pwd)
 [ $# -le 1 ] || { echo 'usage: run.sh [FOLDER]' >&2; exit 2; }

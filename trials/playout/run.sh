@@ -2,8 +2,8 @@
 # Prints what others hear from callers whose clocks drift, whose sequence numbers jump, who send in bursts, or who share
 # a port.
 # usage: run.sh
-# It needs python3 and rt. `mg_bridge` is the one that `rt run` leaves in crates/mg_bridge/out. What is not built yet
-# is proved and built first, which takes half an hour. The trial takes a few seconds.
+# It needs python3 and rt. It runs the `mg_bridge` that `rt run` leaves in crates/mg_bridge/out. Anything that isn't
+# built yet is proved and built first, which takes half an hour. The trial takes a few seconds.
 set -eu
 here=$(CDPATH= cd -- "$(dirname -- "$0")" && pwd)
 root=$here/../..

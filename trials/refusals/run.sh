@@ -1,10 +1,10 @@
 #!/bin/sh
 # Makes each allocation, read, write, receive, send and wait of the gateway fail in turn, one per run, until no such
-# call is left. Checks what follows each failure. Prints how many runs there were, and exits with 1 at the first run
-# that goes wrong.
+# call is left. Checks what happens after each failure. Prints how many runs there were, and exits with 1 at the first
+# run that goes wrong.
 # usage: run.sh
-# It needs gcc, python3 and rt. `mg_bridge` is the one that `rt run` leaves in crates/mg_bridge/out. What is not built
-# yet is proved and built first, which takes half an hour. The runs take less than a minute.
+# It needs gcc, python3 and rt. It runs the `mg_bridge` that `rt run` leaves in crates/mg_bridge/out. Anything that
+# isn't built yet is proved and built first, which takes half an hour. The runs take less than a minute.
 set -eu
 here=$(CDPATH= cd -- "$(dirname -- "$0")" && pwd)
 root=$here/../..

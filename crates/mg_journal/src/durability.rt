@@ -1,7 +1,7 @@
 /// When an append to a journal returns.
 #[derive(Clone, Copy, Debug, PartialEq, Eq)]
 pub enum Durability {
-    /// Once the system has the lines. They survive a crash of the program, but perhaps not one of the machine.
+    /// Once the system has the lines. They survive a crash of the program, but perhaps not a crash of the machine.
     Written,
     /// Once the lines are on the disk.
     Synced,

@@ -7,7 +7,7 @@ pub trait JournalFile {
     /// What is known about the file.
     ghost file: { Self → FileState } = { λ _. unknown };
 
-    /// Reads bytes at an offset. Returns how many bytes were read, which is 0 if the file ends there.
+    /// Reads bytes at an offset. Returns how many bytes were read, or 0 if the file ends there.
     fn read(&mut self, at: u64, buffer: &mut [u8]) -> io::Result<usize>
         ensures value { ReadsAt at buffer.new (file self.old) (file self.new) result };
 

@@ -1,4 +1,4 @@
-//! Journals: files of lines, to which each append adds all of its lines or none.
+//! Journals: files of lines, where each append adds all of its lines or none.
 //!
 //! A program that appends each line before acting on it can repeat its actions after a crash:
 //!

@@ -7,7 +7,7 @@ use thiserror::Error;
 pub enum PaceFault {
     #[error("cannot read the clock")]
     Clock,
-    /// A write failed: nobody reads the lines anymore.
+    /// A write failed: nobody is reading the lines anymore.
     #[error("the output is closed")]
     Closed,
 }

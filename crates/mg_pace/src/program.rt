@@ -34,7 +34,7 @@ fn run<K: Watch, W: Write, E: Write>(
     status_of(&outcome)
 }
 
-/// Runs the program with these arguments, which do not include its name. Returns its exit status.
+/// Runs the program with these arguments, which don't include the program's name. Returns its exit status.
 ///
 /// The status is 0 when the run finishes, when the output is closed, or when help or the version has been printed. It
 /// is 2 for invalid arguments, 3 if the clock failed, and 4 if memory ran out. If the status is nonzero, the message

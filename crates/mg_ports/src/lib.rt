@@ -1,4 +1,4 @@
-//! A gateway's UDP sockets, which are numbered, and its journal.
+//! A gateway's numbered UDP sockets, and its journal.
 //!
 //! Socket 0 is the control socket, and socket s + 1 is the media socket of slot s in the pool.
 //!
@@ -16,8 +16,8 @@
 //!
 //! Contracts describe ports by the calls on them (`specs/Calls.antt`) and by what those calls do to the journal
 //! (`specs/Journaled.antt`). Ports may log the calls in one list, which shows their order: each receive with its
-//! result, each send with its arguments, and each append with its arguments and result. Ports on the operating system's
-//! sockets log nothing.
+//! result, each send with its arguments, and each append with its arguments and result. Ports that use the operating
+//! system's sockets log nothing.
 #![tactic(auto)]
 
 mod arrival;

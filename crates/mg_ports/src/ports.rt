@@ -12,8 +12,8 @@ use mg_clock::Timing;
 use mg_journal::{AppendFault, Durability};
 use mg_words::Peer;
 
-/// A gateway's UDP sockets, which are numbered, and its journal. Socket 0 is the control socket, and socket s + 1 is
-/// the media socket of slot s in the pool.
+/// A gateway's numbered UDP sockets, and its journal. Socket 0 is the control socket, and socket s + 1 is the media
+/// socket of slot s in the pool.
 pub trait Ports {
     /// All calls so far, if they are known.
     ghost calls: { Self → Option (List Call) } = { λ _. None };

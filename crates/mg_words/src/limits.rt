@@ -34,7 +34,7 @@ pub const REQUEST_LIMIT: usize = 4;
 /// The maximum number of commands in a message.
 pub const COMMAND_LIMIT: usize = 64;
 
-/// The maximum length, in bytes, of a termination's name, of a domain name and of a device name.
+/// The maximum length, in bytes, of a termination's name, a domain name or a device name.
 pub const TERM_LIMIT: usize = 64;
 
 /// The maximum length of a sender's name, in bytes: a domain name in angle brackets, a colon and a five-digit port.

@@ -1,4 +1,4 @@
-//! What the edits in all rooms determine, however they are stored.
+//! What follows from the edits in all rooms, however they are stored.
 //!
 //! The functions do nothing: their contracts are the theorems. A proof that needs a theorem calls its function.
 //! Lists of edits start with the newest.
@@ -60,7 +60,8 @@ pub fn talkers_are_open_or_silenced()
         IsFalse (flows_in es talker listener && is_silenced_in es talker listener) }
 {}
 
-/// Nobody is silenced for a newcomer, and a newcomer is silenced for nobody, whatever triples named its place before.
+/// Nobody is silenced for a newcomer, and a newcomer isn't silenced for anybody, whatever triples named its place
+/// before.
 pub fn newcomer_is_not_silenced()
     ensures { (es : List FlowEdit) (newcomer other : Place) (talks listens : Bool) →
         IsFalse (is_silenced_in (Enter newcomer talks listens ∷ es) other newcomer)

@@ -9,7 +9,7 @@ use crate::sample::encode;
 /// The number of samples in a frame, and of bytes in its payload.
 pub const FRAME_LEN: usize = 160;
 
-/// 20 ms of one channel: 160 samples at 8000 Hz, the earliest first (RFC 3551, sections 4.2 and 6).
+/// 20 ms of one channel: 160 samples at 8000 Hz, earliest first (RFC 3551, sections 4.2 and 6).
 ///
 /// In contracts, a frame appears as a list; `IsFrame` says that the list has 160 samples of 16 bits.
 pub type Frame = [i16; FRAME_LEN];

@@ -19,7 +19,7 @@ pub fn level_is_the_last(law: Law, magnitude: u16)
     ensures border { (k : ℕ) → k ≤ 127 → level_of law (least_of law k) ≡ k }
 {}
 
-/// A greater level has a greater magnitude: 0 to 32124 in mu-law, 8 to 32256 in A-law.
+/// A higher level has a greater magnitude: 0 to 32124 in mu-law, 8 to 32256 in A-law.
 pub fn magnitudes_grow(law: Law, lower: u8, upper: u8)
     ensures grow { lower < upper → upper ≤ 127 → magnitude_of law lower < magnitude_of law upper }
     ensures mu_ends { (magnitude_of Law.Mu 0 ≡ 0) × (magnitude_of Law.Mu 127 ≡ 32124) }

@@ -6,7 +6,7 @@
 //! depth. A frame is placed by its sequence number, no matter when it arrives. After the list starts, it waits half as
 //! many ticks as it has places, so that late and reordered frames can still find their places. Then each tick plays the
 //! next frame, until none is left. A missing frame is replaced by the previous one at half its level; if the next frame
-//! is missing too, silence is played for it.
+//! is missing too, silence is played.
 //!
 //! A frame starts the list if there is no sequence to continue: at the beginning, after the list runs empty, or when
 //! the source changes. A frame also starts the list if its number is [`MAX_DROPOUT`] or more ahead, or more than

@@ -3,7 +3,7 @@
 pub enum Placed {
     /// The play list restarted with this frame, and dropped all others.
     Started,
-    /// The frame was stored at the position for its sequence number.
+    /// The frame was stored at the place for its sequence number.
     Placed,
     /// The frame was stored at the end. Frames at the front were dropped to make room.
     Pushed,

@@ -12,7 +12,7 @@ pub struct Source {
 impl Source {
     ghost use Rattle.mg_playout.specs.Playout.{advanced};
 
-    /// Returns the source with its next sequence number raised by `count`.
+    /// Returns the source with its next sequence number increased by `count`.
     pub(crate) fn advanced(self, count: u16) -> Self
         ensures { result ≡ advanced count self }
     {

@@ -38,7 +38,7 @@ fn payload_type(law: Law) -> &'static str
     }
 }
 
-/// Writes the description in a Local: four lines, each ending in CR LF. They have at most 68 bytes in total.
+/// Writes the description in a Local: four lines, each ending in CR LF. Together they are at most 68 bytes long.
 #[tactic(auto, using(crate::proofs::WrittenLemmas::lengths))]
 pub fn write_local(chosen: &Chosen) -> ArrayVec<u8, TEXT_LIMIT>
     ensures value { result.items ≡ session_text chosen.now }

@@ -5,9 +5,9 @@
 //! the [`Sums`] keeps the sum of the joined frames, sample by sample, as 160 numbers of 32 bits. These totals need no
 //! saturation: at most [`TERMINATIONS`] 16-bit samples are added.
 //!
-//! So a listener's mix needs no sum over all talkers. It is the room's total minus the rows that the listener must not
-//! hear: the listener's own (the base) and the silenced ones. The mix is saturated once, to 16 bits, and encoded as
-//! G.711.
+//! So a listener's mix doesn't need a sum over all talkers. It is the room's total minus the rows that the listener
+//! must not hear: the listener's own (the base) and the silenced ones. The mix is saturated once, to 16 bits, and
+//! encoded as G.711.
 //!
 //! ```rust
 //! let mut sums = Sums::new(alloc)?;

@@ -48,7 +48,7 @@ impl Model for Sums {
 impl Sums {
     ghost use Rattle.mg_sums.specs.Sums.{first_sums, frame_of_row, room_of, total_of, mix_of, heard_of, AreOfRoom, AreValidSums};
 
-    /// Creates silent rows that are joined to no room.
+    /// Creates silent rows that aren't joined to any room.
     ///
     /// Fails only if the allocation fails. No other call allocates.
     pub fn new(alloc: Global) -> Result<Self, AllocError>
@@ -162,7 +162,7 @@ impl Sums {
         self.frames[row.number()].is_silent()
     }
 
-    /// Returns the room that a row is joined to, or `None` if it is joined to no room.
+    /// Returns the room that a row is joined to, or `None` if it isn't joined to one.
     pub fn room(&self, row: Row) -> Option<Room>
         ensures value { result ≡ room_of self.now row }
         ensures valid { AreValidSums self.now }

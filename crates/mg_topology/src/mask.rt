@@ -92,7 +92,7 @@ pub fn difference(a: Mask, b: Mask) -> Mask
     a & !b
 }
 
-/// Returns whether no seat is in both sets.
+/// Returns whether the sets have no seat in common.
 pub fn is_disjoint(a: Mask, b: Mask) -> bool
     ensures test { result ≡ is_disjoint a b }
     ensures common { IsFalse result ↔ HaveCommonSeat a b }

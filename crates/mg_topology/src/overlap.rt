@@ -5,7 +5,7 @@ use std::fmt;
 
 /// The two sets of a Oneway triple share a seat. No triple was applied.
 ///
-/// Such a triple would let a seat hear itself in one direction, which has no meaning. Rejecting it is this project's
+/// Such a triple would let a seat hear itself in one direction, which makes no sense. Rejecting it is this project's
 /// own rule.
 #[derive(Clone, Copy, Debug, PartialEq, Eq, Hash)]
 pub struct Overlap;

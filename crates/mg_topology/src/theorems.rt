@@ -1,4 +1,4 @@
-//! What the edits in a context determine, however they are stored.
+//! What follows from the edits in a context, however they are stored.
 //!
 //! The functions do nothing: their contracts are the theorems. A proof that needs a theorem calls its function.
 //! Lists of edits start with the newest.
@@ -83,7 +83,8 @@ pub fn overlap_is_a_common_seat()
         IsTrue (list_any overlaps triples) ↔ Any Overlaps triples }
 {}
 
-/// The empty mask has no seat, the full one has every seat, and no mask has a seat at or above the limit.
+/// The empty mask contains no seat, the full one contains every seat, and no mask contains a seat at or above the
+/// limit.
 ///
 /// Masks with the same seats are equal.
 pub fn masks_are_sets()
@@ -99,7 +100,7 @@ pub fn each_member_has_a_seat()
     ensures { member_limit ≤ seat_limit }
 {}
 
-/// The list of a mask's seats has exactly those seats, in ascending order.
+/// The list of a mask's seats contains exactly those seats, in ascending order.
 ///
 /// Filtering all seats with any test that agrees with the mask gives this list.
 pub fn seats_are_listed()

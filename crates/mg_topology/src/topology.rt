@@ -154,7 +154,7 @@ fn any_overlaps(triples: &[Triple]) -> bool
     triples.iter().any(|triple| triple.overlaps())
 }
 
-/// Lets each listener hear the seat.
+/// Lets each listener hear the member in the seat.
 fn unmute_seat(rows: &mut [Mask; SEATS], seat: usize)
     requires { seat < SEATS }
     ensures { (talker listener : ℕ) → listener < SEATS →

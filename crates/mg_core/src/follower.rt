@@ -18,7 +18,7 @@ pub trait Follower {
     /// gateway that was started with this configuration.
     ghost follows: { Self → Self → Config → List Note → Type 0 };
 
-    /// Handles a comment or an empty line, given without its line end.
+    /// Handles a comment or an empty line, passed without its line end.
     fn comment(&mut self, line: &[u8]) -> Result<(), Stopped>
         ensures value { (start : Self) (config : Config) (notes : List Note) →
             follows start self.old config notes →

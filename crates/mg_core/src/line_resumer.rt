@@ -94,7 +94,7 @@ impl LineResumer {
         }
     }
 
-    /// Runs a complete line, given with its number.
+    /// Runs a complete line; `number` is its number.
     pub fn take_line<F: Follower>(
         &mut self,
         alloc: Global,

@@ -181,7 +181,7 @@ impl LineRunner {
         }
     }
 
-    /// Runs a complete line, given with its number.
+    /// Runs a complete line; `number` is its number.
     pub fn take_line<W: Write>(
         &mut self,
         alloc: Global,

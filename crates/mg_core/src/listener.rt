@@ -38,7 +38,7 @@ impl Model for KeptListener {
 }
 
 impl KeptListener {
-    /// Returns an empty listener, which belongs to no termination.
+    /// Returns an empty listener, which doesn't belong to any termination.
     pub fn new() -> Self
         ensures value { result ≡ record { number = 0; context = 0; port = 0; mode = Mode.Inactive; talkers = [] } }
     {

@@ -100,7 +100,7 @@ impl Core {
 
     /// Handles a control datagram; [`Core::answer`] returns its answer.
     ///
-    /// Only reading the datagram allocates. If memory runs out, only the last answer changes: it is then empty.
+    /// Only reading the datagram allocates. If memory runs out, only the last answer changes: it becomes empty.
     pub fn control(&mut self, alloc: Global, source: Peer, bytes: &[u8]) -> Result<Answer, NoMemory>
         ensures answered { IfOk result (λ answer. Leads StandsFor self.old.state self.new.state (λ w next.
             Step w (events.Control source bytes.now) (answer_to source (reported answer self.new.answer)) next)) }

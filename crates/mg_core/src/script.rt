@@ -13,7 +13,7 @@ use std::alloc::{AllocError, AllocFailed, Global};
 /// The maximum length of a script line, in bytes.
 pub const LINE_LIMIT: usize = 140000;
 
-/// The maximum length of a datagram, in bytes: UDP's own limit.
+/// The maximum length of a datagram, in bytes: the limit of UDP itself.
 pub const DATAGRAM_LIMIT: usize = 65535;
 
 /// Why a line was not parsed.
@@ -204,7 +204,7 @@ fn is_comment(line: &[u8]) -> bool
     }
 }
 
-/// Parses a line, given without its line feed. Returns `None` if the line has no event.
+/// Parses a line without its line feed. Returns `None` if the line has no event.
 #[tactic(auto, unfolding(crate::specs::Script::event_of))]
 pub fn event_of(alloc: Global, line: &[u8]) -> Result<Option<Event>, ParseFault>
     ensures { Reads (λ event. event) result (event_of line.now) }

@@ -30,7 +30,7 @@ pub fn readings_are_unique()
     mg_text::theorems::one_reading(b"");
 }
 
-/// Every control datagram has a reading. If memory suffices, [`Core::read`](crate::Core::read) returns it.
+/// Every control datagram has a reading. If there is enough memory, [`Core::read`](crate::Core::read) returns it.
 pub fn readings_exist(bytes: &[u8])
     ensures theorem { (parsed : Parsed) × IsReadingOf bytes.now parsed }
 {
@@ -192,8 +192,8 @@ pub fn events_are_counted()
 
 /// A recording is a script of its events.
 ///
-/// The line for an event is read as that event, and any other line is read as a comment. If a recording is cut after
-/// any byte, its complete lines are a script of its first events.
+/// The line for an event is read as that event, and any other line is read as a comment. Wherever a recording is cut
+/// off, its complete lines are a script of its first events.
 pub fn recordings_are_read()
     ensures theorem { RecordingsAreRead }
     ensures cut { CutRecordingsAreRead }

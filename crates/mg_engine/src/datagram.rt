@@ -74,7 +74,7 @@ pub fn address_last(outbox: &mut Outbox, from: u16, to: Peer, header: Header)
     outbox[last].address(from, to, header);
 }
 
-/// Appends to an outbox a copy of its packet at this index.
+/// Appends a copy of the packet at this index to the outbox.
 pub fn lend(outbox: &mut Outbox, packet: u8)
     requires there { packet < length outbox.old.items }
     requires room { length outbox.old.items < TERMINATIONS }

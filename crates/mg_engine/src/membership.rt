@@ -1,4 +1,5 @@
-//! Updates the table of flows when members enter, leave or change, and joins their rows.
+//! Updates the table of flows when members enter, leave or change, and joins the rows of talking members to their
+//! rooms.
 
 ghost use Rattle.std.specs.Prelude.{◌≡◌, ◌<◌, IsFalse, IsTrue, length, slice_set};
 ghost use Rattle.mg_words.specs.Limits.{termination_limit};
@@ -66,7 +67,7 @@ pub fn vacate(flows: &mut FlowTable, member: Member)
     flows.on_leave(member_place(member));
 }
 
-/// Changes a member's mode. If the member now talks, its row is joined to the room; otherwise, the row is joined to no
+/// Changes a member's mode. If the member now talks, its row is joined to the room; otherwise, it isn't joined to any
 /// room.
 pub fn take_mode(flows: &mut FlowTable, sums: &mut Sums, member: Member)
     requires within { IsWithinLimits (member_place member) }

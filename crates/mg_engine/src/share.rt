@@ -6,7 +6,7 @@ use mg_topology::mask::Mask;
 pub struct Share {
     /// The seats of the talkers whose speech flows to the packet's listener.
     pub talkers: Mask,
-    /// The law in which the payload is encoded.
+    /// The law with which the payload is encoded.
     pub law: Law,
     /// The packet's index in the outbox.
     pub packet: u8,

@@ -23,6 +23,6 @@ pub enum DropCause {
     Rtp(RtpFault),
     /// The payload type does not match the Local's law.
     PayloadType,
-    /// The payload does not have 160 bytes.
+    /// The payload is not 160 bytes long.
     Length,
 }

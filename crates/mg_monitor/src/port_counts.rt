@@ -55,7 +55,7 @@ impl PortCounts {
         self.loss.lost().saturating_sub(self.lost_before)
     }
 
-    /// Returns how long an expected caller has been silent, in ticks.
+    /// Returns how long a caller who is expected to send has been silent, in ticks.
     ///
     /// `expected` is the termination whose caller should send now. The silence starts at the last accepted packet, or
     /// at the report at which that caller was first expected to send, whichever is later.

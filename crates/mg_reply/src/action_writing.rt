@@ -105,7 +105,7 @@ fn close(draft: &mut Draft, is_empty: bool)
     }
 }
 
-/// Appends an item, preceded by the mark, if the item is of this kind. Returns whether the list still has no parts.
+/// Appends an item, preceded by the mark, if the item is of this kind. Returns whether the list is still empty.
 #[tactic(auto, using(crate::proofs::ListedLemmas::one_other), unfolding(crate::specs::Listed::listed))]
 fn put_if_of(
     draft: &mut Draft,
@@ -129,7 +129,7 @@ fn put_if_of(
 
 /// Appends the items of a kind, with `opening` before the first part of the list and commas between parts.
 ///
-/// Returns whether the list still has no parts.
+/// Returns whether the list is still empty.
 fn put_all(
     draft: &mut Draft,
     opening: &[u8],

@@ -9,7 +9,7 @@ pub(crate) const NAME_ROOM: usize = 16;
 
 /// The name of a termination, `RTP/` and its number in decimal.
 ///
-/// The name has 5 to 14 bytes but is stored in 16, so that one move copies it. In contracts, only the name appears.
+/// The name is 5 to 14 bytes long but is stored in 16, so that one move copies it. In contracts, only the name appears.
 #[derive(Drop)]
 pub struct RtpName {
     padded: [u8; NAME_ROOM],

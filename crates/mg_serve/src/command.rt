@@ -19,7 +19,7 @@ pub enum Command {
 }
 
 impl Command {
-    /// Returns the command that a line names. The line is given without its line feed.
+    /// Returns the command that a line names. Pass the line without its line feed.
     pub fn of_line(line: &[u8]) -> Command
         ensures value { result ≡ line_command line.now }
     {

@@ -81,8 +81,8 @@ fn append_lines<P: Ports>(ports: &mut P, ticks: usize, failed: &mut u64) -> Resu
 }
 
 impl Journaling {
-    /// Starts with a journal that lacks no ticks. Messages are appended with this durability; `None` means that there
-    /// is no journal. No other call allocates.
+    /// Starts with a journal that isn't missing any ticks. Messages are appended with this durability; `None` means
+    /// that there is no journal. No other call allocates.
     pub fn new(alloc: Global, durability: Option<Durability>) -> Result<Self, AllocError>
         ensures value { IfOk result (λ j. j ≡ record { durability = durability; lacking = 0 }) }
     {

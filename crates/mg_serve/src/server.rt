@@ -118,7 +118,7 @@ fn media_port(setup: &Setup<'_>, socket: u16) -> u16
 }
 
 impl<'a, M: Monitor> Server<'a, M> {
-    /// Creates a server with a gateway, watched by a monitor. The journal, if there is one, lacks no ticks.
+    /// Creates a server with a gateway, watched by a monitor. The journal, if there is one, isn't missing any ticks.
     pub fn new(
         alloc: Global,
         core: Core,

@@ -111,8 +111,8 @@ fn drive<P: Ports, R: Read, W: Write, M: Monitor>(
 /// After a delay, all missed ticks are executed at once. If a tick is more than `allowed` ticks late, its packets are
 /// not sent.
 ///
-/// Ends only on a fault: `Read` if the clock can't be read, `Write` if printing failed, or `NoMemory` before anything
-/// is executed.
+/// Returns only on a fault: `Read` if the clock can't be read, `Write` if printing failed, or `NoMemory` before
+/// anything is executed.
 pub fn serve_by_clock<P: Ports, K: Watch, W: Write, M: Monitor>(
     alloc: Global,
     setup: &Setup<'_>,

@@ -188,7 +188,7 @@ pub fn is_named(text: &[u8], keyword: Keyword) -> bool
     same_word(text, keyword.long().as_bytes()) || same_word(text, keyword.short().as_bytes())
 }
 
-/// Returns the keywords with a form that starts with this letter, given in lower case.
+/// Returns the keywords that have a form starting with this lower-case letter.
 #[tactic(auto, unfolding(crate::specs::aids::Keywords::words_by, crate::specs::Keyword::forms_of))]
 fn words_by(letter: u8) -> &'static [Keyword]
     ensures value { result.now ≡ words_by letter }

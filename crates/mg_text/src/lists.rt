@@ -71,7 +71,7 @@ pub fn braced_at<'t, T: FromTokens>(
     items_at(alloc, source, rest)
 }
 
-/// Parses items in braces. There may be no items.
+/// Parses items in braces. There may be none.
 #[tactic(auto, unfolding(crate::specs::aids::Reading::any_braced_at))]
 pub fn any_braced_at<'t, T: FromTokens>(
     alloc: Global,

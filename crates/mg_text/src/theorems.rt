@@ -30,8 +30,8 @@ fn bytes_are_tokens(source: &[u8])
     }
 }
 
-/// Each datagram has exactly one reading: as a message with its tree, as a message of another version, as one that
-/// exceeds a limit, or as no message.
+/// Each datagram has exactly one reading: it is a message with its tree, a message of another version, a message that
+/// exceeds a limit, or not a message.
 pub fn one_reading(source: &[u8])
     ensures some { (reading : MessageReading) × IsMessageReading source.now reading }
     ensures at_most_one { (bytes : List ℕ) (a b : MessageReading) →

@@ -34,7 +34,7 @@ pub record IsReadEarly (tick count : ℕ) (old new : ClockSeen) : Type 0 where
   pub readings : Appends old.readings new.readings early
   pub slept : Appends old.waits new.waits waits
 
--- A clock is read until a tick is due: the tick is due at this reading, and at no earlier one.
+-- A clock is read until a tick is due: the tick is due at this reading, but not at any earlier one.
 pub record IsReadUntilDue (tick now : ℕ) (old new : ClockSeen) : Type 0 where
   pub count : ℕ
   pub before : Option (List ℕ)

@@ -26,8 +26,8 @@ use Rattle.mg_core.specs.World.{World}
 
 -- ## A reply
 
--- the text of a reply that is sent: the whole reply if it has at most 16,000 bytes, otherwise an
--- error
+-- the text of a reply that is sent: the whole reply if it is at most 16,000 bytes long, otherwise
+-- an error
 abbrev pub sent_text : ℕ → List Item → List ℕ
 sent_text n items =
     if nat_lt reply_limit (length (reply_text n items))

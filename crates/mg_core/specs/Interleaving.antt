@@ -21,7 +21,7 @@ abbrev pub seen_at : ℕ → List Event → List Event
 seen_at port events = filter (λ e. not (is_elsewhere port e)) events
 
 -- The control datagrams and ticks are the same, in the same order. Between any two of them, before
--- the first and after the last, each port has the same RTP datagrams in the same order.
+-- the first and after the last, each port receives the same RTP datagrams in the same order.
 abbrev pub AreSameToEachPort : List Event → List Event → Type 0
 AreSameToEachPort a b = (port : ℕ) → seen_at port a ≡ seen_at port b
 

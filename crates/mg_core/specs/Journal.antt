@@ -39,9 +39,9 @@ ReportsOnlyChanges w (event ∷ events) text last =
     × Step w event sent next × ReportsOnlyChanges next events others last
     × (text ≡ changes_by w next ++ others)
 
--- Two worlds agree except for what was received, and their terminations and contexts are
--- consistent. Events cause the same changes in both, even if only the first world receives the RTP
--- datagrams.
+-- Suppose two worlds agree except for what was received, and their terminations and contexts are
+-- consistent. Then events cause the same changes in both, even if only the first world receives the
+-- RTP datagrams.
 abbrev pub AgreementHasSameReports : Type 0
 AgreementHasSameReports =
     (a b x y : World) (events : List Event) (s t : List ℕ)

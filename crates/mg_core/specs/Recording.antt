@@ -44,7 +44,7 @@ events_in (Noted text ∷ entries) = events_in entries
 
 -- ## What can be read back
 
--- a datagram that can arrive: from an IPv4 address and a 16-bit port, with at most 65,535 bytes
+-- a datagram that can arrive: from an IPv4 address and a 16-bit port, at most 65,535 bytes long
 pub record IsDatagram (source : Peer) (bytes : List ℕ) : Type 0 where
   pub four : length source.address ≡ 4
   pub parts : All (λ b. b < 256) source.address
@@ -65,7 +65,7 @@ RecordingsAreRead =
     (entries : List Entry) → All IsRecorded entries
     → events_of (lines_of true (recording_of entries)) ≡ Some (events_in entries)
 
--- If a recording is truncated after any byte, its complete lines are a script of its first events.
+-- Wherever a recording is cut off, its complete lines are a script of its first events.
 abbrev pub CutRecordingsAreRead : Type 0
 CutRecordingsAreRead =
     (entries : List Entry) (front rest : List ℕ) → All IsRecorded entries

@@ -50,7 +50,7 @@ abbrev pub ok_of : Result (List ℕ) FromHexError → Option (List ℕ)
 ok_of (Ok bytes) = Some bytes
 ok_of (Err e) = None
 
--- a datagram has at most 65,535 bytes
+-- a datagram is at most 65,535 bytes long
 abbrev pub datagram : List ℕ → Option (List ℕ)
 datagram bytes = if nat_le (length bytes) 65535 then Some bytes else None
 
@@ -106,8 +106,8 @@ abbrev pub is_comment : List ℕ → Bool
 is_comment [] = true
 is_comment (b ∷ bs) = b == 35
 
--- The event of a line: `Some None` if the line has no event, and `None` if it is bad. A line has
--- at most 140,000 bytes.
+-- The event of a line: `Some None` if the line has no event, and `None` if it is bad. A line is at
+-- most 140,000 bytes long.
 unfoldable pub event_of : List ℕ → Option (Option Event)
 event_of line =
     if nat_lt 140000 (length line) then None

@@ -87,8 +87,8 @@ UnheardChangesNoPacket =
 
 -- ## What a packet carries
 
--- after the 12 bytes of the header, a packet has the encoding of each sample that the listener is
--- sent
+-- after the 12 bytes of the header, a packet contains the encoding of each sample that the listener
+-- is sent
 abbrev pub PayloadsAreMixes : Type 0
 PayloadsAreMixes =
     (w : Gateway) (r : Record) (to : Chosen) (s : TerminationMedia) (i : ℕ) → i < 160

@@ -1,4 +1,4 @@
--- The edits of all rooms, newest first, and what they determine (RFC 3525, sections 7.1.7 and
+-- The edits of all rooms, newest first, and what follows from them (RFC 3525, sections 7.1.7 and
 -- 7.1.18). That a newcomer and each member hear each other is this project's own rule.
 use Rattle.std.specs.Prelude.{ℕ, Bool, false, not, ◌&&◌, ◌==◌, if◌then◌else◌, List, [], ◌∷◌}
 use Rattle.mg_topology.specs.declared.triple.Triple.{Triple}

@@ -30,7 +30,7 @@ cut_to len file = record {
 abbrev pub synced : FileState → FileState
 synced file = record file { synced = file.bytes }
 
--- the file has these bytes at this offset; there are none only if the file ends there
+-- the file has these bytes at this offset; the list is empty only if the file ends there
 abbrev pub HasAt : FileState → ℕ → List ℕ → Type 0
 HasAt file at part =
     IfSome file.bytes (λ bytes. StartsWith (drop at bytes) part × (part ≡ [] → drop at bytes ≡ []))

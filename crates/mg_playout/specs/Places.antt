@@ -13,7 +13,7 @@ FramePlaces = List (Option (List ℤ))
 abbrev pub frame_at : FramePlaces → ℕ → Option (List ℤ)
 frame_at places place = slice_index_or places place None
 
--- whether no place has a frame
+-- whether every place is empty
 abbrev pub has_no_frame : FramePlaces → Bool
 has_no_frame places = list_all is_none places
 

@@ -16,8 +16,8 @@ use Rattle.mg_playout.specs.declared.played.Played.{Played}
 use Rattle.mg_playout.specs.declared.played.Played.TheVariants.{Silence}
 use Rattle.mg_playout.specs.declared.source.Source.{Source}
 
--- A play list: its phase, its source, the frame played last, and the places of the frames that
--- wait. Place i belongs to the source's next sequence number plus i, modulo 65536.
+-- A play list: its phase, its source, the last frame played, and the places of the waiting frames.
+-- Place i belongs to the source's next sequence number plus i, modulo 65536.
 pub record PlayList : Type 0 where
   pub phase : Phase
   pub source : Option Source
@@ -46,7 +46,7 @@ started list ssrc sequence frame = record {
   places = started_with frame (depth_of list);
 }
 
--- the source, with its next sequence number raised by `count`
+-- the source, with its next sequence number increased by `count`
 abbrev pub advanced : ℕ → Source → Source
 advanced count source = record { ssrc = source.ssrc; next = (source.next + count) % 65536 }
 
@@ -90,8 +90,8 @@ placed list ssrc sequence frame =
     else if is_some (frame_at list.places place) then (list, answer.Again)
     else (filled list place frame, answer.Placed)
 
--- A tick: the play list after it, and what it plays. What was at place 0 in this tick, a frame or
--- none, becomes the last frame. An empty list plays silence, and forgets the last frame.
+-- A tick: the play list after it, and what it plays. Whatever was at place 0 in this tick, a frame
+-- or nothing, becomes the last frame. An empty list plays silence, and forgets the last frame.
 abbrev pub ticked_in : Phase → PlayList → PlayList × Played
 ticked_in Idle list = (list, Silence)
 ticked_in (Wait ticks) list =

@@ -21,7 +21,7 @@ IsComment line =
     (text : List ℕ) × (line ≡ codes "# " ++ (text ++ codes "\n")) × (length text ≤ 1000)
     × All (λ b. b ≢ 10) text
 
--- Lines were appended, perhaps after a comment.
+-- Lines were appended, possibly preceded by a comment.
 abbrev pub AppendsDated : List ℕ → Durability → JournalState → JournalState
     → Result (Unit {0}) AppendFault → Type 0
 AppendsDated lines durability old new result =

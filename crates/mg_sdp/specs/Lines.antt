@@ -28,7 +28,7 @@ trimmed text = trimmed_end (drop (prefix_len is_space_or_tab text) text)
 unfoldable pub content_lines : List ℕ → List (List ℕ)
 content_lines content = filter is_filled (map trimmed (slice_split is_line_end content))
 
--- a line is a letter, = and a value
+-- a line consists of a letter, = and a value
 unfoldable pub letter_and_value : List ℕ → Option (ℕ × List ℕ)
 letter_and_value (letter ∷ equals ∷ value) =
     if is_ascii_alphabetic letter && equals == byte "=" then Some (letter, value) else None

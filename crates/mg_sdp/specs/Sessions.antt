@@ -6,7 +6,7 @@ use Rattle.mg_sdp.specs.declared.offer.Offer.{Offer}
 use Rattle.mg_sdp.specs.Lines.{content_lines}
 use Rattle.mg_sdp.specs.Alternatives.{is_version, offers_read}
 
--- the lines of an alternative as a list of one alternative, or of none if there is no line
+-- the lines of an alternative as a list of one alternative, or an empty list if there is no line
 abbrev pub one_alternative : List (List ℕ) → List (List (List ℕ))
 one_alternative [] = []
 one_alternative (line ∷ lines) = (line ∷ lines) ∷ []

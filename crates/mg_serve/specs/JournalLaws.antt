@@ -98,8 +98,8 @@ pub record LosesTicks (lacking : ℕ) (happened written : List Event) : Type 0 w
   pub wrote : (written ≡ kept)
       ⊎ ((source : Peer) × (bytes : List ℕ) × (written ≡ kept ++ events.Control source bytes ∷ []))
 
--- This loss in terms of worlds. The gateway was in the world `now`. There is a world before the
--- lost ticks; once these have passed, it agrees with `now`, except for what was received. The
+-- The same loss, in terms of worlds. The gateway was in the world `now`. There is a world before
+-- the lost ticks; once these have passed, it agrees with `now`, except for what was received. The
 -- gateway resumes in that world, or in the one after a message that was announced, was not handled
 -- and got no answer.
 pub record LosesSpeech (lacking : ℕ) (now resumed : World) : Type 0 where
@@ -166,8 +166,8 @@ WereTold told front first =
     ⊎ ((source : Peer) × (bytes : List ℕ)
     × (first ≡ (told ++ without_rtp (events_of_trace past)) ++ events.Control source bytes ∷ []))))
 
--- If the text of a journal is cut after any byte, its complete lines are a script of its first
--- events. These are what had happened by some moment.
+-- Wherever the text of a journal is cut off, its complete lines are a script of its first events.
+-- These are what had happened by some moment.
 abbrev pub AnyCutIsAMoment : Type 0
 AnyCutIsAMoment =
     (setup : Setup) (durability : Durability) (w : World) (told : List Event)

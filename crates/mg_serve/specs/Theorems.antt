@@ -43,8 +43,8 @@ SessionsAreRuns =
 abbrev pub recorded : List ℕ → List TraceEntry → List ℕ
 recorded title trace = output_of Recording (opening (Some title) ++ trace)
 
--- A recording of a session is a script of its events. If it is truncated after any byte, its
--- complete lines are a script of its first events.
+-- A recording of a session is a script of its events. Wherever it is cut off, its complete lines
+-- are a script of its first events.
 abbrev pub SessionsAreReadBack : Type 0
 SessionsAreReadBack =
     (setup : Setup) (title : List ℕ) (commands : List Command) (next : World) (trace : List TraceEntry)

@@ -15,7 +15,7 @@ pub record SumsState : Type 0 where
   pub rooms : List (Option ℕ)
   pub work : ℕ
 
--- a silent row for each possible termination, joined to no room
+-- a silent row for each possible termination, not joined to any room
 unfoldable pub first_sums : SumsState
 first_sums =
     record {
@@ -92,7 +92,7 @@ abbrev pub frame_calls : Option ℕ → ℕ
 frame_calls None = 0
 frame_calls (Some room) = 2
 
--- a row for each possible termination, with a frame, joined to a room or to none
+-- a row for each possible termination, with a frame, and joined to at most one room
 pub record AreValidSums (kept : SumsState) : Type 0 where
   pub frames : length kept.frames ≡ termination_limit
   pub rooms : length kept.rooms ≡ termination_limit

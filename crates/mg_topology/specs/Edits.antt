@@ -1,5 +1,5 @@
--- The edits of one context, newest first, and what they determine (RFC 3525, section 7.1.18). That
--- a newcomer and each member hear each other is this project's own rule.
+-- The edits of one context, newest first, and what follows from them (RFC 3525, section 7.1.18).
+-- That a newcomer and each member hear each other is this project's own rule.
 use Rattle.std.specs.Prelude.{ℕ, Bool, true, false, not, ◌&&◌, ◌||◌, ◌==◌, Option, Some, None}
 use Rattle.std.specs.Prelude.{if◌then◌else◌, List, [], ◌∷◌}
 use Rattle.mg_topology.specs.Triple.{mentions, word_of}

@@ -20,7 +20,7 @@ seats_of mask = filter (has_seat mask) (range_with_len 0 seat_limit)
 abbrev pub seat_count : ℕ → ℕ
 seat_count mask = length (seats_of mask)
 
--- whether no seat is in both sets
+-- whether the sets have no seat in common
 unfoldable pub is_disjoint : ℕ → ℕ → Bool
 is_disjoint a b = bit_and a b == 0
 

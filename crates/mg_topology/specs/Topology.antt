@@ -14,7 +14,7 @@ pub record TopologyState : Type 0 where
 abbrev pub holds : TopologyState → ℕ → Bool
 holds kept seat = nat_lt seat seat_limit && has_seat kept.held seat
 
--- whether the listener hears the talker: both seats are held, they differ, and the row has the
+-- whether the listener hears the talker: both seats are held, they differ, and the row contains the
 -- talker
 abbrev pub hears : TopologyState → ℕ → ℕ → Bool
 hears kept talker listener =

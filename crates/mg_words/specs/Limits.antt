@@ -34,7 +34,7 @@ request_limit = 4
 abbrev pub command_limit : ℕ
 command_limit = 64
 
--- the maximum length, in bytes, of a termination's name, of a domain name and of a device name
+-- the maximum length, in bytes, of a termination's name, a domain name or a device name
 abbrev pub name_limit : ℕ
 name_limit = 64
 

@@ -1,4 +1,4 @@
--- Names of terminations (RFC 3525, Annex B.2, TerminationID), with up to 64 bytes in this profile.
+-- Names of terminations (RFC 3525, Annex B.2, TerminationID), of up to 64 bytes in this profile.
 use Rattle.std.specs.Prelude.{ℕ, Bool, ◌&&◌, ◌==◌, not, nat_le, List, ◌++◌, length, codes, decimal}
 use Rattle.std.specs.List.{list_all}
 use Rattle.mg_words.specs.Limits.{name_limit}

@@ -1,4 +1,4 @@
--- Bytes of a word (RFC 3525, Annex B.2, SafeChar). Which bytes a word may have is this profile's
+-- Bytes of a word (RFC 3525, Annex B.2, SafeChar). Which bytes a word may contain is this profile's
 -- choice.
 use Rattle.std.specs.Prelude.{ℕ, Bool, ◌||◌, ◌&&◌, ◌==◌, not, nat_le}
 

@@ -21,8 +21,8 @@ abbrev pub HasFollowed : {F : Type 0} → (F → F → Config → List Note → 
 HasFollowed follows start now config notes =
     follows start start config [] → follows start now config notes
 
--- A gateway has run these notes, and a follower has followed them. But both still wait for the last
--- of them, this many ticks.
+-- A gateway has run these notes, and a follower has followed them, except for the last ones: this
+-- many ticks, which are still pending.
 pub record KeepsUp (config : Config) (state : CoreState) (ticks : ℕ) (Follows : List Note → Type 0)
     (notes : List Note) : Type 0 where
   pub past : List Note

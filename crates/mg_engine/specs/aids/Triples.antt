@@ -20,7 +20,7 @@ abbrev pub IsSeated : Registry → ℕ → ℕ → ℕ → Type 0
 IsSeated w c n seat =
     (r : Record) × (p : Place) × IsOnPlace w n r p × (r.context ≡ c) × (p.seat ≡ seat)
 
--- the mask has exactly the seats of the named members, and only members are named
+-- the mask contains exactly the seats of the named members, and only members are named
 pub record Matches (w : Registry) (c : ℕ) (names : List ℕ) (mask : ℕ) : Type 0 where
   pub same : (n seat : ℕ) → IsSeated w c n seat → has_seat mask seat ≡ has names n
   pub seats : (seat : ℕ) → IsTrue (has_seat mask seat) → (n : ℕ) × IsSeated w c n seat

@@ -36,7 +36,7 @@ abbrev pub CutsBack : ℕ → FileState → FileState → AppendFault → Type 0
 CutsBack len old new Refused = new ≡ cut_to len old
 CutsBack len old new Broken = new ≡ old
 
--- a prefix of a text was written, and was then cut off or not
+-- a prefix of a text was written, and may then have been cut off
 abbrev pub Leaves : List ℕ → ℕ → FileState → FileState → AppendFault → Type 0
 Leaves text len old new Refused = (n : ℕ) × (new ≡ cut_to len (grown old (take n text)))
 Leaves text len old new Broken = (n : ℕ) × (new ≡ grown old (take n text))

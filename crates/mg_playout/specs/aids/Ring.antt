@@ -13,7 +13,7 @@ pub record IsRingOfPlaces (ring : Buffer (Option (List ℤ))) : Type 0 where
   pub at_most : length ring.items ≤ greatest_depth + 1
   pub frames : All (λ item. IfSome item IsFrame) ring.items
 
--- the frames that a play list keeps: the one played last, if any, and those that wait
+-- the frames that a play list keeps: the last one played, if any, and those that are waiting
 pub record KeptFrames : Type 0 where
   pub last : Option (List ℤ)
   pub places : FramePlaces

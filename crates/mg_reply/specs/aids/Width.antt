@@ -8,7 +8,7 @@ use Rattle.mg_reply.specs.Entries.{item_text}
 use Rattle.mg_reply.specs.Reply.{Answered, new_reply, is_refusal, last_is_action, after_all}
 use Rattle.mg_reply.specs.Written.{action_text, reply_text}
 
--- The item has at least 10 bytes with its comma, as every item of a request's reply has. The end
+-- The item is at least 10 bytes long with its comma, as every item of a request's reply is. The end
 -- of an action counts without its entries.
 abbrev pub is_wide : Item → Bool
 is_wide (Triple a b association) = nat_le 9 (length (item_text (Triple a b association)))

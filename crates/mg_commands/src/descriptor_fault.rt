@@ -207,7 +207,7 @@ fn media_part_fault(source: &[u8], before: &[MediaPart], part: &MediaPart) -> Op
     }
 }
 
-/// Returns the stream number of a `MediaPart`, or 0 if it belongs to no stream.
+/// Returns the stream number of a `MediaPart`, or 0 if it doesn't belong to a stream.
 fn stream_of(part: &MediaPart) -> u32
     ensures value { result ≡ stream_of part.now }
 {

@@ -123,7 +123,7 @@ impl Core {
         }
     }
 
-    /// Reads a control datagram for [`Core::run`]. Needs no core, and is the only step that allocates.
+    /// Reads a control datagram for [`Core::run`]. Doesn't need a core, and is the only step that allocates.
     ///
     /// Fails only if memory runs out. Reading the same datagram later may succeed.
     pub fn read(alloc: Global, bytes: &[u8]) -> Result<Parsed, NoMemory>
@@ -275,7 +275,7 @@ impl Core {
         self.outbox.as_slice()
     }
 
-    /// Returns whether a talker's speech flows to a listener, or false if either number names no termination.
+    /// Returns whether a talker's speech flows to a listener, or false if either number doesn't name a termination.
     pub fn flow(&self, talker: u32, listener: u32) -> bool
         ensures value { (w : World) → StandsFor self.now.state w → result ≡ flow w.gateway talker listener }
         ensures headline { FlowIsRecomputed self.now.state talker listener result }

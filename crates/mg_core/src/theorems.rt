@@ -159,7 +159,7 @@ pub fn rtp_changes_speech_only()
     mg_commands::theorems::requests_are_consistent();
 }
 
-/// RTP datagrams change no flow. So control datagrams and ticks alone determine who could hear whom, and when.
+/// RTP datagrams don't change any flow. So control datagrams and ticks alone determine who could hear whom, and when.
 ///
 /// Suppose two gateways receive the same control datagrams and ticks, but only one of them receives RTP datagrams. Then
 /// the same flows are open in both gateways, and both report the same changes. So a journal can leave out RTP

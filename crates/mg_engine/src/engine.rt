@@ -332,7 +332,7 @@ impl Engine {
 
     /// Applies triples in order to the current members of the action's context (RFC 3525, section 7.1.18).
     ///
-    /// Returns the context's number. If there are errors, returns the first one and applies no triple.
+    /// Returns the context's number. If there are errors, returns the first one and doesn't apply any triple.
     pub fn apply_triples(
         &mut self,
         target: Target,
@@ -438,7 +438,7 @@ impl Engine {
         }
     }
 
-    /// Returns whether a talker's speech flows to a listener, or false if either number names no termination.
+    /// Returns whether a talker's speech flows to a listener, or false if either number doesn't name a termination.
     pub fn flow(&self, talker: u32, listener: u32) -> bool
         ensures value { (w : Gateway) → StandsFor self.now w → result ≡ flow w talker listener }
     {

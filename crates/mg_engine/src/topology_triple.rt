@@ -5,7 +5,7 @@ use mg_words::Association;
 /// The maximum number of triples in an edit. A control datagram cannot hold more, as `read` in `mg_text` ensures.
 pub const TRIPLES: usize = 1200;
 
-/// Most edits have at most this many triples. Such edits take less time, because they need no large array.
+/// Most edits have at most this many triples. Such edits take less time, because they don't need a large array.
 pub const FEW_TRIPLES: usize = 16;
 
 /// Who hears whom among the members that two terms match (RFC 3525, section 7.1.18).

@@ -5,7 +5,7 @@ pub enum TripleTerm {
     Every,
     /// A termination, named by its number.
     Number(u32),
-    /// `ROOT`, or a `$` that denotes no termination: neither is allowed in a triple.
+    /// `ROOT`, or a `$` that doesn't denote a termination: neither is allowed in a triple.
     Barred,
     /// A name that no termination has.
     Stranger,

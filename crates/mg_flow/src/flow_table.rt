@@ -145,7 +145,7 @@ impl FlowTable {
         room.enter(usize::from(place.seat), talks, listens);
     }
 
-    /// Removes the member at the place. Who hears whom among the others is unchanged.
+    /// Removes the member at the place. Doesn't change who hears whom among the others.
     pub fn on_leave(&mut self, place: Place)
         requires { IsTrue (holds self.old place) }
         ensures edits { (es : List FlowEdit) → StandsFor self.old es →

@@ -97,7 +97,7 @@ impl Kept {
     }
 }
 
-/// Removes, from the first `len` places, the sender's replies with numbers from `first` to `last`.
+/// Removes the sender's replies with numbers from `first` to `last` from the first `len` places.
 ///
 /// The other replies move to the front, in order. Returns how many replies remain.
 fn drop_range(places: &mut [Entry], len: usize, sender: &[u8], first: u32, last: u32) -> usize

@@ -4,7 +4,7 @@
 //!
 //! [`Ports`] is what a gateway needs from its sockets and its journal: to receive a datagram without blocking, to send
 //! one, to append lines to the journal, and to count the receives and sends that failed. [`FakePorts`] provides
-//! in-memory ports for tests: it returns given datagrams, makes chosen calls fail, and logs each call.
+//! in-memory ports for tests: it returns the datagrams that it was given, makes chosen calls fail, and logs each call.
 //!
 //! ```rust
 //! let mut ports = FakePorts::new(alloc, waiting, failing);

@@ -9,9 +9,9 @@ pub enum Media {
     /// The whole stream, for an audit.
     Whole {
         control: Control,
-        /// What the gateway receives, if it was set.
+        /// The Local, if it was set: what the gateway receives.
         local: Option<Chosen>,
-        /// Where the gateway sends, if it was set.
+        /// The Remote, if it was set: where the gateway sends.
         remote: Option<Chosen>,
     },
 }

@@ -54,7 +54,7 @@ pub fn any_cut_is_a_moment()
 
 /// A journal shows who could hear whom.
 ///
-/// Running the journal's events up to any moment before a crash opens the same flows as were open at that moment.
+/// Running the journal's events up to any moment before a crash opens the flows that were open at that moment.
 pub fn journals_tell_who_hears()
     ensures theorem { JournalsTellWhoHears }
 {

@@ -268,7 +268,7 @@ fn word_among(words: &[Keyword], text: &[u8]) -> Option<Keyword>
         .find(|keyword| is_named(text, *keyword))
 }
 
-/// Returns the keyword that the text spells, in either form, or `None` if it spells no keyword.
+/// Returns the keyword that the text spells, in either form, or `None` if it doesn't spell a keyword.
 ///
 /// Only forms with the text's first letter and length are compared.
 pub fn keyword_of(text: &[u8]) -> Option<Keyword>

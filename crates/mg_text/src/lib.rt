@@ -1,7 +1,7 @@
 //! The parser for control messages in text encoding (Megaco, RFC 3525, Annex B).
 //!
 //! [`read`] parses the bytes of a datagram as a [`Message`], or returns why they are not a message. The tree refers to
-//! text by its span in the source, and copies no text. Replies are collected in a [`Reply`] and written by
+//! text by its span in the source, and doesn't copy it. Replies are collected in a [`Reply`] and written by
 //! [`write_reply`] to [`Bytes`]; these types are in the crate `mg_reply`:
 //!
 //! ```rust

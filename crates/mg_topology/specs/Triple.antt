@@ -5,7 +5,7 @@ use Rattle.mg_topology.specs.declared.triple.Triple.{Triple}
 use Rattle.mg_words.specs.declared.association.Association.{Association}
 use Rattle.mg_words.specs.declared.association.Association.TheVariants.{Isolate, Oneway, Bothway}
 
--- a triple that mentions no pair
+-- a triple that doesn't mention any pair
 abbrev pub empty_triple : Triple
 empty_triple = record { first = 0; second = 0; association = Bothway }
 

@@ -19,7 +19,7 @@
 //! assert!(rt; !topology.hears(0, 1));
 //! ```
 //!
-//! A topology keeps bits and no history. So its contracts hold for every list of edits that it represents, before and
+//! A topology keeps bits, but no history. So its contracts hold for every list of edits that it represents, before and
 //! after a call (`StandsFor` in `specs/Topology.antt`). `specs/Edits.antt` defines what a list of edits means, looking
 //! back from the newest edit. [`theorems`] states the consequences.
 //!

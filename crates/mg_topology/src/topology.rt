@@ -72,7 +72,7 @@ impl Topology {
         self.rows[seat] = mask::FULL;
     }
 
-    /// Removes the member in the seat. Who hears whom among the others is unchanged.
+    /// Removes the member in the seat. Doesn't change who hears whom among the others.
     pub fn leave(&mut self, seat: usize)
         requires held { IsTrue (holds self.old seat) }
         ensures edits { (es : List TopologyEdit) → StandsFor self.old es →

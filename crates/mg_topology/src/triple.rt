@@ -19,7 +19,7 @@ pub struct Triple {
     pub association: Association,
 }
 
-/// The default is a triple that mentions no pair.
+/// The default is a triple that doesn't mention any pair.
 impl Default for Triple {
     ghost use Rattle.std.specs.Prelude.{◌≡◌};
     ghost use Rattle.mg_topology.specs.Triple.{empty_triple};
@@ -50,7 +50,7 @@ impl Triple {
         }
     }
 
-    /// Returns the listener's row of talkers after the triple, given its row before.
+    /// Returns the listener's row of talkers after the triple, given the row before it.
     pub(crate) fn row_after(&self, row: Mask, listener: usize) -> Mask
         requires { listener < SEATS }
         ensures { (talker : ℕ) →

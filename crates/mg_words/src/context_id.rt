@@ -6,7 +6,7 @@ use crate::number::number_of;
 /// The context that an action names (RFC 3525, section 6.1.2 and Annex B.2, ContextID).
 #[derive(Clone, Copy, Debug, PartialEq, Eq)]
 pub enum ContextId {
-    /// `-`: the null context, which holds the terminations that are in no other context.
+    /// `-`: the null context, which holds the terminations that aren't in any other context.
     Null,
     /// `$`: a new context, which the gateway creates.
     Choose,

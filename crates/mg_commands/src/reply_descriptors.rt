@@ -7,11 +7,11 @@ use mg_engine::MediaSetting;
 /// What a reply reports about a termination.
 #[derive(Clone, Copy, Debug, PartialEq, Eq)]
 pub struct ReplyDescriptors {
-    /// Whether the reply has all settings of the termination's media.
+    /// Whether the reply includes all settings of the termination's media.
     pub media: bool,
-    /// Whether the reply has the termination's Local. No effect if `media` is set.
+    /// Whether the reply includes the termination's Local. No effect if `media` is set.
     pub local: bool,
-    /// Whether the reply has the termination's counters.
+    /// Whether the reply includes the termination's counters.
     pub statistics: bool,
 }
 

@@ -34,7 +34,7 @@ impl LineResumer {
         Ok(LineResumer { core, ticks: 0 })
     }
 
-    /// Reports to the follower the ticks that have been counted but not run yet, and then runs them.
+    /// Tells the follower about the ticks that have been counted but not run yet, and then runs them.
     pub fn run_ticks<F: Follower>(&mut self, follower: &mut F) -> Result<(), Stopped>
         ensures value { (start : F) (config : Config) (notes : List Note) →
             KeepsUp config self.old.core.state self.old.ticks (HasFollowed F.follows start follower.old config) notes →

@@ -178,7 +178,7 @@ impl<W: Write, R: Ready> Outlet<W, R> {
 }
 
 impl<W: Write, R: Ready> Write for Outlet<W, R> {
-    /// Accepts or drops a whole text, and returns its length in both cases.
+    /// Accepts or drops a whole text, and returns its length in either case.
     fn write(&mut self, text: &[u8]) -> io::Result<usize>
         ensures bound { WritesAtMost result text.now }
         ensures bytes { WriteAppends None None result text.now }

@@ -9,7 +9,7 @@ use std::time::Duration;
 /// The maximum number of ticks that are written at once after a delay: one second's worth. Older ticks are skipped.
 const CATCH_UP: u64 = 50;
 
-/// The progress of a run. A step is a poll. The last poll in every 20 ms comes with a tick.
+/// The progress of a run. A step is a poll. The last poll in every 20 ms is followed by a tick.
 #[derive(Drop)]
 pub struct Schedule {
     polls: u64,

@@ -33,7 +33,7 @@ pub fn write_header(header: Header, bytes: &mut [u8; PACKET_LEN])
     bytes[..HEADER_LEN].copy_from_slice(&head_of(header));
 }
 
-/// Overwrites the payload of a packet whose header has twelve bytes.
+/// Overwrites the payload of a packet whose header is twelve bytes long.
 pub fn write_payload(payload: &[u8; PAYLOAD_LEN], bytes: &mut [u8; PACKET_LEN])
     ensures payload { drop 12 bytes.new ≡ payload.now }
 {

@@ -1,7 +1,7 @@
 //! Vector kernels on slices of equal length: they add, subtract and saturate rows.
 //!
-//! Samples have 16 bits, and sums have 32. A kernel processes eight elements at a time, and the rest one by one. These
-//! kernels do not count their calls.
+//! Samples are 16 bits wide, and sums are 32 bits wide. A kernel processes eight elements at a time, and the rest one
+//! by one. These kernels do not count their calls.
 
 ghost use Rattle.std.specs.Prelude.{◌≡◌, ℕ, ◌+◌, ◌<◌, ◌≤◌, ◌+ℤ◌, ◌-ℤ◌, length, EachIndex, FitsSigned};
 ghost use Rattle.std.specs.Int.{w16, w32};

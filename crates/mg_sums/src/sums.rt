@@ -113,8 +113,8 @@ impl Sums {
         self.frames[row.number()] = new;
     }
 
-    /// Returns the payload that a listener hears in a room: the total minus the base and the rows of `minus`, saturated
-    /// once.
+    /// Returns the payload with what a listener hears in a room: the total minus the base and the rows of `minus`,
+    /// saturated once.
     ///
     /// The base is the listener's own row, or `None` if the listener does not talk. `minus` lists the rows that are
     /// silenced for the listener. All these rows must be joined to the room, and no two may be the same.

@@ -11,7 +11,7 @@ ghost use Rattle.mg_text.specs.MessageReading.{MessageReading, IsMessageReading}
 
 use mg_scan::Scanner;
 
-/// A datagram parses to at most one tree.
+/// A datagram can be parsed into at most one tree.
 pub fn one_tree()
     ensures theorem { (source : List ℕ) (m n : Message) → IsTree source m → IsTree source n → m ≡ n }
 {}

@@ -29,7 +29,7 @@ pub fn has_seat(mask: Mask, seat: usize) -> bool
     mask >> seat & 1 == 1
 }
 
-/// Returns the set that has only this seat.
+/// Returns the set that contains only this seat.
 pub fn of_seat(seat: usize) -> Mask
     requires { seat < SEATS }
     ensures { (s : ℕ) → has_seat result s ≡ (s == seat) }

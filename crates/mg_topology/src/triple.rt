@@ -7,8 +7,8 @@ use crate::mask::{self, Mask, SEATS};
 /// One triple of a topology descriptor: two sets of seats, and which of them hears the other (RFC 3525, section
 /// 7.1.18).
 ///
-/// A triple mentions every pair that takes one seat from each set. A wildcard is the set of all seats that it matches.
-/// A seat that nobody holds has no effect.
+/// A triple mentions every pair with one seat in each set. A wildcard is the set of all seats that it matches. A seat
+/// that nobody holds has no effect.
 #[derive(Clone, Copy, Debug, PartialEq, Eq, Hash)]
 pub struct Triple {
     /// The first term of the triple: the talkers of a Oneway triple.

@@ -1,7 +1,7 @@
 ghost use Rattle.std.specs.Prelude.{◌≡◌};
 ghost use Rattle.mg_words.specs.WordByte.{is_word_byte};
 
-/// A table of the bytes that are allowed in a word, so that a scanner needs one lookup per byte.
+/// A table of the bytes that are allowed in a word, so that a scanner needs only one lookup per byte.
 const WORD_BYTES: [bool; 256] = [
     false, false, false, false, false, false, false, false, false, false, false, false, false,
     false, false, false, false, false, false, false, false, false, false, false, false, false,

@@ -14,7 +14,7 @@ use Rattle.mg_commands.specs.Work.{edits_reported}
 use Rattle.mg_core.specs.Answer.{item_replied}
 use Rattle.mg_core.specs.World.{World}
 
--- a request that is answered with a kept reply causes no edits
+-- a request that is answered with a kept reply doesn't cause any edits
 abbrev pub edits_unless_kept : Option (List ℕ) → List Item → ℕ
 edits_unless_kept (Some text) reported = 0
 edits_unless_kept None reported = edits_reported reported
@@ -33,7 +33,7 @@ edits_by_items source sender (x ∷ xs) w =
     edits_by_item source sender x w
     + edits_by_items source sender xs (item_replied source sender [] x w).1
 
--- a datagram that is rejected as a whole causes no edits
+-- a datagram that is rejected as a whole doesn't cause any edits
 abbrev pub edits_by : List ℕ → MessageReading → World → ℕ
 edits_by source (Read m) w = edits_by_items source (text_of source m.sender) (items_of m.body) w
 edits_by source _ w = 0

@@ -52,7 +52,7 @@ is_silenced w talker listener =
     && (talks (mode_of w talker) && not (may_hear w.edits talker listener))
 
 -- The talker's speech flows to the listener. They are different members of the same context, the
--- talker talks, the listener listens, and the last word allows it. A number that names no
+-- talker talks, the listener listens, and the last word allows it. A number that doesn't name a
 -- termination has no flow, because it neither talks nor listens.
 abbrev pub flow : Gateway → ℕ → ℕ → Bool
 flow w talker listener =

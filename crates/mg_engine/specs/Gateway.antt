@@ -70,7 +70,7 @@ media_of w n = find (λ s. s.number == n) w.media
 abbrev pub stats_of : Gateway → ℕ → Option Stats
 stats_of w n = option_map (λ s. s.stats) (media_of w n)
 
--- ## Lookups by any number: one that names no termination is Inactive, in context 0, and silent
+-- ## Lookups by any number: one that isn't a termination's is Inactive, in context 0, and silent
 
 abbrev pub mode_of : Gateway → ℕ → Mode
 mode_of w n = option_map_or (λ r. r.mode) (rooms.record_at w.rooms n) Inactive

@@ -62,7 +62,7 @@ type_of Mu = 0
 type_of A = 8
 
 -- The header of a termination's next packet, in its current tick. The marker is set if its last
--- tick sent no packet.
+-- tick didn't send a packet.
 abbrev pub header_of : Gateway → Chosen → TerminationMedia → Header
 header_of w to s = record {
   marker = not s.sent_last;

@@ -35,13 +35,13 @@ pub record IsUnaffected (w next : Gateway) (c : ℕ) : Type 0 where
 
 -- ## Edits and datagrams elsewhere
 
--- a command does not concern the context c: c is not the action's context, and the command names no
--- member of c
+-- a command does not concern the context c: c is not the action's context, and the command doesn't
+-- name a member of c
 abbrev pub IsElsewhere : Gateway → ℕ → Target → ℕ → Type 0
 IsElsewhere w c target n = (is_number target c ≡ false) × (is_member w c n ≡ false)
 
--- An edit does not concern the context c. An Add names no termination, and triples name members of
--- the action's context, so only the action's context matters for these.
+-- An edit does not concern the context c. An Add doesn't name a termination, and triples name
+-- members of the action's context, so only the action's context matters for these.
 abbrev pub IsEditElsewhere : Gateway → ℕ → Edit → Type 0
 IsEditElsewhere w c (Add target settings) = is_number target c ≡ false
 IsEditElsewhere w c (Modify target n settings) = IsElsewhere w c target n

@@ -50,8 +50,8 @@ with_item r item size =
       has_pending = not (is_action item);
     }
 
--- An action's end needs no room of its own if the action has items. Any other item needs one place;
--- if no place is left, the item is dropped and the reply is marked as too long.
+-- An action's end doesn't need room of its own if the action has items. Any other item needs one
+-- place; if no place is left, the item is dropped and the reply is marked as too long.
 abbrev pub after_put : Answered → Item → Answered
 after_put r item =
     if is_action item && r.has_pending then with_item r item 0

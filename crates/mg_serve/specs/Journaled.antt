@@ -33,8 +33,8 @@ abbrev pub after_append : Result (Unit {0}) AppendFault → (appended before : P
 after_append (Ok done) appended before = appended
 after_append (Err fault) appended before = before
 
--- An append of ticks that the journal lacks, or, if it lacks none, of the line for a message that
--- can arrive.
+-- An append of ticks that the journal lacks or, if it doesn't lack any, of the line for a message
+-- that can arrive.
 abbrev pub AppendsLines : Durability → ℕ → List ℕ → Durability → Result (Unit {0}) AppendFault
     → Progress → Type 0
 AppendsLines durable lacking lines durability result next =

@@ -100,7 +100,7 @@ ReceivesDatagram setup socket datagram w trace next =
 
 -- ## A poll
 
--- a receive that returned no datagram
+-- a receive that didn't return a datagram
 abbrev pub ReceivesNothing : ℕ → List TraceEntry → Type 0
 ReceivesNothing socket trace =
     (trace ≡ Called (Receive socket Nothing) ∷ [])
@@ -123,7 +123,7 @@ pub record SocketTurn (setup : Setup) (socket : ℕ) (w : World) (trace : List T
 
 -- ## Commands
 
--- no append, or one, which may fail
+-- at most one append, which may fail
 abbrev pub MayAppend : List TraceEntry → Type 0
 MayAppend trace =
     (trace ≡ [])

@@ -304,7 +304,7 @@ body_of (x ∷ xs) = bodies.Requests (x ∷ xs)
 abbrev pub IsError : List ℕ → Production
 IsError source = IsName source keywords.Error ▹ IsMark Equals ▹ IsMark Word ▹ IsGroup
 
--- item *(item), where the body has the items that are kept
+-- item *(item), where the body contains the items that are kept
 abbrev pub IsItems : List ℕ → Body → Production
 IsItems source x ts rest =
     (xs : List (Option MessageItem)) × (x ≡ body_of (filter_map (λ item. item) xs))

@@ -1,5 +1,6 @@
--- The limits of this gateway. Definitions cite them by these names, and none repeats a limit as a
--- number. Where another definition says 2^32 or 4294967295, it means the range of 32 bits.
+-- The limits of this gateway. Definitions cite them by these names, and none of them repeats a
+-- limit as a number. Where another definition says 2^32 or 4294967295, it means the range of 32
+-- bits.
 use Rattle.std.specs.Prelude.{ℕ}
 
 -- the maximum number of members in a context

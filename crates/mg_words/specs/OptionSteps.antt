@@ -1,4 +1,4 @@
--- Sequencing of steps that may return no value.
+-- Sequencing of steps that may not return a value.
 use Rattle.std.specs.Prelude.{Option, Some, None}
 
 -- the second step, applied to the value of the first step; none if the first has no value

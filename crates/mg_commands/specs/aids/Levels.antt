@@ -59,7 +59,7 @@ media_level source before (media.Stream n xs) = first_after (stream_level source
 media_level source before (media.TerminationState has_content) =
     fault_of (list_any is_state before) (parts.TerminationState has_content)
 
--- the stream that a part of a Media descriptor belongs to; 0 if it belongs to none
+-- the stream that a part of a Media descriptor belongs to; 0 if it doesn't belong to one
 abbrev pub stream_of : MediaPart → ℕ
 stream_of (media.Part x) = 1
 stream_of (media.Stream n xs) = n

@@ -57,7 +57,7 @@ frame_played m = frame_or_silence (sound_of ((play_lists.ticked m.play).1))
 abbrev pub is_concealing : SlotMedia → Bool
 is_concealing m = is_concealed ((play_lists.ticked m.play).1)
 
--- the header of the next packet; the marker is set if the last tick sent none
+-- the header of the next packet; the marker is set if the last tick didn't send one
 abbrev pub header : SlotMedia → ℕ → ℕ → Header
 header m payload_type ssrc =
     record {

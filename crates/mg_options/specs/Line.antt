@@ -3,7 +3,7 @@ use Rattle.std.specs.Prelude.{true, Some}
 use Rattle.clap.specs.Walk.{Rule, Text}
 use Rattle.clap.specs.Simple.{App, new_app, new_rule, on_top}
 
--- the command line of a program with this name and a version; arguments come without the name
+-- the command line of a program with this name and a version; the arguments don't include the name
 abbrev pub program_line : Text → App
 program_line name =
     on_top (λ top. record top { no_binary_name = true; has_version = true }) (new_app name)

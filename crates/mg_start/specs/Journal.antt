@@ -9,7 +9,7 @@ use Rattle.mg_journal.specs.Journal.{JournalState}
 use Rattle.mg_arguments.specs.Title.{title_text}
 use Rattle.mg_serve.specs.Journaled.{tick_lines}
 
--- Times are kept for a journal exactly if it has lines, as far as its text is known.
+-- Times are kept for a journal if and only if it has lines, as far as its text is known.
 abbrev pub KeepsTimes : Option Timeline → (found : Option (List ℕ)) → Type 0
 KeepsTimes None found = IfSome found (λ text. text ≡ [])
 KeepsTimes (Some timeline) found = IfSome found (λ text. text ≢ [])

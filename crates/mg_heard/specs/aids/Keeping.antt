@@ -1,4 +1,4 @@
--- What a follower keeps while a script is run, and what it has told by then.
+-- What a follower keeps while a script is run, and what it has reported by then.
 use Rattle.std.specs.Prelude.{◌≡◌, ℕ, Bool, false, List, ◌∷◌, length, reverse, Option}
 use Rattle.mg_engine.specs.declared.config.Config.{Config}
 use Rattle.mg_core.specs.Note.{Note, events_in}
@@ -13,12 +13,12 @@ use Rattle.mg_heard.specs.Moments.{AreMoments}
 use Rattle.mg_heard.specs.Told.{intervals_in}
 use Rattle.mg_heard.specs.aids.Opening.{AreLasting}
 
--- what is told of a stored interval
+-- what is reported about a stored interval
 abbrev pub entry_until : Option Moment → OpenInterval → Entry
 entry_until end x = entries.Interval (record { flow = x.flow; first = x.first; end = end })
 
 -- the intervals that have not ended in the newest moment of a past are stored, and the others are
--- told
+-- reported
 pub record TellsPast (past : List (List OpenFlow)) (stored : List OpenInterval)
     (Told : List Entry → Type 0) : Type 0 where
   pub lasts : AreLasting past stored
@@ -26,7 +26,7 @@ pub record TellsPast (past : List (List OpenFlow)) (stored : List OpenInterval)
   pub ended_are : intervals_in xs ≡ ended past
   pub told : Told xs
 
--- After these notes a follower has told the intervals that had ended before the last tick, and
+-- After these notes, a follower has reported the intervals that had ended before the last tick, and
 -- stores those that had not. If nothing may have changed since then, the same flows are open now.
 pub record KeepsOpen (config : Config) (notes : List Note) (tick : ℕ) (is_changed : Bool)
     (stored : List OpenInterval) (Told : List Entry → Type 0) : Type 0 where

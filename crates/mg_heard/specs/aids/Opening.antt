@@ -43,7 +43,7 @@ without_flows flows xs = filter (λ x. not (has flows x.flow)) xs
 
 -- ## Their places
 
--- the most flows that can be open
+-- the maximum number of flows that can be open
 abbrev pub flow_limit : ℕ
 flow_limit = termination_limit * member_limit
 

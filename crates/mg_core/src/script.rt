@@ -46,7 +46,7 @@ impl<T: Drop> From<AllocFailed<T>> for ParseFault {
     }
 }
 
-/// Returns whether a byte can appear in text without an escape: visible ASCII or a space.
+/// Returns whether a byte can appear in text: visible ASCII or a space.
 fn is_plain(b: u8) -> bool
     ensures value { result ≡ is_plain b }
 {

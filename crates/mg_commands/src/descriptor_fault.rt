@@ -123,7 +123,7 @@ fn appears_among(source: &[u8], part: &Part, stream: u32, parts: &[StreamPart]) 
         .any(|other| is_same_word(source, part, stream, other))
 }
 
-/// Returns whether a `MediaPart` belongs to the stream with this number and repeats the word of `part`.
+/// Returns whether a `MediaPart` sets, for the stream with this number, what `part` also sets.
 ///
 /// The streams' numbers are compared first, because a message can contain about 700 streams.
 fn appears_in(source: &[u8], part: &Part, stream: u32, other: &MediaPart) -> bool
@@ -138,7 +138,7 @@ fn appears_in(source: &[u8], part: &Part, stream: u32, other: &MediaPart) -> boo
     }
 }
 
-/// Returns whether any of these `MediaPart`s belongs to the stream with this number and repeats the word of `part`.
+/// Returns whether one of these `MediaPart`s sets, for the stream with this number, what `part` also sets.
 fn appears_in_media(source: &[u8], part: &Part, stream: u32, media: &[MediaPart]) -> bool
     ensures value { result ≡ list_any (appears_in source.now part.now stream) media.now }
 {
@@ -185,7 +185,7 @@ fn stream_fault(
     None
 }
 
-/// Returns whether any of these `MediaPart`s is a TerminationState descriptor.
+/// Returns whether there is a TerminationState descriptor among these `MediaPart`s.
 fn has_state(parts: &[MediaPart]) -> bool
     ensures value { result ≡ list_any is_state parts.now }
 {

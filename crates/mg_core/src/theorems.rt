@@ -112,9 +112,9 @@ pub fn worlds_are_consistent()
 
 /// The order of packets from different callers does not matter.
 ///
-/// Suppose two lists of events have the same control datagrams and ticks, and between any two of these, each port
-/// receives the same RTP datagrams in the same order. Then the gateway sends the same datagrams and ends in the same
-/// world for both lists.
+/// Suppose two lists contain the same control datagrams and ticks, and from each of these to the next, each port receives
+/// the same RTP datagrams in the same order. Then the gateway sends the same datagrams and ends in the same world for both
+/// lists.
 pub fn port_order_is_irrelevant()
     ensures events { PortOrderIsIrrelevant }
     ensures histories { PortOrderInHistories }

@@ -18,7 +18,7 @@ impl Model for Payload {
 }
 
 impl Payload {
-    /// Creates a payload with a copy of these bytes.
+    /// Copies these bytes into a new payload.
     pub fn new(alloc: Global, bytes: &[u8]) -> Result<Self, AllocError>
         ensures value { IfOk result (λ p. p ≡ bytes.now) }
     {

@@ -7,8 +7,6 @@
 #[cfg(test)]
 mod clock;
 #[cfg(test)]
-mod dates;
-#[cfg(test)]
 mod equality;
 #[cfg(test)]
 mod flow;

@@ -1,11 +1,111 @@
-//! How many ticks a gateway missed, according to the dates in its journal.
+//! Dates in a journal, and how many ticks a gateway missed according to them.
 
 use crate::equality::assert_equal;
-use mg_dates::{Date, Timeline};
+use mg_dates::{Date, DatedJournal, Timeline};
+use mg_journal::{
+    AppendFault, Durability, FaultEffect, FileCall, FileJournal, InjectedFault, MemoryFile, Opening,
+};
+use std::alloc::Global;
+use std::cell::Cell;
+use std::io::{self, ErrorKind};
 use std::test::Fail;
+use std::time::{Clock, Duration};
+
+/// A clock that shows a given time of day.
+#[derive(Drop)]
+struct FixedClock {
+    millis: Cell<u64>,
+}
+
+impl Clock for FixedClock {
+    fn monotonic(&self) -> io::Result<Duration> {
+        Ok(Duration::ZERO)
+    }
+
+    fn since_1970(&self) -> io::Result<Duration> {
+        Ok(Duration::from_millis(self.millis.get()))
+    }
+}
 
 /// 2026-11-27T14:03:20Z, in milliseconds since 1970.
 const START: u64 = 1_795_788_200_000;
+
+const MESSAGE: &[u8] = b"control 127.0.0.1:2944 00\n";
+
+fn journal(alloc: Global, faults: &[InjectedFault]) -> io::Result<FileJournal<MemoryFile>> {
+    let file = MemoryFile::new(Vec::new(alloc), faults.to_vec(alloc)?);
+    Opening::new(file)?.accept()
+}
+
+#[test]
+fn reads_dates(rt: HostRuntime) -> Result<(), Fail> {
+    assert_equal(
+        &rt,
+        Date::of_text("2026-11-27T14:03:20Z"),
+        Some(Date { millis: START }),
+    );
+    assert_equal(
+        &rt,
+        Date::of_text("2026-11-27T14:03:20.5Z"),
+        Some(Date {
+            millis: START + 500,
+        }),
+    );
+    assert_equal(&rt, Date::of_text("1969-12-31T23:59:59Z"), None);
+    assert_equal(&rt, Date::of_text("today"), None);
+    Ok(())
+}
+
+#[test]
+fn dates_messages_and_old_ticks(rt: HostRuntime) -> Result<(), Fail> {
+    let clock = FixedClock {
+        millis: Cell::new(START),
+    };
+    let mut dated = DatedJournal::new(rt.alloc(), journal(rt.alloc(), &[])?, &clock)?;
+    // The first lines get the date of their first tick.
+    assert_equal(
+        &rt,
+        dated.append(b"tick\ntick\n", Durability::Written),
+        Ok(()),
+    );
+    // In another second, the first message gets a date and the next one doesn't.
+    clock.millis.set(START + 1_250);
+    assert_equal(&rt, dated.append(MESSAGE, Durability::Written), Ok(()));
+    clock.millis.set(START + 1_900);
+    assert_equal(&rt, dated.append(MESSAGE, Durability::Written), Ok(()));
+    // Ticks get a date only after a minute.
+    clock.millis.set(START + 61_240);
+    assert_equal(&rt, dated.append(b"tick\n", Durability::Written), Ok(()));
+    clock.millis.set(START + 61_250);
+    assert_equal(&rt, dated.append(b"tick\n", Durability::Written), Ok(()));
+    let text =
+        "# time 2026-11-27T14:03:19.96Z\ntick\ntick\n# time 2026-11-27T14:03:21.25Z\ncontrol 127.0.0.1:2944 00\ncontrol 127.0.0.1:2944 00\ntick\n# time 2026-11-27T14:04:21.23Z\ntick\n";
+    assert_equal(&rt, dated.journal().file().bytes(), text.as_bytes());
+    Ok(())
+}
+
+#[test]
+fn dates_only_what_is_appended(rt: HostRuntime) -> Result<(), Fail> {
+    let clock = FixedClock {
+        millis: Cell::new(START),
+    };
+    let faults = [InjectedFault {
+        call: FileCall::Write,
+        number: 0,
+        effect: FaultEffect::Fail(ErrorKind::StorageFull),
+    }];
+    let mut dated = DatedJournal::new(rt.alloc(), journal(rt.alloc(), &faults)?, &clock)?;
+    assert_equal(
+        &rt,
+        dated.append(MESSAGE, Durability::Synced),
+        Err(AppendFault::Refused),
+    );
+    assert_equal(&rt, dated.journal().file().bytes(), b"".as_slice());
+    assert_equal(&rt, dated.append(MESSAGE, Durability::Synced), Ok(()));
+    let text = "# time 2026-11-27T14:03:20Z\ncontrol 127.0.0.1:2944 00\n";
+    assert_equal(&rt, dated.journal().file().bytes(), text.as_bytes());
+    Ok(())
+}
 
 /// Returns a time after the start.
 fn after(millis: u32) -> Date {

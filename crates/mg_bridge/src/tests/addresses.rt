@@ -1,5 +1,5 @@
 use super::equality::assert_equal;
-use super::run_program;
+use super::{is_refused, run_program};
 use std::test::Fail;
 
 /// Requests a termination with a session description that the gateway completes.
@@ -33,10 +33,7 @@ fn refuses_texts_that_are_no_address(rt: HostRuntime) {
         "localhost",
         " 1.2.3.4",
     ] {
-        let done = run_program(&rt, &["replay", "--address", text], b"");
-        assert_equal(&rt, done.status, 2);
-        assert!(rt; done.output.is_empty());
-        assert!(rt; done.errors.as_slice().starts_with(wanted.as_slice()));
+        assert!(rt; is_refused(&rt, &["replay", "--address", text], wanted));
     }
 }
 
@@ -50,10 +47,7 @@ fn rejects_the_unspecified_address(rt: HostRuntime) {
         &["serve", "--address=000.0.00.0", "--slots", "0"],
     ];
     for words in cases {
-        let done = run_program(&rt, words, b"");
-        assert_equal(&rt, done.status, 2);
-        assert!(rt; done.output.is_empty());
-        assert!(rt; done.errors.as_slice().starts_with(wanted.as_slice()));
+        assert!(rt; is_refused(&rt, words, wanted));
     }
 }
 
@@ -66,10 +60,7 @@ fn rejects_multicast_addresses(rt: HostRuntime) {
         "240.0.0.0",
         "255.255.255.255",
     ] {
-        let done = run_program(&rt, &["live", "--address", text], b"");
-        assert_equal(&rt, done.status, 2);
-        assert!(rt; done.output.is_empty());
-        assert!(rt; done.errors.as_slice().starts_with(wanted.as_slice()));
+        assert!(rt; is_refused(&rt, &["live", "--address", text], wanted));
     }
 }
 
@@ -81,9 +72,7 @@ fn takes_one_address(rt: HostRuntime) {
         &["serve", "--address="],
     ];
     for words in cases {
-        let done = run_program(&rt, words, b"");
-        assert_equal(&rt, done.status, 2);
-        assert!(rt; done.output.is_empty());
+        assert!(rt; is_refused(&rt, words, b"error: "));
     }
 }
 
@@ -102,34 +91,20 @@ fn takes_eight_controllers(rt: HostRuntime) {
         "--controller=10.0.0.8",
         "--controller=10.0.0.9",
     ];
-    let done = run_program(&rt, &eight[..10], b"");
-    assert!(rt;
-        done.errors
-            .as_slice()
-            .starts_with(b"bad configuration: --control-port")
-    );
-    let done = run_program(&rt, &eight, b"");
-    assert_equal(&rt, done.status, 2);
+    assert!(rt; is_refused(&rt, &eight[..10], b"bad configuration: --control-port"));
     let wanted = b"error: invalid value for '--controller <ADDRESS>': more than 8 controllers\n";
-    assert!(rt; done.errors.as_slice().starts_with(wanted.as_slice()));
-    let done = run_program(&rt, &["live", "--controller", "localhost"], b"");
-    assert_equal(&rt, done.status, 2);
+    assert!(rt; is_refused(&rt, &eight, wanted));
     let wanted =
         b"error: invalid value for '--controller <ADDRESS>': not an IPv4 address in dotted decimal\n";
-    assert!(rt; done.errors.as_slice().starts_with(wanted.as_slice()));
+    assert!(rt; is_refused(&rt, &["live", "--controller", "localhost"], wanted));
 }
 
 #[test]
 fn takes_an_address_to_bind_to(rt: HostRuntime) {
     let wanted =
         b"error: invalid value for '--bind-address <ADDRESS>': not an IPv4 address in dotted decimal\n";
-    let done = run_program(&rt, &["live", "--bind-address", "localhost"], b"");
-    assert_equal(&rt, done.status, 2);
-    assert!(rt; done.errors.as_slice().starts_with(wanted.as_slice()));
+    assert!(rt; is_refused(&rt, &["live", "--bind-address", "localhost"], wanted));
     let wanted = b"error: invalid value for '--bind-address <ADDRESS>': not a unicast address\n";
-    let done = run_program(&rt, &["serve", "--bind-address", "224.0.0.1"], b"");
-    assert_equal(&rt, done.status, 2);
-    assert!(rt; done.errors.as_slice().starts_with(wanted.as_slice()));
-    let done = run_program(&rt, &["replay", "--bind-address", "10.0.0.1"], b"");
-    assert_equal(&rt, done.status, 2);
+    assert!(rt; is_refused(&rt, &["serve", "--bind-address", "224.0.0.1"], wanted));
+    assert!(rt; is_refused(&rt, &["replay", "--bind-address", "10.0.0.1"], b"error: "));
 }

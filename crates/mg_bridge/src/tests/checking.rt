@@ -1,5 +1,5 @@
 use super::equality::assert_equal;
-use super::{local, run_program};
+use super::{is_refused, local, run_program};
 use mg_core::{Config, Core, Peer};
 use mg_program::{HEARTBEAT, answers_heartbeat};
 use std::net::UdpSocket;
@@ -61,12 +61,7 @@ fn takes_an_address_and_a_port(rt: HostRuntime) {
     let wanted =
         b"error: invalid value for '<ADDRESS:PORT>': not an IPv4 address, a colon and a port\n";
     for text in ["localhost:2944", "127.0.0.1", "127.0.0.1:65536", ":2944"] {
-        let done = run_program(&rt, &["check", text], b"");
-        assert_equal(&rt, done.status, 2);
-        assert!(rt; done.output.is_empty());
-        assert!(rt; done.errors.as_slice().starts_with(wanted.as_slice()));
+        assert!(rt; is_refused(&rt, &["check", text], wanted));
     }
-    let done = run_program(&rt, &["check"], b"");
-    assert_equal(&rt, done.status, 2);
-    assert!(rt; !done.errors.is_empty());
+    assert!(rt; is_refused(&rt, &["check"], b"error: "));
 }

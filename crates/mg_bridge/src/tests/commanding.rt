@@ -1,6 +1,5 @@
 use super::equality::assert_equal;
-use super::local;
-use mg_program::{System, program};
+use super::{local, run_with};
 use std::cell::Cell;
 use std::io;
 use std::io::{ErrorKind, Read};
@@ -87,7 +86,6 @@ fn answers(socket: &UdpSocket) -> usize {
 /// Returns how many answers a stranger and the controller 127.0.0.2 get from the program with these arguments and this
 /// control port.
 fn answered(rt: &HostRuntime, port: u16, words: &[&str]) -> Result<(usize, usize), Fail> {
-    let alloc = rt.alloc();
     let stranger = sender(rt, 1)?;
     let controller = sender(rt, 2)?;
     let mut senders = Senders {
@@ -106,24 +104,7 @@ fn answered(rt: &HostRuntime, port: u16, words: &[&str]) -> Result<(usize, usize
         has_sent: Cell::new(false),
         now: Cell::new(0),
     };
-    let mut output = Vec::new(alloc);
-    let mut errors = Vec::new(alloc);
-    let mut reports = Vec::new(alloc);
-    let system = System {
-        net: rt,
-        clock: &clock,
-        random: rt,
-        files: rt,
-    };
-    program(
-        &system,
-        alloc,
-        words,
-        &mut senders,
-        &mut output,
-        &mut errors,
-        &mut reports,
-    );
+    let _done = run_with(rt, &clock, rt, words, &mut senders);
     Ok((answers(&stranger), answers(&controller)))
 }
 

@@ -1,6 +1,5 @@
-use super::Outcome;
 use super::equality::assert_equal;
-use mg_program::{System, program};
+use super::{Outcome, run_with};
 use std::cell::Cell;
 use std::io;
 use std::io::ErrorKind;
@@ -53,33 +52,9 @@ impl RandomSource for Counting {
 
 /// Runs a gateway in real time for two ticks.
 fn run_live(rt: &HostRuntime, random: &Counting, words: &[&str]) -> Outcome {
-    let alloc = rt.alloc();
     let clock = ShortClock { now: Cell::new(0) };
     let mut input: &[u8] = b"";
-    let mut output = Vec::new(alloc);
-    let mut errors = Vec::new(alloc);
-    let mut reports = Vec::new(alloc);
-    let system = System {
-        net: rt,
-        clock: &clock,
-        random: random,
-        files: rt,
-    };
-    let status = program(
-        &system,
-        alloc,
-        words,
-        &mut input,
-        &mut output,
-        &mut errors,
-        &mut reports,
-    );
-    Outcome {
-        status,
-        output,
-        errors,
-        reports,
-    }
+    run_with(rt, &clock, random, words, &mut input)
 }
 
 #[test]

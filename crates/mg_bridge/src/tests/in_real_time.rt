@@ -1,6 +1,5 @@
 use super::equality::assert_equal;
-use super::{local, run_program};
-use mg_program::{System, program};
+use super::{local, run_program, run_with};
 use std::cell::Cell;
 use std::io::ErrorKind;
 use std::net::UdpSocket;
@@ -68,7 +67,6 @@ fn turns_a_stall_into_a_gap(rt: HostRuntime) -> Result<(), Fail> {
         readings: Cell::new(0),
         caller: &caller,
     };
-    let alloc = rt.alloc();
     let words = [
         "live",
         "--control-port",
@@ -85,30 +83,13 @@ fn turns_a_stall_into_a_gap(rt: HostRuntime) -> Result<(), Fail> {
         "0",
     ];
     let mut input: &[u8] = b"quit\n";
-    let mut output = Vec::new(alloc);
-    let mut errors = Vec::new(alloc);
-    let mut reports = Vec::new(alloc);
-    let system = System {
-        net: &rt,
-        clock: &clock,
-        random: &rt,
-        files: &rt,
-    };
-    let status = program(
-        &system,
-        alloc,
-        &words,
-        &mut input,
-        &mut output,
-        &mut errors,
-        &mut reports,
-    );
-    assert_equal(&rt, status, 3);
+    let done = run_with(&rt, &clock, &rt, &words, &mut input);
+    assert_equal(&rt, done.status, 3);
     assert_equal(&rt, input, b"quit\n".as_slice());
-    assert_equal(&rt, output.as_slice(), b"ready\n".as_slice());
-    assert_equal(&rt, errors.as_slice(), b"read failed\n".as_slice());
+    assert_equal(&rt, done.output.as_slice(), b"ready\n".as_slice());
+    assert_equal(&rt, done.errors.as_slice(), b"read failed\n".as_slice());
     assert!(rt;
-        reports.as_slice().starts_with(
+        done.reports.as_slice().starts_with(
             b"95 packets were too late\ntotals control=1 media=0 ticks=100 sent=6 failed=95 strangers=0 "
         )
     );
@@ -180,7 +161,6 @@ fn answers_before_the_next_tick(rt: HostRuntime) -> Result<(), Fail> {
         controller: &controller,
         answered: Cell::new(None),
     };
-    let alloc = rt.alloc();
     let words = [
         "live",
         "--control-port=28920",
@@ -188,25 +168,8 @@ fn answers_before_the_next_tick(rt: HostRuntime) -> Result<(), Fail> {
         "--slots=1",
     ];
     let mut input: &[u8] = b"";
-    let mut output = Vec::new(alloc);
-    let mut errors = Vec::new(alloc);
-    let mut reports = Vec::new(alloc);
-    let system = System {
-        net: &rt,
-        clock: &clock,
-        random: &rt,
-        files: &rt,
-    };
-    let status = program(
-        &system,
-        alloc,
-        &words,
-        &mut input,
-        &mut output,
-        &mut errors,
-        &mut reports,
-    );
-    assert_equal(&rt, status, 3);
+    let done = run_with(&rt, &clock, &rt, &words, &mut input);
+    assert_equal(&rt, done.status, 3);
     assert_equal(&rt, clock.answered.get(), Some(0));
     Ok(())
 }
@@ -239,7 +202,6 @@ impl Clock for PatientClock {
 
 #[test]
 fn writes_metrics(rt: HostRuntime) -> Result<(), Fail> {
-    let alloc = rt.alloc();
     let clock = PatientClock {
         now: Cell::new(0),
         readings: Cell::new(0),
@@ -258,26 +220,9 @@ fn writes_metrics(rt: HostRuntime) -> Result<(), Fail> {
         path.as_str(),
     ];
     let mut input: &[u8] = b"";
-    let mut output = Vec::new(alloc);
-    let mut errors = Vec::new(alloc);
-    let mut reports = Vec::new(alloc);
-    let system = System {
-        net: &rt,
-        clock: &clock,
-        random: &rt,
-        files: &rt,
-    };
-    let status = program(
-        &system,
-        alloc,
-        &words,
-        &mut input,
-        &mut output,
-        &mut errors,
-        &mut reports,
-    );
-    assert_equal(&rt, status, 3);
-    assert_equal(&rt, errors.as_slice(), b"read failed\n".as_slice());
+    let done = run_with(&rt, &clock, &rt, &words, &mut input);
+    assert_equal(&rt, done.status, 3);
+    assert_equal(&rt, done.errors.as_slice(), b"read failed\n".as_slice());
     let text = fs::read(&rt, path.as_str())?;
     fs::remove_file(&rt, path.as_str())?;
     assert!(rt; text.as_slice().starts_with(b"# HELP lobbysorrel_info "));

@@ -1,6 +1,5 @@
 use super::equality::assert_equal;
-use super::{Outcome, local};
-use mg_program::{System, program};
+use super::{Outcome, local, run_with};
 use std::io::{self, Read};
 use std::net::UdpSocket;
 use std::path::PathBuf;
@@ -40,44 +39,20 @@ fn new_path(rt: &HostRuntime, name: &str) -> Result<PathBuf, Fail> {
 }
 
 /// Runs the program with these arguments. A message is sent to this port before the first line is read.
-fn run_with(
+fn run_and_talk(
     rt: &HostRuntime,
     words: &[&str],
     socket: &UdpSocket,
     port: u16,
     lines: &[u8],
 ) -> Outcome {
-    let alloc = rt.alloc();
     let mut input = Talk {
         socket,
         port,
         lines,
         has_sent: false,
     };
-    let mut output = Vec::new(alloc);
-    let mut errors = Vec::new(alloc);
-    let mut reports = Vec::new(alloc);
-    let system = System {
-        net: rt,
-        clock: rt,
-        random: rt,
-        files: rt,
-    };
-    let status = program(
-        &system,
-        alloc,
-        words,
-        &mut input,
-        &mut output,
-        &mut errors,
-        &mut reports,
-    );
-    Outcome {
-        status,
-        output,
-        errors,
-        reports,
-    }
+    run_with(rt, rt, rt, words, &mut input)
 }
 
 #[test]
@@ -95,7 +70,7 @@ fn goes_on_from_a_journal(rt: HostRuntime) -> Result<(), Fail> {
         "--journal",
         path.as_str(),
     ];
-    let done = run_with(
+    let done = run_and_talk(
         &rt,
         &first,
         &socket,
@@ -112,7 +87,7 @@ fn goes_on_from_a_journal(rt: HostRuntime) -> Result<(), Fail> {
     );
     // The next gateway takes the first one's options from the title. It knows the message, and doesn't run it again.
     let second = ["serve", "--journal", path.as_str()];
-    let done = run_with(&rt, &second, &socket, 28801, b"stats\npoll\nstats\nquit\n");
+    let done = run_and_talk(&rt, &second, &socket, 28801, b"stats\npoll\nstats\nquit\n");
     assert_equal(&rt, done.status, 0);
     assert!(rt;
         done.output
@@ -134,7 +109,7 @@ fn run_on(rt: &HostRuntime, text: &[u8], option: &str) -> Result<(Outcome, Vec<u
     fs::write(rt, path.as_str(), text)?;
     let socket = UdpSocket::bind(rt, local(28806))?;
     let words = ["serve", "--journal", path.as_str(), option];
-    let done = run_with(rt, &words, &socket, 28807, b"quit\n");
+    let done = run_and_talk(rt, &words, &socket, 28807, b"quit\n");
     let left = fs::read(rt, path.as_str())?;
     fs::remove_file(rt, path.as_str())?;
     Ok((done, left))
@@ -195,28 +170,11 @@ fn passes_the_ticks_that_it_missed(rt: HostRuntime) -> Result<(), Fail> {
     fs::write(&rt, path.as_str(), text.as_slice())?;
     let words = ["serve", "--journal", path.as_str()];
     let mut input: &[u8] = b"stats\nquit\n";
-    let mut output = Vec::new(rt.alloc());
-    let mut errors = Vec::new(rt.alloc());
-    let mut reports = Vec::new(rt.alloc());
-    let system = System {
-        net: &rt,
-        clock: &FixedClock,
-        random: &rt,
-        files: &rt,
-    };
-    let status = program(
-        &system,
-        rt.alloc(),
-        &words,
-        &mut input,
-        &mut output,
-        &mut errors,
-        &mut reports,
-    );
-    assert_equal(&rt, status, 0);
+    let done = run_with(&rt, &FixedClock, &rt, &words, &mut input);
+    assert_equal(&rt, done.status, 0);
     let wanted =
         b"ready\ncontrol=0 media=0 ticks=500 sent=0 failed=0 dropped=0,0,0,0,0,0 concealed=0\n".as_slice();
-    assert_equal(&rt, output.as_slice(), wanted);
+    assert_equal(&rt, done.output.as_slice(), wanted);
     for _ in 0..495 {
         text.extend_from_slice(b"tick\n")?;
     }

@@ -1,5 +1,5 @@
 use super::equality::assert_equal;
-use super::run_program;
+use super::{is_refused, run_program};
 use mg_arguments::{Invocation, requested_run, title_of};
 use mg_core::Config;
 use mg_options::{TOOLCHAIN, VERSION};
@@ -22,10 +22,7 @@ fn refuses_arguments(rt: HostRuntime) {
         &["replay", "--controller", "10.0.0.1"],
     ];
     for words in cases {
-        let done = run_program(&rt, words, b"");
-        assert_equal(&rt, done.status, 2);
-        assert!(rt; done.output.is_empty());
-        assert!(rt; !done.errors.is_empty());
+        assert!(rt; is_refused(&rt, words, b"error: "));
     }
 }
 

@@ -18,15 +18,21 @@ const CALLER: Peer = Peer {
     port: 40000,
 };
 
+/// Returns the offer that a session description makes.
+fn offer(description: &[u8]) -> Result<MediaSetting, Fail> {
+    match read_sessions(description) {
+        Ok(sessions) => Ok(MediaSetting::Offer(sessions)),
+        Err(_) => Err("no session description".into()),
+    }
+}
+
 /// Returns the settings of an Add: a mode, a Local and a Remote.
 fn caller(mode: Mode, local: &[u8], remote: &[u8]) -> Result<Settings, Fail> {
-    let local = read_sessions(local).map_err(|_| "a Local")?;
-    let remote = read_sessions(remote).map_err(|_| "a Remote")?;
     Ok(Settings {
         mode: Some(mode),
         depth: None,
-        local: Some(MediaSetting::Offer(local)),
-        remote: Some(MediaSetting::Offer(remote)),
+        local: Some(offer(local)?),
+        remote: Some(offer(remote)?),
     })
 }
 
@@ -66,10 +72,20 @@ fn packet(byte: u8) -> [u8; 172] {
     numbered_packet(1, byte)
 }
 
+/// Starts an engine with this configuration.
+fn start(alloc: Global, config: Config) -> Result<Engine, Fail> {
+    match Engine::new(alloc, config) {
+        Ok(engine) => Ok(engine),
+        Err(_) => Err("an engine didn't start".into()),
+    }
+}
+
 /// Adds a caller to a context.
 fn add(engine: &mut Engine, target: Target, settings: &Settings) -> Result<Target, Fail> {
-    let added = engine.add(target, settings).map_err(|_| "an Add")?;
-    Ok(Target::Number(added.context))
+    match engine.add(target, settings) {
+        Ok(added) => Ok(Target::Number(added.context)),
+        Err(_) => Err("an Add was refused".into()),
+    }
 }
 
 /// Creates a conference of the first `callers` callers.
@@ -84,16 +100,17 @@ fn add_callers(engine: &mut Engine, callers: usize) -> Result<(), Fail> {
 
 /// Starts an engine with a conference of the first `callers` callers.
 fn conference(alloc: Global, callers: usize) -> Result<Engine, Fail> {
-    let mut engine = Engine::new(alloc, Config::default()).map_err(|_| "sound")?;
+    let mut engine = start(alloc, Config::default())?;
     add_callers(&mut engine, callers)?;
     Ok(engine)
 }
 
 /// Changes a member of the first context.
 fn modify(engine: &mut Engine, number: u32, settings: &Settings) -> Result<(), Fail> {
-    let changed = engine.modify(Target::Number(1), number, settings);
-    changed.map_err(|_| "a Modify")?;
-    Ok(())
+    match engine.modify(Target::Number(1), number, settings) {
+        Ok(_) => Ok(()),
+        Err(_) => Err("a Modify was refused".into()),
+    }
 }
 
 /// Changes a member's mode in the first context.
@@ -121,8 +138,7 @@ fn payloads(alloc: Global, outbox: &Outbox) -> Result<Vec<u8>, Fail> {
 fn leave_the_total(rt: &impl Abort, engine: &mut Engine, outbox: &mut Outbox) -> Result<(), Fail> {
     speak(engine, outbox);
     assert_equal(rt, engine.total(1, 0), Some(32124));
-    let moved = engine.move_to(Target::New, 3, &changed(None, None));
-    moved.map_err(|_| "a Move")?;
+    assert!(rt; engine.move_to(Target::New, 3, &changed(None, None)).is_ok());
     assert_equal(rt, engine.total(1, 0), Some(64248));
     assert_equal(rt, engine.total(2, 0), Some(-32124));
     assert_equal(rt, engine.total(3, 0), None);
@@ -206,9 +222,7 @@ fn drop_datagrams_without_termination(rt: &impl Abort, engine: &mut Engine) -> R
     let nobody: [(&[u8], DropCause); 1] = [(&bytes, DropCause::NoTermination)];
     assert_equal(rt, first_wrong(engine, 30002, CALLER, &nobody), None);
     assert_equal(rt, first_wrong(engine, 30001, CALLER, &nobody), None);
-    engine
-        .add(Target::New, &Settings::default())
-        .map_err(|_| "an Add")?;
+    add(engine, Target::New, &Settings::default())?;
     let deaf: [(&[u8], DropCause); 1] = [(&bytes, DropCause::NoLocal)];
     assert_equal(rt, first_wrong(engine, 30002, CALLER, &deaf), None);
     Ok(())
@@ -304,7 +318,7 @@ fn add_crowd(engine: &mut Engine, modes: &[Mode]) -> Result<(), Fail> {
 
 /// Starts an engine with one conference, which has one termination per mode.
 fn crowd(alloc: Global, modes: &[Mode]) -> Result<Engine, Fail> {
-    let mut engine = Engine::new(alloc, Config::default()).map_err(|_| "sound")?;
+    let mut engine = start(alloc, Config::default())?;
     add_crowd(&mut engine, modes)?;
     Ok(engine)
 }
@@ -338,9 +352,7 @@ fn follow_modes(rt: &impl Abort, engine: &mut Engine, outbox: &mut Outbox) -> Re
     assert!(rt; !engine.flow(3, 1) && engine.flow(1, 3));
     set_mode(engine, 3, Mode::SendReceive)?;
     assert_equal(rt, engine.total(1, 0), Some(32124));
-    engine
-        .subtract(Target::Number(1), 1)
-        .map_err(|_| "a Subtract")?;
+    assert!(rt; engine.subtract(Target::Number(1), 1).is_ok());
     assert_equal(rt, engine.total(1, 159), Some(0));
     Ok(())
 }
@@ -470,7 +482,7 @@ fn engine_about_to_wrap(alloc: Global) -> Result<Engine, Fail> {
         timestamp: 4294966000,
         ..Config::default()
     };
-    let mut engine = Engine::new(alloc, config).map_err(|_| "sound")?;
+    let mut engine = start(alloc, config)?;
     add_crowd(&mut engine, &EACH_MODE)?;
     Ok(engine)
 }

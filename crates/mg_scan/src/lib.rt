@@ -18,6 +18,7 @@ mod fault;
 mod first;
 mod found;
 mod kind;
+mod marks;
 mod octets;
 mod scanner;
 mod span;
@@ -25,6 +26,7 @@ mod token;
 
 pub use crate::fault::ScanFault;
 pub use crate::kind::TokenKind;
+pub use crate::marks::{after_mark, is_kind};
 pub use crate::scanner::{Scanner, parts_join};
 pub use crate::span::Span;
 pub use crate::token::Token;

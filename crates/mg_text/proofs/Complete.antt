@@ -6,7 +6,8 @@ use Rattle.mg_scan.specs.declared.kind.TokenKind.TheVariants.{Word, Open, Close,
 use Rattle.mg_scan.specs.declared.span.Span.{Span}
 use Rattle.mg_scan.specs.declared.token.Token.{Token}
 use Rattle.mg_text.specs.declared.keyword.Keyword.{Keyword}
-use Rattle.mg_text.specs.aids.Reading.{is_kind, mark_at, after_mark, span_at, word_at, named_at, meaning_at, term_at, after_group, group_at, filled_at, list_at, items_at, braced_at, any_braced_at, optional_braced_at}
+use Rattle.mg_text.specs.aids.Reading.{mark_at, span_at, word_at, named_at, meaning_at, term_at, after_group, group_at, filled_at, list_at, items_at, braced_at, any_braced_at, optional_braced_at}
+use Rattle.mg_scan.specs.aids.Marks.{is_kind, after_mark}
 use Rattle.mg_scan.specs.Span.{text_of}
 use Rattle.mg_words.specs.Term.{is_term}
 use Rattle.mg_text.specs.Keyword.{is_named}

@@ -14,7 +14,8 @@ use Rattle.mg_text.specs.declared.command.Command.{Command}
 use Rattle.mg_text.specs.Keyword.{keyword_of}
 use Rattle.mg_text.specs.Words.{by_keyword, audit_word_named}
 use Rattle.mg_text.specs.aids.Words.{command_of}
-use Rattle.mg_text.specs.aids.Reading.{after_mark, meaning_at}
+use Rattle.mg_text.specs.aids.Reading.{meaning_at}
+use Rattle.mg_scan.specs.aids.Marks.{after_mark}
 use Rattle.mg_text.specs.aids.Media.{media_part_at}
 use Rattle.mg_text.specs.aids.Commands.{audit_words_at, assigned_at, content_at, other_at, descriptor_named, descriptor_at, audit_at, optional_audit_at, skipped_at, descriptors_at, command_at}
 use Rattle.mg_text.specs.Production.{◌▹◌}

@@ -18,7 +18,7 @@ use Rattle.mg_text.specs.declared.media.MediaPart.TheVariants as parts
 use Rattle.mg_text.specs.Keyword.{forms_of, keyword_of}
 use Rattle.mg_text.specs.Words.{by_keyword, switch_of}
 use Rattle.mg_text.specs.aids.Words.{mode_named}
-use Rattle.mg_text.specs.aids.Reading.{after_mark}
+use Rattle.mg_scan.specs.aids.Marks.{after_mark}
 use Rattle.mg_text.specs.aids.Media.{value_at, optional_value_at, switched_at, mode_part_at, package_part_at, control_named, control_at, stream_part_at, numbered_at, media_part_at}
 use Rattle.mg_text.specs.Grammar.{IsOptionalAssigned, IsValue, has_slash, IsControlPart, IsStreamPart, IsMediaPart}
 use Rattle.mg_text.proofs.KeywordLemmas.{no_slash}

@@ -4,7 +4,8 @@ use Rattle.std.proofs.lemmas.List.{drop_more, drop_all}
 use Rattle.std.proofs.lemmas.Bool.{ne_eqb}
 use Rattle.mg_scan.specs.declared.kind.TokenKind.TheVariants.{Open, Close}
 use Rattle.mg_scan.specs.declared.token.Token.{Token}
-use Rattle.mg_text.specs.aids.Reading.{is_kind, after_group}
+use Rattle.mg_text.specs.aids.Reading.{after_group}
+use Rattle.mg_scan.specs.aids.Marks.{is_kind}
 
 pub opens : (source : List ℕ) (ts : List Token) (i depth : ℕ) (d : Token) → i < length ts →
     is_kind (get_or ts i d).kind Open ≡ true →

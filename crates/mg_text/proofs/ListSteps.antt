@@ -5,7 +5,8 @@ use Rattle.mg_scan.specs.declared.token.Token.{Token}
 use Rattle.mg_text.specs.declared.fault.ReadFault.{ReadFault}
 use Rattle.mg_text.specs.declared.fault.ReadFault.TheVariants.{NoMemory, Syntax, Version, TooMany}
 use Rattle.mg_words.specs.ResultSteps.{◌>>=◌}
-use Rattle.mg_text.specs.aids.Reading.{Fails, after_mark, mark_at, list_at, place_of_rest}
+use Rattle.mg_text.specs.aids.Reading.{Fails, mark_at, list_at, place_of_rest}
+use Rattle.mg_scan.specs.aids.Marks.{after_mark}
 
 -- what was read before, and what is still read
 abbrev pub with_front : {X : Type 0} → List X → Result (List X × List Token) ℕ → Result (List X × List Token) ℕ

@@ -9,7 +9,8 @@ use Rattle.mg_text.specs.declared.actions.ActionParts.{ActionParts}
 use Rattle.mg_text.specs.declared.context_property.ContextProperty.{ContextProperty}
 use Rattle.mg_text.specs.declared.command.Command.{Command}
 use Rattle.mg_words.specs.ResultSteps.{◌>>=◌}
-use Rattle.mg_text.specs.aids.Reading.{Fails, after_mark, mark_at, items_at, place_of_rest}
+use Rattle.mg_text.specs.aids.Reading.{Fails, mark_at, items_at, place_of_rest}
+use Rattle.mg_scan.specs.aids.Marks.{after_mark}
 use Rattle.mg_text.specs.aids.Commands.{command_at}
 use Rattle.mg_text.specs.aids.Requests.{begins_property, property_at, parts_at, with_property}
 

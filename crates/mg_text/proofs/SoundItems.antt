@@ -24,7 +24,8 @@ use Rattle.mg_text.specs.aids.Words.{association_named}
 use Rattle.mg_text.specs.Head.{version_in_head}
 use Rattle.mg_text.specs.Sender.{is_sender}
 use Rattle.mg_words.specs.ResultSteps.{◌>>=◌}
-use Rattle.mg_text.specs.aids.Reading.{mark_at, after_mark, word_at, named_at, meaning_at, keyword_at, number_at}
+use Rattle.mg_text.specs.aids.Reading.{mark_at, word_at, named_at, meaning_at, keyword_at, number_at}
+use Rattle.mg_scan.specs.aids.Marks.{after_mark}
 use Rattle.mg_text.specs.aids.Reading.{context_id_at, term_at, group_at, items_at, braced_at, place_of_rest}
 use Rattle.mg_text.specs.aids.Commands.{command_at}
 use Rattle.mg_text.specs.aids.Requests.{triple_at, priority_at, emergency_at, property_named, property_at, begins_property, parts_at, action_at, request_at, ranges_at, answer_at, item_named, item_at, kept_before, sequence_at, error_at, body_named, body_at}

@@ -18,7 +18,8 @@ use Rattle.mg_text.specs.Keyword.{keyword_of}
 use Rattle.mg_text.specs.Words.{by_keyword, switch_of}
 use Rattle.mg_text.specs.aids.Words.{mode_named}
 use Rattle.mg_words.specs.ResultSteps.{◌>>=◌}
-use Rattle.mg_text.specs.aids.Reading.{mark_at, after_mark, span_at, word_at, meaning_at, keyword_at, number_at}
+use Rattle.mg_text.specs.aids.Reading.{mark_at, span_at, word_at, meaning_at, keyword_at, number_at}
+use Rattle.mg_scan.specs.aids.Marks.{after_mark}
 use Rattle.mg_text.specs.aids.Reading.{after_group, filled_at, braced_at, place_of_rest}
 use Rattle.mg_text.specs.aids.Media.{value_kinded, value_at, optional_value_at, switched_at, mode_part_at, package_part_at, control_named, control_at, stream_named, stream_part_at, numbered_at, media_named, media_part_at}
 use Rattle.mg_text.specs.Grammar.{IsSpan, IsWord, IsWorded, IsOptionalAssigned, IsValue, has_slash, IsControlPart, IsStreamPart, IsMediaPart}

@@ -9,10 +9,10 @@ use crate::fault::ReadFault;
 use crate::from_word::meaning_at;
 use crate::keyword::Keyword;
 use crate::lists::{FromTokens, items_at};
-use crate::marks::{after_mark, mark_at, named_at, place_of};
+use crate::marks::{mark_at, named_at, place_of};
 use crate::request::Action;
 use crate::tree_list::TreeList;
-use mg_scan::{Token, TokenKind};
+use mg_scan::{Token, TokenKind, after_mark};
 use mg_words::ContextId;
 use std::alloc::Global;
 

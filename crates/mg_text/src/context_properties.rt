@@ -7,8 +7,8 @@ use crate::fault::ReadFault;
 use crate::from_word::meaning_at;
 use crate::keyword::{Keyword, keyword_of};
 use crate::lists::{FromTokens, braced_at};
-use crate::marks::{after_mark, mark_at, place_of, term_at, word_at};
-use mg_scan::{Token, TokenKind};
+use crate::marks::{mark_at, place_of, term_at, word_at};
+use mg_scan::{Token, TokenKind, after_mark};
 use mg_words::Association;
 use std::alloc::Global;
 

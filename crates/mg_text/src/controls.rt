@@ -9,9 +9,9 @@ use crate::from_word::meaning_at;
 use crate::group::after_group;
 use crate::keyword::{Keyword, keyword_of};
 use crate::lists::FromTokens;
-use crate::marks::{after_mark, mark_at, word_at};
+use crate::marks::{mark_at, word_at};
 use crate::media::{ControlPart, PropertyValue};
-use mg_scan::{Span, Token, TokenKind};
+use mg_scan::{Span, Token, TokenKind, after_mark};
 use mg_words::Mode;
 use std::alloc::Global;
 

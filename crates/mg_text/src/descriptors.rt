@@ -8,10 +8,10 @@ use crate::from_word::meaning_at;
 use crate::group::{after_group, filled_at};
 use crate::keyword::Keyword;
 use crate::lists::{FromTokens, any_braced_at, braced_at};
-use crate::marks::{after_mark, mark_at, place_of, word_at};
+use crate::marks::{mark_at, place_of, word_at};
 use crate::media::MediaPart;
 use crate::tree_list::TreeList;
-use mg_scan::{Token, TokenKind};
+use mg_scan::{Token, TokenKind, after_mark};
 use std::alloc::Global;
 
 /// Parses the words of an Audit after its keyword.

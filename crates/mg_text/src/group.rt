@@ -2,8 +2,8 @@ ghost use Rattle.std.specs.Prelude.{◌≡◌};
 ghost use Rattle.mg_text.specs.aids.Reading.{Agrees, after_group, group_at, filled_at};
 
 use crate::fault::ReadFault;
-use crate::marks::{after_mark, is_kind, mark_at};
-use mg_scan::{Token, TokenKind};
+use crate::marks::mark_at;
+use mg_scan::{Token, TokenKind, after_mark, is_kind};
 
 /// Skips the rest of a group whose opening brace has already been read.
 #[tactic(auto, using(crate::proofs::GroupSteps::steps))]

@@ -4,9 +4,9 @@ ghost use Rattle.mg_text.specs.aids.Reading.{Agrees, meaning_at, items_at, brace
 
 use crate::fault::ReadFault;
 use crate::from_word::{FromWord, meaning_at};
-use crate::marks::{after_mark, mark_at, place_of};
+use crate::marks::{mark_at, place_of};
 use crate::tree_list::TreeList;
-use mg_scan::{Token, TokenKind};
+use mg_scan::{Token, TokenKind, after_mark};
 use std::alloc::Global;
 
 /// A type that tokens of a message can be parsed as.

@@ -1,9 +1,10 @@
 ghost use Rattle.std.specs.Prelude.{◌≡◌, Some, None, MatchOption};
-ghost use Rattle.mg_text.specs.aids.Reading.{Agrees, mark_at, after_mark, span_at, word_at, named_at, term_at, is_kind, place_of_rest};
+ghost use Rattle.mg_text.specs.aids.Reading.{Agrees, mark_at, span_at, word_at, named_at, term_at, place_of_rest};
+ghost use Rattle.mg_scan.specs.aids.Marks.{after_mark, is_kind};
 
 use crate::fault::ReadFault;
 use crate::keyword::{Keyword, is_named};
-use mg_scan::{Span, Token, TokenKind};
+use mg_scan::{Span, Token, TokenKind, after_mark, is_kind};
 use mg_words::is_term;
 
 /// Returns the offset of the first token, or the end of the source if there is none.
@@ -16,15 +17,8 @@ pub fn place_of(source: &[u8], tokens: &[Token]) -> usize
     }
 }
 
-/// Returns whether two kinds are the same.
-pub fn is_kind(a: TokenKind, b: TokenKind) -> bool
-    ensures value { result ≡ is_kind a b }
-{
-    a == b
-}
-
 /// Skips a mark.
-#[tactic(auto, unfolding(crate::specs::aids::Reading::mark_at))]
+#[tactic(auto, unfolding(crate::specs::aids::Reading::mark_at, mg_scan::specs::aids::Marks::after_mark))]
 pub fn mark_at<'t>(
     source: &[u8],
     kind: TokenKind,
@@ -32,20 +26,9 @@ pub fn mark_at<'t>(
 ) -> Result<&'t [Token], ReadFault>
     ensures { Agrees (λ x. x.now) result (mark_at source.now kind tokens.now) }
 {
-    match tokens {
-        [first, rest @ ..] if is_kind(first.kind, kind) => Ok(rest),
-        _ => Err(ReadFault::Syntax(place_of(source, tokens))),
-    }
-}
-
-/// Skips a mark, or returns `None` if the tokens don't start with it.
-#[tactic(auto, unfolding(crate::specs::aids::Reading::after_mark))]
-pub fn after_mark(kind: TokenKind, tokens: &[Token]) -> Option<&[Token]>
-    ensures { MatchOption result (after_mark kind tokens.now ≡ None) (λ x. after_mark kind tokens.now ≡ Some x.now) }
-{
-    match tokens {
-        [first, rest @ ..] if is_kind(first.kind, kind) => Some(rest),
-        _ => None,
+    match after_mark(kind, tokens) {
+        Some(rest) => Ok(rest),
+        None => Err(ReadFault::Syntax(place_of(source, tokens))),
     }
 }
 

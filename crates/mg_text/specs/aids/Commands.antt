@@ -17,7 +17,8 @@ use Rattle.mg_text.specs.declared.command.Command.{Command}
 use Rattle.mg_text.specs.Words.{by_keyword, audit_word_named}
 use Rattle.mg_text.specs.aids.Words.{command_of}
 use Rattle.mg_words.specs.ResultSteps.{◌>>=◌}
-use Rattle.mg_text.specs.aids.Reading.{mark_at, after_mark, if_some, word_at, meaning_at}
+use Rattle.mg_text.specs.aids.Reading.{mark_at, if_some, word_at, meaning_at}
+use Rattle.mg_scan.specs.aids.Marks.{after_mark}
 use Rattle.mg_text.specs.aids.Reading.{keyword_at, term_at, after_group, filled_at, braced_at}
 use Rattle.mg_text.specs.aids.Reading.{any_braced_at, optional_braced_at, place_of_rest}
 use Rattle.mg_text.specs.aids.Media.{media_part_at}

@@ -21,7 +21,8 @@ use Rattle.mg_text.specs.Words.{by_keyword, switch_of}
 use Rattle.mg_text.specs.aids.Words.{mode_named}
 use Rattle.mg_text.specs.Grammar.{has_slash}
 use Rattle.mg_words.specs.ResultSteps.{◌>>=◌}
-use Rattle.mg_text.specs.aids.Reading.{mark_at, after_mark, if_some, span_at, word_at, meaning_at}
+use Rattle.mg_text.specs.aids.Reading.{mark_at, if_some, span_at, word_at, meaning_at}
+use Rattle.mg_scan.specs.aids.Marks.{after_mark}
 use Rattle.mg_text.specs.aids.Reading.{keyword_at, number_at, after_group, filled_at, braced_at}
 use Rattle.mg_text.specs.aids.Reading.{place_of_rest}
 

@@ -8,6 +8,7 @@ use Rattle.mg_scan.specs.declared.kind.TokenKind.TheVariants.{Quoted, Octets}
 use Rattle.mg_scan.specs.declared.span.Span.{Span}
 use Rattle.mg_scan.specs.declared.token.Token.{Token}
 use Rattle.mg_scan.specs.Span.{text_of}
+use Rattle.mg_scan.specs.aids.Marks.{after_mark, is_kind}
 use Rattle.mg_words.specs.ResultSteps.{◌>>=◌}
 use Rattle.mg_words.specs.Numbers.{number_of}
 use Rattle.mg_text.specs.declared.keyword.Keyword.{Keyword}
@@ -34,16 +35,6 @@ abbrev pub place_of_rest : List ℕ → List Token → ℕ
 place_of_rest source [] = length source
 place_of_rest source (t ∷ ts) = t.span.start
 
-abbrev pub is_kind : TokenKind → TokenKind → Bool
-is_kind Word Word = true
-is_kind Open Open = true
-is_kind Close Close = true
-is_kind Comma Comma = true
-is_kind Equals Equals = true
-is_kind Quoted Quoted = true
-is_kind Octets Octets = true
-is_kind _ _ = false
-
 unfoldable pub mark_at : List ℕ → TokenKind → List Token → Result (List Token) ℕ
 mark_at source kind [] = Err (length source)
 mark_at source kind (t ∷ ts) = if is_kind t.kind kind then Ok ts else Err t.span.start
@@ -55,10 +46,6 @@ span_at source kind (t ∷ ts) = if is_kind t.kind kind then Ok (t.span, ts) els
 
 abbrev pub word_at : List ℕ → List Token → Result (Span × List Token) ℕ
 word_at source ts = span_at source Word ts
-
-unfoldable pub after_mark : TokenKind → List Token → Option (List Token)
-after_mark kind [] = None
-after_mark kind (t ∷ ts) = if is_kind t.kind kind then Some ts else None
 
 -- one result if there is a value, another if there is none
 abbrev pub if_some : {A B : Type 0} → Option A → (A → B) → B → B

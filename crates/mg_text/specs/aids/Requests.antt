@@ -24,7 +24,8 @@ use Rattle.mg_text.specs.Keyword.{keyword_of}
 use Rattle.mg_text.specs.Words.{by_keyword, context_word_named, range_of}
 use Rattle.mg_text.specs.aids.Words.{association_named}
 use Rattle.mg_words.specs.ResultSteps.{◌>>=◌}
-use Rattle.mg_text.specs.aids.Reading.{mark_at, after_mark, if_some, word_at, named_at, meaning_at}
+use Rattle.mg_text.specs.aids.Reading.{mark_at, if_some, word_at, named_at, meaning_at}
+use Rattle.mg_scan.specs.aids.Marks.{after_mark}
 use Rattle.mg_text.specs.aids.Reading.{keyword_at, number_at, context_id_at, term_at, group_at}
 use Rattle.mg_text.specs.aids.Reading.{items_at, braced_at, place_of_rest}
 use Rattle.mg_text.specs.Grammar.{body_of}

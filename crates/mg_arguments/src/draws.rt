@@ -14,7 +14,7 @@ pub struct Draws {
 }
 
 impl Draws {
-    /// Returns the choice to draw no number.
+    /// Returns the choice to draw none of the numbers.
     pub fn none() -> Self
         ensures value { result ≡ no_draws }
     {

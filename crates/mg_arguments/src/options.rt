@@ -47,7 +47,7 @@ fn file_option<'a>(alloc: Global, name: &'a str) -> Arg<'a>
     Arg::new(alloc, name).long(name).value_name("FILE")
 }
 
-/// Adds the options of a gateway, which every subcommand has.
+/// Adds the options of a gateway, which every subcommand except `check` has.
 fn with_options<'a>(alloc: Global, command: Command<'a>) -> Result<Command<'a>, Error>
     ensures app { IfOk result (λ with. app_of with ≡ fold with_rule (app_of command.entry) options) }
     ensures memory { IfErr result (λ error. kind_of error ≡ ErrorKind.OutOfMemory) }
@@ -253,7 +253,7 @@ fn draws_of(matches: &ArgMatches<'_>) -> Draws
     }
 }
 
-/// Returns the maximum lateness, in ticks, at which a tick's packets are still sent.
+/// Returns how late a tick may be, in ticks of 20 ms, and still have its packets sent.
 fn late_of(matches: &ArgMatches<'_>) -> u16
     ensures value { result ≡ number_or 65536 (codes "late") 5 (rows_of (found_of matches.now)) }
 {

@@ -16,7 +16,7 @@ const MAX_MESSAGES: u16 = 20;
 pub struct TickSchedule {
     /// How many ticks have begun.
     pub ticks: u64,
-    /// How late a tick may be, in ticks of 20 ms, for its packets still to be sent.
+    /// How late a tick may be, in ticks of 20 ms, and still have its packets sent.
     pub allowed: u16,
     /// How many messages have been reported since the last tick began.
     pub messages: u16,

@@ -1,4 +1,4 @@
-/// A [`Follower`](crate::Follower) refuses to go on, because it has found what it was looking for or can't write. Only
-/// the follower knows why.
+/// A [`Follower`](crate::Follower) refuses to go on, because it has found what it was looking for, or because it can't
+/// write. Only the follower knows why.
 #[derive(Clone, Copy, Debug, PartialEq, Eq)]
 pub struct Stopped;

@@ -112,9 +112,9 @@ pub fn worlds_are_consistent()
 
 /// The order of packets from different callers does not matter.
 ///
-/// Suppose two lists contain the same control datagrams and ticks, and from each of these to the next, each port receives
-/// the same RTP datagrams in the same order. Then the gateway sends the same datagrams and ends in the same world for both
-/// lists.
+/// Suppose two lists of events contain the same control datagrams and ticks, and between these, each port receives the
+/// same RTP datagrams in the same order. Then the gateway sends the same datagrams for both lists, and ends in the same
+/// world.
 pub fn port_order_is_irrelevant()
     ensures events { PortOrderIsIrrelevant }
     ensures histories { PortOrderInHistories }
@@ -126,7 +126,7 @@ pub fn port_order_is_irrelevant()
     mg_commands::theorems::requests_are_consistent();
 }
 
-/// In each tick, a listener's packet is independent of the terminations that it does not hear in that tick.
+/// In each tick, a listener's packet does not depend on the terminations that the listener does not hear in that tick.
 ///
 /// Suppose two gateways receive the same events, except for RTP datagrams at the ports of some terminations. In the
 /// next tick, both gateways send the same bytes to every listener that hears none of those terminations in that tick.

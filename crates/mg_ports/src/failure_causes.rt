@@ -5,7 +5,8 @@ pub struct FailureCauses {
     pub receives: u64,
     /// Packets of late ticks.
     pub late: u64,
-    /// Packets to a Remote that can't be a caller: 0.0.0.0, which puts a call on hold, or a multicast address.
+    /// Packets to an address that no caller can have: 0.0.0.0, which puts a call on hold, or a multicast, reserved or
+    /// broadcast address.
     pub held: u64,
     /// Sends that the system refused.
     pub refused: u64,

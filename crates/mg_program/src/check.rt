@@ -63,7 +63,7 @@ fn micros_since<C: Clock>(clock: &C, begun: io::Result<Duration>) -> u128 {
 }
 
 /// Checks that a gateway answers a heartbeat. Sends the heartbeat up to three times, and waits up to one second for
-/// each answer. If an answer arrives, prints how long it took; otherwise the reason goes to `errors`.
+/// each answer. If an answer arrives, prints how long it took; otherwise, reports the fault to `errors`.
 pub fn check<N: Net, C: Clock, W: Write, E: Write>(
     net: &N,
     clock: &C,

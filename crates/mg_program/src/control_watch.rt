@@ -39,7 +39,7 @@ impl<'a, C: Clock> ControlWatch<'a, C> {
     }
 
     /// Waits for a datagram at the control socket, and returns whether one arrived. The system waits in whole
-    /// milliseconds, so the clock sleeps for the rest of the time.
+    /// milliseconds, so the clock sleeps for whatever is left of `time`.
     fn message_within(&mut self, time: Duration) -> bool {
         let begun = self.watch.now();
         let millis = u64::try_from(time.as_millis()).unwrap_or(u64::MAX);

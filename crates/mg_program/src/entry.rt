@@ -18,12 +18,12 @@ use std::net::Net;
 use std::random::RandomSource;
 use std::time::Clock;
 
-/// Runs the program with these arguments, which do not include its name. Returns its exit status.
+/// Runs the program with these arguments, which don't include the program's name. Returns its exit status.
 ///
 /// The status is 0 on success, 1 for a bad script line, and 2 for invalid arguments, an invalid configuration or a
 /// gateway that doesn't answer. It is 3 if a read or a write failed, if the clock can't be read, or if the system has
 /// no random numbers. It is 4 if memory ran out, 5 for a port that can't be bound, and 6 for a journal that can't be
-/// used. If the status is nonzero, the message goes to `errors`. A gateway's periodic reports go to `reports`.
+/// used. If the status is nonzero, an error message goes to `errors`. A gateway's periodic reports go to `reports`.
 pub fn program<
     'a,
     N: Net,

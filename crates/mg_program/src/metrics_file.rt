@@ -10,10 +10,10 @@ const MAX_PATH: usize = 4095;
 /// The maximum length of an error line, in bytes: a path and the system's reason.
 const LINE_ROOM: usize = 5000;
 
-/// A file for metrics. Each text is written to a temporary file next to it, which is then renamed, so a reader never
-/// sees a partial text.
+/// A file for metrics. Each text is first written to a temporary file, which is then renamed, so a reader of this file
+/// never sees a partial text.
 ///
-/// A failure is reported to an operator if it is the first one, or the first after a success.
+/// A failure is reported to the operator only if it is the first, or the first after a success.
 #[derive(Drop)]
 pub struct MetricsFile<'a, F: Files, E: Write> {
     files: &'a F,
@@ -62,7 +62,7 @@ fn temporary_path(path: &FilePath) -> ArrayString<MAX_PATH> {
     temporary
 }
 
-/// Checks that metrics can be written next to this path, by creating the temporary file.
+/// Checks that metrics can be written, by creating the temporary file next to this path.
 pub fn can_write_metrics<F: Files>(files: &F, path: &FilePath) -> io::Result<()> {
     let _file = fs::create(files, temporary_path(path).as_str())?;
     Ok(())

@@ -123,7 +123,7 @@ fn serve_on_sockets<J: Journal + Drop, C: Clock, R: Read, W: Write, M: Monitor>(
     )
 }
 
-/// Runs a gateway on UDP ports, driven by input lines. The gateway is new, or resumes from the journal. A fault is
+/// Runs a gateway on UDP ports, driven by input lines. The gateway is new, or it resumes from the journal. A fault is
 /// reported to `errors`. Periodic reports, if they are enabled, go to `reports`.
 ///
 /// An invalid configuration is reported before a port is bound. A port that can't be bound is reported before a line is

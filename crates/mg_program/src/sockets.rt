@@ -62,7 +62,7 @@ fn bind_media<N: Net>(
     }
 }
 
-/// Returns the sender of a datagram. A sender without an IPv4 address is a fault.
+/// Returns the sender of a datagram. Fails if the sender has no IPv4 address.
 fn peer_of(address: SocketAddr) -> Result<Peer, PortFault> {
     match address.ip() {
         IpAddr::V4(ip) => Ok(Peer {
@@ -168,7 +168,7 @@ impl Sockets {
         answer
     }
 
-    /// Sends from a slot's socket. A datagram that is sent only in part is a fault.
+    /// Sends from a slot's socket. Fails if only part of the datagram is sent.
     pub fn try_send(&self, slot: usize, to: Peer, bytes: &[u8]) -> Result<(), PortFault> {
         match self
             .socket(slot)?

@@ -23,8 +23,8 @@ pub struct UdpPorts<'a, J: Journal, C: Clock> {
     causes: FailureCauses,
 }
 
-/// Returns whether no caller can have this address: it is 0.0.0.0, multicast, reserved or broadcast. The address
-/// 0.0.0.0 puts a call on hold; a packet to it would reach this machine itself.
+/// Returns whether this is an address that no caller can have: 0.0.0.0, or a multicast, reserved or broadcast address.
+/// The address 0.0.0.0 puts a call on hold; a packet to it would reach this machine itself.
 fn is_unusable_destination(address: [u8; 4]) -> bool {
     address == [0; 4] || is_multicast(address)
 }

@@ -3,7 +3,8 @@
 pub enum Unsent {
     /// The tick is late.
     Late,
-    /// The Remote can't be a caller: it is 0.0.0.0, which puts a call on hold, or a multicast address.
+    /// No caller can have the Remote's address: it is 0.0.0.0, which puts a call on hold, or a multicast, reserved or
+    /// broadcast address.
     Held,
     /// The system refused the send.
     Refused,

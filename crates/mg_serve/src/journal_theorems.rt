@@ -23,8 +23,8 @@ pub fn nothing_answered_is_forgotten()
 /// A crash loses speech and a few ticks, and nothing else.
 ///
 /// Running the journal's events leads to a world that agrees with the one before the crash, except for received RTP and
-/// the last ticks, which the journal lacked. A message that was appended but not handled yet is run, too; it had not
-/// been answered. The same holds each time a gateway resumes from its journal.
+/// the last ticks, which the journal lacked. A message that had been appended but not handled yet, and so not answered,
+/// is run too. The same holds each time a gateway resumes from its journal.
 pub fn crashes_lose_speech_only()
     ensures crash { CrashesLoseSpeechOnly }
     ensures lives { LivesFollow }

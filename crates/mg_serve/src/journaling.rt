@@ -27,7 +27,7 @@ const SECOND: u64 = 50;
 
 /// The state of a session's journal, if it has one: how many ticks the journal lacks.
 ///
-/// Messages are appended before they are handled, ticks about once a second and before each message.
+/// A message is appended before it is handled. Ticks are appended about once a second, and before each message.
 #[derive(Drop)]
 pub struct Journaling {
     durability: Option<Durability>,

@@ -9,9 +9,9 @@
 //!
 //! [`serve`] is proved for any [`Ports`](mg_ports::Ports). On return, the complete lines that it read and their effects
 //! form a session (`specs/Session.antt`). So it reads the ports in order, drops a datagram only for a reason that the
-//! definition names (a stranger sent it, or memory or the journal failed), and sends each answer and each packet once.
-//! [`theorems`] goes further: a session sends what a run of its events sends, and reading its recording back yields the
-//! same events.
+//! definition names (it came from a stranger, memory ran out, or the journal failed), and sends each answer and each
+//! packet once. [`theorems`] goes further: a session sends what a run of its events sends, and reading its recording
+//! back yields the same events.
 #![tactic(auto)]
 
 mod clock_driver;

@@ -312,7 +312,7 @@ impl<'a, M: Monitor> Server<'a, M> {
         }
     }
 
-    /// Handles at most 64 of the datagrams waiting at a socket, and none after a failed receive.
+    /// Handles at most 64 of the datagrams waiting at a socket. Stops after a failed receive.
     fn turn<P: Ports, W: Write>(
         &mut self,
         alloc: Global,

@@ -16,6 +16,6 @@ pub struct TickReport<'a> {
     pub failures: FailureCauses,
     /// The journal's state.
     pub journal: JournalReport,
-    /// Whether the tick was late, so that none of its packets was sent.
+    /// Whether the tick was late. If it was, none of its packets was sent.
     pub timing: Timing,
 }

@@ -123,7 +123,7 @@ fn appears_among(source: &[u8], part: &Part, stream: u32, parts: &[StreamPart]) 
         .any(|other| is_same_word(source, part, stream, other))
 }
 
-/// Returns whether a `MediaPart` sets, for the stream with this number, what `part` also sets.
+/// Returns whether a `MediaPart` repeats `part` in the stream with this number.
 ///
 /// The streams' numbers are compared first, because a message can contain about 700 streams.
 fn appears_in(source: &[u8], part: &Part, stream: u32, other: &MediaPart) -> bool
@@ -138,7 +138,7 @@ fn appears_in(source: &[u8], part: &Part, stream: u32, other: &MediaPart) -> boo
     }
 }
 
-/// Returns whether one of these `MediaPart`s sets, for the stream with this number, what `part` also sets.
+/// Returns whether one of these `MediaPart`s repeats `part` in the stream with this number.
 fn appears_in_media(source: &[u8], part: &Part, stream: u32, media: &[MediaPart]) -> bool
     ensures value { result ≡ list_any (appears_in source.now part.now stream) media.now }
 {

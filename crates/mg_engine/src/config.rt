@@ -57,7 +57,7 @@ impl Config {
     /// Returns whether a gateway can start with this configuration.
     ///
     /// The media ports must be even and at most 65535. There must be 1 to [`TERMINATIONS`] of them, and the control
-    /// port must not be one of them. The first numbers must be in range.
+    /// port must not be one of them. The numbers of the first termination and the first context must be in range.
     pub fn is_sound(&self) -> bool
         ensures value { IsTrue result ↔ IsValidConfig self.now }
     {

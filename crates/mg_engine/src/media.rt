@@ -134,7 +134,7 @@ impl HeldMedia {
         self.is_sending = is_sent;
     }
 
-    /// Returns whether the play list is idle: ticks then play silence until a frame starts it.
+    /// Returns whether the play list is idle. An idle list plays silence until a frame starts it.
     pub fn is_idle(&self) -> bool
         ensures value { result ≡ is_idle self.now.play.phase }
     {

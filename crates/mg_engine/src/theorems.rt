@@ -23,7 +23,7 @@ ghost use Rattle.mg_engine.specs.Triples.{triple_limit};
 use crate::topology_triple::TRIPLES;
 use mg_rtp::theorems::one_reading;
 
-/// In every gateway, an RTP datagram has exactly one outcome, at any port and from any source.
+/// In every gateway, an RTP datagram has exactly one outcome, whatever its port and its source.
 pub fn one_arrival(bytes: &[u8])
     ensures some { (w : Gateway) (port : ℕ) (source : List ℕ) → (next : Gateway) × (result : Taken)
         × Takes w port source bytes.now next result }

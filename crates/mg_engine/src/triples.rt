@@ -50,8 +50,8 @@ fn seat_of(rooms: &Rooms, context: u32, number: u32) -> Option<Mask>
     }
 }
 
-/// Returns the seats of the members that a term matches, or `None` if the term names anything else. The term must be
-/// allowed.
+/// Returns the seats of the members that a term matches, or `None` if the term names something that isn't a member. The
+/// term must be allowed.
 fn seats_of(rooms: &Rooms, flows: &FlowTable, at: TopologyRoom, term: TripleTerm) -> Option<Mask>
     requires allowed { is_barred term ≡ false }
     requires sound { IsSound rooms.now }

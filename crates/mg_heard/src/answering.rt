@@ -15,8 +15,8 @@ use mg_dates::Date;
 use std::alloc::Global;
 use std::io::Read;
 
-/// Runs a script, and answers whether a listener could hear a talker at one time, for the listeners and talkers that
-/// `query` selects.
+/// Runs a script, and answers whether a listener could hear a talker at a given time, for the listeners and talkers
+/// that `query` selects.
 ///
 /// No contract says that the dates, the gaps and the extent are those of the script.
 pub fn hear_at<R: Read>(

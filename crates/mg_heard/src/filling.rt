@@ -17,7 +17,7 @@ use mg_words::MEMBERS;
 /// The maximum number of open flows: each termination hears at most [`MEMBERS`] others.
 pub(crate) const FLOWS: usize = TERMINATIONS * MEMBERS;
 
-/// Stores, in the first places, an interval for each flow that is open in a core. Returns how many intervals were
+/// Fills the first places with an interval for each flow that is open in a core. Returns how many intervals were
 /// stored.
 pub(crate) fn fill_places(places: &mut [OpenInterval], core: &Core, first: Moment) -> usize
     requires places { length places.old ≡ FLOWS }

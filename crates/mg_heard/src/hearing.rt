@@ -19,8 +19,8 @@ use mg_core::{Config, Core, RunFault, resume};
 use std::alloc::Global;
 use std::io::Read;
 
-/// Runs a script, and reports to a sink, as intervals, who could hear whom. Returns the sink, and the time that the
-/// script covers.
+/// Runs a script, and reports to a sink who could hear whom, as a series of intervals. Returns the sink, and the time
+/// that the script covers.
 ///
 /// An interval is reported when it ends, so the memory needed does not grow with the script. No packets are sent.
 pub fn hear<R: Read, S: Sink>(

@@ -13,7 +13,7 @@ use crate::verdict::Verdict;
 use mg_core::Stopped;
 use mg_dates::Date;
 
-/// Finds out who could hear whom at one time.
+/// Finds out who could hear whom at a given time.
 #[derive(Clone, Copy, Debug, PartialEq, Eq)]
 pub struct Instant {
     pub query: Query,

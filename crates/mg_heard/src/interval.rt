@@ -1,8 +1,8 @@
 use crate::moment::Moment;
 use crate::open_flow::OpenFlow;
 
-/// When a talker's speech flowed to a listener: before the tick `first` and each later tick, until `end`. The
-/// definitions (`specs/Intervals.antt`) leave out the dates.
+/// A period in which a talker's speech flowed to a listener: before each tick from `first` on, up to but not including
+/// `end`. The definitions (`specs/Intervals.antt`) leave out the dates.
 #[derive(Clone, Copy, Debug, PartialEq, Eq)]
 pub struct Interval {
     pub flow: OpenFlow,

@@ -7,8 +7,8 @@
 //! let (sink, extent) = hear(alloc, config, &mut input, sink)?;
 //! ```
 //!
-//! [`hear_at`] answers whether a talker could be heard at one time. [`write_report`] writes a line for each interval
-//! that a query selects, and for each gap; [`write_answer`] writes the answer about one time.
+//! [`hear_at`] answers whether a talker could be heard at a given time. [`write_report`] writes a line for each
+//! interval that a query selects, and for each gap; [`write_answer`] writes the answer about a given time.
 //!
 //! An interval contains a tick for a pair if and only if the talker's speech flows to the listener in the world before
 //! that tick (`specs/Laws.antt`). The intervals follow from the flows that are open before each tick

@@ -66,7 +66,7 @@ impl OpenIntervals {
         ended.remove_continued(self);
     }
 
-    /// Replaces the stored intervals: for each flow that is open in a core, stores one that begins at this moment.
+    /// Replaces the stored intervals with one for each flow that is open in a core. Each of them begins at this moment.
     fn fill(&mut self, core: &Core, first: Moment)
         ensures value { (w : World) → StandsFor core.now.state w →
             self.new ≡ map (beginning_at first) (open_flows w.gateway) }
@@ -101,8 +101,8 @@ fn continue_front(places: &mut [OpenInterval], len: usize, earlier: &[OpenInterv
     continue_each(&mut places[..len], earlier);
 }
 
-/// Keeps only those intervals in the first `len` places whose flows have no interval in `next`. Returns how many there
-/// are.
+/// Keeps only those intervals in the first `len` places whose flows have no interval in `next`. Returns how many it
+/// keeps.
 fn keep_front(places: &mut [OpenInterval], len: usize, next: &[OpenInterval]) -> usize
     requires within { len ≤ length places.old }
     ensures within { result ≤ len }

@@ -1,10 +1,10 @@
 use mg_dates::{Date, date_in};
 use std::str;
 
-/// What a comment says about when the lines of a script happened, and about their gateway.
+/// What a comment says about a script's gateway, or about when the script's events happened.
 #[derive(Clone, Copy, Debug, PartialEq, Eq)]
 pub(crate) enum Remark<'a> {
-    /// When the following lines happened.
+    /// When the events in the following lines happened.
     Time(Date),
     /// The configuration of a gateway, as in the first line of each journal and recording.
     Title(&'a [u8]),

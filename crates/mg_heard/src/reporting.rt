@@ -37,8 +37,8 @@ fn hear_report<'a, R: Read, W: Write>(
     Ok(report)
 }
 
-/// Writes who could hear whom while a script ran: a line for each interval that `query` selects, when it ends, and for
-/// each gap.
+/// Writes who could hear whom while a script ran: a line for each interval that `query` selects, and for each gap. The
+/// line for an interval is written when the interval ends.
 pub fn write_report<R: Read, W: Write>(
     alloc: Global,
     config: Config,
@@ -88,7 +88,7 @@ fn write_verdict<W: Write>(
     }
 }
 
-/// Runs a script, and writes one line that answers whether a listener could hear a talker at one time, for the
+/// Runs a script, and writes one line that answers whether a listener could hear a talker at a given time, for the
 /// listeners and talkers that `query` selects. Returns the answer.
 ///
 /// No contract says that the dates, the gaps and the extent are those of the script.

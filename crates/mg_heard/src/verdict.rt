@@ -1,6 +1,6 @@
 use crate::interval::Interval;
 
-/// The answer to a question about one time.
+/// The answer to a question about a given time.
 #[derive(Clone, Copy, Debug, PartialEq, Eq)]
 pub enum Verdict {
     /// The answer is yes, as shown by the first interval that the query selects and that contains the time.

@@ -29,7 +29,7 @@ fn report_unprinted<E: Write>(unprinted: Status, errors: &mut E)
 
 /// Reports the result of parsing a command line, and returns the exit status.
 ///
-/// Help and the version go to the output, the version with a second line that names the toolchain; usage errors and
+/// Help and the version go to the output; the version has a second line, which names the toolchain. Usage errors and
 /// out-of-memory errors go to `errors`. `unprinted` is the exit status if help or the version cannot be printed.
 pub fn report_error<W: Write, E: Write>(
     error: &Error,

@@ -11,9 +11,9 @@ pub enum Status {
     Usage,
     /// A gateway didn't answer.
     NoAnswer,
-    /// A talker could not be heard at one time.
+    /// A talker could not be heard at the given time.
     CouldNotHear,
-    /// A script doesn't say who could be heard at one time.
+    /// A script doesn't say who could be heard at the given time.
     Unknown,
     /// A read, a write or the clock failed.
     Failed,

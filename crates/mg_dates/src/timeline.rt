@@ -6,8 +6,8 @@ use crate::date::Date;
 use crate::date_text::date_in;
 use mg_core::{Core, Event, Follower, Stopped};
 
-/// The number of ticks that a crash can lose even if the journal works: one second's worth, as that many are appended
-/// together.
+/// The number of ticks that a crash can lose even if the journal works: one second's worth, because that many are
+/// appended together.
 const LOST: u64 = 50;
 
 /// The length of a tick, in milliseconds.

@@ -7,8 +7,9 @@ const WINDOW: u16 = 64;
 /// Counts RTP packets that never arrived, by their sequence numbers (RFC 3550, A.3).
 ///
 /// A packet counts as lost once a packet with a sequence number at least 64 higher has arrived, or once another stream
-/// begins. A stream begins with a packet that has another SSRC, or whose sequence number is [`MAX_DROPOUT`] or more
-/// ahead or more than [`MAX_MISORDER`] behind. So reordered packets don't count as lost, and the count never falls.
+/// begins. A stream begins with a packet that has another SSRC, or whose sequence number is far from the newest one: at
+/// least [`MAX_DROPOUT`] ahead, or more than [`MAX_MISORDER`] behind. So reordered packets don't count as lost, and the
+/// count never falls.
 #[derive(Clone, Copy, Debug, PartialEq, Eq)]
 pub struct Loss {
     ssrc: u32,

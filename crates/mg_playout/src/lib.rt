@@ -9,7 +9,7 @@
 //! is missing too, silence is played.
 //!
 //! A frame starts the list if there is no sequence to continue: at the beginning, after the list runs empty, or when
-//! the source changes. A frame also starts the list if its number is [`MAX_DROPOUT`] or more ahead, or more than
+//! the source changes. A frame also starts the list if its number is at least [`MAX_DROPOUT`] ahead, or more than
 //! [`MAX_MISORDER`] behind.
 //!
 //! ```rust

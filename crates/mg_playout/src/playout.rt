@@ -112,7 +112,7 @@ impl Playout {
         self.phase == Phase::Run && !self.places.is_empty() && self.places.conceals()
     }
 
-    /// Returns whether the list is idle. An idle list plays silence and stays idle until a frame starts it.
+    /// Returns whether the play list is idle. An idle list plays silence until a frame starts it.
     pub fn is_idle(&self) -> bool
         ensures value { result ≡ is_idle self.now.phase }
     {

@@ -3,7 +3,7 @@
 ghost use Rattle.std.specs.Prelude.{◌≡◌};
 ghost use Rattle.mg_playout.specs.Sequence.{distance_of};
 
-/// A packet this far or further ahead of the next sequence number restarts a play list.
+/// A packet at least this far ahead of the next sequence number restarts a play list.
 ///
 /// The name and the value are from RFC 3550, appendix A.1, whose algorithm waits for a second packet first.
 pub const MAX_DROPOUT: i16 = 3000;

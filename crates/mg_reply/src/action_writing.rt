@@ -83,7 +83,7 @@ fn put_item(draft: &mut Draft, item: &Item)
     }
 }
 
-/// Appends the mark before the next part of a list.
+/// Appends the mark that precedes the next part of a list.
 fn put_mark(draft: &mut Draft, opening: &[u8], is_first: bool)
     ensures value { draft.new ≡ drafted draft.old (mark_of opening.now is_first) }
 {
@@ -169,7 +169,7 @@ fn put_entries(draft: &mut Draft, items: &[Item])
     close(draft, is_empty);
 }
 
-/// Appends an action with its entries, after a mark.
+/// Appends a mark, and then an action with its entries.
 #[tactic(auto, using(crate::proofs::DraftLemmas::joins))]
 fn put_action(draft: &mut Draft, mark: &[u8], id: ContextId, items: &[Item])
     ensures value { draft.new ≡ drafted draft.old (mark.now ++ action_text id items.now) }

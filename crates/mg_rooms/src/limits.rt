@@ -21,7 +21,8 @@ pub struct Limits {
 impl Limits {
     /// Returns whether a gateway can start with these limits.
     ///
-    /// There must be 1 to [`TERMINATIONS`] slots with even UDP ports, and the first numbers must be in range.
+    /// There must be 1 to [`TERMINATIONS`] slots with even UDP ports. The numbers of the first termination and the
+    /// first context must be in range.
     pub fn is_valid(&self) -> bool
         ensures value { IsTrue result ↔ AreValidLimits self.now }
     {

@@ -102,7 +102,7 @@ impl Rooms {
         Some(record.number)
     }
 
-    /// Returns a member of the action's context, or the error with which a command on it is rejected.
+    /// Returns a member of the action's context, or the error if the termination isn't one.
     pub fn find(&self, target: Target, number: u32) -> Result<Record, ErrorNumber>
         ensures value { result ≡ member self.now target number }
     {

@@ -3,8 +3,8 @@
 pub enum ScanFault {
     /// A byte can't start a token, or a session description contains a zero byte.
     BadByte,
-    /// A line or the source ends before a quotation mark is closed.
+    /// A line or the source ends inside quoted text.
     OpenQuote,
-    /// The source ends before a session description is closed.
+    /// The source ends inside a session description.
     OpenOctets,
 }

@@ -12,6 +12,6 @@ pub enum TokenKind {
     /// Text between quotation marks, on one line. Its span excludes the quotation marks.
     Quoted,
     /// The session description in braces after `Local` or `Remote`. Its span excludes the braces. A closing brace
-    /// inside it has a backslash before it.
+    /// inside it has a backslash in front of it.
     Octets,
 }

@@ -62,7 +62,7 @@ fn append_title<J: Journal>(config: &Config, journal: &mut J) -> Result<(), Appe
     journal.append(title_line(config).as_slice(), Durability::Synced)
 }
 
-/// Appends ticks with one append.
+/// Appends ticks in one append.
 fn append_batch<J: Journal>(ticks: usize, journal: &mut J) -> Result<(), AppendFault>
     requires some { 0 < ticks }
     requires few { ticks ≤ BATCH }

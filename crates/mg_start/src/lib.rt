@@ -9,7 +9,7 @@
 //! let journal = begin_journal(alloc, &prepared.config, &service, &rt, prepared.journal, &mut core, &mut errors)?;
 //! ```
 //!
-//! [`FoundJournal`] is a journal before anything is appended to it. If a gateway can't start, its fault is reported,
+//! [`FoundJournal`] is a journal before anything is appended to it. If a gateway can't start, the fault is reported,
 //! and the result is the program's exit status.
 //!
 //! `specs/Start.antt` defines how a gateway starts, and `specs/Journal.antt` defines what it finds in its journal and

@@ -9,7 +9,7 @@ use mg_words::address_of;
 pub enum AddressFault {
     /// The string is not an IPv4 address in dotted decimal.
     Unreadable,
-    /// The address is 0.0.0.0, which means all addresses of a machine: nobody can send to it.
+    /// The address is 0.0.0.0, which means all addresses of a machine, so nobody can send to it.
     Unspecified,
     /// The address is 224.0.0.0 or above: a multicast, reserved or broadcast address.
     Multicast,

@@ -8,7 +8,7 @@ pub enum FilePathFault {
 }
 
 impl FilePathFault {
-    /// Returns the error text for the metrics' file.
+    /// Returns the error text for the metrics file.
     pub fn metrics_message(self) -> &'static str {
         match self {
             FilePathFault::Empty => "invalid value for '--metrics <FILE>': an empty path",

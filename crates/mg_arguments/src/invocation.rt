@@ -5,7 +5,7 @@ use mg_core::{Config, Peer, Shown};
 /// What the program's arguments ask it to do.
 #[derive(Drop)]
 pub enum Invocation {
-    /// Run a script, and write for each event what the second field selects.
+    /// Run a script. The second field selects what is written for each event.
     Replay(Config, Shown),
     /// Run a gateway on UDP ports, driven by input lines.
     Serve(Config, Service),

@@ -116,8 +116,8 @@ fn run_request(
     state.kept.keep(sender, request.number, text);
 }
 
-/// Writes the reply to a sender's request: the kept reply if the request is a retransmission; otherwise the reply from
-/// running the request.
+/// Writes the reply to a sender's request: the kept reply if the request is a retransmission, and otherwise the reply
+/// that results from running the request.
 fn put_request(
     state: &mut CoreState,
     source: &[u8],

@@ -24,7 +24,7 @@ pub struct Counts {
     pub ticks: u64,
     /// Answers and packets that were written.
     pub sent: u64,
-    /// Sends and receives that failed, and control datagrams that were dropped because memory ran out.
+    /// Failed sends and receives, and control datagrams that were dropped because memory ran out.
     pub failed: u64,
     /// RTP datagrams by the result of placing their frames: started, placed, pushed, again, late.
     pub placed: [u64; PLACINGS],

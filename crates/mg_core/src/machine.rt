@@ -140,7 +140,8 @@ impl Core {
 
     /// Runs a control datagram that [`Core::read`] has read; [`Core::answer`] returns its answer.
     ///
-    /// Allocates nothing and cannot fail, so a datagram can be written to a journal between reading and running it.
+    /// Allocates nothing and cannot fail, so a datagram can be written to a journal after it is read and before it is
+    /// run.
     pub fn run(&mut self, source: Peer, bytes: &[u8], parsed: &Parsed) -> Answer
         requires reading { IsReadingOf bytes.now parsed.now }
         ensures answered { Leads StandsFor self.old.state self.new.state (λ w next.

@@ -28,7 +28,7 @@ fn line_end(text: &[u8]) -> Option<usize>
     }
 }
 
-/// Returns whether a line, passed in two parts, is a tick that arrived in one piece.
+/// Returns whether `part` is a whole `tick` line, with nothing in `partial` before it.
 fn is_tick(partial: &Bytes, part: &[u8]) -> bool
     ensures value { result ≡ true → (partial.now.text ≡ []) × (part.now ≡ codes "tick") }
 {

@@ -1,4 +1,4 @@
-/// How a date agrees with the time computed from the ticks before it.
+/// How a date compares with the time computed from the ticks before it.
 #[derive(Clone, Copy, Debug, PartialEq, Eq)]
 pub enum Agreement {
     /// The date is the journal's first.

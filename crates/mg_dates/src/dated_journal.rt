@@ -19,7 +19,7 @@ const MARKS: usize = 3;
 /// The capacity of the buffer, in bytes.
 const TEXT_ROOM: usize = LINES_ROOM + TEXT_LIMIT + MARKS;
 
-/// How old the last date must be, in milliseconds, for lines without a message to get a new date.
+/// Lines without a message get a new date if the last one is at least this old, in milliseconds.
 const MAX_AGE: u64 = 60_000;
 
 /// A journal that adds dates to its lines: to the first lines, to the first message of each second, and to ticks if the

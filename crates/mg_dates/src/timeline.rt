@@ -42,7 +42,7 @@ fn missed_ticks(date: Date, ticks: u64, now: Date) -> u64
     passed - ticks
 }
 
-/// Returns how a date agrees with the time that was expected.
+/// Returns how a date compares with the time that was expected.
 fn agreement_of(expected: Date, date: Date) -> Agreement {
     if expected.millis.abs_diff(date.millis) <= TOLERANCE {
         Agreement::Agrees
@@ -77,7 +77,7 @@ impl Timeline {
         Some(Date { millis })
     }
 
-    /// Takes note of a date, and returns how it agrees with the ticks before it.
+    /// Takes note of a date, and returns how it compares with the time computed from the ticks before it.
     pub fn pass_date(&mut self, date: Date) -> Agreement {
         let agreement = match self.next_tick() {
             Some(expected) => agreement_of(expected, date),

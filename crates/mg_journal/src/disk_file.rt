@@ -13,8 +13,8 @@ pub struct DiskFile<T: Read + Write + Seek + OpenFile + Drop> {
 
 /// Opens a journal's file and finds its complete lines. Creates the file if it doesn't exist.
 ///
-/// Nothing else may write to the file from now on, but no lock enforces this. If the file is created, a crash of the
-/// machine may lose it even after a sync, until the system has written the directory.
+/// Nothing else may write to the file from now on, but no lock enforces this. If this call creates the file, a crash of
+/// the machine can lose the file, even after a sync, until the system has written the directory.
 pub fn open_journal<R: Files>(files: &R, path: &str) -> io::Result<Opening<DiskFile<R::File>>>
     ensures start { IfOk result (λ o. o.read ≡ 0) }
 {

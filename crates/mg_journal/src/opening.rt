@@ -16,8 +16,8 @@ const CHUNK: usize = 64 * 1024;
 
 /// A journal's file, which is read before lines are appended to it.
 ///
-/// Reads return the complete lines of the file. If the caller accepts them, [`accept`](Opening::accept) cuts off a
-/// partial last line and returns the journal. Until then the file isn't changed.
+/// Reading it returns the complete lines of the file. If the caller accepts them, [`accept`](Opening::accept) cuts off
+/// a partial last line and returns the journal. Until then the file isn't changed.
 #[derive(Drop)]
 pub struct Opening<F: JournalFile> {
     file: F,
@@ -109,8 +109,8 @@ impl<F: JournalFile> Opening<F> {
         }
     }
 
-    /// Returns the length, in bytes, of the partial last line, which reads don't return. It is 0 if the file ends in a
-    /// line feed.
+    /// Returns the length, in bytes, of the partial last line, which a read never returns. It is 0 if the file ends in
+    /// a line feed.
     pub fn partial(&self) -> u64
         ensures value { IfSome self.now.file.bytes (λ bytes. length (whole_lines bytes) + result ≡ length bytes) }
     {

@@ -17,8 +17,8 @@ type Text = ArrayVec<u8, 512>;
 /// Prints reports for an operator.
 ///
 /// At the given interval, it prints the totals since the start, and a line for each media port that has had trouble
-/// since the last report. After a stall, it prints how many packets were too late to be sent. If appends to the journal
-/// begin to fail or work again, it says so at once. It skips what it can't print.
+/// since the last report. After a stall, it prints how many packets were too late to be sent. When appends to the
+/// journal begin to fail, or work again, it says so at once. It skips what it can't print.
 #[derive(Drop)]
 pub struct Reports<'a, E: Write> {
     every: u64,

@@ -199,7 +199,7 @@ impl<W: Write, R: Ready> Write for Outlet<W, R> {
         Ok(text.len())
     }
 
-    /// Passes on queued bytes as long as the other writer is ready, at most 1 MiB.
+    /// Passes on queued bytes, at most 1 MiB, as long as the other writer is ready.
     fn flush(&mut self) -> io::Result<()>
         ensures bytes { Keeps None None }
         ensures flushed { IsFlushed W.contents R.answers self.old self.new }

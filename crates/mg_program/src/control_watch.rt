@@ -5,7 +5,7 @@ use std::io;
 use std::net::Net;
 use std::time::{Clock, Duration};
 
-/// The minimum length of a wait, in milliseconds, if a message ended the previous one.
+/// If a message ended a wait, the next wait lasts at least this many milliseconds.
 const GAP_MS: u64 = 1;
 
 /// The system's monotonic clock. A datagram at the control socket ends a wait.

@@ -3,8 +3,8 @@ ghost use Rattle.std.specs.Prelude.{◌≡◌, ◌++◌, ◌∷◌, [], take};
 use arrayvec::ArrayVec;
 use std::marker::Model;
 
-/// The first 8 bytes of a line of any length. Every command is shorter, so a longer line is never mistaken for a
-/// command.
+/// The first 8 bytes of a line of any length. Every command is shorter than that, so a longer line is never mistaken
+/// for one.
 #[derive(Drop)]
 pub struct Line {
     text: ArrayVec<u8, 8>,

@@ -330,7 +330,7 @@ impl Engine {
         Ok(gone.record)
     }
 
-    /// Applies triples in order to the current members of the action's context (RFC 3525, section 7.1.18).
+    /// Applies triples, in order, to the current members of the action's context (RFC 3525, section 7.1.18).
     ///
     /// Returns the context's number. If there are errors, returns the first one and doesn't apply any triple.
     pub fn apply_triples(

@@ -58,7 +58,8 @@ fn join(sums: &mut Sums, row: Row, room: Option<Room>)
     }
 }
 
-/// Joins a member's row to the member's room if the member talks; otherwise, removes the row from its room, if any.
+/// Joins a member's row to the member's room if the member talks; otherwise, removes the row from its room, if it is
+/// joined to one.
 pub fn join_if_talking(sums: &mut Sums, row: Row, room: u8, mode: Mode)
     requires room { room < context_limit }
     ensures rooms { SetsRow sums.old.rooms sums.new.rooms row (room_for mode room) }

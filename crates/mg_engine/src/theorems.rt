@@ -43,8 +43,8 @@ pub fn none_hears_itself()
 
 /// An isolated participant is not heard.
 ///
-/// After an Isolate on two terminations, neither's speech flows to the other until one of them enters a context or
-/// another triple mentions the two. The packets to either of them are the same, whatever the other says.
+/// After an Isolate on two terminations, no speech flows between them until one of them enters a context or another
+/// triple mentions the pair. The packets to either of them are the same, whatever the other says.
 pub fn isolated_are_not_heard()
     ensures flow { IsolatedAreNotHeard }
     ensures packets { UnheardChangesNoPacket }
@@ -111,8 +111,8 @@ pub fn other_contexts_are_unaffected()
 /// If two gateways agree except on some terminations, they still agree on everything else after the same edit, datagram
 /// or tick.
 ///
-/// This holds even if only one of them receives an RTP datagram at the port of such a termination. The counters are
-/// equal in both gateways, except for received packets.
+/// This holds even if only one of them receives an RTP datagram at the port of one of those terminations. The counters
+/// are equal in both gateways, except for received packets.
 pub fn agreement_lasts()
     ensures edits { SameEditsKeepAgreement }
     ensures media { SameArrivalKeepsAgreement }

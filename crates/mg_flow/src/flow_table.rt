@@ -14,7 +14,7 @@ use mg_words::CONTEXTS;
 use std::alloc::{AllocError, Global};
 use std::marker::Model;
 
-/// Who hears whom in all rooms of a gateway, and for each listener the masks of its talkers.
+/// Who hears whom in all rooms of a gateway, and the masks of each listener's talkers.
 ///
 /// In contracts, the table appears as the list of rooms, each with its topology and the masks of who talks and who
 /// listens. Contracts describe the table in terms of `specs/Table.antt`. The table that [`FlowTable::new`] returns

@@ -6,7 +6,7 @@ use crate::decoding::{LANES, decode_chunk};
 use crate::law::Law;
 use crate::sample::encode;
 
-/// The number of samples in a frame, and of bytes in its payload.
+/// The number of samples in a frame, which is also the number of bytes in its payload.
 pub const FRAME_LEN: usize = 160;
 
 /// 20 ms of one channel: 160 samples at 8000 Hz, earliest first (RFC 3551, sections 4.2 and 6).

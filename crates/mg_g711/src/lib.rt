@@ -16,7 +16,7 @@
 //! [`theorems`] states properties of the levels: which bytes survive a round trip, that decoding preserves order, and
 //! how far a sample moves.
 //!
-//! A type that stores frames states `IsFrame` for each of them in its invariant. [`decode_frame`] ensures `IsFrame`,
+//! The invariant of a type that stores frames states `IsFrame` for each of them. [`decode_frame`] ensures `IsFrame`,
 //! and [`theorems::frames_are_whole`] proves it for any other frame. `proofs/Frames.antt` has lemmas about `IsFrame`,
 //! for example that 160 zeros are a frame.
 #![tactic(auto)]

@@ -17,7 +17,7 @@ pub(crate) struct Clock {
     timeline: Timeline,
     /// The first tick whose time is known.
     first: Option<Moment>,
-    /// The number of ticks so far. This is also the index of the next tick, as ticks are counted from 0.
+    /// The number of ticks so far. This is also the index of the next tick, because ticks are counted from 0.
     pub(crate) ticks: u64,
     /// The number of lines so far.
     lines: u64,

@@ -7,7 +7,7 @@ use crate::open_flow::OpenFlow;
 pub struct Interval {
     pub flow: OpenFlow,
     pub first: Moment,
-    /// The first tick before which the flow was no longer open, or `None` if it was still open at the end of the
+    /// The first tick that the interval no longer contains, or `None` if the flow was still open at the end of the
     /// script.
     pub end: Option<Moment>,
 }

@@ -109,7 +109,8 @@ impl Query {
             && begins_before_until(interval, self.until)
     }
 
-    /// Returns whether the query selects an interval, and the interval contains a time that the script covers.
+    /// Returns whether the query selects an interval and the interval contains this time. The script must cover the
+    /// time.
     pub(crate) fn selects_at(&self, interval: &Interval, time: Date) -> bool
         ensures value { result ≡ (selects self.now interval.now && covers interval.now time) }
     {
@@ -128,7 +129,7 @@ fn has_begun(interval: &Interval, time: Date) -> bool
     }
 }
 
-/// Returns whether an interval ends after a time, or not at all. An interval whose end has no date ended before the
+/// Returns whether an interval ends after a time or has no end. An interval whose end has no date ended before the
 /// script's first date.
 fn lasts_beyond(interval: &Interval, time: Date) -> bool
     ensures value { result ≡ lasts_beyond interval.now time }
@@ -142,7 +143,7 @@ fn lasts_beyond(interval: &Interval, time: Date) -> bool
     }
 }
 
-/// Returns whether an interval contains a time that the script covers.
+/// Returns whether an interval contains a time. The script must cover the time.
 fn covers(interval: &Interval, time: Date) -> bool
     ensures value { result ≡ covers interval.now time }
 {

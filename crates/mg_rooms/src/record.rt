@@ -12,9 +12,9 @@ pub struct Record {
     pub number: u32,
     /// The number of its context.
     pub context: u32,
-    /// The slot, below the gateway's number of slots, which the termination holds until it is subtracted.
+    /// The slot that the termination holds until it is subtracted. It is below the gateway's number of slots.
     pub slot: u8,
-    /// The seat, below [`MEMBERS`](crate::MEMBERS), which the termination holds while it is in this context.
+    /// The seat that the termination holds while it is in this context. It is below [`MEMBERS`](crate::MEMBERS).
     pub seat: u8,
     /// The mode of its stream.
     pub mode: Mode,

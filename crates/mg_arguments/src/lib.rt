@@ -15,7 +15,7 @@
 //! that no option sets. [`title_of`] returns the first line of a recording, which states a configuration as arguments,
 //! and [`titled`] reads it.
 //!
-//! `specs/Options.antt` defines what the arguments ask for, `specs/Setup.antt` a session's setup, and
+//! `specs/Options.antt` defines what the arguments ask for. `specs/Setup.antt` defines a session's setup, and
 //! `specs/Title.antt` the first line of a recording.
 #![tactic(auto)]
 

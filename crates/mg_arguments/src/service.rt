@@ -23,7 +23,7 @@ pub struct Service {
     pub records: bool,
     /// Whether callers use symmetric RTP: their packets come from the address and port of their Remote.
     pub symmetric_rtp: bool,
-    /// The file to which a gateway in real time writes metrics, if any.
+    /// The file to which a gateway in real time writes metrics, or `None` if it writes none.
     pub metrics: Option<FilePath>,
     /// The file for the journal, if there is one.
     pub journal: Option<FilePath>,

@@ -22,7 +22,7 @@ const TEXT_ROOM: usize = LINES_ROOM + TEXT_LIMIT + MARKS;
 /// Lines without a message get a new date if the last one is at least this old, in milliseconds.
 const MAX_AGE: u64 = 60_000;
 
-/// A journal that adds dates to its lines: to the first lines, to the first message of each second, and to ticks if the
+/// A journal that adds dates: before the first lines, before the first message of each second, and before ticks if the
 /// last date is a minute old.
 ///
 /// A line that begins with `control` is a message; all others are ticks.

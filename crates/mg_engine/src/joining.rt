@@ -9,7 +9,7 @@ ghost use Rattle.mg_engine.specs.aids.Joined.{SetsRow, room_for};
 use mg_rooms::{Mode, mode_talks};
 use mg_sums::{Room, Row, Sums};
 
-/// Returns the room that a member's row is joined to: the member's room if the member talks, otherwise none.
+/// Returns the room that a member's row is joined to: the member's room if the member talks, and otherwise none.
 fn room_for(mode: Mode, room: u8) -> Option<Room>
     requires room { room < context_limit }
     ensures value { result ≡ room_for mode room }

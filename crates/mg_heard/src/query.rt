@@ -8,7 +8,7 @@ use crate::party_name::PartyName;
 use mg_core::Peer;
 use mg_dates::Date;
 
-/// Which intervals are asked for.
+/// A selection of intervals by listener, talker and time.
 #[derive(Clone, Copy, Debug, PartialEq, Eq)]
 pub struct Query {
     /// The listener, or `None` for any listener.

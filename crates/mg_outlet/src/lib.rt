@@ -12,8 +12,8 @@
 //! If the reader is so slow that the queue is full, text is dropped; [`Overflow`] says which text. Flush often, for
 //! example after each tick, and call [`Outlet::finish`] at the end.
 //!
-//! `specs/Outlet.antt` defines what an outlet does: bytes move from the front of the queue to the end of what the
-//! writer holds, and written text joins the queue unless it is dropped. [`theorems`] states the consequences.
+//! `specs/Outlet.antt` defines what an outlet does: written text joins the queue, unless it is dropped, and bytes move
+//! from the front of the queue to the end of what the writer holds. [`theorems`] states the consequences.
 #![tactic(auto)]
 
 mod outlet;

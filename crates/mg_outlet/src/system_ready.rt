@@ -10,8 +10,8 @@ use std::time::Duration;
 /// Asks the system whether a descriptor is writable.
 ///
 /// On Linux, a pipe is writable if a page of 4,096 bytes is free in it, and a Unix stream socket if three quarters of
-/// its buffer is free. A write of at most 4,096 bytes then returns without waiting, even if the descriptor is blocking,
-/// provided that nobody else writes to the same pipe or socket.
+/// its buffer is free. A write of at most 4,096 bytes then returns without waiting, even if the descriptor is blocking.
+/// This holds only if nobody else writes to the same pipe or socket.
 #[derive(Drop)]
 pub struct SystemReady {
     watched: Option<Watched>,

@@ -2,9 +2,9 @@
 //!
 //! Socket 0 is the control socket, and socket s + 1 is the media socket of slot s in the pool.
 //!
-//! [`Ports`] is what a gateway needs from its sockets and its journal: to receive a datagram without blocking, to send
-//! one, to append lines to the journal, and to count the receives and sends that failed. [`FakePorts`] provides
-//! in-memory ports for tests: it returns the datagrams that it was given, makes chosen calls fail, and logs each call.
+//! [`Ports`] has the calls that a gateway needs: they receive a datagram without blocking, send one, append lines to
+//! the journal, and count the receives and sends that failed. [`FakePorts`] provides in-memory ports for tests: it
+//! returns the datagrams that it was given, makes chosen calls fail, and logs each call.
 //!
 //! ```rust
 //! let mut ports = FakePorts::new(alloc, waiting, failing);

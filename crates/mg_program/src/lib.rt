@@ -12,8 +12,8 @@
 //! not read unless the system reported a datagram. [`UdpPorts`] lends the sockets to a session (`mg_serve`), and sends
 //! no packet in a late tick. [`ControlWatch`] is a clock that also waits for messages.
 //!
-//! `specs/Program.antt` defines how a run ends. `mg_arguments` defines what the arguments ask for, and `mg_start` how a
-//! gateway starts.
+//! `specs/Program.antt` defines how a run ends. `mg_arguments` defines what the arguments ask for, and `mg_start`
+//! defines how a gateway starts.
 #![tactic(auto)]
 
 mod bind_fault;

@@ -1,7 +1,7 @@
 /// The number of hints: one for each value of the last eight bits of a number.
 const HINTS: usize = 256;
 
-/// For each value of a number's last eight bits, the place in a table where such a number was last stored.
+/// For each value of a number's last eight bits, the place in a table where a number with those bits was last stored.
 ///
 /// Numbers that differ by 256 share a hint. So a hint only says where to look first, and the caller compares the number
 /// there.

@@ -8,10 +8,10 @@
 //! ```
 //!
 //! [`serve`] is proved for any [`Ports`](mg_ports::Ports). On return, the complete lines that it read and their effects
-//! form a session (`specs/Session.antt`). So it reads the ports in order, drops a datagram only for a reason that the
-//! definition names (it came from a stranger, memory ran out, or the journal failed), and sends each answer and each
-//! packet once. [`theorems`] goes further: a session sends what a run of its events sends, and reading its recording
-//! back yields the same events.
+//! form a session (`specs/Session.antt`). So it reads the ports in order, and sends each answer and each packet once.
+//! It drops a datagram only for a reason that the definition names: the datagram came from a stranger, memory ran out,
+//! or the journal failed. [`theorems`] goes further: a session sends what a run of its events sends, and reading its
+//! recording back yields the same events.
 #![tactic(auto)]
 
 mod clock_driver;

@@ -466,7 +466,7 @@ fn run_in(name: &str, matches: &ArgMatches<'_>) -> Result<Invocation, &'static s
     }
 }
 
-/// Returns the run that the arguments ask for. The arguments come without the program's name.
+/// Returns the run that the arguments ask for. The arguments don't include the program's name.
 ///
 /// If they don't ask for a run, the caller must report the error: a usage error, a request for help or the version, or
 /// lack of memory.

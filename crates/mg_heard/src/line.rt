@@ -19,7 +19,7 @@ use mg_reply::{Bytes, write_address, write_port};
 /// The maximum length of a line, in bytes.
 pub(crate) const LINE_LIMIT: usize = 512;
 
-/// The maximum length, in bytes, of a time.
+/// The maximum length of a time, in bytes.
 pub(crate) const TIME_LIMIT: usize = 64;
 
 /// The maximum length, in bytes, of a number in decimal.
@@ -28,7 +28,7 @@ const NUMBER_LIMIT: usize = 20;
 /// The maximum length, in bytes, of a name: `RTP/` and a number.
 const NAME_LIMIT: usize = 4 + NUMBER_LIMIT;
 
-/// The maximum length, in bytes, of a peer: an address, a colon and a port.
+/// The maximum length of a peer, in bytes: an address, a colon and a port.
 const PEER_LIMIT: usize = 21;
 
 /// The maximum length, in bytes, of a name, a space, and a peer in brackets.

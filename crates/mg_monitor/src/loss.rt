@@ -4,7 +4,7 @@ use mg_rtp::{Header, read};
 /// How many sequence numbers are remembered.
 const WINDOW: u16 = 64;
 
-/// Counts RTP packets that never arrived, by their sequence numbers (RFC 3550, A.3).
+/// Uses sequence numbers to count the RTP packets that never arrived (RFC 3550, A.3).
 ///
 /// A packet counts as lost once a packet with a sequence number at least 64 higher has arrived, or once another stream
 /// begins. A stream begins with a packet that has another SSRC, or whose sequence number is far from the newest one: at

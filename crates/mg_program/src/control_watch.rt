@@ -5,12 +5,13 @@ use std::io;
 use std::net::Net;
 use std::time::{Clock, Duration};
 
-/// If a message ended a wait, the next wait lasts at least this many milliseconds.
+/// After a message has ended a wait, the next wait looks for messages only after this many milliseconds.
 const GAP_MS: u64 = 1;
 
 /// The system's monotonic clock. A datagram at the control socket ends a wait.
 ///
-/// The next wait lasts at least a millisecond, so a flood of messages can end at most a thousand waits per second.
+/// The next wait doesn't look for messages during its first millisecond, so a flood of messages can end at most a
+/// thousand waits per second.
 #[derive(Drop)]
 pub struct ControlWatch<'a, C: Clock> {
     watch: SystemWatch<'a, C>,

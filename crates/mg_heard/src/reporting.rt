@@ -65,7 +65,7 @@ pub fn write_report<R: Read, W: Write>(
     };
     let report = hear_report(alloc, config, reader, report)?;
     let Report { writer, .. } = report;
-    // This does nothing at run time. It makes known to the proof what the writer holds.
+    // This does nothing at run time. It shows the proof what the writer holds.
     let _ = &*writer;
     Ok(())
 }

@@ -14,8 +14,8 @@ pub struct PortCounts {
     lost_before: u64,
     /// The termination that had the port at the last report, if its caller was expected to send.
     expected: Option<u32>,
-    /// The tick of the last packet that a play list accepted, or of the report at which the caller was first expected
-    /// to send, whichever is later.
+    /// The tick when a play list last accepted a packet, or the tick of the first report at which the caller was
+    /// expected to send, whichever is later.
     heard: u64,
 }
 
@@ -58,7 +58,7 @@ impl PortCounts {
     /// Returns how long a caller who is expected to send has been silent, in ticks.
     ///
     /// `expected` is the termination whose caller should send now. The silence starts at the last accepted packet, or
-    /// at the report at which that caller was first expected to send, whichever is later.
+    /// at the first report at which that caller was expected to send, whichever is later.
     pub fn silent_ticks(&mut self, expected: Option<u32>, ticks: u64) -> u64 {
         if self.expected != expected {
             self.expected = expected;

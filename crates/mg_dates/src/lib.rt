@@ -1,4 +1,4 @@
-//! Dates in a journal (comments with the time of day), and the number of ticks missed since its last line.
+//! Dates in a journal, and the number of ticks missed since the journal's last line.
 //!
 //! A [`DatedJournal`] adds dates to the lines that it appends to a journal. [`Timeline`] reads the dates while a
 //! journal is run again, so that the gateway can skip the ticks that it missed:
@@ -9,8 +9,8 @@
 //! core.skip(timeline.missed(Date::now(&rt)?));
 //! ```
 //!
-//! A date is a line such as `# time 2026-11-27T14:03:20.5Z` (RFC 3339). It says when the message or the ticks in the
-//! following lines happened.
+//! A date is a comment with the time of day, such as `# time 2026-11-27T14:03:20.5Z` (RFC 3339). It says when the
+//! message or the ticks in the following lines happened.
 #![tactic(auto)]
 
 mod agreement;

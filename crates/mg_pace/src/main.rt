@@ -4,20 +4,9 @@
 //! `mg_pace | mg_bridge serve` runs a gateway in real time.
 #![tactic(auto)]
 
-mod fault;
-mod lines;
-mod options;
-mod pacer;
-mod program;
-mod schedule;
-mod status;
-#[cfg(test)]
-mod tests;
-mod theorems;
-
-use crate::program::program;
 use mg_clock::SystemWatch;
 use mg_options::program_arguments;
+use mg_pacer::program;
 use std::process::ExitCode;
 
 fn main(rt: HostRuntime) -> ExitCode {

@@ -23,6 +23,8 @@ mod options;
 #[cfg(test)]
 mod outlet;
 #[cfg(test)]
+mod pace;
+#[cfg(test)]
 mod playout;
 #[cfg(test)]
 mod ports;

@@ -1,5 +1,0 @@
-use Rattle.mg_pace.proofs.DueLemmas as lemmas
-use Rattle.mg_pace.proofs.theorems.all_ticks_are_accounted_for.Goals as goal
-
-pub returns : goal.returns
-returns c = record { theorem = lemmas.accounted }

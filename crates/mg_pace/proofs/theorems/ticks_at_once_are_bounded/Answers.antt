@@ -1,5 +1,0 @@
-use Rattle.mg_pace.proofs.DueLemmas as lemmas
-use Rattle.mg_pace.proofs.theorems.ticks_at_once_are_bounded.Goals as goal
-
-pub returns : goal.returns
-returns c = record { theorem = lemmas.bounded }

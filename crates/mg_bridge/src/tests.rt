@@ -1,4 +1,3 @@
-mod addresses;
 mod checking;
 mod commanding;
 mod conversation;
@@ -7,9 +6,7 @@ mod ending;
 mod equality;
 mod in_real_time;
 mod journal;
-mod replaying;
-mod serving;
-mod words;
+mod titles;
 
 use mg_program::{System, program};
 use std::io::Read;
@@ -59,18 +56,6 @@ fn run_with<C: Clock, G: RandomSource, R: Read>(
         errors,
         reports,
     }
-}
-
-/// Runs the program with these arguments and this input.
-fn run_program(rt: &HostRuntime, words: &[&str], text: &[u8]) -> Outcome {
-    let mut input = text;
-    run_with(rt, rt, rt, words, &mut input)
-}
-
-/// Returns whether the program refuses these arguments with a message that starts like this, and prints nothing else.
-fn is_refused(rt: &HostRuntime, words: &[&str], message: &[u8]) -> bool {
-    let done = run_program(rt, words, b"");
-    done.status == 2 && done.output.is_empty() && done.errors.as_slice().starts_with(message)
 }
 
 /// Returns a port of 127.0.0.1.

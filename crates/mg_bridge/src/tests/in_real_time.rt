@@ -1,5 +1,5 @@
 use super::equality::assert_equal;
-use super::{local, run_program, run_with};
+use super::{local, run_with};
 use std::cell::Cell;
 use std::io::ErrorKind;
 use std::net::UdpSocket;
@@ -231,27 +231,4 @@ fn writes_metrics(rt: HostRuntime) -> Result<(), Fail> {
             .ends_with(b"# TYPE lobbysorrel_port_silence_seconds gauge\n")
     );
     Ok(())
-}
-
-#[test]
-fn refuses_a_file_that_cannot_be_written(rt: HostRuntime) {
-    let words = [
-        "live",
-        "--control-port",
-        "28930",
-        "--base-port",
-        "28932",
-        "--slots",
-        "1",
-        "--metrics",
-        "/proc/metrics.prom",
-    ];
-    let done = run_program(&rt, &words, b"");
-    assert_equal(&rt, done.status, 3);
-    assert!(rt; done.output.is_empty());
-    assert!(rt;
-        done.errors
-            .as_slice()
-            .starts_with(b"cannot write /proc/metrics.prom: ")
-    );
 }

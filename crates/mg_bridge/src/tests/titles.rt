@@ -1,55 +1,7 @@
-use super::equality::assert_equal;
-use super::{is_refused, run_program};
 use mg_arguments::{Invocation, requested_run, title_of};
 use mg_core::Config;
-use mg_options::{TOOLCHAIN, VERSION};
 use std::alloc::{AllocError, Global};
 use std::test::Fail;
-
-#[test]
-fn refuses_arguments(rt: HostRuntime) {
-    let cases: [&[&str]; 11] = [
-        &[],
-        &["record"],
-        &["replay", "--slots"],
-        &["replay", "--slots", "65536"],
-        &["replay", "--slots", "1", "--slots", "1"],
-        &["serve", "--colour"],
-        &["serve", "--control-port", "x"],
-        &["serve", "--late", "5"],
-        &["live", "--late", "65536"],
-        &["live", "--first-context", "4294967296"],
-        &["replay", "--controller", "10.0.0.1"],
-    ];
-    for words in cases {
-        assert!(rt; is_refused(&rt, words, b"error: "));
-    }
-}
-
-#[test]
-fn prints_its_version(rt: HostRuntime) -> Result<(), Fail> {
-    let done = run_program(&rt, &["--version"], b"");
-    assert_equal(&rt, done.status, 0);
-    let wanted = format!(in rt.alloc(); "mg_bridge {VERSION}\n{TOOLCHAIN}\n")?;
-    assert_equal(&rt, done.output.as_slice(), wanted.as_bytes());
-    Ok(())
-}
-
-#[test]
-fn prints_help(rt: HostRuntime) {
-    let cases: [&[&str]; 4] = [
-        &["--help"],
-        &["replay", "--help"],
-        &["serve", "--help"],
-        &["live", "--help"],
-    ];
-    for words in cases {
-        let done = run_program(&rt, words, b"");
-        assert_equal(&rt, done.status, 0);
-        assert!(rt; !done.output.is_empty());
-        assert!(rt; done.errors.is_empty());
-    }
-}
 
 /// Returns the arguments of the command in a recording's title.
 fn title_words(alloc: Global, config: &Config) -> Result<Vec<String>, AllocError> {

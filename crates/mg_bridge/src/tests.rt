@@ -1,4 +1,3 @@
-mod checking;
 mod commanding;
 mod conversation;
 mod drawing;

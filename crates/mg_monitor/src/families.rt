@@ -3,8 +3,7 @@ use crate::page::Page;
 use crate::port_counter::PortCounter;
 use crate::port_totals::PortTotals;
 use crate::seconds::Seconds;
-use mg_core::Core;
-use mg_ports::FailureCauses;
+use mg_core::{Core, Counts};
 use mg_serve::TickReport;
 use std::io::{self, Write};
 use std::time::Duration;
@@ -60,13 +59,8 @@ pub fn put_use<W: Write>(
     page.gauge("callers_sending", help, &sending)
 }
 
-/// Writes the counts of datagrams.
-pub fn put_datagrams<W: Write>(report: &TickReport<'_>, page: &mut Page<'_, W>) -> io::Result<()> {
-    let counts = report.counts;
-    let help = "Messages accepted from controllers";
-    page.counter("control_messages_total", help, counts.control)?;
-    let help = "Messages dropped for lack of memory";
-    page.counter("control_messages_unread_total", help, report.unread)?;
+/// Returns what became of RTP datagrams, and how often.
+fn results(counts: &Counts) -> [(&'static str, u64); 11] {
     let [started, placed, pushed, duplicate, late] = counts.placed;
     let [
         no_termination,
@@ -76,7 +70,7 @@ pub fn put_datagrams<W: Write>(report: &TickReport<'_>, page: &mut Page<'_, W>) 
         payload_type,
         length,
     ] = counts.dropped;
-    let results = [
+    [
         ("started", started),
         ("placed", placed),
         ("pushed", pushed),
@@ -88,22 +82,44 @@ pub fn put_datagrams<W: Write>(report: &TickReport<'_>, page: &mut Page<'_, W>) 
         ("not_rtp", not_rtp),
         ("payload_type", payload_type),
         ("length", length),
-    ];
-    let help = "RTP datagrams received";
-    page.counters("rtp_packets_total", help, "result", &results)?;
+    ]
+}
+
+/// Writes the counts of messages from controllers.
+fn put_messages<W: Write>(report: &TickReport<'_>, page: &mut Page<'_, W>) -> io::Result<()> {
+    let help = "Messages accepted from controllers";
+    page.counter("control_messages_total", help, report.counts.control)?;
+    let help = "Messages dropped for lack of memory";
+    page.counter("control_messages_unread_total", help, report.unread)
+}
+
+/// Writes the counts of answers and packets.
+fn put_sends<W: Write>(report: &TickReport<'_>, page: &mut Page<'_, W>) -> io::Result<()> {
     let help = "Answers and packets sent";
-    page.counter("datagrams_sent_total", help, counts.sent)?;
-    let FailureCauses {
-        receives,
-        late,
-        held,
-        refused,
-    } = report.failures;
-    let causes = [("late", late), ("held", held), ("refused", refused)];
+    page.counter("datagrams_sent_total", help, report.counts.sent)?;
+    let failures = report.failures;
+    let causes = [
+        ("late", failures.late),
+        ("held", failures.held),
+        ("refused", failures.refused),
+    ];
     let help = "Answers and packets not sent";
     page.counters("datagrams_unsent_total", help, "cause", &causes)?;
     let help = "Receives that the system refused";
-    page.counter("receives_failed_total", help, receives)
+    page.counter("receives_failed_total", help, failures.receives)
+}
+
+/// Writes the counts of datagrams.
+pub fn put_datagrams<W: Write>(report: &TickReport<'_>, page: &mut Page<'_, W>) -> io::Result<()> {
+    put_messages(report, page)?;
+    let help = "RTP datagrams received";
+    page.counters(
+        "rtp_packets_total",
+        help,
+        "result",
+        &results(&report.counts),
+    )?;
+    put_sends(report, page)
 }
 
 /// Writes the state of the journal.

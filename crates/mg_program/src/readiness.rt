@@ -14,6 +14,9 @@ use std::time::Duration;
 /// The number of sockets that a gateway has: the control socket, and one media socket for each termination.
 pub const SOCKETS: usize = TERMINATIONS + 1;
 
+/// Every socket may have a datagram.
+const ALL_READY: [bool; SOCKETS] = [true; SOCKETS];
+
 /// Which sockets may have a datagram, according to the system.
 ///
 /// When a datagram arrives, the system reports its socket once. So the socket counts as ready from then on, until a
@@ -37,10 +40,11 @@ impl Readiness {
     /// Creates a state in which no socket is watched and all count as ready. The caller allocates the buffer for the
     /// system's reports, so this call allocates nothing.
     pub fn new<N: Net>(net: &N, events: Events) -> io::Result<Self> {
+        let poll = Poll::new(net)?;
         Ok(Readiness {
-            poll: Poll::new(net)?,
+            poll,
             events,
-            ready: [true; SOCKETS],
+            ready: ALL_READY,
         })
     }
 

@@ -1,11 +1,10 @@
 //! Masks of who is heard and who is silenced.
 
 use crate::equality::assert_equal;
-use crate::topology::triple;
 use mg_flow::{FlowTable, Place};
 use mg_topology::mask::{self, Mask};
-use mg_topology::{Association, Overlap};
-use std::process::Abort;
+use mg_topology::{Association, Overlap, Triple};
+use std::alloc::{AllocError, Global};
 use std::test::Fail;
 
 /// Places in one room, in the order of entry.
@@ -18,131 +17,214 @@ const THIRD: Place = Place { room: 0, seat: 2 };
 /// A place in another room.
 const ELSEWHERE: Place = Place { room: 1, seat: 0 };
 
-fn enter(rt: &impl Abort, table: &mut FlowTable, place: Place, talks: bool, listens: bool) {
-    assert!(rt; place.room < 64 && place.seat < 64);
-    assert!(rt; !table.holds(place));
+/// The last place in the last room.
+const LAST: Place = Place { room: 63, seat: 63 };
+
+/// Triples of the first member with the second, the third or all.
+const ISOLATE_SECOND: Triple = Triple {
+    first: 0b001,
+    second: 0b010,
+    association: Association::Isolate,
+};
+
+const ISOLATE_THIRD: Triple = Triple {
+    first: 0b001,
+    second: 0b100,
+    association: Association::Isolate,
+};
+
+const ISOLATE_ALL: Triple = Triple {
+    first: 0b001,
+    second: 0b111,
+    association: Association::Isolate,
+};
+
+const ONEWAY_TO_SECOND: Triple = Triple {
+    first: 0b001,
+    second: 0b010,
+    association: Association::Oneway,
+};
+
+const ONEWAY_FROM_ALL: Triple = Triple {
+    first: mask::FULL,
+    second: 0b001,
+    association: Association::Oneway,
+};
+
+/// A call on a table, with its outcome, or what is found after the calls before.
+#[derive(Clone, Copy)]
+enum Action<'a> {
+    /// A member enters at a place, who talks or not and listens or not.
+    Enter(Place, bool, bool),
+    Leave(Place),
+    SetMode(Place, bool, bool),
+    /// Triples are applied in the first room.
+    Apply(&'a [Triple], Result<(), Overlap>),
+    /// The members who are heard at a place, and those who are silenced there.
+    Masks(Place, Mask, Mask),
+    /// The members in a room.
+    Held(u8, Mask),
+    Holds(Place, bool),
+    /// Whether a listener hears a talker.
+    Hears(Place, Place, bool),
+}
+
+/// Calls on new tables.
+const CASES: [(&str, &[Action<'static>]); 5] = [
+    (
+        "only talkers are silenced",
+        &[
+            Action::Enter(FIRST, true, true),
+            Action::Enter(SECOND, true, true),
+            Action::Enter(THIRD, true, true),
+            Action::Apply(&[ISOLATE_THIRD], Ok(())),
+            Action::Masks(FIRST, 0b010, 0b100),
+            // The third listens and does not talk.
+            Action::SetMode(THIRD, false, true),
+            Action::Masks(FIRST, 0b010, 0),
+            Action::Masks(SECOND, 0b001, 0),
+            Action::Masks(THIRD, 0b010, 0b001),
+            // The first moves to a separate context, and returns.
+            Action::Leave(FIRST),
+            Action::Enter(ELSEWHERE, true, true),
+            Action::Masks(ELSEWHERE, 0, 0),
+            Action::Leave(ELSEWHERE),
+            Action::Enter(FIRST, true, true),
+            Action::Masks(FIRST, 0b010, 0),
+            Action::Masks(THIRD, 0b011, 0),
+        ],
+    ),
+    (
+        "who comes back hears all",
+        &[
+            Action::Enter(FIRST, false, false),
+            Action::Enter(SECOND, false, false),
+            Action::Enter(THIRD, false, false),
+            Action::Held(0, 0b111),
+            Action::Apply(&[ISOLATE_ALL], Ok(())),
+            Action::Hears(SECOND, FIRST, false),
+            Action::Leave(FIRST),
+            Action::Enter(ELSEWHERE, false, false),
+            Action::Held(0, 0b110),
+            Action::Held(1, 0b001),
+            Action::Hears(THIRD, SECOND, true),
+            Action::Hears(ELSEWHERE, SECOND, false),
+            Action::Leave(ELSEWHERE),
+            Action::Enter(FIRST, false, false),
+            Action::Holds(ELSEWHERE, false),
+            Action::Hears(SECOND, FIRST, true),
+            Action::Hears(FIRST, SECOND, true),
+            Action::Hears(THIRD, FIRST, true),
+        ],
+    ),
+    (
+        "a newcomer on a used seat hears all",
+        &[
+            Action::Enter(FIRST, true, true),
+            Action::Enter(SECOND, true, true),
+            Action::Apply(&[ISOLATE_SECOND], Ok(())),
+            Action::Leave(SECOND),
+            Action::Masks(FIRST, 0, 0),
+            Action::Enter(SECOND, true, true),
+            Action::Masks(FIRST, 0b10, 0),
+            Action::Masks(SECOND, 0b01, 0),
+        ],
+    ),
+    (
+        "the last of two triples wins",
+        &[
+            Action::Enter(FIRST, true, true),
+            Action::Enter(SECOND, true, true),
+            // If sets overlap, no triple is applied.
+            Action::Apply(&[ISOLATE_SECOND, ONEWAY_FROM_ALL], Err(Overlap)),
+            Action::Masks(FIRST, 0b10, 0),
+            Action::Masks(SECOND, 0b01, 0),
+            Action::Apply(&[ISOLATE_SECOND, ONEWAY_TO_SECOND], Ok(())),
+            Action::Masks(FIRST, 0, 0b10),
+            Action::Masks(SECOND, 0b01, 0),
+            Action::Apply(&[ONEWAY_TO_SECOND, ISOLATE_SECOND], Ok(())),
+            Action::Masks(FIRST, 0, 0b10),
+            Action::Masks(SECOND, 0, 0b01),
+        ],
+    ),
+    (
+        "places end at the limits",
+        &[
+            Action::Enter(LAST, true, true),
+            Action::Holds(LAST, true),
+            Action::Holds(Place { room: 64, seat: 63 }, false),
+            Action::Holds(Place { room: 63, seat: 64 }, false),
+            Action::Held(64, mask::EMPTY),
+            Action::Hears(LAST, Place { room: 64, seat: 63 }, false),
+        ],
+    ),
+];
+
+/// Lets a member enter. Returns whether the place was free.
+fn enter(table: &mut FlowTable, place: Place, talks: bool, listens: bool) -> bool {
+    if place.room >= 64 || place.seat >= 64 || table.holds(place) {
+        return false;
+    }
     table.on_enter(place, talks, listens);
+    true
 }
 
-fn leave(rt: &impl Abort, table: &mut FlowTable, place: Place) {
-    assert!(rt; table.holds(place));
+/// Lets a member leave. Returns whether there was one.
+fn leave(table: &mut FlowTable, place: Place) -> bool {
+    if !table.holds(place) {
+        return false;
+    }
     table.on_leave(place);
+    true
 }
 
-fn set_mode(rt: &impl Abort, table: &mut FlowTable, place: Place, talks: bool, listens: bool) {
-    assert!(rt; table.holds(place));
+/// Sets the mode of a member. Returns whether there is one.
+fn set_mode(table: &mut FlowTable, place: Place, talks: bool, listens: bool) -> bool {
+    if !table.holds(place) {
+        return false;
+    }
     table.on_mode(place, talks, listens);
+    true
 }
 
-fn assert_masks(rt: &impl Abort, table: &FlowTable, place: Place, open: Mask, silenced: Mask) {
-    assert!(rt; table.holds(place));
-    assert_eq!(rt; *table.open(place), open, "open to {place:?}");
-    assert_eq!(rt; *table.silenced(place), silenced, "silenced for {place:?}");
+/// Returns whether a member hears and does not hear these.
+fn has_masks(table: &FlowTable, place: Place, open: Mask, silenced: Mask) -> bool {
+    if !table.holds(place) {
+        return false;
+    }
+    *table.open(place) == open && *table.silenced(place) == silenced
 }
 
-#[test]
-fn only_talkers_are_silenced(rt: HostRuntime) -> Result<(), Fail> {
-    let mut table = FlowTable::new(rt.alloc())?;
-    enter(&rt, &mut table, FIRST, true, true);
-    enter(&rt, &mut table, SECOND, true, true);
-    enter(&rt, &mut table, THIRD, true, true);
-    let isolate = triple(0b001, 0b100, Association::Isolate);
-    assert_equal(&rt, table.on_triples(0, &[isolate]), Ok(()));
-    assert_masks(&rt, &table, FIRST, 0b010, 0b100);
-
-    // The third listens and does not talk.
-    set_mode(&rt, &mut table, THIRD, false, true);
-    assert_masks(&rt, &table, FIRST, 0b010, 0);
-    assert_masks(&rt, &table, SECOND, 0b001, 0);
-    assert_masks(&rt, &table, THIRD, 0b010, 0b001);
-
-    // The first moves to a separate context, and returns.
-    leave(&rt, &mut table, FIRST);
-    enter(&rt, &mut table, ELSEWHERE, true, true);
-    assert_masks(&rt, &table, ELSEWHERE, 0, 0);
-    leave(&rt, &mut table, ELSEWHERE);
-    enter(&rt, &mut table, FIRST, true, true);
-    assert_masks(&rt, &table, FIRST, 0b010, 0);
-    assert_masks(&rt, &table, THIRD, 0b011, 0);
-    Ok(())
+/// Carries out an action. Returns whether it has the given outcome.
+fn does(table: &mut FlowTable, action: &Action<'_>) -> bool {
+    match *action {
+        Action::Enter(place, talks, listens) => enter(table, place, talks, listens),
+        Action::Leave(place) => leave(table, place),
+        Action::SetMode(place, talks, listens) => set_mode(table, place, talks, listens),
+        Action::Apply(triples, outcome) => table.on_triples(0, triples) == outcome,
+        Action::Masks(place, open, silenced) => has_masks(table, place, open, silenced),
+        Action::Held(room, mask) => table.held(room) == mask,
+        Action::Holds(place, is_held) => table.holds(place) == is_held,
+        Action::Hears(listener, talker, is_heard) => table.hears(listener, talker) == is_heard,
+    }
 }
 
-#[test]
-fn who_comes_back_hears_all(rt: HostRuntime) -> Result<(), Fail> {
-    let mut table = FlowTable::new(rt.alloc())?;
-    enter(&rt, &mut table, FIRST, false, false);
-    enter(&rt, &mut table, SECOND, false, false);
-    enter(&rt, &mut table, THIRD, false, false);
-    let isolate = triple(0b001, table.held(0), Association::Isolate);
-    assert_equal(&rt, table.on_triples(0, &[isolate]), Ok(()));
-    assert!(rt; !table.hears(SECOND, FIRST));
-    leave(&rt, &mut table, FIRST);
-    enter(&rt, &mut table, ELSEWHERE, false, false);
-    assert_equal(&rt, table.held(0), 0b110);
-    assert_equal(&rt, table.held(1), 0b001);
-    assert!(rt; table.hears(THIRD, SECOND));
-    assert!(rt; !table.hears(ELSEWHERE, SECOND));
-    leave(&rt, &mut table, ELSEWHERE);
-    enter(&rt, &mut table, FIRST, false, false);
-    assert!(rt; !table.holds(ELSEWHERE));
-    assert!(rt; table.hears(SECOND, FIRST));
-    assert!(rt; table.hears(FIRST, SECOND));
-    assert!(rt; table.hears(THIRD, FIRST));
-    Ok(())
+/// Returns the number of the first action that has another outcome, or `None` if there is no such action.
+fn first_wrong(alloc: Global, actions: &[Action<'_>]) -> Result<Option<usize>, AllocError> {
+    let mut table = FlowTable::new(alloc)?;
+    for at in 0..actions.len() {
+        if !does(&mut table, &actions[at]) {
+            return Ok(Some(at));
+        }
+    }
+    Ok(None)
 }
 
 #[test]
-fn newcomer_on_a_used_seat_hears_all(rt: HostRuntime) -> Result<(), Fail> {
-    let mut table = FlowTable::new(rt.alloc())?;
-    enter(&rt, &mut table, FIRST, true, true);
-    enter(&rt, &mut table, SECOND, true, true);
-    let isolate = triple(0b01, 0b10, Association::Isolate);
-    assert_equal(&rt, table.on_triples(0, &[isolate]), Ok(()));
-    leave(&rt, &mut table, SECOND);
-    assert_masks(&rt, &table, FIRST, 0, 0);
-    enter(&rt, &mut table, SECOND, true, true);
-    assert_masks(&rt, &table, FIRST, 0b10, 0);
-    assert_masks(&rt, &table, SECOND, 0b01, 0);
-    Ok(())
-}
-
-#[test]
-fn last_of_two_triples_wins(rt: HostRuntime) -> Result<(), Fail> {
-    let mut table = FlowTable::new(rt.alloc())?;
-    enter(&rt, &mut table, FIRST, true, true);
-    enter(&rt, &mut table, SECOND, true, true);
-    let isolate = triple(0b01, 0b10, Association::Isolate);
-    let oneway = triple(0b01, 0b10, Association::Oneway);
-    let all_to_one = triple(mask::FULL, 0b01, Association::Oneway);
-
-    // If sets overlap, no triple is applied.
-    assert_equal(
-        &rt,
-        table.on_triples(0, &[isolate, all_to_one]),
-        Err(Overlap),
-    );
-    assert_masks(&rt, &table, FIRST, 0b10, 0);
-    assert_masks(&rt, &table, SECOND, 0b01, 0);
-
-    assert_equal(&rt, table.on_triples(0, &[isolate, oneway]), Ok(()));
-    assert_masks(&rt, &table, FIRST, 0, 0b10);
-    assert_masks(&rt, &table, SECOND, 0b01, 0);
-
-    assert_equal(&rt, table.on_triples(0, &[oneway, isolate]), Ok(()));
-    assert_masks(&rt, &table, FIRST, 0, 0b10);
-    assert_masks(&rt, &table, SECOND, 0, 0b01);
-    Ok(())
-}
-
-#[test]
-fn places_end_at_the_limits(rt: HostRuntime) -> Result<(), Fail> {
-    let mut table = FlowTable::new(rt.alloc())?;
-    let last = Place { room: 63, seat: 63 };
-    enter(&rt, &mut table, last, true, true);
-    assert!(rt; table.holds(last));
-    assert!(rt; !table.holds(Place { room: 64, seat: 63 }));
-    assert!(rt; !table.holds(Place { room: 63, seat: 64 }));
-    assert_equal(&rt, table.held(64), mask::EMPTY);
-    assert!(rt; !table.hears(last, Place { room: 64, seat: 63 }));
+fn keeps_masks(rt: HostRuntime) -> Result<(), Fail> {
+    for (name, actions) in &CASES {
+        let wrong = first_wrong(rt.alloc(), actions)?;
+        assert_equal(&rt, (*name, wrong), (*name, None));
+    }
     Ok(())
 }

@@ -1,6 +1,10 @@
 //! Journals: files to which lines are appended.
 
+ghost use Rattle.std.specs.Prelude.{IsTrue};
+ghost use Rattle.mg_journal.specs.Text.{EndsInLineFeed};
+
 use crate::equality::assert_equal;
+use crate::failure::kind;
 use mg_journal::{
     AppendFault, Durability, FaultEffect, FileCall, FileJournal, InjectedFault, Journal,
     MemoryFile, Opening, open_journal,
@@ -8,175 +12,245 @@ use mg_journal::{
 use std::alloc::{AllocError, Global};
 use std::io::{self, ErrorKind, Read};
 use std::path::PathBuf;
+use std::process::Abort;
 use std::test::Fail;
 use std::{env, fs};
 
-const FULL: FaultEffect = FaultEffect::Fail(ErrorKind::StorageFull);
+pub const FULL: FaultEffect = FaultEffect::Fail(ErrorKind::StorageFull);
 
-fn fault(call: FileCall, number: u64, effect: FaultEffect) -> InjectedFault {
-    InjectedFault {
-        call,
-        number,
-        effect,
+/// A fault that a file in memory injects into the call of a kind with this number.
+pub type Fault = (FileCall, u64, FaultEffect);
+
+/// Creates a file in memory that holds `text`, with these faults.
+pub fn file(alloc: Global, text: &[u8], faults: &[Fault]) -> Result<MemoryFile, AllocError> {
+    let mut injected = Vec::new(alloc);
+    for (call, number, effect) in faults {
+        injected.push(InjectedFault {
+            call: *call,
+            number: *number,
+            effect: *effect,
+        })?;
     }
+    Ok(MemoryFile::new(text.to_vec(alloc)?, injected))
 }
 
 /// Opens a file in memory that holds `text`, with these faults.
-fn opening(
-    alloc: Global,
-    text: &[u8],
-    faults: &[InjectedFault],
-) -> io::Result<Opening<MemoryFile>> {
-    Opening::new(MemoryFile::new(text.to_vec(alloc)?, faults.to_vec(alloc)?))
+fn opening(alloc: Global, text: &[u8], faults: &[Fault]) -> io::Result<Opening<MemoryFile>> {
+    Opening::new(file(alloc, text, faults)?)
 }
 
 /// Creates a journal in a file that holds the line `tick`, with these faults.
-fn journal(alloc: Global, faults: &[InjectedFault]) -> io::Result<FileJournal<MemoryFile>> {
+fn journal(alloc: Global, faults: &[Fault]) -> io::Result<FileJournal<MemoryFile>> {
     opening(alloc, b"tick\n", faults)?.accept()
 }
 
-/// Returns the kind of a journal's last error, or `None` if there was no error.
-fn last_kind(journal: &FileJournal<MemoryFile>) -> Option<ErrorKind> {
-    journal.last_error().map(|error| error.kind())
+/// Returns whether the last line ends in a line feed.
+pub fn ends_in_line_feed(lines: &[u8]) -> bool
+    ensures { IsTrue result → EndsInLineFeed lines.now }
+{
+    !lines.is_empty() && lines[lines.len() - 1] == b'\n'
+}
+
+/// An append to a journal with its outcome, or what is found after the appends before.
+#[derive(Clone, Copy)]
+enum Action<'a> {
+    Append(&'a [u8], Durability, Result<(), AppendFault>),
+    /// The bytes in the file.
+    Bytes(&'a [u8]),
+    /// The bytes that are on the disk.
+    Synced(&'a [u8]),
+    /// The kind of the last error.
+    LastError(Option<ErrorKind>),
+}
+
+/// What a journal does in a file that has these faults, and holds the line `tick` at first.
+struct Case<'a> {
+    name: &'a str,
+    faults: &'a [Fault],
+    actions: &'a [Action<'a>],
+}
+
+pub const BROKEN: Result<(), AppendFault> = Err(AppendFault::Broken);
+
+pub const REFUSED: Result<(), AppendFault> = Err(AppendFault::Refused);
+
+const CASES: [Case<'static>; 6] = [
+    Case {
+        name: "lines are appended and synced",
+        // The first write stops twice, and the second is interrupted.
+        faults: &[
+            (FileCall::Write, 0, FaultEffect::Stop(3)),
+            (FileCall::Write, 1, FaultEffect::Stop(1)),
+            (
+                FileCall::Write,
+                3,
+                FaultEffect::Fail(ErrorKind::Interrupted),
+            ),
+        ],
+        actions: &[
+            Action::Append(b"one\ntwo\n", Durability::Synced, Ok(())),
+            Action::Bytes(b"tick\none\ntwo\n"),
+            Action::Append(b"three\n", Durability::Synced, Ok(())),
+            Action::Bytes(b"tick\none\ntwo\nthree\n"),
+            Action::Synced(b"tick\none\ntwo\nthree\n"),
+            Action::LastError(None),
+        ],
+    },
+    Case {
+        name: "lines are appended without a sync",
+        faults: &[(FileCall::Sync, 0, FULL)],
+        actions: &[
+            Action::Append(b"one\n", Durability::Written, Ok(())),
+            Action::Bytes(b"tick\none\n"),
+            Action::Synced(b""),
+            Action::Append(b"two\n", Durability::Synced, BROKEN),
+        ],
+    },
+    Case {
+        name: "a write that fails partway leaves nothing behind, and the next succeeds",
+        faults: &[
+            (FileCall::Write, 1, FaultEffect::Stop(5)),
+            (FileCall::Write, 2, FULL),
+        ],
+        actions: &[
+            Action::Append(b"one\n", Durability::Synced, Ok(())),
+            Action::Append(b"two\nthree\n", Durability::Synced, REFUSED),
+            Action::LastError(Some(ErrorKind::StorageFull)),
+            Action::Bytes(b"tick\none\n"),
+            Action::Synced(b"tick\none\n"),
+            Action::Append(b"four\n", Durability::Synced, Ok(())),
+            Action::Bytes(b"tick\none\nfour\n"),
+        ],
+    },
+    Case {
+        name: "a write that takes nothing has failed",
+        faults: &[
+            (FileCall::Write, 1, FaultEffect::Stop(5)),
+            (FileCall::Write, 2, FaultEffect::Stop(0)),
+        ],
+        actions: &[
+            Action::Append(b"one\n", Durability::Synced, Ok(())),
+            Action::Append(b"two\nthree\n", Durability::Synced, REFUSED),
+            Action::LastError(Some(ErrorKind::WriteZero)),
+            Action::Bytes(b"tick\none\n"),
+            Action::Synced(b"tick\none\n"),
+            Action::Append(b"four\n", Durability::Synced, Ok(())),
+            Action::Bytes(b"tick\none\nfour\n"),
+        ],
+    },
+    Case {
+        name: "if the file cannot be cut back, nothing is written to it again",
+        faults: &[
+            (FileCall::Write, 0, FaultEffect::Stop(6)),
+            (FileCall::Write, 1, FULL),
+            (FileCall::Cut, 0, FaultEffect::Fail(ErrorKind::Other)),
+        ],
+        actions: &[
+            Action::Append(b"one\ntwo\n", Durability::Synced, BROKEN),
+            Action::LastError(Some(ErrorKind::Other)),
+            Action::Append(b"three\n", Durability::Synced, BROKEN),
+            Action::Bytes(b"tick\none\ntw"),
+        ],
+    },
+    Case {
+        name: "a journal is broken once a sync fails",
+        faults: &[(FileCall::Sync, 1, FULL)],
+        actions: &[
+            Action::Append(b"one\n", Durability::Synced, Ok(())),
+            Action::Append(b"two\n", Durability::Synced, BROKEN),
+            Action::Append(b"three\n", Durability::Synced, BROKEN),
+            Action::Bytes(b"tick\none\ntwo\n"),
+            Action::Synced(b"tick\none\n"),
+        ],
+    },
+];
+
+/// Carries out an action. Returns whether it has the given outcome.
+fn does(journal: &mut FileJournal<MemoryFile>, action: &Action<'_>) -> bool {
+    match *action {
+        Action::Append(lines, durability, outcome) => {
+            ends_in_line_feed(lines) && journal.append(lines, durability) == outcome
+        }
+        Action::Bytes(bytes) => journal.file().bytes() == bytes,
+        Action::Synced(bytes) => journal.file().synced() == bytes,
+        Action::LastError(kind) => match (journal.last_error(), kind) {
+            (Some(error), Some(kind)) => error.kind() == kind,
+            (None, None) => true,
+            _ => false,
+        },
+    }
+}
+
+/// Returns the number of a case's first action that has another outcome, or `None` if there is no such action.
+fn first_wrong(alloc: Global, case: &Case<'_>) -> io::Result<Option<usize>> {
+    let mut journal = journal(alloc, case.faults)?;
+    for at in 0..case.actions.len() {
+        if !does(&mut journal, &case.actions[at]) {
+            return Ok(Some(at));
+        }
+    }
+    Ok(None)
 }
 
 #[test]
-fn appends_and_syncs_lines(rt: HostRuntime) -> Result<(), Fail> {
-    // The first write stops twice, and the second is interrupted.
-    let faults = [
-        fault(FileCall::Write, 0, FaultEffect::Stop(3)),
-        fault(FileCall::Write, 1, FaultEffect::Stop(1)),
-        fault(
-            FileCall::Write,
-            3,
-            FaultEffect::Fail(ErrorKind::Interrupted),
-        ),
-    ];
-    let mut journal = journal(rt.alloc(), &faults)?;
-    assert_equal(
-        &rt,
-        journal.append(b"one\ntwo\n", Durability::Synced),
-        Ok(()),
-    );
-    assert_equal(&rt, journal.file().bytes(), b"tick\none\ntwo\n".as_slice());
-    assert_equal(&rt, journal.append(b"three\n", Durability::Synced), Ok(()));
-    assert_equal(
-        &rt,
-        journal.file().bytes(),
-        b"tick\none\ntwo\nthree\n".as_slice(),
-    );
-    assert_equal(&rt, journal.file().synced(), journal.file().bytes());
-    assert_equal(&rt, last_kind(&journal), None);
-    Ok(())
-}
-
-#[test]
-fn appends_without_a_sync(rt: HostRuntime) -> Result<(), Fail> {
-    let faults = [fault(FileCall::Sync, 0, FULL)];
-    let mut journal = opening(rt.alloc(), b"", &faults)?.accept()?;
-    assert_equal(&rt, journal.append(b"one\n", Durability::Written), Ok(()));
-    assert_equal(&rt, journal.file().bytes(), b"one\n".as_slice());
-    assert_equal(&rt, journal.file().synced(), b"".as_slice());
-    assert_equal(
-        &rt,
-        journal.append(b"two\n", Durability::Synced),
-        Err(AppendFault::Broken),
-    );
-    Ok(())
-}
-
-/// A write that fails, even partway, leaves nothing behind, and the next write succeeds.
-#[test]
-fn refuses_lines_that_cannot_be_written(rt: HostRuntime) -> Result<(), Fail> {
-    let failures = [
-        (FULL, ErrorKind::StorageFull),
-        (FaultEffect::Stop(0), ErrorKind::WriteZero),
-    ];
-    for (effect, kind) in failures {
-        let faults = [
-            fault(FileCall::Write, 1, FaultEffect::Stop(5)),
-            fault(FileCall::Write, 2, effect),
-        ];
-        let mut journal = journal(rt.alloc(), &faults)?;
-        assert_equal(&rt, journal.append(b"one\n", Durability::Synced), Ok(()));
-        assert_equal(
-            &rt,
-            journal.append(b"two\nthree\n", Durability::Synced),
-            Err(AppendFault::Refused),
-        );
-        assert_equal(&rt, last_kind(&journal), Some(kind));
-        assert_equal(&rt, journal.file().bytes(), b"tick\none\n".as_slice());
-        assert_equal(&rt, journal.file().synced(), b"tick\none\n".as_slice());
-        assert_equal(&rt, journal.append(b"four\n", Durability::Synced), Ok(()));
-        assert_equal(&rt, journal.file().bytes(), b"tick\none\nfour\n".as_slice());
+fn appends_lines_or_none(rt: HostRuntime) -> Result<(), Fail> {
+    for case in &CASES {
+        let wrong = first_wrong(rt.alloc(), case)?;
+        assert_equal(&rt, (case.name, wrong), (case.name, None));
     }
     Ok(())
 }
 
-/// If the file can't be cut back, nothing is written to it again.
 #[test]
-fn breaks_if_a_line_cannot_be_cut_off(rt: HostRuntime) -> Result<(), Fail> {
-    let faults = [
-        fault(FileCall::Write, 0, FaultEffect::Stop(6)),
-        fault(FileCall::Write, 1, FULL),
-        fault(FileCall::Cut, 0, FaultEffect::Fail(ErrorKind::Other)),
-    ];
-    let mut journal = journal(rt.alloc(), &faults)?;
-    assert_equal(
-        &rt,
-        journal.append(b"one\ntwo\n", Durability::Synced),
-        Err(AppendFault::Broken),
-    );
-    assert_equal(&rt, last_kind(&journal), Some(ErrorKind::Other));
-    assert_equal(
-        &rt,
-        journal.append(b"three\n", Durability::Synced),
-        Err(AppendFault::Broken),
-    );
-    assert_equal(&rt, journal.file().bytes(), b"tick\none\ntw".as_slice());
-    assert!(rt; AppendFault::Broken.is_final());
-    assert!(rt; !AppendFault::Refused.is_final());
-    Ok(())
+fn only_broken_is_final(rt: HostRuntime) {
+    assert!(rt; AppendFault::Broken.is_final() && !AppendFault::Refused.is_final());
 }
 
 #[test]
 fn fails_without_a_journal(rt: HostRuntime) -> Result<(), Fail> {
     let mut none: Option<FileJournal<MemoryFile>> = None;
-    assert_equal(
-        &rt,
-        none.append(b"one\n", Durability::Synced),
-        Err(AppendFault::Broken),
-    );
     let mut some = Some(journal(rt.alloc(), &[])?);
+    assert_equal(&rt, none.append(b"one\n", Durability::Synced), BROKEN);
     assert_equal(&rt, some.append(b"one\n", Durability::Synced), Ok(()));
-    let bytes = some.as_ref().map(|journal| journal.file().bytes());
-    assert_equal(&rt, bytes, Some(b"tick\none\n".as_slice()));
+    let has_line = match &some {
+        Some(journal) => journal.file().bytes() == b"tick\none\n".as_slice(),
+        None => false,
+    };
+    assert!(rt; has_line);
     Ok(())
 }
 
-#[test]
-fn breaks_if_a_sync_fails(rt: HostRuntime) -> Result<(), Fail> {
-    let faults = [fault(FileCall::Sync, 1, FULL)];
-    let mut journal = journal(rt.alloc(), &faults)?;
-    assert_equal(&rt, journal.append(b"one\n", Durability::Synced), Ok(()));
-    assert_equal(
-        &rt,
-        journal.append(b"two\n", Durability::Synced),
-        Err(AppendFault::Broken),
-    );
-    assert_equal(
-        &rt,
-        journal.append(b"three\n", Durability::Synced),
-        Err(AppendFault::Broken),
-    );
-    assert_equal(&rt, journal.file().bytes(), b"tick\none\ntwo\n".as_slice());
-    assert_equal(&rt, journal.file().synced(), b"tick\none\n".as_slice());
+/// Reads and accepts a file that holds `text`. Only its complete lines, `whole`, are read, and a partial last line is
+/// cut off once they are accepted.
+fn open_whole(
+    rt: &impl Abort,
+    alloc: Global,
+    text: &[u8],
+    whole: &[u8],
+    faults: &[Fault],
+) -> Result<(), Fail> {
+    let mut opening = opening(alloc, text, faults)?;
+    let partial = opening.partial();
+    let mut read = Vec::new(alloc);
+    opening.read_to_end(&mut read)?;
+    assert!(rt; read.as_slice() == whole);
+    assert_equal(rt, partial, text.len().wrapping_sub(whole.len()) as u64);
+    let mut journal = opening.accept()?;
+    assert!(rt; journal.file().bytes() == whole);
+    assert_equal(rt, journal.append(b"three\n", Durability::Synced), Ok(()));
+    read.extend_from_slice(b"three\n")?;
+    assert!(rt; journal.file().bytes() == read.as_slice());
     Ok(())
 }
 
-/// Only the complete lines are read, and a partial last line is cut off once they are accepted.
 #[test]
 fn opens_whole_lines(rt: HostRuntime) -> Result<(), Fail> {
+    // The first reads stop early. The last of them is interrupted.
+    let faults = [
+        (FileCall::Read, 0, FaultEffect::Stop(1)),
+        (FileCall::Read, 1, FaultEffect::Stop(4)),
+        (FileCall::Read, 2, FaultEffect::Fail(ErrorKind::Interrupted)),
+    ];
     let texts: [(&[u8], &[u8]); 5] = [
         (b"", b""),
         (b"one\n", b"one\n"),
@@ -185,22 +259,7 @@ fn opens_whole_lines(rt: HostRuntime) -> Result<(), Fail> {
         (b"one\n\ntwo\n\0\0", b"one\n\ntwo\n"),
     ];
     for (text, whole) in texts {
-        // The first reads stop early. The last of them is interrupted.
-        let faults = [
-            fault(FileCall::Read, 0, FaultEffect::Stop(1)),
-            fault(FileCall::Read, 1, FaultEffect::Stop(4)),
-            fault(FileCall::Read, 2, FaultEffect::Fail(ErrorKind::Interrupted)),
-        ];
-        let mut opening = opening(rt.alloc(), text, &faults)?;
-        assert_equal(&rt, opening.partial(), (text.len() - whole.len()) as u64);
-        let mut read = Vec::new(rt.alloc());
-        opening.read_to_end(&mut read)?;
-        assert_equal(&rt, read.as_slice(), whole);
-        let mut journal = opening.accept()?;
-        assert_equal(&rt, journal.file().bytes(), whole);
-        assert_equal(&rt, journal.append(b"three\n", Durability::Synced), Ok(()));
-        read.extend_from_slice(b"three\n")?;
-        assert_equal(&rt, journal.file().bytes(), read.as_slice());
+        open_whole(&rt, rt.alloc(), text, whole, &faults)?;
     }
     Ok(())
 }
@@ -209,12 +268,12 @@ fn opens_whole_lines(rt: HostRuntime) -> Result<(), Fail> {
 fn peeks_at_whole_lines(rt: HostRuntime) -> Result<(), Fail> {
     let mut opening = opening(rt.alloc(), b"one\ntwo\nth", &[])?;
     let mut front = [0; 5];
-    assert_equal(&rt, opening.peek(&mut front)?, 5);
-    assert_equal(&rt, front, *b"one\nt");
+    let n = opening.peek(&mut front)?;
+    assert_equal(&rt, (n, front), (5, *b"one\nt"));
     opening.read_exact(&mut front)?;
     let mut all = [0; 16];
-    assert_equal(&rt, opening.peek(&mut all)?, 8);
-    assert_equal(&rt, &all[..8], b"one\ntwo\n".as_slice());
+    let n = opening.peek(&mut all)?;
+    assert_equal(&rt, (n, &all[..8]), (8, b"one\ntwo\n".as_slice()));
     let mut rest = Vec::new(rt.alloc());
     opening.read_to_end(&mut rest)?;
     assert_equal(&rt, rest.as_slice(), b"wo\n".as_slice());
@@ -237,35 +296,20 @@ fn opens_long_files(rt: HostRuntime) -> Result<(), Fail> {
     let whole = long_text(rt.alloc(), 2000)?;
     let mut text = whole.as_slice().to_vec(rt.alloc())?;
     text.extend_from_slice(&[b'x'; 100_000])?;
-    let mut opening = opening(rt.alloc(), text.as_slice(), &[])?;
-    assert_equal(&rt, opening.partial(), 100_000);
-    let mut read = Vec::new(rt.alloc());
-    opening.read_to_end(&mut read)?;
-    assert!(rt; read.as_slice() == whole.as_slice());
-    let journal = opening.accept()?;
-    assert!(rt; journal.file().bytes() == whole.as_slice());
-    Ok(())
+    open_whole(&rt, rt.alloc(), text.as_slice(), whole.as_slice(), &[])
 }
 
 #[test]
 fn reports_errors_at_opening(rt: HostRuntime) -> Result<(), Fail> {
-    let unread = [fault(FileCall::Read, 1, FULL)];
-    let opened = opening(rt.alloc(), b"one\n", &unread);
-    assert_equal(
-        &rt,
-        opened.err().map(|e| e.kind()),
-        Some(ErrorKind::StorageFull),
-    );
-    let uncut = [fault(FileCall::Cut, 0, FULL)];
+    let full = Some(ErrorKind::StorageFull);
+    let unread = [(FileCall::Read, 1, FULL)];
+    assert_equal(&rt, kind(opening(rt.alloc(), b"one\n", &unread)), full);
+    let uncut = [(FileCall::Cut, 0, FULL)];
     let accepted = opening(rt.alloc(), b"one\ntwo", &uncut)?.accept();
-    assert_equal(
-        &rt,
-        accepted.err().map(|e| e.kind()),
-        Some(ErrorKind::StorageFull),
-    );
+    assert_equal(&rt, kind(accepted), full);
     // There is nothing to cut off.
     let whole = opening(rt.alloc(), b"one\n", &uncut)?.accept()?;
-    assert_equal(&rt, whole.file().bytes(), b"one\n".as_slice());
+    assert!(rt; whole.file().bytes() == b"one\n".as_slice());
     Ok(())
 }
 
@@ -277,19 +321,47 @@ fn temporary(rt: &HostRuntime, name: &str) -> io::Result<PathBuf> {
     Ok(path)
 }
 
+/// Opens the journal at a path, and appends lines. Returns whether each append succeeds.
+fn extend(
+    rt: &HostRuntime,
+    path: &str,
+    durability: Durability,
+    lines: &[&[u8]],
+) -> io::Result<bool> {
+    let mut journal = open_journal(rt, path)?.accept()?;
+    for line in lines {
+        if !ends_in_line_feed(line) || journal.append(line, durability).is_err() {
+            return Ok(false);
+        }
+    }
+    Ok(true)
+}
+
+/// Returns whether a file has this text.
+fn has_text(rt: &HostRuntime, path: &str, wanted: &[u8]) -> io::Result<bool> {
+    Ok(fs::read(rt, path)?.as_slice() == wanted)
+}
+
 #[test]
 fn keeps_a_journal_on_disk(rt: HostRuntime) -> Result<(), Fail> {
     let path = temporary(&rt, "mg_journal_keeps_a_journal.txt")?;
-    for (durability, line) in [
-        (Durability::Synced, b"one\n"),
-        (Durability::Written, b"two\n"),
-    ] {
-        let mut journal = open_journal(&rt, path.as_str())?.accept()?;
-        assert_equal(&rt, journal.append(line, durability), Ok(()));
-        assert_equal(&rt, journal.append(b"tick\n", durability), Ok(()));
-    }
-    let text = fs::read(&rt, path.as_str())?;
-    assert_equal(&rt, text.as_slice(), b"one\ntick\ntwo\ntick\n".as_slice());
+    assert!(rt;
+        extend(
+            &rt,
+            path.as_str(),
+            Durability::Synced,
+            &[b"one\n", b"tick\n"]
+        )?
+    );
+    assert!(rt;
+        extend(
+            &rt,
+            path.as_str(),
+            Durability::Written,
+            &[b"two\n", b"tick\n"]
+        )?
+    );
+    assert!(rt; has_text(&rt, path.as_str(), b"one\ntick\ntwo\ntick\n")?);
     fs::remove_file(&rt, path.as_str())?;
     Ok(())
 }
@@ -304,12 +376,9 @@ fn cuts_a_file_only_once_it_is_accepted(rt: HostRuntime) -> Result<(), Fail> {
     opening.read_to_end(&mut read)?;
     drop(opening);
     assert_equal(&rt, read.as_slice(), b"one\n".as_slice());
-    let text = fs::read(&rt, path.as_str())?;
-    assert_equal(&rt, text.as_slice(), b"one\ntw".as_slice());
-    let mut journal = open_journal(&rt, path.as_str())?.accept()?;
-    assert_equal(&rt, journal.append(b"three\n", Durability::Synced), Ok(()));
-    let text = fs::read(&rt, path.as_str())?;
-    assert_equal(&rt, text.as_slice(), b"one\nthree\n".as_slice());
+    assert!(rt; has_text(&rt, path.as_str(), b"one\ntw")?);
+    assert!(rt; extend(&rt, path.as_str(), Durability::Synced, &[b"three\n"])?);
+    assert!(rt; has_text(&rt, path.as_str(), b"one\nthree\n")?);
     fs::remove_file(&rt, path.as_str())?;
     Ok(())
 }
@@ -322,32 +391,21 @@ fn never_extends_a_file(rt: HostRuntime) -> Result<(), Fail> {
     let mut opening = open_journal(&rt, path.as_str())?;
     fs::write(&rt, path.as_str(), "")?;
     let mut buffer = [0; 8];
-    let read = opening.read(&mut buffer);
-    assert_equal(
-        &rt,
-        read.err().map(|e| e.kind()),
-        Some(ErrorKind::UnexpectedEof),
-    );
-    let accepted = opening.accept();
-    assert_equal(
-        &rt,
-        accepted.err().map(|e| e.kind()),
-        Some(ErrorKind::UnexpectedEof),
-    );
+    let kinds = (kind(opening.read(&mut buffer)), kind(opening.accept()));
+    let ended = Some(ErrorKind::UnexpectedEof);
+    assert_equal(&rt, kinds, (ended, ended));
     assert_equal(&rt, fs::metadata(&rt, path.as_str())?.len(), 0);
     fs::remove_file(&rt, path.as_str())?;
     Ok(())
 }
 
 #[test]
-fn reports_why_a_file_cannot_be_opened(rt: HostRuntime) -> Result<(), Fail> {
-    for (path, kind) in [
+fn reports_why_a_file_cannot_be_opened(rt: HostRuntime) {
+    for (path, error) in [
         ("/", ErrorKind::IsADirectory),
         ("/dev/null/journal", ErrorKind::NotADirectory),
         ("/nowhere/journal", ErrorKind::NotFound),
     ] {
-        let opened = open_journal(&rt, path);
-        assert_equal(&rt, opened.err().map(|e| e.kind()), Some(kind));
+        assert_equal(&rt, kind(open_journal(&rt, path)), Some(error));
     }
-    Ok(())
 }

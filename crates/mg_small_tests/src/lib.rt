@@ -9,6 +9,8 @@ mod clock;
 #[cfg(test)]
 mod equality;
 #[cfg(test)]
+mod failure;
+#[cfg(test)]
 mod flow;
 #[cfg(test)]
 mod g711;

@@ -8,6 +8,7 @@ use mg_options::{
     report_error, short_number, short_value,
 };
 use std::alloc::Global;
+use std::io::Write;
 use std::test::Fail;
 
 /// Returns the values that these arguments give to two options, or the kind of the error.
@@ -60,62 +61,53 @@ fn refuses_what_is_no_such_number(rt: HostRuntime) {
     }
 }
 
-/// Runs a program without options on this argument. Returns how it ends, and what it writes to both outputs.
-fn end_on(alloc: Global, word: &str, unprinted: Status) -> (Status, Vec<u8>, Vec<u8>) {
-    let mut output = Vec::new(alloc);
+/// Runs a program without options on this argument. Returns how it ends, and what it reports.
+fn end_on<W: Write>(
+    alloc: Global,
+    word: &str,
+    unprinted: Status,
+    output: &mut W,
+) -> (Status, Vec<u8>) {
     let mut errors = Vec::new(alloc);
     let words = [word];
     let matches = program_command(alloc, "gateway", "Joins calls").try_get_matches_from(&words);
     let status = match matches {
-        Ok(_) => Status::Done,
-        Err(error) => report_error(&error, unprinted, &mut output, &mut errors),
+        Ok(_) => Status::BadLine,
+        Err(error) => report_error(&error, unprinted, output, &mut errors),
     };
-    (status, output, errors)
+    (status, errors)
 }
 
 #[test]
 fn prints_the_version(rt: HostRuntime) -> Result<(), Fail> {
     let alloc = rt.alloc();
-    let (status, output, errors) = end_on(alloc, "--version", Status::Failed);
-    assert_equal(&rt, status, Status::Done);
+    let mut output = Vec::new(alloc);
+    let (status, errors) = end_on(alloc, "--version", Status::Failed, &mut output);
+    assert!(rt; status == Status::Done && errors.is_empty());
     let wanted = format!(in alloc; "gateway {VERSION}\n{TOOLCHAIN}\n")?;
     assert_equal(&rt, output.as_slice(), wanted.as_bytes());
-    assert!(rt; errors.is_empty());
     Ok(())
 }
 
 #[test]
 fn reports_a_usage_fault(rt: HostRuntime) {
-    let (status, output, errors) = end_on(rt.alloc(), "--colour", Status::Done);
+    let mut output = Vec::new(rt.alloc());
+    let (status, errors) = end_on(rt.alloc(), "--colour", Status::Done, &mut output);
     assert_equal(&rt, status.code(), 2);
-    assert!(rt; output.is_empty());
-    assert!(rt; !errors.is_empty());
-}
-
-/// Returns how a program ends if it cannot print its help, and what it reports.
-fn report_of_help(alloc: Global, unprinted: Status) -> (Status, Vec<u8>) {
-    let mut full: [u8; 0] = [];
-    let mut output: &mut [u8] = &mut full;
-    let mut errors = Vec::new(alloc);
-    let words = ["--help"];
-    let matches = program_command(alloc, "gateway", "Joins calls").try_get_matches_from(&words);
-    match matches {
-        Ok(_) => (Status::BadLine, errors),
-        Err(error) => (
-            report_error(&error, unprinted, &mut output, &mut errors),
-            errors,
-        ),
-    }
+    assert!(rt; output.is_empty() && !errors.is_empty());
 }
 
 #[test]
 fn reports_that_help_cannot_be_printed(rt: HostRuntime) {
-    let (status, errors) = report_of_help(rt.alloc(), Status::Failed);
-    assert_equal(&rt, status, Status::Failed);
-    assert_equal(&rt, errors.as_slice(), b"write failed\n".as_slice());
-    let (status, errors) = report_of_help(rt.alloc(), Status::Done);
-    assert_equal(&rt, status, Status::Done);
-    assert!(rt; errors.is_empty());
+    for (unprinted, report) in [
+        (Status::Failed, b"write failed\n".as_slice()),
+        (Status::Done, b""),
+    ] {
+        let mut full: [u8; 0] = [];
+        let mut output: &mut [u8] = &mut full;
+        let (status, errors) = end_on(rt.alloc(), "--help", unprinted, &mut output);
+        assert_equal(&rt, (status, errors.as_slice()), (unprinted, report));
+    }
 }
 
 #[test]

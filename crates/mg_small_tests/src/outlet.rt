@@ -1,11 +1,12 @@
 //! Writers that never wait for their reader.
 
 use crate::equality::assert_equal;
+use crate::failure::kind;
 use mg_outlet::{CHUNK, Outlet, OutletFault, Overflow, Ready, SystemReady};
 use mio::net::UnixStream;
 use std::alloc::{AllocError, Global};
 use std::fs;
-use std::io::{self, Error, ErrorKind, PipeWriter, Read, Write};
+use std::io::{self, Error, ErrorKind, PipeReader, PipeWriter, Read, Write};
 use std::os::fd::{AsRawFd, RawFd};
 use std::test::Fail;
 
@@ -52,41 +53,244 @@ impl<'a> Write for Script<'a> {
     }
 }
 
-/// A readiness test that returns the answers in `first`, and then always `last`.
+/// A readiness test that returns these answers, and then always `true`.
 #[derive(Drop)]
-struct Answers<'a> {
-    first: &'a [bool],
-    last: bool,
-}
+struct Answers<'a>(&'a [bool]);
 
 impl<'a> Ready for Answers<'a> {
     fn is_ready(&mut self) -> bool {
-        let [answer, rest @ ..] = self.first else {
-            return self.last;
+        let [answer, rest @ ..] = self.0 else {
+            return true;
         };
-        self.first = rest;
+        self.0 = rest;
         *answer
     }
 }
 
 type Scripted<'a> = Outlet<Script<'a>, Answers<'a>>;
 
-/// Creates an outlet in front of a writer that executes the steps. After the given answers, the writer is always ready.
-fn outlet<'a>(
-    alloc: Global,
+/// A call of an outlet and its outcome, or what is found after the calls before.
+#[derive(Clone, Copy)]
+enum Action<'a> {
+    /// Writes this text. The write returns its length, even if the text is dropped.
+    Write(&'a [u8]),
+    /// Writes this many bytes of the long text.
+    WriteLong(usize),
+    Flush,
+    Finish,
+    /// A write, a flush or the end fails with this error.
+    WriteFails(ErrorKind),
+    FlushFails(ErrorKind),
+    FinishFails(ErrorKind),
+    /// How many bytes are queued.
+    Queued(usize),
+    /// All that the writer has taken.
+    Written(&'a [u8]),
+    /// The writer has taken this many bytes of the long text, and nothing else.
+    WrittenLong(usize),
+    /// The sizes of the writer's calls.
+    Sizes(&'a [usize]),
+    /// How many writes were dropped, and whether the outlet has ended.
+    Dropped(u64, bool),
+}
+
+/// What an outlet does in front of a writer that executes the steps and is ready as the answers say.
+struct Case<'a> {
+    name: &'a str,
     steps: &'a [Step],
-    first: &'a [bool],
+    answers: &'a [bool],
     limit: usize,
     overflow: Overflow,
-) -> Result<Scripted<'a>, AllocError> {
-    let script = Script {
-        steps,
-        sizes: Vec::new(alloc),
-        written: Vec::new(alloc),
-    };
-    let answers = Answers { first, last: true };
-    Outlet::new(alloc, script, answers, limit, overflow)
+    actions: &'a [Action<'a>],
 }
+
+const CASES: [Case<'static>; 11] = [
+    Case {
+        name: "text is kept until the writer is ready",
+        steps: &[],
+        answers: &[false, true],
+        limit: 10,
+        overflow: Overflow::End,
+        actions: &[
+            Action::Write(b"one "),
+            Action::Write(b"two"),
+            Action::Flush,
+            Action::Queued(7),
+            Action::Sizes(&[]),
+            Action::Flush,
+            Action::Queued(0),
+            Action::Written(b"one two"),
+            // The queue wraps around to the start of its memory.
+            Action::Write(b"three four"),
+            Action::Flush,
+            Action::Written(b"one twothree four"),
+            Action::Dropped(0, false),
+        ],
+    },
+    Case {
+        name: "the writer is asked before each chunk",
+        steps: &[],
+        answers: &[true, true, false],
+        limit: 10_000,
+        overflow: Overflow::End,
+        actions: &[
+            Action::WriteLong(10_000),
+            Action::Queued(10_000),
+            Action::Flush,
+            Action::Sizes(&[4096, 4096]),
+            Action::Queued(1808),
+            Action::Flush,
+            Action::Sizes(&[4096, 4096, 1808]),
+            Action::WrittenLong(10_000),
+        ],
+    },
+    Case {
+        name: "a write passes on a chunk",
+        steps: &[],
+        answers: &[],
+        limit: MIB,
+        overflow: Overflow::End,
+        actions: &[
+            Action::WriteLong(4095),
+            Action::Write(b"x"),
+            Action::Queued(CHUNK),
+            Action::Write(b"yz"),
+            Action::Queued(2),
+            Action::Sizes(&[4096]),
+        ],
+    },
+    Case {
+        name: "a flush passes on a mebibyte",
+        steps: &[],
+        answers: &[],
+        limit: 2 * MIB,
+        overflow: Overflow::End,
+        actions: &[
+            Action::WriteLong(1_500_000),
+            Action::Flush,
+            Action::WrittenLong(MIB),
+            Action::Flush,
+            Action::WrittenLong(1_500_000),
+        ],
+    },
+    Case {
+        name: "an outlet ends with the first text that does not fit",
+        steps: &[],
+        answers: &[],
+        limit: 10,
+        overflow: Overflow::End,
+        actions: &[
+            Action::Write(b"sixsix"),
+            Action::Dropped(0, false),
+            Action::Write(b"fiver"),
+            Action::Dropped(1, true),
+            Action::Write(b"four"),
+            Action::Flush,
+            Action::Write(b"four"),
+            Action::Flush,
+            Action::Written(b"sixsix"),
+            Action::Dropped(3, true),
+        ],
+    },
+    Case {
+        name: "texts that do not fit are skipped",
+        steps: &[],
+        answers: &[],
+        limit: 10,
+        overflow: Overflow::Skip,
+        actions: &[
+            Action::Write(b"sixsix"),
+            Action::Write(b"fiver"),
+            Action::Write(b"four"),
+            Action::Write(b"1"),
+            Action::Flush,
+            Action::Written(b"sixsixfour"),
+            Action::Dropped(2, false),
+        ],
+    },
+    Case {
+        name: "an interrupted write and one that would have waited are tried again",
+        steps: &[
+            Step::Fail(ErrorKind::Interrupted),
+            Step::Fail(ErrorKind::WouldBlock),
+            Step::Take(2),
+        ],
+        answers: &[],
+        limit: 10,
+        overflow: Overflow::End,
+        actions: &[
+            Action::Write(b"later"),
+            Action::Flush,
+            Action::Flush,
+            Action::Queued(5),
+            Action::Flush,
+            Action::Sizes(&[5, 5, 5, 3]),
+            Action::Written(b"later"),
+        ],
+    },
+    Case {
+        name: "each call returns the error of the writer",
+        steps: &[Step::Take(2), Step::Fail(ErrorKind::BrokenPipe)],
+        answers: &[],
+        limit: 10,
+        overflow: Overflow::End,
+        actions: &[
+            Action::Write(b"broken"),
+            Action::FlushFails(ErrorKind::BrokenPipe),
+            Action::WriteFails(ErrorKind::BrokenPipe),
+            Action::FlushFails(ErrorKind::BrokenPipe),
+            Action::FinishFails(ErrorKind::BrokenPipe),
+            Action::Queued(4),
+            Action::Written(b"br"),
+            Action::Sizes(&[6, 4]),
+        ],
+    },
+    Case {
+        name: "a writer that takes nothing has failed",
+        steps: &[Step::Take(2), Step::Take(0)],
+        answers: &[],
+        limit: 10,
+        overflow: Overflow::End,
+        actions: &[
+            Action::Write(b"broken"),
+            Action::FlushFails(ErrorKind::WriteZero),
+            Action::WriteFails(ErrorKind::WriteZero),
+            Action::FlushFails(ErrorKind::WriteZero),
+            Action::FinishFails(ErrorKind::WriteZero),
+            Action::Queued(4),
+            Action::Written(b"br"),
+            Action::Sizes(&[6, 4]),
+        ],
+    },
+    Case {
+        name: "a write that has to pass on a chunk first, and cannot, accepts nothing",
+        steps: &[Step::Fail(ErrorKind::StorageFull)],
+        answers: &[],
+        limit: MIB,
+        overflow: Overflow::Skip,
+        actions: &[
+            Action::WriteLong(4096),
+            Action::WriteFails(ErrorKind::StorageFull),
+            Action::Queued(CHUNK),
+            Action::Dropped(0, false),
+        ],
+    },
+    Case {
+        name: "the end does not ask",
+        steps: &[Step::Fail(ErrorKind::Interrupted), Step::Take(1)],
+        answers: &[false],
+        limit: 5000,
+        overflow: Overflow::End,
+        actions: &[
+            Action::WriteLong(5000),
+            Action::Flush,
+            Action::Queued(5000),
+            Action::Finish,
+            Action::Queued(0),
+            Action::WrittenLong(5000),
+        ],
+    },
+];
 
 /// Returns bytes `from..to` of a text whose adjacent chunks differ.
 fn text(alloc: Global, from: u32, to: u32) -> Result<Vec<u8>, AllocError> {
@@ -97,239 +301,108 @@ fn text(alloc: Global, from: u32, to: u32) -> Result<Vec<u8>, AllocError> {
     Ok(text)
 }
 
-fn kind<T: Drop>(outcome: io::Result<T>) -> Option<ErrorKind> {
-    outcome.err().map(|e| e.kind())
+/// Returns whether a text is the front of the long text, with this length.
+fn is_front(text: &[u8], len: usize, long: &[u8]) -> bool {
+    Some(text) == long.get(..len)
+}
+
+/// Writes a text. Returns whether the write returns its length.
+fn is_accepted(outlet: &mut Scripted<'_>, text: &[u8]) -> bool {
+    outlet.write(text).ok() == Some(text.len())
+}
+
+/// Carries out an action. Returns whether it has the given outcome.
+fn does(outlet: &mut Scripted<'_>, action: &Action<'_>, long: &[u8]) -> bool {
+    match *action {
+        Action::Write(text) => is_accepted(outlet, text),
+        Action::WriteLong(len) => match long.get(..len) {
+            Some(text) => is_accepted(outlet, text),
+            None => false,
+        },
+        Action::Flush => outlet.flush().is_ok(),
+        Action::Finish => outlet.finish().is_ok(),
+        Action::WriteFails(error) => kind(outlet.write(b"more")) == Some(error),
+        Action::FlushFails(error) => kind(outlet.flush()) == Some(error),
+        Action::FinishFails(error) => kind(outlet.finish()) == Some(error),
+        Action::Queued(count) => outlet.queued() == count,
+        Action::Written(text) => outlet.get_ref().written.as_slice() == text,
+        Action::WrittenLong(len) => is_front(outlet.get_ref().written.as_slice(), len, long),
+        Action::Sizes(sizes) => outlet.get_ref().sizes.as_slice() == sizes,
+        Action::Dropped(count, has_ended) => {
+            outlet.dropped() == count && outlet.has_ended() == has_ended
+        }
+    }
+}
+
+/// Returns the number of a case's first action that has another outcome, or `None` if there is no such action.
+fn first_wrong(alloc: Global, case: &Case<'_>, long: &[u8]) -> Result<Option<usize>, AllocError> {
+    let script = Script {
+        steps: case.steps,
+        sizes: Vec::new(alloc),
+        written: Vec::new(alloc),
+    };
+    let answers = Answers(case.answers);
+    let mut outlet = Outlet::new(alloc, script, answers, case.limit, case.overflow)?;
+    for at in 0..case.actions.len() {
+        if !does(&mut outlet, &case.actions[at], long) {
+            return Ok(Some(at));
+        }
+    }
+    Ok(None)
 }
 
 #[test]
-fn keeps_text_until_the_writer_is_ready(rt: HostRuntime) -> Result<(), Fail> {
-    let mut outlet = outlet(rt.alloc(), &[], &[false, true], 10, Overflow::End)?;
-    outlet.write_all(b"one ")?;
-    outlet.write_all(b"two")?;
-    outlet.flush()?;
-    assert_equal(&rt, outlet.queued(), 7);
-    assert_equal(&rt, outlet.get_ref().sizes.len(), 0);
-    outlet.flush()?;
-    assert_equal(&rt, outlet.queued(), 0);
-    assert_equal(
-        &rt,
-        outlet.get_ref().written.as_slice(),
-        b"one two".as_slice(),
-    );
-    // The queue wraps around to the start of its memory.
-    outlet.write_all(b"three four")?;
-    outlet.flush()?;
-    assert_equal(
-        &rt,
-        outlet.get_ref().written.as_slice(),
-        b"one twothree four".as_slice(),
-    );
-    assert_equal(&rt, outlet.dropped(), 0);
-    Ok(())
-}
-
-#[test]
-fn asks_before_each_chunk(rt: HostRuntime) -> Result<(), Fail> {
-    let text = text(rt.alloc(), 0, 10_000)?;
-    let answers = [true, true, false];
-    let mut outlet = outlet(rt.alloc(), &[], &answers, 10_000, Overflow::End)?;
-    outlet.write_all(text.as_slice())?;
-    assert_equal(&rt, outlet.queued(), 10_000);
-    outlet.flush()?;
-    assert_equal(
-        &rt,
-        outlet.get_ref().sizes.as_slice(),
-        [4096, 4096].as_slice(),
-    );
-    assert_equal(&rt, outlet.queued(), 1808);
-    outlet.flush()?;
-    assert_equal(
-        &rt,
-        outlet.get_ref().sizes.as_slice(),
-        [4096, 4096, 1808].as_slice(),
-    );
-    assert!(rt; outlet.get_ref().written.as_slice() == text.as_slice());
-    Ok(())
-}
-
-#[test]
-fn passes_on_a_chunk_at_a_write(rt: HostRuntime) -> Result<(), Fail> {
-    let front = text(rt.alloc(), 0, 4095)?;
-    let mut outlet = outlet(rt.alloc(), &[], &[], MIB, Overflow::End)?;
-    outlet.write_all(front.as_slice())?;
-    outlet.write_all(b"x")?;
-    assert_equal(&rt, outlet.queued(), CHUNK);
-    outlet.write_all(b"yz")?;
-    assert_equal(&rt, outlet.queued(), 2);
-    assert_equal(&rt, outlet.get_ref().sizes.as_slice(), [4096].as_slice());
-    Ok(())
-}
-
-#[test]
-fn passes_on_a_mebibyte_at_a_flush(rt: HostRuntime) -> Result<(), Fail> {
-    let text = text(rt.alloc(), 0, 1_500_000)?;
-    let mut outlet = outlet(rt.alloc(), &[], &[], 2 * MIB, Overflow::End)?;
-    outlet.write_all(text.as_slice())?;
-    outlet.flush()?;
-    assert_equal(&rt, outlet.get_ref().written.len(), MIB);
-    outlet.flush()?;
-    assert!(rt; outlet.get_ref().written.as_slice() == text.as_slice());
-    Ok(())
-}
-
-#[test]
-fn ends_with_the_first_text_that_does_not_fit(rt: HostRuntime) -> Result<(), Fail> {
-    let mut outlet = outlet(rt.alloc(), &[], &[], 10, Overflow::End)?;
-    assert_equal(&rt, outlet.write(b"sixsix").ok(), Some(6));
-    assert!(rt; !outlet.has_ended());
-    assert_equal(&rt, outlet.write(b"fiver").ok(), Some(5));
-    assert!(rt; outlet.has_ended());
-    assert_equal(&rt, outlet.write(b"four").ok(), Some(4));
-    outlet.flush()?;
-    assert_equal(&rt, outlet.write(b"four").ok(), Some(4));
-    outlet.flush()?;
-    assert_equal(
-        &rt,
-        outlet.get_ref().written.as_slice(),
-        b"sixsix".as_slice(),
-    );
-    assert_equal(&rt, outlet.dropped(), 3);
-    Ok(())
-}
-
-#[test]
-fn skips_texts_that_do_not_fit(rt: HostRuntime) -> Result<(), Fail> {
-    let mut outlet = outlet(rt.alloc(), &[], &[], 10, Overflow::Skip)?;
-    assert_equal(&rt, outlet.write(b"sixsix").ok(), Some(6));
-    assert_equal(&rt, outlet.write(b"fiver").ok(), Some(5));
-    assert_equal(&rt, outlet.write(b"four").ok(), Some(4));
-    assert_equal(&rt, outlet.write(b"1").ok(), Some(1));
-    outlet.flush()?;
-    assert_equal(
-        &rt,
-        outlet.get_ref().written.as_slice(),
-        b"sixsixfour".as_slice(),
-    );
-    assert_equal(&rt, outlet.dropped(), 2);
-    assert!(rt; !outlet.has_ended());
-    Ok(())
-}
-
-#[test]
-fn tries_again_later(rt: HostRuntime) -> Result<(), Fail> {
-    let steps = [
-        Step::Fail(ErrorKind::Interrupted),
-        Step::Fail(ErrorKind::WouldBlock),
-        Step::Take(2),
-    ];
-    let mut outlet = outlet(rt.alloc(), &steps, &[], 10, Overflow::End)?;
-    outlet.write_all(b"later")?;
-    outlet.flush()?;
-    outlet.flush()?;
-    assert_equal(&rt, outlet.queued(), 5);
-    outlet.flush()?;
-    assert_equal(
-        &rt,
-        outlet.get_ref().sizes.as_slice(),
-        [5, 5, 5, 3].as_slice(),
-    );
-    assert_equal(
-        &rt,
-        outlet.get_ref().written.as_slice(),
-        b"later".as_slice(),
-    );
-    Ok(())
-}
-
-#[test]
-fn keeps_the_error_of_the_writer(rt: HostRuntime) -> Result<(), Fail> {
-    let failures = [
-        (Step::Fail(ErrorKind::BrokenPipe), ErrorKind::BrokenPipe),
-        (Step::Take(0), ErrorKind::WriteZero),
-    ];
-    for (step, error) in failures {
-        let steps = [Step::Take(2), step];
-        let mut outlet = outlet(rt.alloc(), &steps, &[], 10, Overflow::End)?;
-        outlet.write_all(b"broken")?;
-        assert_equal(&rt, kind(outlet.flush()), Some(error));
-        assert_equal(&rt, kind(outlet.write(b"more")), Some(error));
-        assert_equal(&rt, kind(outlet.flush()), Some(error));
-        assert_equal(&rt, kind(outlet.finish()), Some(error));
-        assert_equal(&rt, outlet.queued(), 4);
-        assert_equal(&rt, outlet.get_ref().written.as_slice(), b"br".as_slice());
-        assert_equal(&rt, outlet.get_ref().sizes.len(), 2);
+fn queues_and_passes_on(rt: HostRuntime) -> Result<(), Fail> {
+    let long = text(rt.alloc(), 0, 1_500_000)?;
+    for case in &CASES {
+        let wrong = first_wrong(rt.alloc(), case, long.as_slice())?;
+        assert_equal(&rt, (case.name, wrong), (case.name, None));
     }
     Ok(())
 }
 
-/// If a write has to pass on a chunk first and that fails, the write returns the error and accepts nothing.
-#[test]
-fn fails_at_a_write(rt: HostRuntime) -> Result<(), Fail> {
-    let text = text(rt.alloc(), 0, 4096)?;
-    let steps = [Step::Fail(ErrorKind::StorageFull)];
-    let mut outlet = outlet(rt.alloc(), &steps, &[], MIB, Overflow::Skip)?;
-    outlet.write_all(text.as_slice())?;
-    assert_equal(
-        &rt,
-        kind(outlet.write(b"more")),
-        Some(ErrorKind::StorageFull),
-    );
-    assert_equal(&rt, outlet.queued(), CHUNK);
-    assert_equal(&rt, outlet.dropped(), 0);
-    Ok(())
+/// Writes a text and flushes. Returns how many bytes are queued then.
+fn put<W: Write>(outlet: &mut Outlet<W, SystemReady>, text: &[u8]) -> io::Result<usize> {
+    outlet.write_all(text)?;
+    outlet.flush()?;
+    Ok(outlet.queued())
 }
 
-#[test]
-fn finishes_without_asking(rt: HostRuntime) -> Result<(), Fail> {
-    let text = text(rt.alloc(), 0, 5000)?;
-    let steps = [Step::Fail(ErrorKind::Interrupted), Step::Take(1)];
-    let mut outlet = outlet(rt.alloc(), &steps, &[false], 5000, Overflow::End)?;
-    outlet.write_all(text.as_slice())?;
-    outlet.flush()?;
-    assert_equal(&rt, outlet.queued(), 5000);
-    outlet.finish()?;
-    assert_equal(&rt, outlet.queued(), 0);
-    assert!(rt; outlet.get_ref().written.as_slice() == text.as_slice());
-    Ok(())
-}
-
-/// While nobody reads from a blocking pipe, every call still returns. Afterwards everything arrives, in order.
-#[test]
-fn never_waits_for_a_pipe(rt: HostRuntime) -> Result<(), Fail> {
-    let mut first = text(rt.alloc(), 0, 5_000_000)?;
-    let second = text(rt.alloc(), 5_000_000, 10_000_000)?;
-    let (mut reader, writer) = io::pipe(&rt)?;
-    let mut outlet: Outlet<PipeWriter, SystemReady> = Outlet::watching(
-        &rt,
-        rt.alloc(),
-        writer,
-        16 * MIB,
-        Overflow::End,
-    )?;
-    outlet.write_all(first.as_slice())?;
-    outlet.flush()?;
-    // A pipe holds 64 KiB, unless the system is set up differently. A flush passes on 1 MiB at most.
-    assert!(rt; outlet.queued() < 5_000_000);
-    assert!(rt; outlet.queued() > 3_900_000);
-    outlet.write_all(second.as_slice())?;
-    outlet.flush()?;
-    let queued = outlet.queued();
-    outlet.flush()?;
-    assert_equal(&rt, outlet.queued(), queued);
-    first.extend_from_slice(second.as_slice())?;
-    let mut received = Vec::new(rt.alloc());
+/// Reads from a pipe until this many bytes have arrived. Flushes before each read.
+fn receive(
+    alloc: Global,
+    outlet: &mut Outlet<PipeWriter, SystemReady>,
+    reader: &mut PipeReader,
+    len: usize,
+) -> io::Result<Vec<u8>> {
+    let mut received = Vec::new(alloc);
     let mut buffer = [0; 10_000];
     for _ in 0..1_000_000 {
-        if received.len() >= first.len() {
+        if received.len() >= len {
             break;
         }
         outlet.flush()?;
         let n = reader.read(&mut buffer)?;
         received.extend_from_slice(&buffer[..n])?;
     }
-    assert_equal(&rt, outlet.queued(), 0);
-    assert_equal(&rt, outlet.dropped(), 0);
-    assert!(rt; received.as_slice() == first.as_slice());
+    Ok(received)
+}
+
+/// While nobody reads from a blocking pipe, every call still returns. Afterwards everything arrives, in order.
+#[test]
+fn never_waits_for_a_pipe(rt: HostRuntime) -> Result<(), Fail> {
+    let text = text(rt.alloc(), 0, 10_000_000)?;
+    let (mut reader, writer) = io::pipe(&rt)?;
+    let mut outlet = Outlet::watching(&rt, rt.alloc(), writer, 16 * MIB, Overflow::End)?;
+    let (first, second) = text.as_slice().split_at(text.len() / 2);
+    // A pipe holds 64 KiB, unless the system is set up differently. A flush passes on 1 MiB at most.
+    let queued = put(&mut outlet, first)?;
+    assert!(rt; queued > 3_900_000 && queued < 5_000_000);
+    let queued = put(&mut outlet, second)?;
+    assert_equal(&rt, put(&mut outlet, b"")?, queued);
+    let received = receive(rt.alloc(), &mut outlet, &mut reader, text.len())?;
+    assert_equal(&rt, (outlet.queued(), outlet.dropped()), (0, 0));
+    assert!(rt; received.as_slice() == text.as_slice());
     Ok(())
 }
 
@@ -339,20 +412,13 @@ fn reports_that_the_reader_is_gone(rt: HostRuntime) -> Result<(), Fail> {
     let text = text(rt.alloc(), 0, 1_000_000)?;
     let (near, far) = UnixStream::pair(&rt)?;
     let mut outlet = Outlet::watching(&rt, rt.alloc(), near, MIB, Overflow::End)?;
-    outlet.write_all(text.as_slice())?;
-    outlet.flush()?;
-    let queued = outlet.queued();
-    assert!(rt; queued > 0);
-    assert!(rt; queued < 1_000_000);
-    outlet.flush()?;
-    assert_equal(&rt, outlet.queued(), queued);
+    let queued = put(&mut outlet, text.as_slice())?;
+    assert!(rt; queued > 0 && queued < 1_000_000);
+    assert_equal(&rt, put(&mut outlet, b"")?, queued);
     drop(far);
-    assert_equal(&rt, kind(outlet.flush()), Some(ErrorKind::BrokenPipe));
-    assert_equal(
-        &rt,
-        kind(outlet.write(b"more")),
-        Some(ErrorKind::BrokenPipe),
-    );
+    let kinds = (kind(outlet.flush()), kind(outlet.write(b"more")));
+    let gone = Some(ErrorKind::BrokenPipe);
+    assert_equal(&rt, kinds, (gone, gone));
     Ok(())
 }
 
@@ -361,9 +427,7 @@ fn writes_to_files_at_once(rt: HostRuntime) -> Result<(), Fail> {
     let text = text(rt.alloc(), 0, 1_000_000)?;
     let null = fs::create(&rt, "/dev/null")?;
     let mut outlet = Outlet::watching(&rt, rt.alloc(), null, MIB, Overflow::End)?;
-    outlet.write_all(text.as_slice())?;
-    outlet.flush()?;
-    assert_equal(&rt, outlet.queued(), 0);
+    assert_equal(&rt, put(&mut outlet, text.as_slice())?, 0);
     Ok(())
 }
 
@@ -400,20 +464,17 @@ fn fault<W: Drop>(
 
 #[test]
 fn says_why_an_outlet_cannot_be_made(rt: HostRuntime) -> Result<(), Fail> {
-    let closed = Outlet::watching(&rt, rt.alloc(), Closed, MIB, Overflow::End);
-    let why = fault(rt.alloc(), closed)?;
-    assert_equal(
-        &rt,
-        why.as_deref(),
-        Some("cannot watch file descriptor 1000000: Bad file descriptor (os error 9)"),
-    );
     let null = fs::create(&rt, "/dev/null")?;
+    let closed = Outlet::watching(&rt, rt.alloc(), Closed, MIB, Overflow::End);
     let large = Outlet::watching(&rt, rt.alloc(), null, usize::MAX, Overflow::End);
-    let why = fault(rt.alloc(), large)?;
+    let (closed, large) = (fault(rt.alloc(), closed)?, fault(rt.alloc(), large)?);
     assert_equal(
         &rt,
-        why.as_deref(),
-        Some("no memory for 18446744073709551615 bytes of output"),
+        (closed.as_deref(), large.as_deref()),
+        (
+            Some("cannot watch file descriptor 1000000: Bad file descriptor (os error 9)"),
+            Some("no memory for 18446744073709551615 bytes of output"),
+        ),
     );
     Ok(())
 }

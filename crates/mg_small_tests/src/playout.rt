@@ -2,8 +2,8 @@
 
 use crate::equality::assert_equal;
 use mg_g711::Frame;
-use mg_playout::{Placed, Played, Playout};
-use std::process::Abort;
+use mg_playout::{MAX_DEPTH, MIN_DEPTH, Placed, Played, Playout};
+use std::alloc::{AllocError, Global};
 use std::test::Fail;
 
 /// Returns a frame whose samples all have this value.
@@ -11,166 +11,224 @@ fn frame(sample: i16) -> Frame {
     [sample; 160]
 }
 
-/// Places frames from one source. Each frame's samples equal its sequence number.
-fn place_all(rt: &impl Abort, playout: &mut Playout, wanted: &[(u16, Placed)]) {
-    for (sequence, answer) in wanted {
-        let placed = playout.place(1, *sequence, frame(sequence.cast_signed()));
-        assert_eq!(rt; placed, *answer, "at {sequence}");
-    }
+/// A call on a play list, with its outcome.
+#[derive(Clone, Copy)]
+enum Action {
+    /// A frame of one source is placed. Its samples equal its sequence number.
+    Place(u16, Placed),
+    /// A frame of another source is placed.
+    PlaceOther(u16, Placed),
+    /// A tick plays a received frame of this sample.
+    Hear(i16),
+    /// A tick plays a frame of this sample in place of one that is missing.
+    Conceal(i16),
+    /// A tick plays silence.
+    Rest,
+    SetDepth(usize),
+    Clear,
+    /// Whether the list is idle.
+    Idle(bool),
 }
 
-/// Ticks once for each expected result.
-fn tick_all(rt: &impl Abort, playout: &mut Playout, wanted: &[Played]) {
-    for (tick, played) in wanted.iter().enumerate() {
-        assert_eq!(rt; playout.tick(), *played, "in tick {tick}");
-    }
-}
-
-/// Returns the result for a received frame: one sample 160 times.
-fn given(sample: i16) -> Played {
-    Played::Frame(frame(sample))
-}
-
-#[test]
-fn frames_come_in_order_of_sequence(rt: HostRuntime) -> Result<(), Fail> {
-    let mut playout = Playout::new(rt.alloc())?;
-    place_all(
-        &rt,
-        &mut playout,
+/// Calls on new play lists, which have four places and wait for two ticks.
+const CASES: [(&str, &[Action]); 9] = [
+    (
+        "frames come in order of sequence",
         &[
-            (65534, Placed::Started),
-            (0, Placed::Placed),
-            (65535, Placed::Placed),
-            (65535, Placed::Again),
+            Action::Place(65534, Placed::Started),
+            Action::Place(0, Placed::Placed),
+            Action::Place(65535, Placed::Placed),
+            Action::Place(65535, Placed::Again),
+            Action::Rest,
+            Action::Rest,
+            Action::Hear(-2),
+            Action::Hear(-1),
+            Action::Hear(0),
+            Action::Rest,
+            // The last tick found the list empty, so the next frame starts it.
+            Action::Place(1, Placed::Started),
         ],
-    );
-    tick_all(
-        &rt,
-        &mut playout,
+    ),
+    (
+        "the distance decides",
         &[
-            Played::Silence,
-            Played::Silence,
-            given(-2),
-            given(-1),
-            given(0),
-            Played::Silence,
-        ],
-    );
-
-    // The last tick found the list empty, so the next frame starts it.
-    place_all(&rt, &mut playout, &[(1, Placed::Started)]);
-    Ok(())
-}
-
-#[test]
-fn distance_decides(rt: HostRuntime) -> Result<(), Fail> {
-    let mut playout = Playout::new(rt.alloc())?;
-    place_all(
-        &rt,
-        &mut playout,
-        &[
-            (100, Placed::Started),
-            (110, Placed::Pushed),
+            Action::Place(100, Placed::Started),
+            Action::Place(110, Placed::Pushed),
             // The next number is 107.
-            (3107, Placed::Started),
-            (3057, Placed::Late),
+            Action::Place(3107, Placed::Started),
+            Action::Place(3057, Placed::Late),
             // 100 behind, 101 behind, 2999 ahead.
-            (3007, Placed::Late),
-            (3006, Placed::Started),
-            (6005, Placed::Pushed),
+            Action::Place(3007, Placed::Late),
+            Action::Place(3006, Placed::Started),
+            Action::Place(6005, Placed::Pushed),
             // The next number is 6002.
-            (6002, Placed::Placed),
-            (9002, Placed::Started),
+            Action::Place(6002, Placed::Placed),
+            Action::Place(9002, Placed::Started),
         ],
-    );
-    Ok(())
+    ),
+    (
+        "pushed frames keep their order",
+        &[
+            Action::Place(100, Placed::Started),
+            Action::Place(103, Placed::Placed),
+            Action::Place(105, Placed::Pushed),
+            Action::Rest,
+            Action::Rest,
+            Action::Rest,
+            Action::Hear(103),
+            Action::Conceal(51),
+            Action::Hear(105),
+            Action::Rest,
+        ],
+    ),
+    (
+        "the depth bounds the places",
+        &[
+            Action::SetDepth(16),
+            Action::Place(0, Placed::Started),
+            Action::Place(15, Placed::Placed),
+            Action::Place(16, Placed::Pushed),
+            Action::Clear,
+            Action::SetDepth(2),
+            Action::Place(0, Placed::Started),
+            Action::Place(1, Placed::Placed),
+            Action::Place(2, Placed::Pushed),
+        ],
+    ),
+    (
+        "a lowered depth drops frames",
+        &[
+            Action::SetDepth(16),
+            Action::Place(0, Placed::Started),
+            Action::Place(1, Placed::Placed),
+            Action::Place(2, Placed::Placed),
+            Action::SetDepth(2),
+            // It still waits for 8 ticks, half of its old depth.
+            Action::Rest,
+            Action::Rest,
+            Action::Rest,
+            Action::Rest,
+            Action::Rest,
+            Action::Rest,
+            Action::Rest,
+            Action::Rest,
+            Action::Hear(0),
+            Action::Hear(1),
+            Action::Rest,
+        ],
+    ),
+    (
+        "another source restarts",
+        &[
+            Action::Place(7, Placed::Started),
+            Action::PlaceOther(8, Placed::Started),
+            Action::Rest,
+            Action::Rest,
+            Action::Hear(8),
+            Action::Rest,
+            Action::SetDepth(8),
+            Action::PlaceOther(9, Placed::Started),
+            Action::Clear,
+            Action::Rest,
+            Action::PlaceOther(9, Placed::Started),
+            Action::PlaceOther(13, Placed::Pushed),
+        ],
+    ),
+    (
+        "a second missing frame is silent",
+        &[
+            Action::Place(10, Placed::Started),
+            Action::Place(13, Placed::Placed),
+            Action::Rest,
+            Action::Rest,
+            Action::Hear(10),
+            Action::Conceal(5),
+            Action::Rest,
+            Action::Hear(13),
+        ],
+    ),
+    (
+        "a start forgets the last frame",
+        &[
+            Action::Place(1, Placed::Started),
+            Action::Place(3, Placed::Placed),
+            Action::Rest,
+            Action::Rest,
+            Action::Hear(1),
+            // The frame that starts the list is pushed out, so the first frame of the source is missing.
+            Action::PlaceOther(100, Placed::Started),
+            Action::PlaceOther(110, Placed::Pushed),
+            Action::Rest,
+            Action::Rest,
+            Action::Rest,
+        ],
+    ),
+    (
+        "a list is idle until a frame starts it, and again after the tick that finds it empty",
+        &[
+            Action::Idle(true),
+            Action::Place(1, Placed::Started),
+            Action::Idle(false),
+            Action::Rest,
+            Action::Idle(false),
+            Action::Rest,
+            Action::Idle(false),
+            Action::Hear(1),
+            Action::Idle(false),
+            Action::Rest,
+            Action::Idle(true),
+        ],
+    ),
+];
+
+/// Places a frame. Returns whether it is placed so.
+fn places(playout: &mut Playout, source: u32, sequence: u16, wanted: Placed) -> bool {
+    playout.place(source, sequence, frame(sequence.cast_signed())) == wanted
 }
 
-#[test]
-fn pushed_frames_keep_their_order(rt: HostRuntime) -> Result<(), Fail> {
-    let mut playout = Playout::new(rt.alloc())?;
-    place_all(
-        &rt,
-        &mut playout,
-        &[
-            (100, Placed::Started),
-            (103, Placed::Placed),
-            (105, Placed::Pushed),
-        ],
-    );
-    tick_all(
-        &rt,
-        &mut playout,
-        &[
-            Played::Silence,
-            Played::Silence,
-            Played::Silence,
-            given(103),
-            Played::Concealed(frame(51)),
-            given(105),
-            Played::Silence,
-        ],
-    );
-    Ok(())
-}
-
-#[test]
-fn depth_bounds_the_places(rt: HostRuntime) -> Result<(), Fail> {
-    let mut playout = Playout::new(rt.alloc())?;
-    for (depth, last) in [(16, 15), (2, 1)] {
-        playout.clear();
-        playout.set_depth(depth);
-        place_all(
-            &rt,
-            &mut playout,
-            &[
-                (0, Placed::Started),
-                (last, Placed::Placed),
-                (last + 1, Placed::Pushed),
-            ],
-        );
+/// Sets the depth. Returns whether it is a possible one.
+fn set_depth(playout: &mut Playout, depth: usize) -> bool {
+    if depth < MIN_DEPTH || depth > MAX_DEPTH {
+        return false;
     }
-    Ok(())
+    playout.set_depth(depth);
+    true
+}
+
+/// Carries out an action. Returns whether it has the given outcome.
+fn does(playout: &mut Playout, action: Action) -> bool {
+    match action {
+        Action::Place(sequence, wanted) => places(playout, 1, sequence, wanted),
+        Action::PlaceOther(sequence, wanted) => places(playout, 2, sequence, wanted),
+        Action::Hear(sample) => playout.tick() == Played::Frame(frame(sample)),
+        Action::Conceal(sample) => playout.tick() == Played::Concealed(frame(sample)),
+        Action::Rest => playout.tick() == Played::Silence,
+        Action::SetDepth(depth) => set_depth(playout, depth),
+        Action::Clear => {
+            playout.clear();
+            true
+        }
+        Action::Idle(is_idle) => playout.is_idle() == is_idle,
+    }
+}
+
+/// Returns the number of the first action that has another outcome, or `None` if there is no such action.
+fn first_wrong(alloc: Global, actions: &[Action]) -> Result<Option<usize>, AllocError> {
+    let mut playout = Playout::new(alloc)?;
+    for at in 0..actions.len() {
+        if !does(&mut playout, actions[at]) {
+            return Ok(Some(at));
+        }
+    }
+    Ok(None)
 }
 
 #[test]
-fn lowered_depth_drops_frames(rt: HostRuntime) -> Result<(), Fail> {
-    let mut playout = Playout::new(rt.alloc())?;
-    playout.set_depth(16);
-    place_all(
-        &rt,
-        &mut playout,
-        &[
-            (0, Placed::Started),
-            (1, Placed::Placed),
-            (2, Placed::Placed),
-        ],
-    );
-    playout.set_depth(2);
-    // It still waits for 8 ticks, half of its old depth.
-    tick_all(&rt, &mut playout, &[Played::Silence; 8]);
-    tick_all(&rt, &mut playout, &[given(0), given(1), Played::Silence]);
-    Ok(())
-}
-
-#[test]
-fn another_source_restarts(rt: HostRuntime) -> Result<(), Fail> {
-    let mut playout = Playout::new(rt.alloc())?;
-    assert_equal(&rt, playout.place(1, 7, frame(1)), Placed::Started);
-    assert_equal(&rt, playout.place(2, 8, frame(2)), Placed::Started);
-    tick_all(
-        &rt,
-        &mut playout,
-        &[Played::Silence, Played::Silence, given(2), Played::Silence],
-    );
-
-    // A new play list has four places and waits for two ticks.
-    playout.set_depth(8);
-    assert_equal(&rt, playout.place(2, 9, frame(3)), Placed::Started);
-    playout.clear();
-    assert_equal(&rt, playout.tick(), Played::Silence);
-    assert_equal(&rt, playout.place(2, 9, frame(3)), Placed::Started);
-    assert_equal(&rt, playout.place(2, 13, frame(4)), Placed::Pushed);
+fn plays_frames(rt: HostRuntime) -> Result<(), Fail> {
+    for (name, actions) in &CASES {
+        let wrong = first_wrong(rt.alloc(), actions)?;
+        assert_equal(&rt, (*name, wrong), (*name, None));
+    }
     Ok(())
 }
 
@@ -181,74 +239,24 @@ fn missing_frame_is_halved(rt: HostRuntime) -> Result<(), Fail> {
     let mut halves = frame(0);
     halves[..4].copy_from_slice(&[-1, 0, 0, 1]);
     let mut playout = Playout::new(rt.alloc())?;
-    assert_equal(&rt, playout.place(1, 1, received), Placed::Started);
-    assert_equal(&rt, playout.place(1, 3, frame(3)), Placed::Placed);
-    tick_all(
-        &rt,
-        &mut playout,
-        &[
-            Played::Silence,
-            Played::Silence,
-            Played::Frame(received),
-            Played::Concealed(halves),
-            given(3),
-            Played::Silence,
-        ],
-    );
-    Ok(())
-}
-
-#[test]
-fn second_missing_frame_is_silent(rt: HostRuntime) -> Result<(), Fail> {
-    let mut playout = Playout::new(rt.alloc())?;
-    place_all(
-        &rt,
-        &mut playout,
-        &[(10, Placed::Started), (13, Placed::Placed)],
-    );
-    tick_all(
-        &rt,
-        &mut playout,
-        &[
-            Played::Silence,
-            Played::Silence,
-            given(10),
-            Played::Concealed(frame(5)),
-            Played::Silence,
-            given(13),
-        ],
-    );
-    Ok(())
-}
-
-#[test]
-fn start_forgets_the_last_frame(rt: HostRuntime) -> Result<(), Fail> {
-    let mut playout = Playout::new(rt.alloc())?;
-    assert_equal(&rt, playout.place(1, 1, frame(1)), Placed::Started);
-    assert_equal(&rt, playout.place(1, 3, frame(3)), Placed::Placed);
-    tick_all(
-        &rt,
-        &mut playout,
-        &[Played::Silence, Played::Silence, given(1)],
-    );
-
-    // The frame that starts the list is pushed out, so the first frame of the source is missing.
-    assert_equal(&rt, playout.place(2, 100, frame(100)), Placed::Started);
-    assert_equal(&rt, playout.place(2, 110, frame(110)), Placed::Pushed);
-    tick_all(&rt, &mut playout, &[Played::Silence; 3]);
-    Ok(())
-}
-
-/// A list is idle until a frame starts it, and again after the tick that finds it empty.
-#[test]
-fn list_without_frames_is_idle(rt: HostRuntime) -> Result<(), Fail> {
-    let mut playout = Playout::new(rt.alloc())?;
-    assert!(rt; playout.is_idle());
-    place_all(&rt, &mut playout, &[(1, Placed::Started)]);
-    for _ in 0..4 {
-        assert!(rt; !playout.is_idle());
-        let _ = playout.tick();
-    }
-    assert!(rt; playout.is_idle());
+    let placed = [playout.place(1, 1, received), playout.place(1, 3, frame(3))];
+    assert_equal(&rt, placed, [Placed::Started, Placed::Placed]);
+    let played = [
+        playout.tick(),
+        playout.tick(),
+        playout.tick(),
+        playout.tick(),
+        playout.tick(),
+        playout.tick(),
+    ];
+    let wanted = [
+        Played::Silence,
+        Played::Silence,
+        Played::Frame(received),
+        Played::Concealed(halves),
+        Played::Frame(frame(3)),
+        Played::Silence,
+    ];
+    assert_equal(&rt, played, wanted);
     Ok(())
 }

@@ -1,13 +1,14 @@
 //! In-memory ports.
 
 use crate::equality::assert_equal;
-use mg_journal::{FaultEffect, FileCall, InjectedFault, MemoryFile, Opening};
+use crate::journal::{BROKEN, FULL, Fault, REFUSED, ends_in_line_feed, file};
+use mg_journal::{FileCall, MemoryFile, Opening};
 use mg_ports::{
     AppendFault, Arrival, Call, Durability, FakePorts, Payload, Peer, PortFault, Ports, Receipt,
     Timing,
 };
 use std::alloc::{AllocError, Global};
-use std::io::{self, ErrorKind};
+use std::io;
 use std::test::Fail;
 
 const CALLER: Peer = Peer {
@@ -15,7 +16,136 @@ const CALLER: Peer = Peer {
     port: 40000,
 };
 
-/// Returns ports with `one` and `two` waiting at socket 0, and `three` at socket 2.
+/// A call on ports, with its outcome. Datagrams come from the caller and go to it.
+#[derive(Clone, Copy)]
+enum Action<'a> {
+    Receive(usize, Result<Option<&'a [u8]>, PortFault>),
+    Send(usize, &'a [u8], Result<(), PortFault>),
+    BeginTick(Timing),
+    Append(&'a [u8], Durability, Result<(), AppendFault>),
+}
+
+/// The bytes in a journal's file, and those that are on the disk.
+#[derive(Clone, Copy)]
+struct File<'a> {
+    bytes: &'a [u8],
+    synced: &'a [u8],
+}
+
+/// What ports do at which `one` and `two` are waiting at socket 0, and `three` at socket 2.
+struct Case<'a> {
+    name: &'a str,
+    /// The numbers of the receives and sends that fail.
+    failing: &'a [u64],
+    /// The faults of the journal's file, if there is a journal.
+    faults: Option<&'a [Fault]>,
+    /// The length of the buffer for datagrams, at most 8.
+    room: usize,
+    actions: &'a [Action<'a>],
+    failures: u64,
+    file: Option<File<'a>>,
+}
+
+const CASES: [Case<'static>; 7] = [
+    Case {
+        name: "datagrams are received by their sockets",
+        failing: &[],
+        faults: None,
+        room: 8,
+        actions: &[
+            Action::Receive(0, Ok(Some(b"one"))),
+            Action::Receive(1, Ok(None)),
+            Action::Receive(0, Ok(Some(b"two"))),
+            Action::Receive(0, Ok(None)),
+            Action::Receive(2, Ok(Some(b"three"))),
+        ],
+        failures: 0,
+        file: None,
+    },
+    Case {
+        name: "a datagram is cut to the buffer",
+        failing: &[],
+        faults: None,
+        room: 2,
+        actions: &[Action::Receive(2, Ok(Some(b"th")))],
+        failures: 0,
+        file: None,
+    },
+    Case {
+        name: "receives and sends fail on request",
+        failing: &[0, 2],
+        faults: None,
+        room: 8,
+        actions: &[
+            Action::Receive(0, Err(PortFault)),
+            Action::Receive(0, Ok(Some(b"one"))),
+            Action::Send(0, b"yes", Err(PortFault)),
+            Action::Send(0, b"yes", Ok(())),
+        ],
+        failures: 2,
+        file: None,
+    },
+    Case {
+        name: "a tick begins between a receive and a send",
+        failing: &[2],
+        faults: None,
+        room: 8,
+        actions: &[
+            Action::Receive(2, Ok(Some(b"three"))),
+            Action::Receive(1, Ok(None)),
+            Action::Receive(0, Err(PortFault)),
+            Action::BeginTick(Timing::Late),
+            Action::Send(3, b"out", Ok(())),
+        ],
+        failures: 1,
+        file: None,
+    },
+    Case {
+        name: "lines are appended before and after a send",
+        failing: &[],
+        faults: Some(&[]),
+        room: 8,
+        actions: &[
+            Action::Append(b"one\n", Durability::Written, Ok(())),
+            Action::Send(0, b"yes", Ok(())),
+            Action::Append(b"two\nthree\n", Durability::Synced, Ok(())),
+            Action::Append(b"four\n", Durability::Written, Ok(())),
+        ],
+        failures: 0,
+        file: Some(File {
+            bytes: b"one\ntwo\nthree\nfour\n",
+            synced: b"one\ntwo\nthree\n",
+        }),
+    },
+    // Neither failure counts as a failed receive or send.
+    Case {
+        name: "a journal refuses a line if the write fails, and is broken once a sync fails",
+        failing: &[],
+        faults: Some(&[(FileCall::Write, 0, FULL), (FileCall::Sync, 0, FULL)]),
+        room: 8,
+        actions: &[
+            Action::Append(b"one\n", Durability::Synced, REFUSED),
+            Action::Append(b"two\n", Durability::Synced, BROKEN),
+            Action::Append(b"three\n", Durability::Written, BROKEN),
+        ],
+        failures: 0,
+        file: Some(File {
+            bytes: b"two\n",
+            synced: b"",
+        }),
+    },
+    Case {
+        name: "nothing is appended without a journal",
+        failing: &[],
+        faults: None,
+        room: 8,
+        actions: &[Action::Append(b"one\n", Durability::Written, BROKEN)],
+        failures: 0,
+        file: None,
+    },
+];
+
+/// Returns ports with the datagrams of each case.
 fn ports(alloc: Global, failing: &[u64]) -> Result<FakePorts, AllocError> {
     let waiting: [(usize, &[u8]); 3] = [(0, b"one"), (2, b"three"), (0, b"two")];
     let mut arrivals = Vec::new(alloc);
@@ -30,202 +160,128 @@ fn ports(alloc: Global, failing: &[u64]) -> Result<FakePorts, AllocError> {
     Ok(FakePorts::new(alloc, arrivals, failing.to_vec(alloc)?))
 }
 
-#[test]
-fn gives_datagrams_by_their_sockets(rt: HostRuntime) -> Result<(), Fail> {
-    let mut ports = ports(rt.alloc(), &[])?;
-    let mut buffer = [0; 8];
-    assert_equal(&rt, ports.receive(0, &mut buffer), Ok(Some((3, CALLER))));
-    assert_equal(&rt, &buffer[..3], b"one".as_slice());
-    assert_equal(&rt, ports.receive(1, &mut buffer), Ok(None));
-    assert_equal(&rt, ports.receive(0, &mut buffer), Ok(Some((3, CALLER))));
-    assert_equal(&rt, &buffer[..3], b"two".as_slice());
-    assert_equal(&rt, ports.receive(0, &mut buffer), Ok(None));
-    assert_equal(&rt, ports.receive(2, &mut buffer), Ok(Some((5, CALLER))));
-    Ok(())
+/// Adds a journal to ports, in an empty file with these faults.
+fn with_journal(alloc: Global, ports: FakePorts, faults: &[Fault]) -> io::Result<FakePorts> {
+    let file = file(alloc, b"", faults)?;
+    Ok(ports.with_journal(Opening::new(file)?.accept()?))
 }
 
-#[test]
-fn cuts_to_the_buffer(rt: HostRuntime) -> Result<(), Fail> {
-    let mut ports = ports(rt.alloc(), &[])?;
-    let mut buffer = [0; 2];
-    assert_equal(&rt, ports.receive(2, &mut buffer), Ok(Some((2, CALLER))));
-    assert_equal(&rt, buffer, *b"th");
-    Ok(())
-}
-
-#[test]
-fn fails_on_request(rt: HostRuntime) -> Result<(), Fail> {
-    let mut ports = ports(rt.alloc(), &[0, 2])?;
-    let mut buffer = [0; 8];
-    assert_equal(&rt, ports.receive(0, &mut buffer), Err(PortFault));
-    assert_equal(&rt, ports.receive(0, &mut buffer), Ok(Some((3, CALLER))));
-    assert_equal(&rt, ports.send(0, CALLER, b"yes"), Err(PortFault));
-    assert_equal(&rt, ports.send(0, CALLER, b"yes"), Ok(()));
-    assert_equal(&rt, ports.failures(), 2);
-    Ok(())
-}
-
-/// Returns whether a call is a receive that returned these bytes at a socket.
-fn is_datagram(call: &Call, at: usize, text: &[u8]) -> bool {
-    match call {
-        Call::Receive(socket, Receipt::Delivered(source, payload)) => {
-            *socket == at && *source == CALLER && payload.as_slice() == text
-        }
-        _ => false,
-    }
-}
-
-/// Returns whether a call is a receive at a socket that returned nothing (`n`) or failed (`f`).
-fn is_receive(call: &Call, at: usize, letter: u8) -> bool {
-    match call {
-        Call::Receive(socket, Receipt::Nothing) => *socket == at && letter == b'n',
-        Call::Receive(socket, Receipt::Failed) => *socket == at && letter == b'f',
-        _ => false,
-    }
-}
-
-/// Returns whether a call sends these bytes from a socket.
-fn is_send(call: &Call, from: usize, text: &[u8]) -> bool {
-    match call {
-        Call::Send(socket, to, payload) => {
-            *socket == from && *to == CALLER && payload.as_slice() == text
-        }
-        _ => false,
-    }
-}
-
-#[test]
-fn logs_its_calls(rt: HostRuntime) -> Result<(), Fail> {
-    let mut ports = ports(rt.alloc(), &[2])?;
-    let mut buffer = [0; 8];
-    let _ = ports.receive(2, &mut buffer);
-    let _ = ports.receive(1, &mut buffer);
-    let _ = ports.receive(0, &mut buffer);
-    ports.begin_tick(Timing::Late);
-    let _ = ports.send(3, CALLER, b"out");
-    let calls = ports.calls().unwrap_or(&[]);
-    let is_told = match calls {
-        [first, second, third, Call::BeginTick(Timing::Late), last] => {
-            is_datagram(first, 2, b"three")
-                && is_receive(second, 1, b'n')
-                && is_receive(third, 0, b'f')
-                && is_send(last, 3, b"out")
-        }
-        _ => false,
-    };
-    assert!(rt; is_told);
-    Ok(())
-}
-
-/// Returns ports without datagrams, whose journal is in a file with these faults.
-fn with_journal(alloc: Global, faults: &[InjectedFault]) -> io::Result<FakePorts> {
-    let file = MemoryFile::new(Vec::new(alloc), faults.to_vec(alloc)?);
-    let journal = Opening::new(file)?.accept()?;
-    Ok(FakePorts::new(alloc, Vec::new(alloc), Vec::new(alloc)).with_journal(journal))
-}
-
-/// Returns whether a call appends these lines, with this durability and outcome.
-fn is_append(
-    call: &Call,
-    text: &[u8],
-    durability: Durability,
-    outcome: Result<(), AppendFault>,
+/// Receives at a socket. Returns whether the outcome is this one.
+fn receives(
+    ports: &mut FakePorts,
+    socket: usize,
+    buffer: &mut [u8],
+    outcome: Result<Option<&[u8]>, PortFault>,
 ) -> bool {
-    match call {
-        Call::Append(lines, how, answer) => {
+    match (ports.receive(socket, buffer), outcome) {
+        (Ok(Some((n, source))), Ok(Some(text))) => source == CALLER && &buffer[..n] == text,
+        (Ok(None), Ok(None)) => true,
+        (Err(fault), Err(wanted)) => fault == wanted,
+        _ => false,
+    }
+}
+
+/// Carries out an action. Returns whether it has the given outcome.
+fn does(ports: &mut FakePorts, buffer: &mut [u8], action: &Action<'_>) -> bool {
+    match *action {
+        Action::Receive(socket, outcome) => receives(ports, socket, buffer, outcome),
+        Action::Send(socket, text, outcome) => ports.send(socket, CALLER, text) == outcome,
+        Action::BeginTick(timing) => {
+            ports.begin_tick(timing);
+            true
+        }
+        Action::Append(lines, durability, outcome) => {
+            ends_in_line_feed(lines) && ports.append(lines, durability) == outcome
+        }
+    }
+}
+
+/// Returns whether the receipt of a receive agrees with its outcome.
+fn is_receipt(receipt: &Receipt, outcome: Result<Option<&[u8]>, PortFault>) -> bool {
+    match (receipt, outcome) {
+        (Receipt::Delivered(source, payload), Ok(Some(text))) => {
+            *source == CALLER && payload.as_slice() == text
+        }
+        (Receipt::Nothing, Ok(None)) => true,
+        (Receipt::Failed, Err(_)) => true,
+        _ => false,
+    }
+}
+
+/// Returns whether a logged call is an action.
+fn is_logged(call: &Call, action: &Action<'_>) -> bool {
+    match (call, *action) {
+        (Call::Receive(at, receipt), Action::Receive(socket, outcome)) => {
+            *at == socket && is_receipt(receipt, outcome)
+        }
+        (Call::Send(from, to, payload), Action::Send(socket, text, _)) => {
+            *from == socket && *to == CALLER && payload.as_slice() == text
+        }
+        (Call::BeginTick(timing), Action::BeginTick(wanted)) => *timing == wanted,
+        (Call::Append(lines, how, answer), Action::Append(text, durability, outcome)) => {
             lines.as_slice() == text && *how == durability && *answer == outcome
         }
         _ => false,
     }
 }
 
-/// Sends and appends appear in one list, in order.
-#[test]
-fn logs_appends_between_sends(rt: HostRuntime) -> Result<(), Fail> {
-    let mut ports = with_journal(rt.alloc(), &[])?;
-    assert_equal(&rt, ports.append(b"one\n", Durability::Written), Ok(()));
-    let _ = ports.send(0, CALLER, b"yes");
-    assert_equal(
-        &rt,
-        ports.append(b"two\nthree\n", Durability::Synced),
-        Ok(()),
-    );
-    assert_equal(&rt, ports.append(b"four\n", Durability::Written), Ok(()));
+/// Returns whether the calls are logged in order, and no others.
+fn are_logged(ports: &FakePorts, actions: &[Action<'_>]) -> bool {
     let calls = ports.calls().unwrap_or(&[]);
-    let is_told = match calls {
-        [first, second, third, fourth] => {
-            is_append(first, b"one\n", Durability::Written, Ok(()))
-                && is_send(second, 0, b"yes")
-                && is_append(third, b"two\nthree\n", Durability::Synced, Ok(()))
-                && is_append(fourth, b"four\n", Durability::Written, Ok(()))
+    if calls.len() != actions.len() {
+        return false;
+    }
+    for at in 0..calls.len() {
+        if !is_logged(&calls[at], &actions[at]) {
+            return false;
         }
-        _ => false,
-    };
-    assert!(rt; is_told);
-    let file = ports.journal_file();
-    assert_equal(
-        &rt,
-        file.map(|file| file.bytes()),
-        Some(b"one\ntwo\nthree\nfour\n".as_slice()),
-    );
-    assert_equal(
-        &rt,
-        file.map(|file| file.synced()),
-        Some(b"one\ntwo\nthree\n".as_slice()),
-    );
-    Ok(())
+    }
+    true
 }
 
-/// A journal refuses a line if the write fails, and is broken once a sync fails. Neither failure counts as a failed
-/// receive or send.
-#[test]
-fn logs_appends_that_fail(rt: HostRuntime) -> Result<(), Fail> {
-    let full = FaultEffect::Fail(ErrorKind::StorageFull);
-    let faults = [
-        InjectedFault {
-            call: FileCall::Write,
-            number: 0,
-            effect: full,
-        },
-        InjectedFault {
-            call: FileCall::Sync,
-            number: 0,
-            effect: full,
-        },
-    ];
-    let mut ports = with_journal(rt.alloc(), &faults)?;
-    let refused = Err(AppendFault::Refused);
-    let broken = Err(AppendFault::Broken);
-    assert_equal(&rt, ports.append(b"one\n", Durability::Synced), refused);
-    assert_equal(&rt, ports.append(b"two\n", Durability::Synced), broken);
-    assert_equal(&rt, ports.append(b"three\n", Durability::Written), broken);
-    let calls = ports.calls().unwrap_or(&[]);
-    let is_told = match calls {
-        [first, second, third] => {
-            is_append(first, b"one\n", Durability::Synced, refused)
-                && is_append(second, b"two\n", Durability::Synced, broken)
-                && is_append(third, b"three\n", Durability::Written, broken)
+/// Returns whether the journal's file is this one.
+fn is_file(file: Option<&MemoryFile>, wanted: Option<File<'_>>) -> bool {
+    match (file, wanted) {
+        (Some(file), Some(wanted)) => {
+            file.bytes() == wanted.bytes && file.synced() == wanted.synced
         }
+        (None, None) => true,
         _ => false,
-    };
-    assert!(rt; is_told);
-    let bytes = ports.journal_file().map(|file| file.bytes());
-    assert_equal(&rt, bytes, Some(b"two\n".as_slice()));
-    assert_equal(&rt, ports.failures(), 0);
-    Ok(())
+    }
+}
+
+/// Returns the number of a case's first action that has another outcome, or `None` if there is no such action.
+fn first_wrong(ports: &mut FakePorts, case: &Case<'_>) -> Option<usize> {
+    let mut buffer = [0; 8];
+    let room = case.room.min(8);
+    for at in 0..case.actions.len() {
+        if !does(ports, &mut buffer[..room], &case.actions[at]) {
+            return Some(at);
+        }
+    }
+    None
+}
+
+/// Plays a case. Returns its first wrong action, and whether the log, the failures and the file are as they should.
+fn play(alloc: Global, case: &Case<'_>) -> io::Result<(Option<usize>, bool, u64, bool)> {
+    let mut ports = ports(alloc, case.failing)?;
+    if let Some(faults) = case.faults {
+        ports = with_journal(alloc, ports, faults)?;
+    }
+    Ok((
+        first_wrong(&mut ports, case),
+        are_logged(&ports, case.actions),
+        ports.failures(),
+        is_file(ports.journal_file(), case.file),
+    ))
 }
 
 #[test]
-fn appends_nothing_without_a_journal(rt: HostRuntime) -> Result<(), Fail> {
-    let mut ports = ports(rt.alloc(), &[])?;
-    let broken = Err(AppendFault::Broken);
-    assert_equal(&rt, ports.append(b"one\n", Durability::Written), broken);
-    let calls = ports.calls().unwrap_or(&[]);
-    let is_told = match calls {
-        [call] => is_append(call, b"one\n", Durability::Written, broken),
-        _ => false,
-    };
-    assert!(rt; is_told);
-    assert!(rt; ports.journal_file().is_none());
+fn carries_out_and_logs_calls(rt: HostRuntime) -> Result<(), Fail> {
+    for case in &CASES {
+        let played = play(rt.alloc(), case)?;
+        let wanted = (None, true, case.failures, true);
+        assert_equal(&rt, (case.name, played), (case.name, wanted));
+    }
     Ok(())
 }

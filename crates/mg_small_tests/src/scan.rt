@@ -2,88 +2,134 @@
 
 use crate::equality::assert_equal;
 use mg_scan::{ScanFault, Scanner, TokenKind};
-use std::test::Fail;
+
+/// What a scanner gives: a token of this kind with this text, a fault, or the end.
+#[derive(Clone, Copy)]
+enum Found<'a> {
+    Token(TokenKind, &'a [u8]),
+    Fault(ScanFault),
+    End,
+}
 
 /// Part of a message with short keywords, a comment and a quoted string.
 const SHORT: &[u8] = b"!/1 [127.0.0.1]:2945 ; hello\n\tt = 1 { c = - { av = \"a b\", } }";
 
-#[test]
-fn gives_words_marks_and_quoted_texts(rt: HostRuntime) -> Result<(), Fail> {
-    let wanted: [(TokenKind, &[u8]); 16] = [
-        (TokenKind::Word, b"!/1"),
-        (TokenKind::Word, b"[127.0.0.1]:2945"),
-        (TokenKind::Word, b"t"),
-        (TokenKind::Equals, b"="),
-        (TokenKind::Word, b"1"),
-        (TokenKind::Open, b"{"),
-        (TokenKind::Word, b"c"),
-        (TokenKind::Equals, b"="),
-        (TokenKind::Word, b"-"),
-        (TokenKind::Open, b"{"),
-        (TokenKind::Word, b"av"),
-        (TokenKind::Equals, b"="),
-        (TokenKind::Quoted, b"a b"),
-        (TokenKind::Comma, b","),
-        (TokenKind::Close, b"}"),
-        (TokenKind::Close, b"}"),
-    ];
-    let mut scanner = Scanner::new(SHORT);
-    for (kind, text) in wanted {
-        let token = scanner.next().ok_or("a token")?.map_err(|_| "no fault")?;
-        assert_equal(&rt, token.kind, kind);
-        assert_equal(&rt, token.span.text(SHORT), text);
-    }
-    assert_equal(&rt, scanner.next(), None);
-    assert_equal(&rt, scanner.next(), None);
-    Ok(())
-}
+/// What is found in each text, in order.
+const CASES: [(&[u8], &[Found<'static>]); 11] = [
+    (
+        SHORT,
+        &[
+            Found::Token(TokenKind::Word, b"!/1"),
+            Found::Token(TokenKind::Word, b"[127.0.0.1]:2945"),
+            Found::Token(TokenKind::Word, b"t"),
+            Found::Token(TokenKind::Equals, b"="),
+            Found::Token(TokenKind::Word, b"1"),
+            Found::Token(TokenKind::Open, b"{"),
+            Found::Token(TokenKind::Word, b"c"),
+            Found::Token(TokenKind::Equals, b"="),
+            Found::Token(TokenKind::Word, b"-"),
+            Found::Token(TokenKind::Open, b"{"),
+            Found::Token(TokenKind::Word, b"av"),
+            Found::Token(TokenKind::Equals, b"="),
+            Found::Token(TokenKind::Quoted, b"a b"),
+            Found::Token(TokenKind::Comma, b","),
+            Found::Token(TokenKind::Close, b"}"),
+            Found::Token(TokenKind::Close, b"}"),
+            Found::End,
+            Found::End,
+        ],
+    ),
+    // A fault is named once.
+    (b"\x7f", &[Found::Fault(ScanFault::BadByte), Found::End]),
+    (b"\"a", &[Found::Fault(ScanFault::OpenQuote), Found::End]),
+    (
+        b"\"a\rb\"",
+        &[Found::Fault(ScanFault::OpenQuote), Found::End],
+    ),
+    (
+        b"LOCAL {",
+        &[
+            Found::Token(TokenKind::Word, b"LOCAL"),
+            Found::Fault(ScanFault::OpenOctets),
+            Found::End,
+        ],
+    ),
+    // A session description is one token.
+    (
+        b"Local{a\\}b}",
+        &[
+            Found::Token(TokenKind::Word, b"Local"),
+            Found::Token(TokenKind::Octets, b"a\\}b"),
+            Found::End,
+        ],
+    ),
+    (
+        b"r { {\"; } ",
+        &[
+            Found::Token(TokenKind::Word, b"r"),
+            Found::Token(TokenKind::Octets, b" {\"; "),
+            Found::End,
+        ],
+    ),
+    (
+        b"l{a\\\\}b}",
+        &[
+            Found::Token(TokenKind::Word, b"l"),
+            Found::Token(TokenKind::Octets, b"a\\\\}b"),
+            Found::End,
+        ],
+    ),
+    (
+        b"REMOTE{}",
+        &[
+            Found::Token(TokenKind::Word, b"REMOTE"),
+            Found::Token(TokenKind::Octets, b""),
+            Found::End,
+        ],
+    ),
+    // A session description has no null.
+    (
+        b"Local{a\0}",
+        &[
+            Found::Token(TokenKind::Word, b"Local"),
+            Found::Fault(ScanFault::BadByte),
+        ],
+    ),
+    (
+        b"Local{a\0",
+        &[
+            Found::Token(TokenKind::Word, b"Local"),
+            Found::Fault(ScanFault::BadByte),
+        ],
+    ),
+];
 
-#[test]
-fn names_each_fault_once(rt: HostRuntime) {
-    let cases: [(&[u8], ScanFault); 4] = [
-        (b"\x7f", ScanFault::BadByte),
-        (b"\"a", ScanFault::OpenQuote),
-        (b"\"a\rb\"", ScanFault::OpenQuote),
-        (b"LOCAL {", ScanFault::OpenOctets),
-    ];
-    for (text, fault) in cases {
-        let mut scanner = Scanner::new(text);
-        let mut last = scanner.next();
-        if fault == ScanFault::OpenOctets {
-            last = scanner.next();
+/// Returns whether a scanner of a text gives this next.
+fn gives(scanner: &mut Scanner<'_>, text: &[u8], wanted: Found<'_>) -> bool {
+    match (scanner.next(), wanted) {
+        (Some(Ok(token)), Found::Token(kind, part)) => {
+            token.kind == kind && token.span.text(text) == part
         }
-        assert_equal(&rt, last, Some(Err(fault)));
-        assert_equal(&rt, scanner.next(), None);
+        (Some(Err(fault)), Found::Fault(wanted)) => fault == wanted,
+        (None, Found::End) => true,
+        _ => false,
     }
 }
 
-#[test]
-fn gives_a_session_description_as_one_token(rt: HostRuntime) -> Result<(), Fail> {
-    let cases: [(&[u8], &[u8]); 4] = [
-        (b"Local{a\\}b}", b"a\\}b"),
-        (b"r { {\"; } ", b" {\"; "),
-        (b"l{a\\\\}b}", b"a\\\\}b"),
-        (b"REMOTE{}", b""),
-    ];
-    for (text, content) in cases {
-        let mut scanner = Scanner::new(text);
-        let word = scanner.next().ok_or("a token")?.map_err(|_| "no fault")?;
-        assert_equal(&rt, word.kind, TokenKind::Word);
-        let octets = scanner.next().ok_or("a token")?.map_err(|_| "no fault")?;
-        assert_equal(&rt, octets.kind, TokenKind::Octets);
-        assert_equal(&rt, octets.span.text(text), content);
-        assert_equal(&rt, scanner.next(), None);
+/// Returns the number of the first token that is another one, or `None` if there is no such token.
+fn first_wrong(text: &[u8], wanted: &[Found<'_>]) -> Option<usize> {
+    let mut scanner = Scanner::new(text);
+    for at in 0..wanted.len() {
+        if !gives(&mut scanner, text, wanted[at]) {
+            return Some(at);
+        }
     }
-    Ok(())
+    None
 }
 
 #[test]
-fn refuses_a_null_in_a_session_description(rt: HostRuntime) -> Result<(), Fail> {
-    let cases: [&[u8]; 2] = [b"Local{a\0}", b"Local{a\0"];
-    for text in cases {
-        let mut scanner = Scanner::new(text);
-        let _word = scanner.next().ok_or("a token")?.map_err(|_| "no fault")?;
-        assert_equal(&rt, scanner.next(), Some(Err(ScanFault::BadByte)));
+fn gives_tokens_and_faults(rt: HostRuntime) {
+    for (text, wanted) in &CASES {
+        assert_equal(&rt, (*text, first_wrong(text, wanted)), (*text, None));
     }
-    Ok(())
 }

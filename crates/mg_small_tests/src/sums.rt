@@ -8,6 +8,7 @@ use crate::equality::assert_equal;
 use mg_g711::{Frame, Law, decode_frame};
 use mg_sums::ranges::assert_sample_range;
 use mg_sums::{Room, Row, Sums, TERMINATIONS, kernels};
+use std::process::Abort;
 use std::test::Fail;
 
 /// The lengths from 0 to 161 that each kernel is tested with.
@@ -85,37 +86,63 @@ fn write_difference(out: &mut [i32], total: &[i32], row: &[i16]) -> bool
     false
 }
 
+/// Returns whether the kernels add, subtract and keep what they should at an index of a row of this length.
+fn add_up(i: usize, len: usize, more: i32, less: i32, rest: i32) -> bool {
+    let (sum, sample) = parts(i, len);
+    i64::from(more) == sum.wrapping_add(sample)
+        && i64::from(less) == sum.wrapping_sub(sample)
+        && rest == less
+}
+
+/// Returns the first index at which a kernel adds or subtracts wrongly, or 161 if there is no such index. Returns
+/// `None` if a sum is too large to be added to.
+fn added_up(total: &[i32; 161], samples: &[i16; 161], len: usize) -> Option<usize> {
+    let (mut more, mut less, mut rest) = (*total, *total, *total);
+    let (row, len) = (samples.get(..len)?, len.min(161));
+    if !add(&mut more[..len], row) || !take(&mut less[..len], row) {
+        return None;
+    }
+    if !write_difference(&mut rest[..len], &total[..len], row) {
+        return None;
+    }
+    for i in 0..161 {
+        if !add_up(i, len, more[i], less[i], rest[i]) {
+            return Some(i);
+        }
+    }
+    Some(161)
+}
+
 #[test]
 fn kernels_add_up_at_each_length(rt: HostRuntime) {
     let (total, samples) = (sums(), samples());
-    for len in LENGTHS {
-        let (mut more, mut less, mut rest) = (sums(), sums(), sums());
-        let row = &samples[..len];
-        assert!(rt; add(&mut more[..len], row));
-        assert!(rt; take(&mut less[..len], row));
-        assert!(rt; write_difference(&mut rest[..len], &total[..len], row));
-        for i in 0..161 {
-            let (sum, sample) = parts(i, len);
-            let (more, less) = (i64::from(more[i]), i64::from(less[i]));
-            assert!(rt; more == sum.wrapping_add(sample), "add, {i} of {len}");
-            assert!(rt; less == sum.wrapping_sub(sample), "take, {i} of {len}");
-            assert!(rt; i64::from(rest[i]) == less, "difference, {i} of {len}");
+    for len in &LENGTHS {
+        let right = added_up(&total, &samples, *len);
+        assert_equal(&rt, (*len, right), (*len, Some(161)));
+    }
+}
+
+/// Returns the first index at which sums of this length are limited wrongly, or 161 if there is no such index.
+fn limited(sums: &[i32; 161], len: usize) -> usize {
+    let len = len.min(161);
+    let mut limits = [1; 161];
+    kernels::limit(&mut limits[..len], &sums[..len]);
+    for i in 0..161 {
+        let sum = if i < len { sum_at(i) } else { 1 };
+        let limit = if sum > 32767 { 32767 } else { sum };
+        let limit = if limit < -32768 { -32768 } else { limit };
+        if i32::from(limits[i]) != limit {
+            return i;
         }
     }
+    161
 }
 
 #[test]
 fn kernels_limit_at_each_length(rt: HostRuntime) {
     let sums = sums();
-    for len in LENGTHS {
-        let mut limits = [1; 161];
-        kernels::limit(&mut limits[..len], &sums[..len]);
-        for i in 0..161 {
-            let sum = if i < len { sum_at(i) } else { 1 };
-            let limit = if sum > 32767 { 32767 } else { sum };
-            let limit = if limit < -32768 { -32768 } else { limit };
-            assert_eq!(rt; i32::from(limits[i]), limit, "{i} of {len}");
-        }
+    for len in &LENGTHS {
+        assert_equal(&rt, (*len, limited(&sums, *len)), (*len, 161));
     }
 }
 
@@ -182,9 +209,17 @@ fn mix(
     Ok(first)
 }
 
-/// Creates three rows joined to a room: two with mu-law's largest sample, and one with its smallest.
-fn conference(rt: &HostRuntime, room: Room) -> Result<Sums, Fail> {
-    let mut sums = Sums::new(rt.alloc())?;
+/// A frame in a row that is joined nowhere is kept, and no total knows it.
+fn keep_a_row_that_is_joined_nowhere(rt: &impl Abort, sums: &mut Sums) {
+    let row = Row::new((TERMINATIONS - 1) as u8);
+    sums.set_frame(row, Some(&[5; 160]));
+    assert!(rt; sums.room(row).is_none());
+    assert_equal(rt, *sums.frame(row), [5; 160]);
+    assert_equal(rt, (*sums.total(Room::new(63), 159), sums.work()), (0, 0));
+}
+
+/// Joins three rows to a room: two with mu-law's largest sample, and one with its smallest.
+fn join_three(sums: &mut Sums, room: Room) -> Result<(), Fail> {
     let frames: [Frame; 3] = [
         decode_frame(Law::Mu, &[0x80; 160]),
         decode_frame(Law::Mu, &[0x80; 160]),
@@ -193,58 +228,51 @@ fn conference(rt: &HostRuntime, room: Room) -> Result<Sums, Fail> {
     for (number, frame) in frames.iter().enumerate() {
         let row = Row::new(number as u8);
         sums.set_frame(row, Some(frame));
-        join(&mut sums, room, row)?;
+        join(sums, room, row)?;
     }
-    Ok(sums)
-}
-
-#[test]
-fn mixes_are_limited_once(rt: HostRuntime) -> Result<(), Fail> {
-    let room = Room::new(0);
-    let (first, second, third) = (Row::new(0), Row::new(1), Row::new(2));
-    let mut sums = conference(&rt, room)?;
-    assert_equal(&rt, *sums.total(room, 0), 32124);
-    assert_equal(&rt, mix(&mut sums, room, Some(first), &[], Law::Mu)?, 0xff);
-    assert_equal(&rt, mix(&mut sums, room, Some(third), &[], Law::Mu)?, 0x80);
-    assert_equal(&rt, mix(&mut sums, room, Some(third), &[], Law::A)?, 0xaa);
-    assert_equal(&rt, mix(&mut sums, room, None, &[third], Law::Mu)?, 0x80);
-    assert_equal(
-        &rt,
-        mix(&mut sums, room, Some(first), &[second], Law::Mu)?,
-        0x00,
-    );
-    assert_equal(&rt, sums.work(), 3 + 3 + 2 + 2);
     Ok(())
 }
 
-#[test]
-fn totals_are_not_limited(rt: HostRuntime) -> Result<(), Fail> {
-    let (room, other) = (Room::new(0), Room::new(63));
+/// Mixes are limited once: a mix is the limited sum of the other rows, and not the limited total without a row.
+fn limit_mixes(rt: &impl Abort, sums: &mut Sums, room: Room) -> Result<(), Fail> {
+    let (first, second, third) = (Row::new(0), Row::new(1), Row::new(2));
+    assert_equal(rt, *sums.total(room, 0), 32124);
+    let mixes = [
+        mix(sums, room, Some(first), &[], Law::Mu)?,
+        mix(sums, room, Some(third), &[], Law::Mu)?,
+        mix(sums, room, Some(third), &[], Law::A)?,
+        mix(sums, room, None, &[third], Law::Mu)?,
+        mix(sums, room, Some(first), &[second], Law::Mu)?,
+    ];
+    assert_equal(rt, mixes, [0xff, 0x80, 0xaa, 0x80, 0x00]);
+    assert_equal(rt, sums.work(), 3 + 3 + 2 + 2);
+    Ok(())
+}
+
+/// Totals are not limited, while the third row moves to another room and the second falls silent.
+fn keep_totals(rt: &impl Abort, sums: &mut Sums, room: Room) -> Result<(), Fail> {
+    let other = Room::new(63);
     let (second, third) = (Row::new(1), Row::new(2));
-    let mut sums = conference(&rt, room)?;
-    leave(&mut sums, room, third)?;
-    join(&mut sums, other, third)?;
-    assert_equal(&rt, *sums.total(room, 0), 64248);
-    assert_equal(&rt, *sums.total(other, 159), -32124);
-    assert_equal(&rt, mix(&mut sums, room, None, &[], Law::Mu)?, 0x80);
+    leave(sums, room, third)?;
+    join(sums, other, third)?;
+    let totals = (*sums.total(room, 0), *sums.total(other, 159));
+    assert_equal(rt, totals, (64248, -32124));
+    assert_equal(rt, mix(sums, room, None, &[], Law::Mu)?, 0x80);
 
     sums.set_frame(second, None);
-    assert_equal(&rt, *sums.total(room, 0), 32124);
-    assert_equal(&rt, *sums.frame(second), [0; 160]);
-    assert!(rt; sums.is_silent(second));
-    assert!(rt; !sums.is_silent(third));
-    assert_equal(&rt, sums.work(), 3 + 2 + 1 + 2);
+    assert_equal(rt, *sums.total(room, 0), 32124);
+    assert_equal(rt, *sums.frame(second), [0; 160]);
+    assert!(rt; sums.is_silent(second) && !sums.is_silent(third));
+    assert_equal(rt, sums.work(), 10 + 2 + 1 + 2);
     Ok(())
 }
 
 #[test]
-fn no_total_knows_a_row_that_is_joined_nowhere(rt: HostRuntime) -> Result<(), Fail> {
-    let row = Row::new((TERMINATIONS - 1) as u8);
+fn totals_and_mixes(rt: HostRuntime) -> Result<(), Fail> {
+    let room = Room::new(0);
     let mut sums = Sums::new(rt.alloc())?;
-    sums.set_frame(row, Some(&[5; 160]));
-    assert_equal(&rt, sums.room(row), None);
-    assert_equal(&rt, *sums.frame(row), [5; 160]);
-    assert_equal(&rt, *sums.total(Room::new(63), 159), 0);
-    assert_equal(&rt, sums.work(), 0);
-    Ok(())
+    keep_a_row_that_is_joined_nowhere(&rt, &mut sums);
+    join_three(&mut sums, room)?;
+    limit_mixes(&rt, &mut sums, room)?;
+    keep_totals(&rt, &mut sums, room)
 }

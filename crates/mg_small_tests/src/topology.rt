@@ -5,7 +5,7 @@ use mg_topology::mask::{self, Mask};
 use mg_topology::{Association, Overlap, SEATS, Topology, Triple};
 
 /// Returns a triple of two sets of seats.
-pub fn triple(first: Mask, second: Mask, association: Association) -> Triple {
+fn triple(first: Mask, second: Mask, association: Association) -> Triple {
     Triple {
         first,
         second,

@@ -342,59 +342,52 @@ fn has_text(rt: &HostRuntime, path: &str, wanted: &[u8]) -> io::Result<bool> {
     Ok(fs::read(rt, path)?.as_slice() == wanted)
 }
 
-#[test]
-fn keeps_a_journal_on_disk(rt: HostRuntime) -> Result<(), Fail> {
-    let path = temporary(&rt, "mg_journal_keeps_a_journal.txt")?;
-    assert!(rt;
-        extend(
-            &rt,
-            path.as_str(),
-            Durability::Synced,
-            &[b"one\n", b"tick\n"]
-        )?
-    );
-    assert!(rt;
-        extend(
-            &rt,
-            path.as_str(),
-            Durability::Written,
-            &[b"two\n", b"tick\n"]
-        )?
-    );
-    assert!(rt; has_text(&rt, path.as_str(), b"one\ntick\ntwo\ntick\n")?);
-    fs::remove_file(&rt, path.as_str())?;
-    Ok(())
+/// Appends lines to the journal at a path, which is opened twice. Returns whether the file has them.
+fn keeps_lines(rt: &HostRuntime, path: &str) -> io::Result<bool> {
+    Ok(
+        extend(rt, path, Durability::Synced, &[b"one\n", b"tick\n"])?
+            && extend(rt, path, Durability::Written, &[b"two\n", b"tick\n"])?
+            && has_text(rt, path, b"one\ntick\ntwo\ntick\n")?,
+    )
+}
+
+/// Reads the journal at a path, but doesn't accept it. Returns whether these lines are read.
+fn has_lines(rt: &HostRuntime, path: &str, wanted: &[u8]) -> io::Result<bool> {
+    let mut opening = open_journal(rt, path)?;
+    let mut read = Vec::new(rt.alloc());
+    opening.read_to_end(&mut read)?;
+    Ok(read.as_slice() == wanted)
 }
 
 /// A file whose content isn't accepted keeps its partial last line.
-#[test]
-fn cuts_a_file_only_once_it_is_accepted(rt: HostRuntime) -> Result<(), Fail> {
-    let path = temporary(&rt, "mg_journal_cuts_a_file.txt")?;
-    fs::write(&rt, path.as_str(), "one\ntw")?;
-    let mut opening = open_journal(&rt, path.as_str())?;
-    let mut read = Vec::new(rt.alloc());
-    opening.read_to_end(&mut read)?;
-    drop(opening);
-    assert_equal(&rt, read.as_slice(), b"one\n".as_slice());
-    assert!(rt; has_text(&rt, path.as_str(), b"one\ntw")?);
-    assert!(rt; extend(&rt, path.as_str(), Durability::Synced, &[b"three\n"])?);
-    assert!(rt; has_text(&rt, path.as_str(), b"one\nthree\n")?);
-    fs::remove_file(&rt, path.as_str())?;
-    Ok(())
+fn is_cut_once_accepted(rt: &HostRuntime, path: &str) -> io::Result<bool> {
+    fs::write(rt, path, "one\ntw")?;
+    Ok(
+        has_lines(rt, path, b"one\n")?
+            && has_text(rt, path, b"one\ntw")?
+            && extend(rt, path, Durability::Synced, &[b"three\n"])?
+            && has_text(rt, path, b"one\nthree\n")?,
+    )
 }
 
-/// Another program empties the file after it is opened and before it is read.
-#[test]
-fn never_extends_a_file(rt: HostRuntime) -> Result<(), Fail> {
-    let path = temporary(&rt, "mg_journal_never_extends.txt")?;
-    fs::write(&rt, path.as_str(), "one\ntw")?;
-    let mut opening = open_journal(&rt, path.as_str())?;
-    fs::write(&rt, path.as_str(), "")?;
+/// Another program empties the file after it is opened and before it is read. Neither a read nor the acceptance
+/// extends it.
+fn is_never_extended(rt: &HostRuntime, path: &str) -> io::Result<bool> {
+    fs::write(rt, path, "one\ntw")?;
+    let mut opening = open_journal(rt, path)?;
+    fs::write(rt, path, "")?;
     let mut buffer = [0; 8];
-    let kinds = (kind(opening.read(&mut buffer)), kind(opening.accept()));
     let ended = Some(ErrorKind::UnexpectedEof);
-    assert_equal(&rt, kinds, (ended, ended));
-    assert_equal(&rt, fs::metadata(&rt, path.as_str())?.len(), 0);
+    let has_ended = kind(opening.read(&mut buffer)) == ended && kind(opening.accept()) == ended;
+    Ok(has_ended && fs::metadata(rt, path)?.len() == 0)
+}
+
+#[test]
+fn keeps_a_journal_on_disk(rt: HostRuntime) -> Result<(), Fail> {
+    let path = temporary(&rt, "mg_journal.txt")?;
+    assert!(rt; keeps_lines(&rt, path.as_str())?);
+    assert!(rt; is_cut_once_accepted(&rt, path.as_str())?);
+    assert!(rt; is_never_extended(&rt, path.as_str())?);
     fs::remove_file(&rt, path.as_str())?;
     Ok(())
 }

@@ -4,94 +4,167 @@ use crate::equality::assert_equal;
 use mg_topology::mask::{self, Mask};
 use mg_topology::{Association, Overlap, SEATS, Topology, Triple};
 
-/// Returns a triple of two sets of seats.
-fn triple(first: Mask, second: Mask, association: Association) -> Triple {
-    Triple {
-        first,
-        second,
-        association,
+/// Triples of the first seat with the second or with all, and of all with all.
+const ISOLATE: Triple = Triple {
+    first: 0b01,
+    second: 0b10,
+    association: Association::Isolate,
+};
+
+const ONEWAY: Triple = Triple {
+    first: 0b01,
+    second: 0b10,
+    association: Association::Oneway,
+};
+
+const ALL_TO_ONE: Triple = Triple {
+    first: mask::FULL,
+    second: 0b01,
+    association: Association::Oneway,
+};
+
+const ISOLATE_FROM_ALL: Triple = Triple {
+    first: 0b01,
+    second: mask::FULL,
+    association: Association::Isolate,
+};
+
+const ALL_TO_ALL: Triple = Triple {
+    first: mask::FULL,
+    second: mask::FULL,
+    association: Association::Bothway,
+};
+
+/// A call on a topology, with its outcome, or what is found after the calls before.
+#[derive(Clone, Copy)]
+enum Action<'a> {
+    /// A seat is entered that is free.
+    Enter(usize),
+    /// A seat is left that is held.
+    Leave(usize),
+    Apply(&'a [Triple], Result<(), Overlap>),
+    /// The seats that hold a member.
+    Held(Mask),
+    Holds(usize, bool),
+    /// The seats that are heard at a seat.
+    Talkers(usize, Mask),
+    /// Whether a listener hears a talker.
+    Hears(usize, usize, bool),
+}
+
+/// Calls on new topologies.
+const CASES: [(&str, &[Action<'static>]); 4] = [
+    (
+        "the last of two triples wins",
+        &[
+            Action::Enter(0),
+            Action::Enter(1),
+            Action::Apply(&[ISOLATE, ONEWAY], Ok(())),
+            Action::Hears(1, 0, true),
+            Action::Hears(0, 1, false),
+            Action::Apply(&[ONEWAY, ISOLATE], Ok(())),
+            Action::Hears(1, 0, false),
+            Action::Hears(0, 1, false),
+            // A seat in both sets is allowed.
+            Action::Apply(&[ALL_TO_ALL], Ok(())),
+            Action::Hears(1, 0, true),
+            Action::Hears(0, 1, true),
+            Action::Hears(0, 0, false),
+        ],
+    ),
+    (
+        "if sets overlap, no triple is applied",
+        &[
+            Action::Enter(0),
+            Action::Enter(1),
+            Action::Apply(&[ISOLATE, ALL_TO_ONE], Err(Overlap)),
+            Action::Talkers(0, 0b10),
+            Action::Talkers(1, 0b01),
+        ],
+    ),
+    (
+        "a newcomer on a used seat hears all",
+        &[
+            Action::Enter(0),
+            Action::Enter(1),
+            Action::Enter(2),
+            Action::Apply(&[ISOLATE_FROM_ALL], Ok(())),
+            Action::Talkers(0, mask::EMPTY),
+            Action::Talkers(1, 0b100),
+            Action::Talkers(2, 0b010),
+            Action::Holds(0, true),
+            Action::Leave(0),
+            Action::Held(0b110),
+            Action::Holds(0, false),
+            Action::Talkers(0, mask::EMPTY),
+            Action::Talkers(1, 0b100),
+            Action::Enter(0),
+            Action::Talkers(0, 0b110),
+            Action::Talkers(1, 0b101),
+            Action::Talkers(2, 0b011),
+        ],
+    ),
+    (
+        "seats end with the bits of a mask",
+        &[
+            Action::Enter(SEATS - 1),
+            Action::Holds(SEATS - 1, true),
+            Action::Holds(SEATS, false),
+            Action::Hears(SEATS - 1, SEATS, false),
+            Action::Hears(SEATS, SEATS - 1, false),
+            Action::Talkers(SEATS, mask::EMPTY),
+        ],
+    ),
+];
+
+/// Enters a seat. Returns whether it was free.
+fn enter(topology: &mut Topology, seat: usize) -> bool {
+    if seat >= SEATS || topology.holds(seat) {
+        return false;
+    }
+    topology.enter(seat);
+    true
+}
+
+/// Leaves a seat. Returns whether it was held.
+fn leave(topology: &mut Topology, seat: usize) -> bool {
+    if !topology.holds(seat) {
+        return false;
+    }
+    topology.leave(seat);
+    true
+}
+
+/// Carries out an action. Returns whether it has the given outcome.
+fn does(topology: &mut Topology, action: &Action<'_>) -> bool {
+    match *action {
+        Action::Enter(seat) => enter(topology, seat),
+        Action::Leave(seat) => leave(topology, seat),
+        Action::Apply(triples, outcome) => topology.apply(triples) == outcome,
+        Action::Held(mask) => topology.held() == mask,
+        Action::Holds(seat, is_held) => topology.holds(seat) == is_held,
+        Action::Talkers(seat, mask) => topology.talkers(seat) == mask,
+        Action::Hears(listener, talker, is_heard) => topology.hears(listener, talker) == is_heard,
     }
 }
 
-#[test]
-fn last_of_two_triples_wins(rt: HostRuntime) {
+/// Returns the number of the first action that has another outcome, or `None` if there is no such action.
+fn first_wrong(actions: &[Action<'_>]) -> Option<usize> {
     let mut topology = Topology::new();
-    topology.enter(0);
-    topology.enter(1);
-    let isolate = triple(0b01, 0b10, Association::Isolate);
-    let oneway = triple(0b01, 0b10, Association::Oneway);
-
-    assert_equal(&rt, topology.apply(&[isolate, oneway]), Ok(()));
-    assert!(rt; topology.hears(1, 0));
-    assert!(rt; !topology.hears(0, 1));
-
-    assert_equal(&rt, topology.apply(&[oneway, isolate]), Ok(()));
-    assert!(rt; !topology.hears(1, 0));
-    assert!(rt; !topology.hears(0, 1));
-
-    // All against all; a seat in both sets is allowed.
-    assert_equal(
-        &rt,
-        topology.apply(&[triple(mask::FULL, mask::FULL, Association::Bothway)]),
-        Ok(()),
-    );
-    assert!(rt; topology.hears(1, 0));
-    assert!(rt; topology.hears(0, 1));
-    assert!(rt; !topology.hears(0, 0));
+    for at in 0..actions.len() {
+        if !does(&mut topology, &actions[at]) {
+            return Some(at);
+        }
+    }
+    None
 }
 
 #[test]
-fn overlap_applies_nothing(rt: HostRuntime) {
-    let mut topology = Topology::new();
-    topology.enter(0);
-    topology.enter(1);
-    let isolate = triple(0b01, 0b10, Association::Isolate);
-    let all_to_one = triple(mask::FULL, 0b01, Association::Oneway);
-
-    assert_equal(&rt, topology.apply(&[isolate, all_to_one]), Err(Overlap));
-    assert_equal(&rt, topology.talkers(0), 0b10);
-    assert_equal(&rt, topology.talkers(1), 0b01);
-}
-
-#[test]
-fn newcomer_on_a_used_seat_hears_all(rt: HostRuntime) {
-    let mut topology = Topology::new();
-    topology.enter(0);
-    topology.enter(1);
-    topology.enter(2);
-
-    // One against all.
-    assert_equal(
-        &rt,
-        topology.apply(&[triple(0b001, mask::FULL, Association::Isolate)]),
-        Ok(()),
-    );
-    assert_equal(&rt, topology.talkers(0), mask::EMPTY);
-    assert_equal(&rt, topology.talkers(1), 0b100);
-    assert_equal(&rt, topology.talkers(2), 0b010);
-
-    assert!(rt; topology.holds(0));
-    topology.leave(0);
-    assert_equal(&rt, topology.held(), 0b110);
-    assert!(rt; !topology.holds(0));
-    assert_equal(&rt, topology.talkers(0), mask::EMPTY);
-    assert_equal(&rt, topology.talkers(1), 0b100);
-
-    topology.enter(0);
-    assert_equal(&rt, topology.talkers(0), 0b110);
-    assert_equal(&rt, topology.talkers(1), 0b101);
-    assert_equal(&rt, topology.talkers(2), 0b011);
-}
-
-#[test]
-fn seats_end_with_the_bits_of_a_mask(rt: HostRuntime) {
-    let mut topology = Topology::default();
-    topology.enter(SEATS - 1);
-    assert!(rt; topology.holds(SEATS - 1));
-    assert!(rt; !topology.holds(SEATS));
-    assert!(rt; !topology.hears(SEATS - 1, SEATS));
-    assert!(rt; !topology.hears(SEATS, SEATS - 1));
-    assert_equal(&rt, topology.talkers(SEATS), mask::EMPTY);
+fn keeps_triples(rt: HostRuntime) {
+    for (name, actions) in &CASES {
+        assert_equal(&rt, (*name, first_wrong(actions)), (*name, None));
+    }
+    assert!(rt; !Topology::default().holds(0));
 }
 
 #[test]

@@ -5,6 +5,10 @@
 #![tactic(auto)]
 
 #[cfg(test)]
+mod cases;
+#[cfg(test)]
+mod clocks;
+#[cfg(test)]
 mod equality;
 #[cfg(test)]
 mod journaled;
@@ -16,3 +20,7 @@ mod metrics;
 mod recorded;
 #[cfg(test)]
 mod serve;
+#[cfg(test)]
+mod sessions;
+#[cfg(test)]
+mod watchers;

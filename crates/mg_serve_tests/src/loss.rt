@@ -4,6 +4,97 @@ use crate::equality::assert_equal;
 use mg_monitor::Loss;
 use mg_rtp::Header;
 
+/// Packets of stream 7, in the order of their arrival, or what was counted so far.
+#[derive(Clone, Copy)]
+enum Step {
+    /// A packet with this sequence number.
+    One(u16),
+    /// As many packets in ascending order as the second number says, from the first number on.
+    Up(u16, u16),
+    /// As many packets in descending order as the second number says, from the first number on.
+    Down(u16, u16),
+    /// A packet of stream 8 with this sequence number.
+    Other(u16),
+    /// This many packets are lost so far.
+    Lost(u64),
+}
+
+use Step::{Down, Lost, One, Other, Up};
+
+const CASES: [(&str, &[Step]); 7] = [
+    ("a whole stream", &[Up(65500, 300), Lost(0)]),
+    (
+        "a packet is lost when the window has passed it",
+        &[
+            Up(65530, 3),
+            Up(65534, 63),
+            Lost(0),
+            One(61),
+            Lost(1),
+            Up(62, 200),
+            Lost(1),
+        ],
+    ),
+    (
+        "reordered packets are not lost",
+        &[
+            One(3),
+            One(2),
+            One(4),
+            Down(7, 3),
+            One(8),
+            One(72),
+            One(9),
+            Down(71, 62),
+            Up(73, 100),
+            Lost(0),
+        ],
+    ),
+    (
+        "a late packet is lost once",
+        &[
+            One(1),
+            Up(3, 64),
+            Lost(1),
+            One(2),
+            Up(60, 7),
+            Up(67, 64),
+            Lost(1),
+        ],
+    ),
+    (
+        "a long gap is lost",
+        &[
+            One(100),
+            One(601),
+            Lost(437),
+            Up(602, 63),
+            Lost(500),
+            One(664 + 2999),
+            Lost(500 + 2998 - 63),
+        ],
+    ),
+    (
+        "a new stream ends the previous one",
+        &[
+            One(1),
+            One(3),
+            One(6),
+            Lost(0),
+            Other(40000),
+            Lost(3),
+            Other(43000),
+            Other(42899),
+            Other(42900),
+            Lost(3),
+        ],
+    ),
+    (
+        "a packet from before the first is ignored",
+        &[One(100), One(99), One(36), One(0), Up(101, 200), Lost(0)],
+    ),
+];
+
 /// Returns the header of a packet.
 fn header(ssrc: u32, sequence: u16) -> Header {
     Header {
@@ -15,92 +106,34 @@ fn header(ssrc: u32, sequence: u16) -> Header {
     }
 }
 
-/// Counts `count` packets of stream 7, from this sequence number on.
-fn count_all(loss: &mut Loss, first: u16, count: u16) {
+/// Counts the packets of a step. Returns what it wants to be counted so far, and what was counted.
+fn take(loss: &mut Loss, step: Step) -> Option<(u64, u64)> {
+    let (first, count, change) = match step {
+        One(sequence) => (sequence, 1, 0),
+        Up(first, count) => (first, count, 1),
+        Down(first, count) => (first, count, u16::MAX),
+        Other(sequence) => {
+            loss.count(header(8, sequence));
+            return None;
+        }
+        Lost(wanted) => return Some((wanted, loss.lost())),
+    };
     for i in 0..count {
-        loss.count(header(7, first.wrapping_add(i)));
+        loss.count(header(7, first.wrapping_add(change.wrapping_mul(i))));
     }
+    None
 }
 
 #[test]
-fn loses_nothing_of_a_whole_stream(rt: HostRuntime) {
-    let mut loss = Loss::new();
-    count_all(&mut loss, 65500, 300);
-    assert_equal(&rt, loss.lost(), 0);
-}
-
-#[test]
-fn loses_a_packet_when_the_window_has_passed_it(rt: HostRuntime) {
-    let mut loss = Loss::new();
-    count_all(&mut loss, 65530, 3);
-    count_all(&mut loss, 65534, 63);
-    assert_equal(&rt, loss.lost(), 0);
-    loss.count(header(7, 61));
-    assert_equal(&rt, loss.lost(), 1);
-    count_all(&mut loss, 62, 200);
-    assert_equal(&rt, loss.lost(), 1);
-}
-
-#[test]
-fn reordered_packets_are_not_lost(rt: HostRuntime) {
-    let mut loss = Loss::new();
-    for sequence in [3, 2, 4, 7, 6, 5, 8, 72, 9] {
-        loss.count(header(7, sequence));
+fn counts_lost_packets(rt: HostRuntime) {
+    for (name, steps) in CASES {
+        let mut loss = Loss::new();
+        for step in steps {
+            if let Some((wanted, found)) = take(&mut loss, *step) {
+                assert_equal(&rt, (name, found), (name, wanted));
+            }
+        }
     }
-    for sequence in (10..72).rev() {
-        loss.count(header(7, sequence));
-    }
-    count_all(&mut loss, 73, 100);
-    assert_equal(&rt, loss.lost(), 0);
-}
-
-#[test]
-fn a_late_packet_is_lost_once(rt: HostRuntime) {
-    let mut loss = Loss::new();
-    loss.count(header(7, 1));
-    count_all(&mut loss, 3, 64);
-    assert_equal(&rt, loss.lost(), 1);
-    loss.count(header(7, 2));
-    count_all(&mut loss, 60, 7);
-    count_all(&mut loss, 67, 64);
-    assert_equal(&rt, loss.lost(), 1);
-}
-
-#[test]
-fn a_long_gap_is_lost(rt: HostRuntime) {
-    let mut loss = Loss::new();
-    loss.count(header(7, 100));
-    loss.count(header(7, 601));
-    assert_equal(&rt, loss.lost(), 437);
-    count_all(&mut loss, 602, 63);
-    assert_equal(&rt, loss.lost(), 500);
-    loss.count(header(7, 664 + 2999));
-    assert_equal(&rt, loss.lost(), 500 + 2998 - 63);
-}
-
-#[test]
-fn a_new_stream_ends_the_previous_one(rt: HostRuntime) {
-    let mut loss = Loss::new();
-    for sequence in [1, 3, 6] {
-        loss.count(header(7, sequence));
-    }
-    assert_equal(&rt, loss.lost(), 0);
-    loss.count(header(8, 40000));
-    assert_equal(&rt, loss.lost(), 3);
-    for sequence in [43000, 42899, 42900] {
-        loss.count(header(8, sequence));
-    }
-    assert_equal(&rt, loss.lost(), 3);
-}
-
-#[test]
-fn a_packet_from_before_the_first_is_ignored(rt: HostRuntime) {
-    let mut loss = Loss::new();
-    for sequence in [100, 99, 36, 0] {
-        loss.count(header(7, sequence));
-    }
-    count_all(&mut loss, 101, 200);
-    assert_equal(&rt, loss.lost(), 0);
 }
 
 #[test]

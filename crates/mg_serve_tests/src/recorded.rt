@@ -1,66 +1,15 @@
-//! Recorded sessions over in-memory ports, and replays of their recordings.
+//! Recorded sessions over in-memory ports, and a replay of a recording.
 
+use crate::cases::{CASE, Case, play_all};
 use crate::equality::assert_equal;
-use crate::serve::{HEARTBEAT, call_log, config, ports, serve_on};
+use crate::sessions::{CALLER, HEARTBEAT, SESSION, Session, config};
 use mg_core::{Shown, run};
-use mg_fakes::FailingWriter;
-use mg_monitor::Reports;
-use mg_ports::FakePorts;
-use mg_serve::{Counts, RunFault, Setup};
-use std::alloc::{AllocError, Global};
-use std::io::Write;
+use mg_ports::Peer;
+use mg_serve::RunFault;
 use std::test::Fail;
 
-/// A datagram that no play list accepts.
-const STRAY: &[u8] = b"\x80x";
-
-/// How a recorded session ended, and its calls.
-#[derive(Drop)]
-struct Outcome {
-    result: Result<u64, RunFault>,
-    call_log: String,
-}
-
-/// Records a session of a new gateway on these ports.
-fn serve_titled<W: Write>(
-    alloc: Global,
-    title: &[u8],
-    ports: &mut FakePorts,
-    lines: &[u8],
-    writer: &mut W,
-) -> Result<Counts, RunFault> {
-    let mut reports = Vec::new(alloc);
-    let Ok(mut monitor) = Reports::new(alloc, 0, &mut reports) else {
-        return Err(RunFault::NoMemory);
-    };
-    let mut input = lines;
-    serve_on(
-        alloc,
-        &Setup::new(config(), &[], false, None),
-        Some(title),
-        ports,
-        &mut input,
-        writer,
-        &mut monitor,
-    )
-}
-
-/// Records a session of a new gateway, for which a control datagram and an RTP datagram are waiting.
-fn record<W: Write>(
-    alloc: Global,
-    title: &[u8],
-    lines: &[u8],
-    writer: &mut W,
-) -> Result<Outcome, AllocError> {
-    let mut ports = ports(alloc, &[(0, HEARTBEAT), (2, STRAY)], &[])?;
-    let result = serve_titled(alloc, title, &mut ports, lines, writer);
-    let call_log = call_log(alloc, &ports)?;
-    let result = match result {
-        Ok(counts) => Ok(counts.sent),
-        Err(fault) => Err(fault),
-    };
-    Ok(Outcome { result, call_log })
-}
+/// A message, and a datagram that no play list accepts.
+const WAITING: &[(usize, Peer, &[u8])] = &[(0, CALLER, HEARTBEAT), (2, CALLER, b"\x80x")];
 
 /// The text of a recording of the heartbeat, the stray datagram and a tick.
 const RECORDING: &[u8] = b"# a title\n# ready\n\
@@ -69,19 +18,52 @@ const RECORDING: &[u8] = b"# a title\n# ready\n\
     rtp 30002 127.0.0.1:40000 8078\ntick\n# unknown command\n\
     # control=1 media=1 ticks=1 sent=1 failed=0 dropped=1,0,0,0,0,0 concealed=0\n";
 
+const CASES: &[Case<'static>] = &[
+    Case {
+        name: "a recording contains what happens",
+        session: Session {
+            title: Some(b"a ti\ntle"),
+            waiting: WAITING,
+            lines: &[(1, b"poll\ntick\npol\nstats\nquit\n")],
+            ..SESSION
+        },
+        ended: Ok([5, 1, 1, 1, 1]),
+        call_log: b"c0a0n0n1c2n2",
+        printed: RECORDING,
+        ..CASE
+    },
+    Case {
+        name: "a line whose print fails is finished",
+        session: Session {
+            title: Some(b""),
+            waiting: WAITING,
+            lines: &[(1, b"poll\ntick\n")],
+            writes: 2,
+            ..SESSION
+        },
+        ended: Err(RunFault::Write),
+        call_log: b"c0a0n0n1c2n2",
+        printed: b"..",
+        ..CASE
+    },
+    Case {
+        name: "nothing happens where the first print fails",
+        session: Session {
+            title: Some(b""),
+            waiting: WAITING,
+            lines: &[(1, b"poll\n")],
+            writes: 1,
+            ..SESSION
+        },
+        ended: Err(RunFault::Write),
+        printed: b"..",
+        ..CASE
+    },
+];
+
 #[test]
-fn records_what_happens(rt: HostRuntime) -> Result<(), Fail> {
-    let alloc = rt.alloc();
-    let mut printed = Vec::new(alloc);
-    let outcome = record(
-        alloc,
-        b"a ti\ntle",
-        b"poll\ntick\npol\nstats\nquit\n",
-        &mut printed,
-    )?;
-    assert_equal(&rt, outcome.result, Ok(1));
-    assert_equal(&rt, outcome.call_log.as_str(), "c0a0n0n1c2n2");
-    assert_equal(&rt, printed.as_slice(), RECORDING);
+fn records_sessions(rt: HostRuntime) -> Result<(), Fail> {
+    play_all(&rt, rt.alloc(), CASES)?;
     Ok(())
 }
 
@@ -97,19 +79,5 @@ fn runs_what_was_recorded(rt: HostRuntime) -> Result<(), Fail> {
     let wanted: &[u8] = b"say 127.0.0.1:40000 MEGACO/1 [127.0.0.1]:2944\\n\
         Reply=2{Context=-{AuditValue=ROOT}}\n";
     assert_equal(&rt, written.as_slice(), wanted);
-    Ok(())
-}
-
-#[test]
-fn finishes_a_line_whose_print_fails(rt: HostRuntime) -> Result<(), Fail> {
-    let alloc = rt.alloc();
-    let mut writer = FailingWriter::new(alloc, 1000, 2);
-    let outcome = record(alloc, b"", b"poll\ntick\n", &mut writer)?;
-    assert_equal(&rt, outcome.result, Err(RunFault::Write));
-    assert_equal(&rt, outcome.call_log.as_str(), "c0a0n0n1c2n2");
-    let mut writer = FailingWriter::new(alloc, 1000, 1);
-    let outcome = record(alloc, b"", b"poll\n", &mut writer)?;
-    assert_equal(&rt, outcome.result, Err(RunFault::Write));
-    assert_equal(&rt, outcome.call_log.as_str(), "");
     Ok(())
 }

@@ -1,0 +1,90 @@
+//! Sessions with what they must leave behind.
+
+use crate::equality::assert_equal;
+use crate::sessions::{Outcome, SESSION, Session, play};
+use mg_serve::RunFault;
+use std::alloc::Global;
+use std::io;
+use std::process::Abort;
+
+/// A session, and what it must leave behind. A text that ends with `..` is only the beginning of what is wanted, and one
+/// that begins with `..` is only its end.
+#[derive(Drop)]
+pub struct Case<'a> {
+    pub name: &'a str,
+    pub session: Session<'a>,
+    /// How many lines, control datagrams, RTP datagrams, ticks and sent datagrams are counted, or the fault.
+    pub ended: Result<[u64; 5], RunFault>,
+    pub call_log: &'a [u8],
+    pub printed: &'a [u8],
+    pub reports: &'a [u8],
+    /// The start of the datagram that the last call sent.
+    pub last_head: &'a [u8],
+}
+
+/// A session without lines.
+pub const CASE: Case<'static> = Case {
+    name: "",
+    session: SESSION,
+    ended: Ok([0; 5]),
+    call_log: b"",
+    printed: b"ready\n",
+    reports: b"",
+    last_head: b"..",
+};
+
+/// Returns `wanted` if the text is as wanted, and the text otherwise. A text that ends with `..` is only the beginning of
+/// what is wanted, and one that begins with `..` is only its end.
+pub fn compared<'a>(text: &'a [u8], wanted: &'a [u8]) -> &'a [u8] {
+    let dots = b"..".as_slice();
+    let is_as_wanted = if let Some(start) = wanted.strip_suffix(dots) {
+        text.starts_with(start)
+    } else if let Some(end) = wanted.strip_prefix(dots) {
+        text.ends_with(end)
+    } else {
+        text == wanted
+    };
+    if is_as_wanted { wanted } else { text }
+}
+
+/// Returns how a session ended.
+fn ended(outcome: &Outcome) -> Result<[u64; 5], RunFault> {
+    match &outcome.result {
+        Ok(counts) => Ok([
+            counts.lines,
+            counts.control,
+            counts.media,
+            counts.ticks,
+            counts.sent,
+        ]),
+        Err(fault) => Err(*fault),
+    }
+}
+
+/// Ends the test unless the session left behind what it must.
+fn compare(rt: &impl Abort, case: &Case<'_>, outcome: &Outcome) {
+    let texts = [
+        compared(outcome.call_log.as_bytes(), case.call_log),
+        compared(outcome.printed.as_slice(), case.printed),
+        compared(outcome.seen.reports.as_slice(), case.reports),
+        compared(outcome.last_head.as_slice(), case.last_head),
+    ];
+    assert_equal(
+        rt,
+        (case.name, ended(outcome), texts),
+        (
+            case.name,
+            case.ended,
+            [case.call_log, case.printed, case.reports, case.last_head],
+        ),
+    );
+}
+
+/// Plays each session. Ends the test unless each one left behind what it must.
+pub fn play_all(rt: &impl Abort, alloc: Global, cases: &[Case<'_>]) -> io::Result<()> {
+    for case in cases {
+        let outcome = play(alloc, &case.session)?;
+        compare(rt, case, &outcome);
+    }
+    Ok(())
+}

@@ -48,12 +48,8 @@ fn changed(mode: Option<Mode>, depth: Option<u16>) -> Settings {
 
 const MU: &[u8] = b"v=0\nc=IN IP4 $\nm=audio $ RTP/AVP 0\n";
 
-const REMOTES: [&[u8]; 4] = [
-    b"v=0\nc=IN IP4 127.0.0.1\nm=audio 40000 RTP/AVP 0\n",
-    b"v=0\nc=IN IP4 127.0.0.1\nm=audio 40002 RTP/AVP 0\n",
-    b"v=0\nc=IN IP4 127.0.0.1\nm=audio 40004 RTP/AVP 0\n",
-    b"v=0\nc=IN IP4 127.0.0.1\nm=audio 40006 RTP/AVP 0\n",
-];
+/// The callers' Remote. Its port is not the one that their packets come from, and only its address is compared.
+const REMOTE: &[u8] = b"v=0\nc=IN IP4 127.0.0.1\nm=audio 40002 RTP/AVP 0\n";
 
 /// Returns a packet of 160 equal bytes in mu-law, from one source, with this sequence number.
 fn numbered_packet(sequence: u16, byte: u8) -> [u8; 172] {
@@ -88,22 +84,79 @@ fn add(engine: &mut Engine, target: Target, settings: &Settings) -> Result<Targe
     }
 }
 
-/// Creates a conference of the first `callers` callers.
-fn add_callers(engine: &mut Engine, callers: usize) -> Result<(), Fail> {
+/// Adds one termination per mode to a new conference. They all have the same Remote.
+fn add_crowd(engine: &mut Engine, modes: &[Mode]) -> Result<(), Fail> {
     let mut target = Target::New;
-    for remote in REMOTES.iter().take(callers) {
-        let settings = caller(Mode::SendReceive, MU, remote)?;
+    for mode in modes {
+        let settings = caller(*mode, MU, REMOTE)?;
         target = add(engine, target, &settings)?;
     }
     Ok(())
 }
 
-/// Starts an engine with a conference of the first `callers` callers.
-fn conference(alloc: Global, callers: usize) -> Result<Engine, Fail> {
-    let mut engine = start(alloc, Config::default())?;
-    add_callers(&mut engine, callers)?;
+/// Starts an engine with one conference, which has one termination per mode. Sequence numbers and timestamps are about
+/// to wrap.
+fn crowd(alloc: Global, modes: &[Mode]) -> Result<Engine, Fail> {
+    let config = Config {
+        sequence: 65530,
+        timestamp: 4294966000,
+        ..Config::default()
+    };
+    let mut engine = start(alloc, config)?;
+    add_crowd(&mut engine, modes)?;
     Ok(engine)
 }
+
+/// What a test shows on an engine.
+#[derive(Clone, Copy)]
+enum Scene {
+    FollowModes,
+    LeaveTheTotal,
+    LendFramesAndTotals,
+    DropMalformedPackets,
+    DropDatagramsWithoutTermination,
+    IsolateByAnEdit,
+    LeadOneWay,
+    TickAtAPrice,
+    TickWithMany,
+    ShareAPayload,
+    /// Skips this many ticks, and runs as many on another engine.
+    SkipAndTick(u64),
+    SkipForYears,
+}
+
+fn show(
+    rt: &impl Abort,
+    alloc: Global,
+    scene: Scene,
+    engine: &mut Engine,
+    outbox: &mut Outbox,
+) -> Result<(), Fail> {
+    match scene {
+        Scene::FollowModes => follow_modes(rt, engine, outbox),
+        Scene::LeaveTheTotal => leave_the_total(rt, engine, outbox),
+        Scene::LendFramesAndTotals => lend_frames_and_totals(rt, engine, outbox),
+        Scene::DropMalformedPackets => drop_malformed_packets(rt, engine),
+        Scene::DropDatagramsWithoutTermination => drop_datagrams_without_termination(rt, engine),
+        Scene::IsolateByAnEdit => isolate_by_an_edit(rt, alloc, engine, outbox),
+        Scene::LeadOneWay => lead_one_way(rt, alloc, engine, outbox),
+        Scene::TickAtAPrice => tick_at_a_price(rt, engine, outbox),
+        Scene::TickWithMany => tick_with_many(rt, alloc, engine, outbox),
+        Scene::ShareAPayload => share_a_payload(rt, alloc, engine, outbox),
+        Scene::SkipAndTick(count) => skip_and_tick(rt, alloc, count, engine, outbox),
+        Scene::SkipForYears => skip_for_years(rt, engine, outbox),
+    }
+}
+
+/// Shows a scene on a new engine with one conference, which has one termination per mode. Only this function creates
+/// the engine that a test begins with: the prover takes several seconds for each function that does.
+fn play(rt: &impl Abort, alloc: Global, scene: Scene, modes: &[Mode]) -> Result<(), Fail> {
+    let mut engine = crowd(alloc, modes)?;
+    show(rt, alloc, scene, &mut engine, &mut Outbox::new())
+}
+
+/// The modes of a conference whose members hear each other.
+const SPEAKERS: [Mode; 4] = [Mode::SendReceive; 4];
 
 /// Changes a member of the first context.
 fn modify(engine: &mut Engine, number: u32, settings: &Settings) -> Result<(), Fail> {
@@ -118,11 +171,13 @@ fn set_mode(engine: &mut Engine, number: u32, mode: Mode) -> Result<(), Fail> {
     modify(engine, number, &changed(Some(mode), None))
 }
 
-/// Runs some ticks.
-fn tick(engine: &mut Engine, outbox: &mut Outbox, ticks: usize) {
-    for _ in 0..ticks {
-        engine.tick(outbox);
+/// Runs this many ticks. Returns how many frames were concealed.
+fn tick(engine: &mut Engine, outbox: &mut Outbox, count: u64) -> u64 {
+    let mut concealed: u64 = 0;
+    for _ in 0..count {
+        concealed = concealed.saturating_add(engine.tick(outbox) as u64);
     }
+    concealed
 }
 
 /// Returns the first byte of each payload in an outbox.
@@ -139,10 +194,13 @@ fn leave_the_total(rt: &impl Abort, engine: &mut Engine, outbox: &mut Outbox) ->
     speak(engine, outbox);
     assert_equal(rt, engine.total(1, 0), Some(32124));
     assert!(rt; engine.move_to(Target::New, 3, &changed(None, None)).is_ok());
-    assert_equal(rt, engine.total(1, 0), Some(64248));
-    assert_equal(rt, engine.total(2, 0), Some(-32124));
-    assert_equal(rt, engine.total(3, 0), None);
-    assert_equal(rt, engine.total(1, 160), None);
+    let totals = [
+        engine.total(1, 0),
+        engine.total(2, 0),
+        engine.total(3, 0),
+        engine.total(1, 160),
+    ];
+    assert_equal(rt, totals, [Some(64248), Some(-32124), None, None]);
     assert!(rt;
         !engine.flow(3, 4) && engine.flow(1, 4) && !engine.flow(1, 1) && !engine.flow(9, 1)
     );
@@ -151,28 +209,21 @@ fn leave_the_total(rt: &impl Abort, engine: &mut Engine, outbox: &mut Outbox) ->
 
 #[test]
 fn totals_follow_a_move(rt: HostRuntime) -> Result<(), Fail> {
-    let mut engine = conference(rt.alloc(), 4)?;
-    leave_the_total(&rt, &mut engine, &mut Outbox::new())
+    play(&rt, rt.alloc(), Scene::LeaveTheTotal, &SPEAKERS)
 }
 
-/// Sets a byte of a packet.
-fn set_byte(packet: &mut [u8], at: usize, byte: u8) {
-    if let Some(place) = packet.get_mut(at) {
-        *place = byte;
-    }
-}
-
-/// Returns the index of the first datagram that a port accepts, or drops for an unexpected cause. Returns `None` if
+/// Returns what happened to the first datagram that a port accepts, or drops for an unexpected cause. Returns `None` if
 /// there is no such datagram.
 fn first_wrong(
     engine: &mut Engine,
     port: u16,
     source: Peer,
     cases: &[(&[u8], DropCause)],
-) -> Option<usize> {
-    for (i, (bytes, cause)) in cases.iter().enumerate() {
-        if engine.media(port, source, bytes) != Taken::Dropped(*cause) {
-            return Some(i);
+) -> Option<Taken> {
+    for (bytes, cause) in cases {
+        let taken = engine.media(port, source, bytes);
+        if taken != Taken::Dropped(*cause) {
+            return Some(taken);
         }
     }
     None
@@ -182,13 +233,13 @@ fn first_wrong(
 fn drop_malformed_packets(rt: &impl Abort, engine: &mut Engine) -> Result<(), Fail> {
     let bytes = packet(0x80);
     let mut padded = bytes;
-    set_byte(&mut padded, 0, 0xa0);
-    set_byte(&mut padded, 171, 0);
+    padded[0] = 0xa0;
+    padded[171] = 0;
     let mut extended = bytes;
-    set_byte(&mut extended, 0, 0x90);
-    set_byte(&mut extended, 14, 0xff);
+    extended[0] = 0x90;
+    extended[14] = 0xff;
     let mut other_law = bytes;
-    set_byte(&mut other_law, 1, 8);
+    other_law[1] = 8;
     let cases: [(&[u8], DropCause); 5] = [
         (bytes.as_slice().split_at(171).0, DropCause::Length),
         (&padded, DropCause::Rtp(RtpFault::Padding)),
@@ -206,8 +257,7 @@ fn drop_malformed_packets(rt: &impl Abort, engine: &mut Engine) -> Result<(), Fa
 
 #[test]
 fn drops_malformed_packets(rt: HostRuntime) -> Result<(), Fail> {
-    let mut engine = conference(rt.alloc(), 1)?;
-    drop_malformed_packets(&rt, &mut engine)
+    play(&rt, rt.alloc(), Scene::DropMalformedPackets, &SPEAKERS[..1])
 }
 
 /// A datagram from another address, or at a port without a termination, is dropped.
@@ -230,8 +280,12 @@ fn drop_datagrams_without_termination(rt: &impl Abort, engine: &mut Engine) -> R
 
 #[test]
 fn drops_datagrams_without_termination(rt: HostRuntime) -> Result<(), Fail> {
-    let mut engine = conference(rt.alloc(), 1)?;
-    drop_datagrams_without_termination(&rt, &mut engine)
+    play(
+        &rt,
+        rt.alloc(),
+        Scene::DropDatagramsWithoutTermination,
+        &SPEAKERS[..1],
+    )
 }
 
 /// Returns a triple of two terms.
@@ -258,11 +312,14 @@ fn apply(engine: &mut Engine, list: &[TopologyTriple]) -> Result<u32, ErrorNumbe
 }
 
 /// Returns the first bytes of the payloads in the third tick after the first caller spoke.
-fn third_payloads(alloc: Global, engine: &mut Engine) -> Result<Vec<u8>, Fail> {
-    let mut outbox = Outbox::new();
+fn third_payloads(
+    alloc: Global,
+    engine: &mut Engine,
+    outbox: &mut Outbox,
+) -> Result<Vec<u8>, Fail> {
     engine.media(30000, CALLER, &packet(0x80));
-    tick(engine, &mut outbox, 3);
-    payloads(alloc, &outbox)
+    tick(engine, outbox, 3);
+    payloads(alloc, outbox)
 }
 
 const FIRST: TripleTerm = TripleTerm::Number(1);
@@ -270,14 +327,19 @@ const FIRST: TripleTerm = TripleTerm::Number(1);
 const THIRD: TripleTerm = TripleTerm::Number(3);
 
 /// An Isolate separates two of three callers.
-fn isolate_by_an_edit(rt: &impl Abort, alloc: Global, engine: &mut Engine) -> Result<(), Fail> {
+fn isolate_by_an_edit(
+    rt: &impl Abort,
+    alloc: Global,
+    engine: &mut Engine,
+    outbox: &mut Outbox,
+) -> Result<(), Fail> {
     let isolate = Edit::Triples {
         target: Target::Number(1),
         triples: triples(&[triple(FIRST, THIRD, Association::Isolate)]),
     };
     assert_equal(rt, engine.edit(&isolate), Ok(Done::Topology(1)));
     let want: &[u8] = &[0xff, 0x80, 0xff];
-    assert_equal(rt, third_payloads(alloc, engine)?.as_slice(), want);
+    assert_equal(rt, third_payloads(alloc, engine, outbox)?.as_slice(), want);
     assert_equal(rt, engine.total(1, 0), Some(32124));
     assert!(rt; !engine.flow(1, 3) && !engine.flow(3, 1) && engine.flow(1, 2));
     Ok(())
@@ -285,16 +347,20 @@ fn isolate_by_an_edit(rt: &impl Abort, alloc: Global, engine: &mut Engine) -> Re
 
 #[test]
 fn isolates_by_an_edit(rt: HostRuntime) -> Result<(), Fail> {
-    let mut engine = conference(rt.alloc(), 3)?;
-    isolate_by_an_edit(&rt, rt.alloc(), &mut engine)
+    play(&rt, rt.alloc(), Scene::IsolateByAnEdit, &SPEAKERS[..3])
 }
 
 /// A Oneway lets the third caller hear the first.
-fn lead_one_way(rt: &impl Abort, alloc: Global, engine: &mut Engine) -> Result<(), Fail> {
+fn lead_one_way(
+    rt: &impl Abort,
+    alloc: Global,
+    engine: &mut Engine,
+    outbox: &mut Outbox,
+) -> Result<(), Fail> {
     let oneway = triple(FIRST, THIRD, Association::Oneway);
     assert_equal(rt, apply(engine, &[oneway]), Ok(1));
     let want: &[u8] = &[0xff, 0x80, 0x80];
-    assert_equal(rt, third_payloads(alloc, engine)?.as_slice(), want);
+    assert_equal(rt, third_payloads(alloc, engine, outbox)?.as_slice(), want);
     assert!(rt; engine.flow(1, 3) && !engine.flow(3, 1));
     assert!(rt; engine.hears(3, 1) && !engine.hears(1, 3) && !engine.hears(1, 1));
     Ok(())
@@ -302,25 +368,7 @@ fn lead_one_way(rt: &impl Abort, alloc: Global, engine: &mut Engine) -> Result<(
 
 #[test]
 fn leads_one_way(rt: HostRuntime) -> Result<(), Fail> {
-    let mut engine = conference(rt.alloc(), 3)?;
-    lead_one_way(&rt, rt.alloc(), &mut engine)
-}
-
-/// Adds one termination per mode to a new conference. They all have the same Remote.
-fn add_crowd(engine: &mut Engine, modes: &[Mode]) -> Result<(), Fail> {
-    let mut target = Target::New;
-    for mode in modes {
-        let settings = caller(*mode, MU, REMOTES[0])?;
-        target = add(engine, target, &settings)?;
-    }
-    Ok(())
-}
-
-/// Starts an engine with one conference, which has one termination per mode.
-fn crowd(alloc: Global, modes: &[Mode]) -> Result<Engine, Fail> {
-    let mut engine = start(alloc, Config::default())?;
-    add_crowd(&mut engine, modes)?;
-    Ok(engine)
+    play(&rt, rt.alloc(), Scene::LeadOneWay, &SPEAKERS[..3])
 }
 
 /// Returns how many rows a call cost.
@@ -359,8 +407,7 @@ fn follow_modes(rt: &impl Abort, engine: &mut Engine, outbox: &mut Outbox) -> Re
 
 #[test]
 fn totals_follow_modes(rt: HostRuntime) -> Result<(), Fail> {
-    let mut engine = conference(rt.alloc(), 4)?;
-    follow_modes(&rt, &mut engine, &mut Outbox::new())
+    play(&rt, rt.alloc(), Scene::FollowModes, &SPEAKERS)
 }
 
 /// The stored frames and totals can be read.
@@ -379,8 +426,7 @@ fn lend_frames_and_totals(
 
 #[test]
 fn lends_the_frames_and_totals(rt: HostRuntime) -> Result<(), Fail> {
-    let mut engine = conference(rt.alloc(), 4)?;
-    lend_frames_and_totals(&rt, &mut engine, &mut Outbox::new())
+    play(&rt, rt.alloc(), Scene::LendFramesAndTotals, &SPEAKERS)
 }
 
 /// Ticks, packets and edits cost no more rows than their bounds allow.
@@ -400,8 +446,7 @@ fn tick_at_a_price(rt: &impl Abort, engine: &mut Engine, outbox: &mut Outbox) ->
 
 #[test]
 fn ticks_at_the_price_of_a_few_rows(rt: HostRuntime) -> Result<(), Fail> {
-    let mut engine = conference(rt.alloc(), 4)?;
-    tick_at_a_price(&rt, &mut engine, &mut Outbox::new())
+    play(&rt, rt.alloc(), Scene::TickAtAPrice, &SPEAKERS)
 }
 
 /// Sends a packet of the loudest speech to each port of a full context.
@@ -424,16 +469,15 @@ fn tick_with_many(
     tick(engine, outbox, 2);
     assert!(rt; tick_rows(engine, outbox) <= 3 * MEMBERS as u32);
     assert_equal(rt, engine.total(1, 0), Some(32124 * MEMBERS as i32));
-    let payloads = payloads(alloc, outbox)?;
-    assert_equal(rt, payloads.len(), MEMBERS);
-    assert!(rt; payloads.iter().all(|byte| *byte == 0x80));
+    let want: &[u8] = &[0x80; MEMBERS];
+    assert_equal(rt, payloads(alloc, outbox)?.as_slice(), want);
     Ok(())
 }
 
 #[test]
 fn ticks_of_many_talkers_cost_three_rows_each(rt: HostRuntime) -> Result<(), Fail> {
-    let mut engine = crowd(rt.alloc(), &[Mode::SendReceive; MEMBERS])?;
-    tick_with_many(&rt, rt.alloc(), &mut engine, &mut Outbox::new())
+    let modes = [Mode::SendReceive; MEMBERS];
+    play(&rt, rt.alloc(), Scene::TickWithMany, &modes)
 }
 
 /// Returns the modes of a full context in which one member talks and all others listen.
@@ -463,8 +507,7 @@ fn share_a_payload(
 
 #[test]
 fn listeners_who_hear_the_same_share_a_payload(rt: HostRuntime) -> Result<(), Fail> {
-    let mut engine = crowd(rt.alloc(), &lecture())?;
-    share_a_payload(&rt, rt.alloc(), &mut engine, &mut Outbox::new())
+    play(&rt, rt.alloc(), Scene::ShareAPayload, &lecture())
 }
 
 const EACH_MODE: [Mode; 5] = [
@@ -475,53 +518,39 @@ const EACH_MODE: [Mode; 5] = [
     Mode::Loopback,
 ];
 
-/// Starts an engine with a termination in each mode. Sequence numbers and timestamps are about to wrap.
-fn engine_about_to_wrap(alloc: Global) -> Result<Engine, Fail> {
-    let config = Config {
-        sequence: 65530,
-        timestamp: 4294966000,
-        ..Config::default()
-    };
-    let mut engine = start(alloc, config)?;
-    add_crowd(&mut engine, &EACH_MODE)?;
-    Ok(engine)
-}
-
-/// Starts an engine whose first and last terminations have frames to play. The first termination's third frame is
-/// missing.
-fn engine_with_frames(alloc: Global) -> Result<Engine, Fail> {
-    let mut engine = engine_about_to_wrap(alloc)?;
+/// Gives the first and the last termination frames to play. The first termination's third frame is missing.
+fn hold_frames(engine: &mut Engine) {
     for sequence in [1, 2, 4] {
         engine.media(30000, CALLER, &numbered_packet(sequence, 0x80));
     }
     engine.media(30008, CALLER, &packet(0x00));
-    Ok(engine)
 }
 
-/// Runs this many ticks. Returns how many frames were concealed.
-fn tick_each(engine: &mut Engine, count: u64) -> u64 {
-    let mut outbox = Outbox::new();
-    let mut concealed: u64 = 0;
-    for _ in 0..count {
-        concealed = concealed.saturating_add(engine.tick(&mut outbox) as u64);
+/// Returns whether two engines have the same counters.
+fn count_alike(one: &Engine, other: &Engine) -> bool {
+    for number in 1..6 {
+        if one.stats(number) != other.stats(number) {
+            return false;
+        }
     }
-    concealed
+    true
 }
 
-/// Returns whether two engines have the same counters, and send the same packets in each of the next ticks.
-fn go_on_alike(one: &mut Engine, other: &mut Engine) -> bool {
-    let mut sent = Outbox::new();
-    let mut wanted = Outbox::new();
+/// Returns whether two engines send the same packets in each of the next ticks, and then have the same counters.
+fn go_on_alike(
+    one: &mut Engine,
+    other: &mut Engine,
+    sent: &mut Outbox,
+    wanted: &mut Outbox,
+) -> bool {
     for _ in 0..4 {
-        one.tick(&mut sent);
-        other.tick(&mut wanted);
+        one.tick(sent);
+        other.tick(wanted);
         if sent.as_slice() != wanted.as_slice() {
             return false;
         }
     }
-    [1, 2, 3, 4, 5]
-        .iter()
-        .all(|number| one.stats(*number) == other.stats(*number))
+    count_alike(one, other)
 }
 
 /// Makes every termination send from now on.
@@ -533,48 +562,47 @@ fn let_all_send(engine: &mut Engine) -> Result<(), Fail> {
 /// Skips these ticks on one engine and runs them on the other. Both engines then behave alike.
 fn compare_skip_with_ticks(
     rt: &impl Abort,
+    count: u64,
     skipped: &mut Engine,
     ticked: &mut Engine,
-    count: u64,
+    sent: &mut Outbox,
+    wanted: &mut Outbox,
 ) -> Result<(), Fail> {
+    hold_frames(skipped);
+    hold_frames(ticked);
     let concealed = skipped.skip(count);
-    assert_equal(rt, concealed, tick_each(ticked, count));
+    assert_equal(rt, concealed, tick(ticked, wanted, count));
     assert_equal(rt, concealed, u64::from(count > 4));
     let_all_send(skipped)?;
     let_all_send(ticked)?;
-    assert!(rt; go_on_alike(skipped, ticked));
+    assert!(rt; go_on_alike(skipped, ticked, sent, wanted));
     Ok(())
 }
 
-/// Starts another engine with the same terminations, and compares the two.
-fn tick_another(
+/// Skipping some ticks has the same result as running them on another engine.
+fn skip_and_tick(
     rt: &impl Abort,
     alloc: Global,
-    skipped: &mut Engine,
     count: u64,
+    skipped: &mut Engine,
+    outbox: &mut Outbox,
 ) -> Result<(), Fail> {
-    let mut ticked = engine_with_frames(alloc)?;
-    compare_skip_with_ticks(rt, skipped, &mut ticked, count)
-}
-
-/// Skipping some ticks has the same result as running them.
-fn skip_and_tick(rt: &impl Abort, alloc: Global, count: u64) -> Result<(), Fail> {
-    let mut skipped = engine_with_frames(alloc)?;
-    tick_another(rt, alloc, &mut skipped, count)
+    let mut ticked = crowd(alloc, &EACH_MODE)?;
+    let wanted = &mut Outbox::new();
+    compare_skip_with_ticks(rt, count, skipped, &mut ticked, outbox, wanted)
 }
 
 #[test]
 fn a_skip_leaves_what_ticks_leave(rt: HostRuntime) -> Result<(), Fail> {
     for count in [0, 1, 2, 3, 4, 5, 6, 7, 8, 300] {
-        skip_and_tick(&rt, rt.alloc(), count)?;
+        play(&rt, rt.alloc(), Scene::SkipAndTick(count), &EACH_MODE)?;
     }
     Ok(())
 }
 
 /// Returns the start of the next tick's first packet: its flags, sequence number and timestamp.
-fn next_numbers(engine: &mut Engine) -> Option<[u8; 8]> {
-    let mut outbox = Outbox::new();
-    engine.tick(&mut outbox);
+fn next_numbers(engine: &mut Engine, outbox: &mut Outbox) -> Option<[u8; 8]> {
+    engine.tick(outbox);
     outbox.first()?.bytes.first_chunk().copied()
 }
 
@@ -585,20 +613,20 @@ fn sent_by(engine: &Engine, number: u32) -> Option<(u64, u64)> {
 }
 
 /// After 2^32 ticks, sequence numbers and timestamps are back where they were. Counters stop at their maximum.
-fn skip_for_years(rt: &impl Abort, engine: &mut Engine) {
+fn skip_for_years(rt: &impl Abort, engine: &mut Engine, outbox: &mut Outbox) -> Result<(), Fail> {
     let at_first = [128, 0, 255, 250, 255, 255, 250, 240];
+    hold_frames(engine);
     engine.skip(1 << 32);
     assert_equal(rt, sent_by(engine, 1), Some((1 << 32, 160 << 32)));
-    assert_equal(rt, next_numbers(engine), Some(at_first));
+    assert_equal(rt, next_numbers(engine, outbox), Some(at_first));
     engine.skip(u64::MAX);
     assert_equal(rt, sent_by(engine, 1), Some((u64::MAX, u64::MAX)));
     assert_equal(rt, sent_by(engine, 3), Some((0, 0)));
-    assert_equal(rt, next_numbers(engine), Some(at_first));
+    assert_equal(rt, next_numbers(engine, outbox), Some(at_first));
+    Ok(())
 }
 
 #[test]
 fn skips_for_years(rt: HostRuntime) -> Result<(), Fail> {
-    let mut engine = engine_with_frames(rt.alloc())?;
-    skip_for_years(&rt, &mut engine);
-    Ok(())
+    play(&rt, rt.alloc(), Scene::SkipForYears, &EACH_MODE)
 }

@@ -30,6 +30,13 @@ impl Clock for FixedClock {
 /// 2026-11-27T14:03:20Z, in milliseconds since 1970.
 const START: u64 = 1_795_788_200_000;
 
+/// Returns a time after the start.
+fn after(millis: u32) -> Date {
+    Date {
+        millis: START + u64::from(millis),
+    }
+}
+
 const MESSAGE: &[u8] = b"control 127.0.0.1:2944 00\n";
 
 fn journal(alloc: Global, faults: &[InjectedFault]) -> io::Result<FileJournal<MemoryFile>> {
@@ -39,20 +46,14 @@ fn journal(alloc: Global, faults: &[InjectedFault]) -> io::Result<FileJournal<Me
 
 #[test]
 fn reads_dates(rt: HostRuntime) -> Result<(), Fail> {
-    assert_equal(
-        &rt,
-        Date::of_text("2026-11-27T14:03:20Z"),
-        Some(Date { millis: START }),
-    );
-    assert_equal(
-        &rt,
-        Date::of_text("2026-11-27T14:03:20.5Z"),
-        Some(Date {
-            millis: START + 500,
-        }),
-    );
-    assert_equal(&rt, Date::of_text("1969-12-31T23:59:59Z"), None);
-    assert_equal(&rt, Date::of_text("today"), None);
+    for (text, date) in [
+        ("2026-11-27T14:03:20Z", Some(after(0))),
+        ("2026-11-27T14:03:20.5Z", Some(after(500))),
+        ("1969-12-31T23:59:59Z", None),
+        ("today", None),
+    ] {
+        assert_equal(&rt, Date::of_text(text), date);
+    }
     Ok(())
 }
 
@@ -62,22 +63,19 @@ fn dates_messages_and_old_ticks(rt: HostRuntime) -> Result<(), Fail> {
         millis: Cell::new(START),
     };
     let mut dated = DatedJournal::new(rt.alloc(), journal(rt.alloc(), &[])?, &clock)?;
-    // The first lines get the date of their first tick.
-    assert_equal(
-        &rt,
-        dated.append(b"tick\ntick\n", Durability::Written),
-        Ok(()),
-    );
-    // In another second, the first message gets a date and the next one doesn't.
-    clock.millis.set(START + 1_250);
-    assert_equal(&rt, dated.append(MESSAGE, Durability::Written), Ok(()));
-    clock.millis.set(START + 1_900);
-    assert_equal(&rt, dated.append(MESSAGE, Durability::Written), Ok(()));
-    // Ticks get a date only after a minute.
-    clock.millis.set(START + 61_240);
-    assert_equal(&rt, dated.append(b"tick\n", Durability::Written), Ok(()));
-    clock.millis.set(START + 61_250);
-    assert_equal(&rt, dated.append(b"tick\n", Durability::Written), Ok(()));
+    for (millis, lines) in [
+        // The first lines get the date of their first tick.
+        (0, b"tick\ntick\n".as_slice()),
+        // In another second, the first message gets a date and the next one doesn't.
+        (1_250, MESSAGE),
+        (1_900, MESSAGE),
+        // Ticks get a date only after a minute.
+        (61_240, b"tick\n"),
+        (61_250, b"tick\n"),
+    ] {
+        clock.millis.set(after(millis).millis);
+        assert_equal(&rt, dated.append(lines, Durability::Written), Ok(()));
+    }
     let text =
         "# time 2026-11-27T14:03:19.96Z\ntick\ntick\n# time 2026-11-27T14:03:21.25Z\ncontrol 127.0.0.1:2944 00\ncontrol 127.0.0.1:2944 00\ntick\n# time 2026-11-27T14:04:21.23Z\ntick\n";
     assert_equal(&rt, dated.journal().file().bytes(), text.as_bytes());
@@ -105,13 +103,6 @@ fn dates_only_what_is_appended(rt: HostRuntime) -> Result<(), Fail> {
     let text = "# time 2026-11-27T14:03:20Z\ncontrol 127.0.0.1:2944 00\n";
     assert_equal(&rt, dated.journal().file().bytes(), text.as_bytes());
     Ok(())
-}
-
-/// Returns a time after the start.
-fn after(millis: u32) -> Date {
-    Date {
-        millis: START + u64::from(millis),
-    }
 }
 
 #[test]

@@ -251,40 +251,49 @@ fn numbers_end(rt: HostRuntime) -> Result<(), Fail> {
 
 #[test]
 fn limits_are_reported(rt: HostRuntime) -> Result<(), Fail> {
-    assert!(rt; LIMITS.is_valid());
-    for slots in [0, TERMINATIONS as u16 + 1] {
-        assert!(rt; !Limits { slots, ..LIMITS }.is_valid());
+    for (limits, is_valid) in [
+        (LIMITS, true),
+        (Limits { slots: 0, ..LIMITS }, false),
+        (
+            Limits {
+                slots: TERMINATIONS as u16 + 1,
+                ..LIMITS
+            },
+            false,
+        ),
+        (
+            Limits {
+                base_port: 30001,
+                ..LIMITS
+            },
+            false,
+        ),
+        (
+            Limits {
+                base_port: 65530,
+                slots: 3,
+                ..LIMITS
+            },
+            true,
+        ),
+        (
+            Limits {
+                base_port: 65530,
+                slots: 4,
+                ..LIMITS
+            },
+            false,
+        ),
+        (
+            Limits {
+                first_context: 4294967294,
+                ..LIMITS
+            },
+            false,
+        ),
+    ] {
+        assert_equal(&rt, limits.is_valid(), is_valid);
     }
-    assert!(rt;
-        !Limits {
-            base_port: 30001,
-            ..LIMITS
-        }
-        .is_valid()
-    );
-    assert!(rt;
-        Limits {
-            base_port: 65530,
-            slots: 3,
-            ..LIMITS
-        }
-        .is_valid()
-    );
-    assert!(rt;
-        !Limits {
-            base_port: 65530,
-            slots: 4,
-            ..LIMITS
-        }
-        .is_valid()
-    );
-    assert!(rt;
-        !Limits {
-            first_context: 4294967294,
-            ..LIMITS
-        }
-        .is_valid()
-    );
     Ok(())
 }
 
@@ -298,8 +307,8 @@ fn modes_are_seen_from_outside(rt: HostRuntime) -> Result<(), Fail> {
         (Mode::Loopback, false, false),
     ];
     for (mode, talks, listens) in modes {
-        assert_equal(&rt, mode_talks(mode), talks);
-        assert_equal(&rt, mode_listens(mode), listens);
+        let found = (mode_talks(mode), mode_listens(mode));
+        assert_equal(&rt, found, (talks, listens));
     }
     Ok(())
 }

@@ -1,8 +1,55 @@
-//! Runs scripts.
+//! Builds and runs scripts.
 
 use mg_core::{Config, Counts, RunFault, Shown, run};
-use std::alloc::Global;
+use std::alloc::{AllocError, Global};
 use std::io::{Read, Write};
+
+/// A part of a script.
+#[derive(Clone, Copy)]
+pub enum Part<'a> {
+    Text(&'a [u8]),
+    /// The line of a frame that arrives at port 30000: its source, and its sequence number in hexadecimal.
+    Frame(&'a [u8], &'a [u8]),
+}
+
+/// The digits of 160 equal bytes.
+const FRAME: &[u8] = &[b'8'; 320];
+
+fn push_part(script: &mut Vec<u8>, part: Part) -> Result<(), AllocError> {
+    match part {
+        Part::Text(text) => script.extend_from_slice(text),
+        Part::Frame(source, sequence) => {
+            for text in [
+                b"rtp 30000 ".as_slice(),
+                source,
+                b" 8000",
+                sequence,
+                b"0000000000000063",
+                FRAME,
+                b"\n",
+            ] {
+                script.extend_from_slice(text)?;
+            }
+            Ok(())
+        }
+    }
+}
+
+fn push_parts(script: &mut Vec<u8>, part: Part, count: usize) -> Result<(), AllocError> {
+    for _ in 0..count {
+        push_part(script, part)?;
+    }
+    Ok(())
+}
+
+/// Returns the script of these parts, each repeated this many times.
+pub fn script_of(alloc: Global, parts: &[(usize, Part)]) -> Result<Vec<u8>, AllocError> {
+    let mut script = Vec::new(alloc);
+    for (count, part) in parts {
+        push_parts(&mut script, *part, *count)?;
+    }
+    Ok(script)
+}
 
 /// Runs a script with a given configuration. With a literal configuration, the contract of a run takes minutes to
 /// prove.

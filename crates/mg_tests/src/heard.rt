@@ -64,16 +64,24 @@ fn row_of(interval: &Interval) -> Row {
     )
 }
 
+/// Returns the lines of a script.
+fn script_of(alloc: Global, parts: &[&[u8]]) -> Result<Vec<u8>, AllocError> {
+    let mut script = Vec::new(alloc);
+    for part in parts {
+        script.extend_from_slice(part)?;
+    }
+    Ok(script)
+}
+
 /// Returns whether a script has these intervals, in this order.
-fn has_rows(alloc: Global, script: &[u8], rows: &[Row]) -> bool {
-    let Ok((listed, _)) = heard(alloc, script) else {
-        return false;
-    };
+fn has_rows(alloc: Global, parts: &[&[u8]], rows: &[Row]) -> Result<bool, Fail> {
+    let script = script_of(alloc, parts)?;
+    let (listed, _) = heard(alloc, script.as_slice())?;
     let mut is_same = listed.intervals.len() == rows.len();
     for (interval, row) in listed.intervals.as_slice().iter().zip(rows) {
         is_same = is_same && row_of(interval) == *row;
     }
-    is_same
+    Ok(is_same)
 }
 
 /// Three callers are in a conference. The first and the third are isolated, the second only listens, the third moves to
@@ -91,19 +99,6 @@ const CHANGES: &[u8] = b"tick\n\
     tick\n\
     say 127.0.0.1:2945 !/1 [127.0.0.1]:2945 T=5{C=1{S=RTP/2{AT{}}}}\n";
 
-#[test]
-fn heard_intervals_end_with_their_flows(rt: HostRuntime) {
-    let rows = [
-        (1, 3, 1, 1, Some(2)),
-        (3, 1, 1, 1, Some(2)),
-        (1, 2, 1, 1, Some(4)),
-        (2, 3, 1, 1, Some(4)),
-        (3, 2, 1, 1, Some(4)),
-        (2, 1, 1, 1, Some(5)),
-    ];
-    assert!(rt; has_rows(rt.alloc(), CHANGES, &rows));
-}
-
 /// Two callers in a conference.
 const PAIR: &[u8] =
     b"say 127.0.0.1:2945 !/1 [127.0.0.1]:2945 T=1{C=${A=${M{O{MO=SR}}},A=${M{O{MO=SR}}}}}\n";
@@ -117,47 +112,54 @@ const JOIN: &[u8] = b"say 127.0.0.1:2945 !/1 [127.0.0.1]:2945 T=3{C=1{TP{RTP/1,R
 /// Both callers move to a new context.
 const MOVE: &[u8] = b"say 127.0.0.1:2945 !/1 [127.0.0.1]:2945 T=4{C=${MV=RTP/1,MV=RTP/2}}\n";
 
-/// Returns the lines of a script.
-fn script_of(alloc: Global, parts: &[&[u8]]) -> Result<Vec<u8>, AllocError> {
-    let mut script = Vec::new(alloc);
-    for part in parts {
-        script.extend_from_slice(part)?;
-    }
-    Ok(script)
-}
+const TICK: &[u8] = b"tick\n";
 
 #[test]
 fn heard_is_what_holds_before_a_tick(rt: HostRuntime) -> Result<(), Fail> {
-    let alloc = rt.alloc();
-    // What is undone before the next tick makes no difference.
-    let script = script_of(alloc, &[PAIR, b"tick\n", PART, JOIN, b"tick\n"])?;
-    let rows = [(1, 2, 1, 0, None), (2, 1, 1, 0, None)];
-    assert!(rt; has_rows(alloc, script.as_slice(), &rows));
-    // At the very tick of a change.
-    let script = script_of(
-        alloc,
-        &[PAIR, b"tick\ntick\n", PART, b"tick\n", JOIN, b"tick\n"],
-    )?;
-    let rows = [
-        (1, 2, 1, 0, Some(2)),
-        (1, 2, 1, 3, None),
-        (2, 1, 1, 0, None),
-    ];
-    assert!(rt; has_rows(alloc, script.as_slice(), &rows));
-    // A change after the last tick concerns the tick that comes next.
-    let script = script_of(alloc, &[b"tick\n", PAIR])?;
-    let rows = [(1, 2, 1, 1, None), (2, 1, 1, 1, None)];
-    assert!(rt; has_rows(alloc, script.as_slice(), &rows));
-    // Another context is another interval.
-    let script = script_of(alloc, &[PAIR, b"tick\n", MOVE, b"tick\n"])?;
-    let rows = [
-        (1, 2, 1, 0, Some(1)),
-        (2, 1, 1, 0, Some(1)),
-        (1, 2, 2, 1, None),
-        (2, 1, 2, 1, None),
-    ];
-    assert!(rt; has_rows(alloc, script.as_slice(), &rows));
-    assert!(rt; has_rows(alloc, b"", &[]));
+    for (parts, rows) in [
+        // Intervals end with their flows.
+        (
+            [CHANGES].as_slice(),
+            [
+                (1, 3, 1, 1, Some(2)),
+                (3, 1, 1, 1, Some(2)),
+                (1, 2, 1, 1, Some(4)),
+                (2, 3, 1, 1, Some(4)),
+                (3, 2, 1, 1, Some(4)),
+                (2, 1, 1, 1, Some(5)),
+            ]
+            .as_slice(),
+        ),
+        // What is undone before the next tick makes no difference.
+        (
+            &[PAIR, TICK, PART, JOIN, TICK],
+            &[(1, 2, 1, 0, None), (2, 1, 1, 0, None)],
+        ),
+        // At the very tick of a change.
+        (
+            &[PAIR, TICK, TICK, PART, TICK, JOIN, TICK],
+            &[
+                (1, 2, 1, 0, Some(2)),
+                (1, 2, 1, 3, None),
+                (2, 1, 1, 0, None),
+            ],
+        ),
+        // A change after the last tick concerns the tick that comes next.
+        (&[TICK, PAIR], &[(1, 2, 1, 1, None), (2, 1, 1, 1, None)]),
+        // Another context is another interval.
+        (
+            &[PAIR, TICK, MOVE, TICK],
+            &[
+                (1, 2, 1, 0, Some(1)),
+                (2, 1, 1, 0, Some(1)),
+                (1, 2, 2, 1, None),
+                (2, 1, 2, 1, None),
+            ],
+        ),
+        (&[], &[]),
+    ] {
+        assert!(rt; has_rows(rt.alloc(), parts, rows)?);
+    }
     Ok(())
 }
 
@@ -174,7 +176,9 @@ fn heard_intervals_name_remotes(rt: HostRuntime) -> Result<(), Fail> {
         address: [192, 0, 2, 7],
         port: 40000,
     });
-    assert!(rt; listed.intervals.len() == 4);
+    let [first, _, third, fourth] = listed.intervals.as_slice() else {
+        return Err("four intervals".into());
+    };
     let flow = OpenFlow {
         listener: 1,
         talker: 2,
@@ -182,17 +186,12 @@ fn heard_intervals_name_remotes(rt: HostRuntime) -> Result<(), Fail> {
         listener_at: None,
         talker_at: None,
     };
-    assert_equal(&rt, listed.intervals[0].flow, flow);
-    assert_equal(
-        &rt,
-        listed.intervals[2].flow,
-        OpenFlow {
-            listener_at: at,
-            ..flow
-        },
-    );
-    assert_equal(&rt, listed.intervals[2].first.tick, 1);
-    assert_equal(&rt, listed.intervals[3].flow.talker_at, at);
+    let with_remote = OpenFlow {
+        listener_at: at,
+        ..flow
+    };
+    assert_equal(&rt, (first.flow, third.flow), (flow, with_remote));
+    assert_equal(&rt, (third.first.tick, fourth.flow.talker_at), (1, at));
     Ok(())
 }
 
@@ -223,12 +222,16 @@ fn heard_times_come_from_dates(rt: HostRuntime) -> Result<(), Fail> {
         ],
     )?;
     let (listed, extent) = heard(alloc, script.as_slice())?;
-    assert!(rt; listed.intervals.len() == 2);
-    assert_equal(&rt, listed.intervals[0].first, moment(0, 0));
-    assert_equal(&rt, listed.intervals[0].end, Some(moment(2, 40)));
-    assert_equal(&rt, listed.intervals[1].end, None);
-    assert_equal(&rt, extent.first, Some(moment(0, 0)));
-    assert_equal(&rt, extent.end, moment(7, 60_020));
+    let [first, second] = listed.intervals.as_slice() else {
+        return Err("two intervals".into());
+    };
+    let ends = (first.first, first.end, second.end);
+    assert_equal(&rt, ends, (moment(0, 0), Some(moment(2, 40)), None));
+    let wanted = Extent {
+        first: Some(moment(0, 0)),
+        end: moment(7, 60_020),
+    };
+    assert_equal(&rt, extent, wanted);
     let missed = Gap {
         first: moment(3, 60),
         end: moment(6, 120),
@@ -243,41 +246,34 @@ fn heard_times_come_from_dates(rt: HostRuntime) -> Result<(), Fail> {
 
 /// Returns why `hear` fails on a script, or `None` if it succeeds.
 fn fault_of(alloc: Global, script: &[u8]) -> Option<HeardFault> {
-    heard(alloc, script).err()
+    match heard(alloc, script) {
+        Ok((_listed, _extent)) => None,
+        Err(fault) => Some(fault),
+    }
 }
 
 #[test]
 fn heard_refuses_bad_input(rt: HostRuntime) {
-    let alloc = rt.alloc();
-    assert_equal(
-        &rt,
-        fault_of(alloc, b"tick\n# a\ntock\n"),
-        Some(HeardFault::Run(RunFault::Script(3))),
-    );
-    assert_equal(
-        &rt,
-        fault_of(
-            alloc,
+    for (script, fault) in [
+        (
+            b"tick\n# a\ntock\n".as_slice(),
+            Some(HeardFault::Run(RunFault::Script(3))),
+        ),
+        (
             b"# time 2026-11-27T14:03:20Z\ntick\ntick\n# time 2026-11-27T14:03:18Z\n",
+            Some(HeardFault::Clock(ClockFault::WentBack(4))),
         ),
-        Some(HeardFault::Clock(ClockFault::WentBack(4))),
-    );
-    assert_equal(
-        &rt,
-        fault_of(
-            alloc,
+        (
             b"# mg_bridge replay --ssrc=1\ntick\n\n# mg_bridge replay --ssrc=2\n",
+            Some(HeardFault::Clock(ClockFault::OtherGateway(4))),
         ),
-        Some(HeardFault::Clock(ClockFault::OtherGateway(4))),
-    );
-    assert_equal(
-        &rt,
-        fault_of(
-            alloc,
+        (
             b"# mg_bridge replay --ssrc=1\ntick\n# mg_bridge replay --ssrc=1\n",
+            None,
         ),
-        None,
-    );
+    ] {
+        assert_equal(&rt, fault_of(rt.alloc(), script), fault);
+    }
 }
 
 /// A sink that refuses everything, like a sink whose writer fails.
@@ -294,26 +290,24 @@ impl Sink for Refusing {
 
 /// Runs `hear` on a script, with a sink that refuses everything. Returns why it fails, or `None` if it succeeds.
 fn refused(alloc: Global, config: Config, script: &[u8]) -> Option<HeardFault> {
-    hear(alloc, config, &mut Cursor::new(script), Refusing).err()
+    match hear(alloc, config, &mut Cursor::new(script), Refusing) {
+        Ok((_sink, _extent)) => None,
+        Err(fault) => Some(fault),
+    }
 }
 
 #[test]
 fn heard_stops_with_its_sink(rt: HostRuntime) {
-    let alloc = rt.alloc();
     let config = Config::default();
-    assert_equal(
-        &rt,
-        refused(alloc, config, CHANGES),
-        Some(HeardFault::Stopped),
-    );
-    assert_equal(&rt, refused(alloc, config, PAIR), Some(HeardFault::Stopped));
-    assert_equal(&rt, refused(alloc, config, b"tick\n"), None);
     let slots = Config { slots: 0, ..config };
-    assert_equal(
-        &rt,
-        refused(alloc, slots, b""),
-        Some(HeardFault::Run(RunFault::BadConfig)),
-    );
+    for (config, script, fault) in [
+        (config, CHANGES, Some(HeardFault::Stopped)),
+        (config, PAIR, Some(HeardFault::Stopped)),
+        (config, TICK, None),
+        (slots, b"", Some(HeardFault::Run(RunFault::BadConfig))),
+    ] {
+        assert_equal(&rt, refused(rt.alloc(), config, script), fault);
+    }
 }
 
 /// Two callers with a date. The first doesn't hear the second from the third tick on. Then the gateway is restarted.
@@ -343,38 +337,39 @@ fn reported(alloc: Global, format: Format, query: Query) -> Result<Vec<u8>, Fail
 
 #[test]
 fn heard_reports_have_three_formats(rt: HostRuntime) -> Result<(), Fail> {
-    let alloc = rt.alloc();
-    let text = reported(alloc, Format::Text, Query::all())?;
-    assert!(rt;
-        text.as_slice()
-            == b"\
-        RTP/1 could hear RTP/2 in context 1 from 2026-11-27T14:03:20Z (tick 0) until 2026-11-27T14:03:20.04Z (tick 2)\n\
-        gap from 2026-11-27T14:03:20.06Z (tick 3) until 2026-11-27T14:03:20.1Z (tick 5)\n\
-        RTP/2 could hear RTP/1 in context 1 from 2026-11-27T14:03:20Z (tick 0) until the end\n"
-                .as_slice()
-    );
-    let rows = reported(alloc, Format::Csv, Query::all())?;
-    assert!(rt;
-        rows.as_slice()
-            == b"\
-        kind,listener,listener_at,talker,talker_at,context,first_tick,end_tick,from,until\n\
-        heard,RTP/1,,RTP/2,,1,0,2,2026-11-27T14:03:20Z,2026-11-27T14:03:20.04Z\n\
-        gap,,,,,,3,5,2026-11-27T14:03:20.06Z,2026-11-27T14:03:20.1Z\n\
-        heard,RTP/2,,RTP/1,,1,0,,2026-11-27T14:03:20Z,\n"
-                .as_slice()
-    );
     let only = Query {
         listener: PartyName::of(b"RTP/2"),
         ..Query::all()
     };
-    let objects = reported(alloc, Format::Json, only)?;
-    assert!(rt;
-        objects.as_slice()
-            == b"\
-        {\"kind\":\"gap\",\"first_tick\":3,\"end_tick\":5,\"from\":\"2026-11-27T14:03:20.06Z\",\"until\":\"2026-11-27T14:03:20.1Z\"}\n\
-        {\"kind\":\"heard\",\"listener\":\"RTP/2\",\"listener_at\":null,\"talker\":\"RTP/1\",\"talker_at\":null,\"context\":1,\"first_tick\":0,\"end_tick\":null,\"from\":\"2026-11-27T14:03:20Z\",\"until\":null}\n"
-                .as_slice()
-    );
+    for (format, query, report) in [
+        (
+            Format::Text,
+            Query::all(),
+            b"\
+            RTP/1 could hear RTP/2 in context 1 from 2026-11-27T14:03:20Z (tick 0) until 2026-11-27T14:03:20.04Z (tick 2)\n\
+            gap from 2026-11-27T14:03:20.06Z (tick 3) until 2026-11-27T14:03:20.1Z (tick 5)\n\
+            RTP/2 could hear RTP/1 in context 1 from 2026-11-27T14:03:20Z (tick 0) until the end\n"
+                .as_slice(),
+        ),
+        (
+            Format::Csv,
+            Query::all(),
+            b"\
+            kind,listener,listener_at,talker,talker_at,context,first_tick,end_tick,from,until\n\
+            heard,RTP/1,,RTP/2,,1,0,2,2026-11-27T14:03:20Z,2026-11-27T14:03:20.04Z\n\
+            gap,,,,,,3,5,2026-11-27T14:03:20.06Z,2026-11-27T14:03:20.1Z\n\
+            heard,RTP/2,,RTP/1,,1,0,,2026-11-27T14:03:20Z,\n",
+        ),
+        (
+            Format::Json,
+            only,
+            b"\
+            {\"kind\":\"gap\",\"first_tick\":3,\"end_tick\":5,\"from\":\"2026-11-27T14:03:20.06Z\",\"until\":\"2026-11-27T14:03:20.1Z\"}\n\
+            {\"kind\":\"heard\",\"listener\":\"RTP/2\",\"listener_at\":null,\"talker\":\"RTP/1\",\"talker_at\":null,\"context\":1,\"first_tick\":0,\"end_tick\":null,\"from\":\"2026-11-27T14:03:20Z\",\"until\":null}\n",
+        ),
+    ] {
+        assert!(rt; reported(rt.alloc(), format, query)?.as_slice() == report);
+    }
     Ok(())
 }
 
@@ -456,40 +451,51 @@ fn asked(alloc: Global, parts: &[&[u8]], millis: i64) -> Result<Answer, Fail> {
     }
 }
 
-#[test]
-fn heard_at_a_time(rt: HostRuntime) -> Result<(), Fail> {
-    let alloc = rt.alloc();
-    for (millis, verdict) in [
-        (-1, Answer::Unknown),
-        (0, Answer::Yes),
-        (39, Answer::Yes),
-        // The very tick of the change.
-        (40, Answer::No),
-        (59, Answer::No),
-        // The gap, and then the last tick.
-        (60, Answer::Unknown),
-        (99, Answer::Unknown),
-        (100, Answer::No),
-        (119, Answer::No),
-        (120, Answer::Unknown),
-    ] {
-        assert_equal(&rt, asked(alloc, DATED, millis)?, verdict);
-    }
-    Ok(())
-}
+/// The ticks before the date, and the ticks after a change, have no dates of their own.
+const LASTING: &[&[u8]] = &[
+    PAIR,
+    TICK,
+    b"# time 2026-11-27T14:03:20Z\n",
+    TICK,
+    PART,
+    TICK,
+];
+
+/// The first caller stops hearing the second before the date.
+const OVER: &[&[u8]] = &[
+    PAIR,
+    TICK,
+    PART,
+    TICK,
+    b"# time 2026-11-27T14:03:20Z\n",
+    TICK,
+];
+
+/// Without a date, no time is known.
+const NEVER: &[&[u8]] = &[PAIR, TICK, TICK];
 
 #[test]
-fn heard_at_a_time_after_ticks_without_one(rt: HostRuntime) -> Result<(), Fail> {
-    let alloc = rt.alloc();
-    let date: &[u8] = b"# time 2026-11-27T14:03:20Z\n";
-    let tick: &[u8] = b"tick\n";
-    let lasting = [PAIR, tick, date, tick, PART, tick];
-    assert_equal(&rt, asked(alloc, &lasting, -1)?, Answer::Unknown);
-    assert_equal(&rt, asked(alloc, &lasting, 0)?, Answer::Yes);
-    assert_equal(&rt, asked(alloc, &lasting, 20)?, Answer::No);
-    let over = [PAIR, tick, PART, tick, date, tick];
-    assert_equal(&rt, asked(alloc, &over, 0)?, Answer::No);
-    let never = [PAIR, tick, tick];
-    assert_equal(&rt, asked(alloc, &never, 0)?, Answer::Unknown);
+fn heard_at_a_time(rt: HostRuntime) -> Result<(), Fail> {
+    for (parts, millis, verdict) in [
+        (DATED, -1, Answer::Unknown),
+        (DATED, 0, Answer::Yes),
+        (DATED, 39, Answer::Yes),
+        // The very tick of the change.
+        (DATED, 40, Answer::No),
+        (DATED, 59, Answer::No),
+        // The gap, and then the last tick.
+        (DATED, 60, Answer::Unknown),
+        (DATED, 99, Answer::Unknown),
+        (DATED, 100, Answer::No),
+        (DATED, 119, Answer::No),
+        (DATED, 120, Answer::Unknown),
+        (LASTING, -1, Answer::Unknown),
+        (LASTING, 0, Answer::Yes),
+        (LASTING, 20, Answer::No),
+        (OVER, 0, Answer::No),
+        (NEVER, 0, Answer::Unknown),
+    ] {
+        assert_equal(&rt, asked(rt.alloc(), parts, millis)?, verdict);
+    }
     Ok(())
 }

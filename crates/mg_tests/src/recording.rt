@@ -47,37 +47,35 @@ fn media(alloc: Global, port: u16, source: Peer, bytes: &[u8]) -> Result<Vec<u8>
     Ok(Vec::from_slice(alloc, line.as_slice())?)
 }
 
-#[test]
-fn writes_control_datagrams(rt: HostRuntime) -> Result<(), Fail> {
-    let line = control(rt.alloc(), CONTROLLER, b"")?;
-    assert_equal(
-        &rt,
-        line.as_slice(),
-        b"control 127.0.0.1:2945 \n".as_slice(),
-    );
-    let line = control(rt.alloc(), LAST, b"!")?;
-    assert_equal(
-        &rt,
-        line.as_slice(),
-        b"control 255.255.255.255:65535 21\n".as_slice(),
-    );
-    Ok(())
+/// Returns the line for a datagram: an RTP datagram if there is a port, and a control datagram otherwise.
+fn line(alloc: Global, port: Option<u16>, source: Peer, bytes: &[u8]) -> Result<Vec<u8>, Fail> {
+    match port {
+        Some(port) => media(alloc, port, source, bytes),
+        None => control(alloc, source, bytes),
+    }
 }
 
 #[test]
-fn writes_rtp_datagrams(rt: HostRuntime) -> Result<(), Fail> {
-    let line = media(rt.alloc(), 0, CALLER, b"")?;
-    assert_equal(
-        &rt,
-        line.as_slice(),
-        b"rtp 0 10.0.200.9:40000 \n".as_slice(),
-    );
-    let line = media(rt.alloc(), 30000, CALLER, b"\x80\x00\xff\x0a")?;
-    assert_equal(
-        &rt,
-        line.as_slice(),
-        b"rtp 30000 10.0.200.9:40000 8000ff0a\n".as_slice(),
-    );
+fn writes_datagrams(rt: HostRuntime) -> Result<(), Fail> {
+    for (port, source, bytes, wanted) in [
+        (
+            None,
+            CONTROLLER,
+            b"".as_slice(),
+            b"control 127.0.0.1:2945 \n".as_slice(),
+        ),
+        (None, LAST, b"!", b"control 255.255.255.255:65535 21\n"),
+        (Some(0), CALLER, b"", b"rtp 0 10.0.200.9:40000 \n"),
+        (
+            Some(30000),
+            CALLER,
+            b"\x80\x00\xff\x0a",
+            b"rtp 30000 10.0.200.9:40000 8000ff0a\n",
+        ),
+    ] {
+        let line = line(rt.alloc(), port, source, bytes)?;
+        assert_equal(&rt, line.as_slice(), wanted);
+    }
     Ok(())
 }
 
@@ -133,10 +131,9 @@ const HEARTBEAT: &[u8] = b"!/1 [127.0.0.1]:2945 T=1{C=-{AV=ROOT{AT{}}}}";
 #[test]
 fn runs_control_datagrams(rt: HostRuntime) -> Result<(), Fail> {
     let longest = marks(rt.alloc(), 65507)?;
-    assert!(rt; is_as_said(rt.alloc(), b"")?);
-    assert!(rt; is_as_said(rt.alloc(), b"!")?);
-    assert!(rt; is_as_said(rt.alloc(), HEARTBEAT)?);
-    assert!(rt; is_as_said(rt.alloc(), longest.as_slice())?);
+    for text in [b"".as_slice(), b"!", HEARTBEAT, longest.as_slice()] {
+        assert!(rt; is_as_said(rt.alloc(), text)?);
+    }
     Ok(())
 }
 
@@ -164,8 +161,8 @@ fn recording(alloc: Global) -> Result<Vec<u8>, Fail> {
 fn runs_rtp_datagrams(rt: HostRuntime) -> Result<(), Fail> {
     let script = recording(rt.alloc())?;
     let (_, counts) = played(rt.alloc(), script.as_slice())?;
-    assert_equal(&rt, counts.lines, 3);
-    assert_equal(&rt, counts.control, 1);
-    assert_equal(&rt, counts.placed, [1, 0, 0, 0, 0]);
+    let placed = counts.placed;
+    let found = (counts.lines, counts.control, placed);
+    assert_equal(&rt, found, (3, 1, [1, 0, 0, 0, 0]));
     Ok(())
 }

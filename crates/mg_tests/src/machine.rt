@@ -44,6 +44,11 @@ fn has_one(core: &Core) -> bool {
     is_alone && core.rooms().members(1) == [1].as_slice()
 }
 
+/// Passes a message from the controller to a core.
+pub fn hand(alloc: Global, core: &mut Core, message: &[u8]) -> Result<Answer, NoMemory> {
+    core.control(alloc, CONTROLLER, message)
+}
+
 /// Returns whether a core answers a message from the controller with this text, or leaves it unanswered if the text is
 /// empty.
 fn is_answered(
@@ -52,7 +57,7 @@ fn is_answered(
     message: &[u8],
     text: &[u8],
 ) -> Result<bool, NoMemory> {
-    let answer = core.control(alloc, CONTROLLER, message)?;
+    let answer = hand(alloc, core, message)?;
     Ok((answer == Answer::Silent) == text.is_empty() && core.answer() == text)
 }
 
@@ -538,7 +543,7 @@ fn sent_header(core: &mut Core) -> Option<[u8; 12]> {
 /// Sequence numbers, timestamps and SSRCs wrap to 0. A skip counts its ticks and makes no packets, and the last answer
 /// is unchanged.
 fn send_and_skip(rt: &impl Abort, alloc: Global, core: &mut Core) -> Result<(), Fail> {
-    assert!(rt; core.control(alloc, CONTROLLER, CALLER)? == Answer::Send);
+    assert!(rt; hand(alloc, core, CALLER)? == Answer::Send);
     let first = [128, 128, 255, 255, 255, 255, 255, 160, 0, 0, 0, 0];
     assert_equal(rt, sent_header(core), Some(first));
     let second = [128, 0, 0, 0, 0, 0, 0, 64, 0, 0, 0, 0];

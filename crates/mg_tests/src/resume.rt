@@ -1,21 +1,17 @@
 //! Gateways that are resumed from a script.
 
 use crate::equality::assert_equal;
+use crate::machine::hand;
 use crate::scripts::run_script;
 use mg_core::{
-    Config, Core, Counts, DATAGRAM_LIMIT, Datagram, Event, EventLine, Follower, Peer, RunFault,
-    Shown, Stopped, resume,
+    Config, Core, Counts, DATAGRAM_LIMIT, Datagram, Event, EventLine, Follower, RunFault, Shown,
+    Stopped, resume,
 };
 use mg_fakes::FailingReader;
 use std::alloc::{AllocError, Global};
 use std::io::{Cursor, Read, Write};
 use std::process::Abort;
 use std::test::Fail;
-
-const CONTROLLER: Peer = Peer {
-    address: [127, 0, 0, 1],
-    port: 2945,
-};
 
 /// What a script says: its comments, its datagrams with the counts of control and RTP datagrams after each, and its
 /// groups of consecutive ticks with the count of ticks before each.
@@ -310,7 +306,7 @@ fn push_tick(core: &mut Core, line: &mut EventLine, text: &mut Vec<u8>) -> Resul
 fn continued(alloc: Global, core: &mut Core) -> Result<Vec<u8>, Fail> {
     let mut text = Vec::new(alloc);
     let mut line = EventLine::new(alloc)?;
-    let _ = core.control(alloc, CONTROLLER, AUDIT)?;
+    let _ = hand(alloc, core, AUDIT)?;
     push_answer(core, &mut text)?;
     for _ in 0..4 {
         push_tick(core, &mut line, &mut text)?;
@@ -331,9 +327,18 @@ fn run_at_once(alloc: Global, script: &[u8]) -> Result<(Counts, Vec<u8>), Fail> 
     }
 }
 
+/// Returns whether one termination's speech flows to another.
+fn flows(core: &Core, talker: u32, listener: u32) -> bool {
+    core.flow(talker, listener)
+}
+
 /// Returns whether a gateway's flows are those of the conference.
 fn has_conference(core: &Core) -> bool {
-    core.flow(1, 2) && core.flow(1, 3) && core.flow(2, 3) && !core.flow(2, 1) && !core.flow(3, 1)
+    flows(core, 1, 2)
+        && flows(core, 1, 3)
+        && flows(core, 2, 3)
+        && !flows(core, 2, 1)
+        && !flows(core, 3, 1)
 }
 
 /// Returns whether two runs counted the same events.

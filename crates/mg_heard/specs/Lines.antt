@@ -137,7 +137,7 @@ abbrev pub IsLine : Format → Entry → List ℕ → Type 0
 IsLine format entry line =
     (from : List ℕ) × (until : List ℕ) × (line ≡ line_of format from until entry)
 
--- ## Answers about one time
+-- ## Answers about a given time
 
 abbrev pub not_heard_line : Format → List ℕ
 not_heard_line Text = codes "could not hear\n"

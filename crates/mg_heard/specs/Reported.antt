@@ -15,7 +15,7 @@ WritesReport format query old new xs =
     (text : List ℕ) × AreLines format (filter (selects_entry query) xs) text
     × Appends old new (head_of format ++ text)
 
--- a writer has received the line of an answer about one time
+-- a writer has received the line of an answer about a given time
 abbrev pub WritesVerdict : Format → Verdict → (old new : Option (List ℕ)) → Type 0
 WritesVerdict format verdict old new =
     (line : List ℕ) × IsVerdictLine format verdict line × Appends old new line

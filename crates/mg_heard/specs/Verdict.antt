@@ -1,4 +1,4 @@
--- Who could hear whom at one time.
+-- Who could hear whom at a given time.
 use Rattle.std.specs.Prelude.{◌&&◌, ◌||◌, not, Bool, false, List, [], ◌∷◌, nat_le, nat_lt, Option}
 use Rattle.std.specs.Prelude.{Some, None, is_some, if◌then◌else◌}
 use Rattle.std.specs.Option.{option_map_or}

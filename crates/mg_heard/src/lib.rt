@@ -15,7 +15,7 @@
 //! (`specs/Intervals.antt`). Intervals that have not ended are stored, and compared with the flows before the next
 //! tick.
 //!
-//! Dates come from the script's comments. No proof covers dates and gaps.
+//! Dates come from the script's comments. No proof covers dates or gaps.
 #![tactic(auto)]
 
 mod answering;

@@ -201,7 +201,7 @@ fn push_optional_peer(peer: Option<Peer>, out: &mut Bytes)
     }
 }
 
-/// Writes the tick of an end, or nothing if there is no end.
+/// Writes the tick at which an interval or a gap ends, or nothing if it has no end.
 fn push_optional_tick(end: Option<Moment>, out: &mut Bytes)
     requires room { NUMBER_LIMIT ≤ out.old.room }
     ensures value { out.new ≡ appended out.old (tick_column end) }
@@ -224,7 +224,7 @@ fn push_optional_time(time: &[u8], date: Option<Date>, out: &mut Bytes)
     }
 }
 
-/// Returns the date of an end, or `None` if there is no end or its date is not known.
+/// Returns the date at which an interval or a gap ends, or `None` if it has no end or the date is not known.
 fn date_of_end(end: Option<Moment>) -> Option<Date>
     ensures value { result ≡ date_of_end end }
 {
@@ -302,7 +302,7 @@ fn push_peer_value(peer: Option<Peer>, out: &mut Bytes)
     }
 }
 
-/// Writes the tick of an end, or `null` if there is no end.
+/// Writes the tick at which an interval or a gap ends, or `null` if it has no end.
 fn push_tick_value(end: Option<Moment>, out: &mut Bytes)
     requires room { NUMBER_LIMIT ≤ out.old.room }
     ensures value { out.new ≡ appended out.old (tick_value end) }
@@ -383,7 +383,7 @@ fn push_object(from: &[u8], until: &[u8], interval: &Interval, out: &mut Bytes)
 
 // ## Each format
 
-/// Writes what precedes all lines: the names of the columns in CSV, and nothing in the other formats.
+/// Writes the header: the column names in CSV, and nothing in the other formats.
 pub(crate) fn push_head(format: Format, out: &mut Bytes)
     requires room { LINE_LIMIT ≤ out.old.room }
     ensures value { out.new ≡ appended out.old (head_of format) }
@@ -437,7 +437,7 @@ fn push_gap(format: Format, from: &[u8], until: &[u8], gap: &Gap, out: &mut Byte
     }
 }
 
-/// Writes the line for an interval or a gap, given the texts of its two dates.
+/// Writes the line for an interval or a gap, given its two dates as text.
 pub(crate) fn push_entry(format: Format, from: &[u8], until: &[u8], entry: &Entry, out: &mut Bytes)
     requires from { length from.now ≤ TIME_LIMIT }
     requires until { length until.now ≤ TIME_LIMIT }
@@ -451,7 +451,7 @@ pub(crate) fn push_entry(format: Format, from: &[u8], until: &[u8], entry: &Entr
     }
 }
 
-/// Returns the line that says that a talker could not be heard at a time.
+/// Returns the line that says that a talker could not be heard at a given time.
 pub(crate) fn not_heard_line(format: Format) -> &'static [u8]
     ensures value { result.now ≡ not_heard_line format }
 {
@@ -462,7 +462,7 @@ pub(crate) fn not_heard_line(format: Format) -> &'static [u8]
     }
 }
 
-/// Returns the line that says that a script doesn't answer a question about a time.
+/// Returns the line that says that a script doesn't answer a question about a given time.
 pub(crate) fn unknown_line(format: Format) -> &'static [u8]
     ensures value { result.now ≡ unknown_line format }
 {

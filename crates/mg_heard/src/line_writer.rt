@@ -114,7 +114,7 @@ impl LineWriter {
         write_entry(self.format, entry, &mut self.line, writer)
     }
 
-    /// Writes a line for the interval that is the answer to a question about a time.
+    /// Writes a line for the interval that is the answer to a question about a given time.
     fn write_interval<W: Write>(
         &mut self,
         interval: &Interval,
@@ -128,7 +128,7 @@ impl LineWriter {
         self.write_entry(&entry, writer)
     }
 
-    /// Writes one line that answers a question about a time.
+    /// Writes one line that answers a question about a given time.
     pub(crate) fn write_verdict<W: Write>(
         &mut self,
         verdict: &Verdict,

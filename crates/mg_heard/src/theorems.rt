@@ -15,7 +15,7 @@ pub fn same_flows_are_equal()
     ensures theorem { (a b : OpenFlow) → (is_same a b ≡ true) ↔ (a ≡ b) }
 {}
 
-/// Every list of events on a gateway has intervals.
+/// For every list of events on a gateway, there is a list of its intervals.
 pub fn intervals_exist(events: &[Event])
     ensures theorem { (config : Config) → (ys : List Interval) × AreIntervals config events.now ys }
 {

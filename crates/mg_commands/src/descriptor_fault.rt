@@ -138,7 +138,7 @@ fn appears_in(source: &[u8], part: &Part, stream: u32, other: &MediaPart) -> boo
     }
 }
 
-/// Returns whether one of these `MediaPart`s repeats `part` in the stream with this number.
+/// Returns whether any of the given `MediaPart`s repeats `part` in the stream with this number.
 fn appears_in_media(source: &[u8], part: &Part, stream: u32, media: &[MediaPart]) -> bool
     ensures value { result ≡ list_any (appears_in source.now part.now stream) media.now }
 {

@@ -179,7 +179,7 @@ const CASES: &[Case<'static>] = &[
     },
 ];
 
-/// Returns the first of these lines that is not in the text.
+/// Returns the first line that the text lacks.
 fn first_missing<'a>(text: &[u8], lines: &'a [&'a [u8]]) -> Option<&'a [u8]> {
     for line in lines {
         if !text.split(|b| *b == b'\n').any(|found| found == *line) {

@@ -258,7 +258,7 @@ fn words_by(letter: u8) -> &'static [Keyword]
     }
 }
 
-/// Returns the first of these keywords that matches the text, in its long or short form, or `None` if none matches.
+/// Returns the first keyword in the list that matches the text, in its long or short form, or `None` if none matches.
 fn word_among(words: &[Keyword], text: &[u8]) -> Option<Keyword>
     ensures value { result ≡ find (is_named text.now) words.now }
 {

@@ -2,3 +2,4 @@ pub mod TitleLemmas
 pub mod InvocationLemmas
 pub mod RequestedRows
 pub mod ControllerLemmas
+pub mod HeardOptionLemmas

@@ -17,6 +17,11 @@ use Rattle.mg_options.specs.Line.{program_line, text_rule}
 use Rattle.mg_options.specs.Numbers.{number_given, number_or, number_rule}
 use Rattle.mg_core.specs.Peer.{peer_of}
 use Rattle.mg_core.specs.declared.shown.Shown.TheVariants.{Sent, SentAndFlows}
+use Rattle.mg_dates.specs.Dates.{date_of_text}
+use Rattle.mg_heard.specs.declared.format.Format.{Format}
+use Rattle.mg_heard.specs.declared.format.Format.TheVariants as formats
+use Rattle.mg_heard.specs.declared.query.Query.{Query}
+use Rattle.mg_heard.specs.Query.{party_name_of}
 use Rattle.mg_engine.specs.declared.config.Config.{Config}
 use Rattle.mg_engine.specs.Config.{standard}
 use Rattle.mg_arguments.specs.declared.address.AddressFault.{AddressFault}
@@ -26,6 +31,7 @@ use Rattle.mg_arguments.specs.declared.draws.Draws.{Draws}
 use Rattle.mg_arguments.specs.declared.given.Given.{Given}
 use Rattle.mg_arguments.specs.declared.invocation.Invocation.{Invocation}
 use Rattle.mg_arguments.specs.declared.invocation.Invocation.TheVariants.{Replay, Serve, Live, Check}
+use Rattle.mg_arguments.specs.declared.invocation.Invocation.TheVariants.{Heard}
 use Rattle.mg_arguments.specs.declared.service.Service.{Service}
 use Rattle.mg_arguments.specs.declared.controller_fault.ControllerFault.{ControllerFault}
 use Rattle.mg_arguments.specs.declared.bind_address_fault.BindAddressFault.{BindAddressFault}
@@ -78,6 +84,16 @@ gateway_rule = record (new_rule (codes "gateway")) { value_names = 1; required =
 abbrev pub check_line : App
 check_line = with_rule (new_app (codes "check")) gateway_rule
 
+-- the argument that names a script
+abbrev pub script_rule : Rule
+script_rule = record (new_rule (codes "file")) { value_names = 1 }
+
+-- the subcommand that says who could hear whom
+abbrev pub heard_line : App
+heard_line = fold with_rule (new_app (codes "heard"))
+    (script_rule ∷ text_rule (codes "listener") ∷ text_rule (codes "talker") ∷ text_rule (codes "at")
+    ∷ text_rule (codes "from") ∷ text_rule (codes "to") ∷ text_rule (codes "format") ∷ [])
+
 -- the subcommand that is driven by a clock
 abbrev pub live_line : App
 live_line =
@@ -87,9 +103,10 @@ live_line =
 -- the command line, with one of the subcommands
 unfoldable pub command_line : App
 command_line =
-    with_subcommand (with_subcommand (with_subcommand (with_subcommand
+    with_subcommand (with_subcommand (with_subcommand (with_subcommand (with_subcommand
     (on_top (λ top. record top { subcommand_required = true }) (program_line (codes "mg_bridge")))
-    replay_line.top) (sockets_line (codes "serve")).top) live_line.top) check_line.top
+    replay_line.top) (sockets_line (codes "serve")).top) live_line.top) check_line.top)
+    heard_line.top
 
 -- ## The values of the options
 
@@ -215,9 +232,51 @@ gateway_in name found = do
   service ← service_in found
   Ok (run_of name (config_at address control found) service found)
 
+-- ## Who could hear whom
+
+abbrev pub valid_value : {A : Type 0} → Option A → Result (Option A) Kinds
+valid_value (Some value) = Ok (Some value)
+valid_value None = Err (ValueValidation ∷ [])
+
+-- what an option names, if it is given
+abbrev pub named_by : {A : Type 0} → (Text → Option A) → Text → List Row → Result (Option A) Kinds
+named_by read name found =
+    option_map_or (λ text. valid_value (read text)) (first_of name found) (Ok None)
+
+abbrev pub format_of : Text → Option Format
+format_of text =
+    if bytes_eq text (codes "text") then Some formats.Text
+    else (if bytes_eq text (codes "csv") then Some formats.Csv
+    else (if bytes_eq text (codes "json") then Some formats.Json else None))
+
+-- which intervals the options ask for
+abbrev pub query_in : List Row → Result Query Kinds
+query_in found = do
+  listener ← named_by party_name_of (codes "listener") found
+  talker ← named_by party_name_of (codes "talker") found
+  from ← named_by date_of_text (codes "from") found
+  until ← named_by date_of_text (codes "to") found
+  Ok (record { listener = listener; talker = talker; from = from; until = until })
+
+-- what is asked about a script
+abbrev pub heard_in : List Row → Result Invocation Kinds
+heard_in found = do
+  query ← query_in found
+  time ← named_by date_of_text (codes "at") found
+  format ← named_by format_of (codes "format") found
+  file ← valid (file_in (codes "file") found)
+  Ok (Heard (record {
+    file = file;
+    format = unwrap_or format formats.Text;
+    query = query;
+    at = time;
+  }))
+
 -- what a subcommand with these options and arguments asks for
 abbrev pub run_in : Text → List Row → Result Invocation Kinds
-run_in name found = if bytes_eq name (codes "check") then check_in found else gateway_in name found
+run_in name found =
+    if bytes_eq name (codes "check") then check_in found
+    else (if bytes_eq name (codes "heard") then heard_in found else gateway_in name found)
 
 -- A run of a subcommand, or none. There is none if the parser reports an error, or if a text isn't
 -- an address of the kind that its option takes.

@@ -23,6 +23,10 @@ abbrev pub title_text : Config → List ℕ
 title_text config =
     codes "mg_bridge replay" ++ flat_map (λ option. codes " --" ++ option) (titled_options config)
 
+-- the first line of a recording or a journal
+abbrev pub title_line : Config → List ℕ
+title_line config = codes "# " ++ (title_text config ++ codes "\n")
+
 -- the title of the output, if it is a recording
 abbrev pub if_recorded : (records : Bool) → List ℕ → Option (List ℕ)
 if_recorded true title = Some title

@@ -18,6 +18,16 @@ impl FilePathFault {
         }
     }
 
+    /// Returns the error text for a script.
+    pub fn script_message(self) -> &'static str {
+        match self {
+            FilePathFault::Empty => "invalid value for '[FILE]': an empty path",
+            FilePathFault::TooLong => {
+                "invalid value for '[FILE]': a path of more than 4000 bytes"
+            }
+        }
+    }
+
     /// Returns the error text for the journal.
     pub fn journal_message(self) -> &'static str {
         match self {

@@ -1,4 +1,5 @@
 use crate::draws::Draws;
+use crate::heard_request::HeardRequest;
 use crate::service::Service;
 use mg_core::{Config, Peer, Shown};
 
@@ -15,4 +16,6 @@ pub enum Invocation {
     Live(Config, Service, Draws, u16),
     /// Check that the gateway with this control port answers.
     Check(Peer),
+    /// Say who could hear whom while a script ran.
+    Heard(HeardRequest),
 }

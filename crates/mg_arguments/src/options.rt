@@ -16,6 +16,7 @@ use crate::draws::Draws;
 use crate::file_path::FilePath;
 use crate::file_path_fault::FilePathFault;
 use crate::given::Given;
+use crate::heard_options::{heard_command, heard_in};
 use crate::invocation::Invocation;
 use crate::service::Service;
 use clap::error::ErrorKind;
@@ -201,7 +202,8 @@ fn command<'a>(alloc: Global) -> Result<Command<'a>, Error>
         .subcommand(replay)?
         .subcommand(serve)?
         .subcommand(live(alloc)?)?
-        .subcommand(check(alloc)?)?;
+        .subcommand(check(alloc)?)?
+        .subcommand(heard_command(alloc)?)?;
     Ok(command)
 }
 
@@ -312,8 +314,11 @@ fn bind_address_of(matches: &ArgMatches<'_>) -> Result<Option<[u8; 4]>, BindAddr
     }
 }
 
-/// Returns the file that an option names, if it is given.
-fn file_of(name: &str, matches: &ArgMatches<'_>) -> Result<Option<FilePath>, FilePathFault>
+/// Returns the file that an option or an argument names, if it is given.
+pub(crate) fn file_of(
+    name: &str,
+    matches: &ArgMatches<'_>,
+) -> Result<Option<FilePath>, FilePathFault>
     ensures value { result ≡ file_in name.now (rows_of (found_of matches.now)) }
 {
     match matches.get_str(name) {
@@ -461,6 +466,8 @@ fn run_in(name: &str, matches: &ArgMatches<'_>) -> Result<Invocation, &'static s
 {
     if name == "check" {
         check_in(matches)
+    } else if name == "heard" {
+        heard_in(matches)
     } else {
         gateway_in(name, matches)
     }

@@ -1,9 +1,11 @@
 -- What a run of the program does; `EndsWith` in `mg_options` says how it ends on its arguments.
-use Rattle.std.specs.Prelude.{◌≡◌, ◌⊎◌, ℕ, List, Option}
+use Rattle.std.specs.Prelude.{◌≡◌, ◌⊎◌, ℕ, List, IsSome, Option}
 use Rattle.mg_options.specs.declared.status.Status.{Status}
 use Rattle.mg_options.specs.declared.status.Status.TheVariants.{Done, Failed, NoAnswer}
 use Rattle.mg_arguments.specs.declared.invocation.Invocation.{Invocation}
 use Rattle.mg_arguments.specs.declared.invocation.Invocation.TheVariants.{Replay, Serve, Live, Check}
+use Rattle.mg_arguments.specs.declared.invocation.Invocation.TheVariants.{Heard}
+use Rattle.mg_hearing.specs.Heard.{Hears, IsHeardFrom}
 use Rattle.mg_program.specs.Replay.{Replays}
 use Rattle.mg_program.specs.Serve.{Serves, ServesByClock}
 
@@ -26,3 +28,6 @@ Runs remaining contents silent input rest old new (Live config service draws lat
     (rest ≡ input) × ServesByClock contents config service draws late old new status
 Runs remaining contents silent input rest old new (Check gateway) status =
     (rest ≡ input) × Checks old new status × (status ≡ Done → silent)
+Runs remaining contents silent input rest old new (Heard request) status =
+    (IsSome request.file → rest ≡ input)
+    × Hears (IsHeardFrom request (remaining input) (contents old) (contents new) status) silent status

@@ -9,6 +9,7 @@ use crate::replay::replay;
 use crate::serve::serve;
 use crate::system::System;
 use mg_arguments::{Invocation, requested_run};
+use mg_hearing::heard;
 use mg_options::{Status, report_error};
 use std::alloc::Global;
 use std::convert::AsStr;
@@ -24,6 +25,9 @@ use std::time::Clock;
 /// gateway that doesn't answer. It is 3 if a read or a write failed, if the clock can't be read, or if the system has
 /// no random numbers. It is 4 if memory ran out, 5 for a port that can't be bound, and 6 for a journal that can't be
 /// used. If the status is nonzero, an error message goes to `errors`. A gateway's periodic reports go to `reports`.
+///
+/// For a question about a given time, 1 means that the talker could not be heard, and 2 that the script doesn't say;
+/// there is no message then.
 pub fn program<
     'a,
     N: Net,
@@ -64,6 +68,9 @@ pub fn program<
             live(
                 system, alloc, config, &service, draws, late, output, errors, reports,
             )
+        }
+        Ok(Invocation::Heard(request)) => {
+            heard(system.files, alloc, &request, input, output, errors)
         }
         Ok(Invocation::Check(gateway)) => check(system.net, system.clock, gateway, output, errors),
         Err(error) => report_error(&error, Status::Failed, output, errors),

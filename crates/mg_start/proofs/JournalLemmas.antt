@@ -15,7 +15,8 @@ use Rattle.mg_journal.specs.declared.durability.Durability.{Durability}
 use Rattle.mg_journal.specs.Journal.{JournalState, Appends, appended}
 use Rattle.mg_journal.specs.Text.{EndsInLineFeed}
 use Rattle.mg_journal.proofs.TextLemmas.{ends_line}
-use Rattle.mg_start.specs.Journal.{Begins, title_before, title_line}
+use Rattle.mg_start.specs.Journal.{Begins, title_before}
+use Rattle.mg_arguments.specs.Title.{title_line}
 use Rattle.mg_arguments.specs.Title.{title_text}
 use Rattle.mg_serve.specs.Journaled.{tick_lines}
 

@@ -1,21 +1,18 @@
 -- What a gateway finds in its journal, and what it appends to it before it starts.
-use Rattle.std.specs.Prelude.{◌≡◌, ◌≢◌, ℕ, false, List, [], ◌++◌, codes, Option, Some, None, IfSome}
+use Rattle.std.specs.Prelude.{◌≡◌, ◌≢◌, ℕ, false, List, [], Option, Some, None, IfSome}
 use Rattle.std.specs.Io.KnownBytes.{append_known}
 use Rattle.mg_dates.specs.declared.timeline.Timeline.{Timeline}
 use Rattle.mg_engine.specs.declared.config.Config.{Config}
 use Rattle.mg_core.specs.declared.state.CoreState.{CoreState}
 use Rattle.mg_core.specs.World.{World, StandsFor, world_after_ticks}
 use Rattle.mg_journal.specs.Journal.{JournalState}
-use Rattle.mg_arguments.specs.Title.{title_text}
+use Rattle.mg_arguments.specs.Title.{title_line}
 use Rattle.mg_serve.specs.Journaled.{tick_lines}
 
 -- Times are kept for a journal if and only if it has lines, as far as its text is known.
 abbrev pub KeepsTimes : Option Timeline → (found : Option (List ℕ)) → Type 0
 KeepsTimes None found = IfSome found (λ text. text ≡ [])
 KeepsTimes (Some timeline) found = IfSome found (λ text. text ≢ [])
-
-abbrev pub title_line : Config → List ℕ
-title_line config = codes "# " ++ (title_text config ++ codes "\n")
 
 -- A new journal, for which no times are known, begins with its title.
 abbrev pub title_before : Option Timeline → Config → List ℕ

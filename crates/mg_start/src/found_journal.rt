@@ -1,7 +1,8 @@
 ghost use Rattle.std.specs.Prelude.{◌≡◌, ◌<◌, ◌≤◌, ◌+◌, ◌++◌, ℕ, length, IfOk, OnOk};
 ghost use Rattle.mg_journal.specs.Journal.{Appends, appended};
 ghost use Rattle.mg_journal.specs.Opening.{text_in};
-ghost use Rattle.mg_start.specs.Journal.{Begins, PassesTicks, title_before, title_line};
+ghost use Rattle.mg_start.specs.Journal.{Begins, PassesTicks, title_before};
+ghost use Rattle.mg_arguments.specs.Title.{title_line};
 ghost use Rattle.mg_serve.specs.Journaled.{tick_lines};
 
 use crate::journal_fault::JournalFault;

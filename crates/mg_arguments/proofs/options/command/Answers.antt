@@ -1,7 +1,7 @@
 use Rattle.std.proofs.Common.{◌≡◌, ◌∙◌, true, ap, refl, codes}
 use Rattle.clap.specs.Words.{Shape}
 use Rattle.clap.specs.Simple.{app_of_fields, on_top}
-use Rattle.mg_arguments.specs.Options.{check_line, command_line, live_line, options, replay_line, sockets_line}
+use Rattle.mg_arguments.specs.Options.{check_line, command_line, heard_line, live_line, options, replay_line, sockets_line}
 use Rattle.mg_options.proofs.CommandLemmas.{adds_subcommand}
 use Rattle.mg_arguments.proofs.options.command.Goals as goal
 
@@ -20,6 +20,9 @@ live_is_plain = refl
 check_is_plain : check_line.top.is_plain ≡ true
 check_is_plain = refl
 
+heard_is_plain : heard_line.top.is_plain ≡ true
+heard_is_plain = refl
+
 pub returns-clause-app : goal.returns-clause-app
 unfolding command_line
 returns-clause-app c =
@@ -30,4 +33,6 @@ returns-clause-app c =
     let serve = adds_subcommand _ _ _ _ _ c.in_ok-subcommand-2.ensures replay c.in_ok-serve.ensures.app serve_is_plain
     in
     let live = adds_subcommand _ _ _ _ _ c.in_ok-subcommand-3.ensures serve c.in_ok-live.ensures.app live_is_plain in
-    adds_subcommand _ _ _ _ _ c.in_ok-command.ensures live c.in_ok-check.ensures.app check_is_plain
+    let check = adds_subcommand _ _ _ _ _ c.in_ok-subcommand-4.ensures live c.in_ok-check.ensures.app check_is_plain
+    in
+    adds_subcommand _ _ _ _ _ c.in_ok-command.ensures check c.in_ok-heard_command.ensures.app heard_is_plain

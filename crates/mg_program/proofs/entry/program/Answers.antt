@@ -1,6 +1,6 @@
 use Rattle.std.proofs.Common.{refl, inl, inr}
 use Rattle.clap.specs.Words.{kind_of}
-use Rattle.mg_program.proofs.entry.program.Goals.{in-Ok-Replay, in-Ok-Serve, in-Ok-Live, in-Ok-Check, in-Err+in-Some-1, in-Err+in-None-1}
+use Rattle.mg_program.proofs.entry.program.Goals.{in-Ok-Replay, in-Ok-Serve, in-Ok-Live, in-Ok-Heard, in-Ok-Check, in-Err+in-Some-1, in-Err+in-None-1}
 use Rattle.mg_program.proofs.entry.program.Goals as goal
 
 pub returns-clause-ends : goal.returns-clause-ends
@@ -32,6 +32,14 @@ returns-clause-ends g c =
           w.in-Ok-Live.ensures.run,
           w.in-Ok-Live.field-0-is,
         ) (inl (refl, w.live-status.ensures.value))
+        | in-Ok-Heard w ↦ rw (
+          w.status-is,
+          w.input-is,
+          w.output-is,
+          w.errors-is,
+          w.in-Ok-Heard.ensures.run,
+          w.in-Ok-Heard.field-0-is,
+        ) (inl (w.heard-status.ensures.unread, w.heard-status.ensures.value))
         | in-Ok-Check w ↦ rw (
           w.status-is,
           w.input-is,

@@ -2,7 +2,7 @@ use Rattle.std.proofs.Common.{◌≡◌, false, is_err, sym, ap, ◌∙◌}
 use Rattle.mg_journal.specs.declared.durability.Durability.TheVariants.{Written, Synced}
 use Rattle.mg_journal.specs.Journal.{JournalState, appended}
 use Rattle.mg_journal.specs.Opening.{text_in}
-use Rattle.mg_start.specs.Journal.{title_line}
+use Rattle.mg_arguments.specs.Title.{title_line}
 use Rattle.mg_serve.specs.Journaled.{tick_lines}
 use Rattle.mg_start.proofs.JournalLemmas.{append_done, ticks_done, new_begins, old_begins}
 use Rattle.mg_start.proofs.found_journal.FoundJournal.begin.Goals.{else-is_new-via-then-is_new+else-is_err, else-is_new-via-else-is_new}

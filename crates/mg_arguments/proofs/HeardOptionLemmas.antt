@@ -1,0 +1,196 @@
+-- What the options of `mg_bridge heard` ask for.
+use Rattle.std.proofs.Common.{◌≡◌, ◌∙◌, ℕ, List, [], ◌∷◌, Option, Some, None, Result, Ok, Err, ap, codes, refl, sym}
+use Rattle.std.specs.Prelude.{unwrap_or}
+use Rattle.std.specs.Option.{option_map_or}
+use Rattle.clap.specs.Walk.{Row, Text, first_of}
+use Rattle.clap.specs.Kinds.{Kinds}
+use Rattle.clap.specs.declared.error.kind.ErrorKind.TheVariants.{ValueValidation}
+use Rattle.mg_words.specs.ResultSteps.{◌>>=◌}
+use Rattle.mg_dates.specs.Dates.{date_of_text}
+use Rattle.mg_dates.specs.declared.date.Date.{Date}
+use Rattle.mg_heard.specs.Query.{party_name_of}
+use Rattle.mg_heard.specs.declared.format.Format.{Format}
+use Rattle.mg_heard.specs.declared.format.Format.TheVariants as formats
+use Rattle.mg_heard.specs.declared.party_name.PartyName.{PartyName}
+use Rattle.mg_heard.specs.declared.query.Query.{Query}
+use Rattle.mg_arguments.specs.declared.file_path_fault.FilePathFault.{FilePathFault}
+use Rattle.mg_arguments.specs.declared.invocation.Invocation.{Invocation}
+use Rattle.mg_arguments.specs.declared.invocation.Invocation.TheVariants.{Heard}
+use Rattle.mg_arguments.specs.Options.{file_in, format_of, heard_in, named_by, query_in, valid, valid_value}
+
+abbrev read_by : {A : Type 0} → (Text → Option A) → Option Text → Result (Option A) Kinds
+read_by read text = option_map_or (λ t. valid_value (read t)) text (Ok None)
+
+-- a text that names a value, one that names none, and no text
+pub named_is : {A : Type 0} (read : Text → Option A) (name : Text) (rows : List Row) (text : Text) (value : A) →
+    Some text ≡ first_of name rows → Some value ≡ read text → named_by read name rows ≡ Ok (Some value)
+named_is read name rows text value named is = sym (ap valid_value is ∙ ap (read_by read) named)
+
+pub named_fails : {A : Type 0} (read : Text → Option A) (name : Text) (rows : List Row) (text : Text) →
+    Some text ≡ first_of name rows → None ≡ read text → named_by read name rows ≡ Err (ValueValidation ∷ [])
+named_fails read name rows text named is = sym (ap valid_value is ∙ ap (read_by read) named)
+
+pub not_named : {A : Type 0} (read : Text → Option A) (name : Text) (rows : List Row) → None ≡ first_of name rows →
+    named_by read name rows ≡ Ok None
+not_named read name rows named = sym (ap (read_by read) named)
+
+-- a step by a value, or by none
+goes_on : {A B : Type 0} (value : A) (read : Result A Kinds) (next : A → Result B Kinds) → read ≡ Ok value →
+    (read >>= next) ≡ next value
+goes_on {A = A} value read next is = ap (λ (r : Result A Kinds). r >>= next) is
+
+ends : {A B : Type 0} (kinds : Kinds) (read : Result A Kinds) (next : A → Result B Kinds) → read ≡ Err kinds →
+    (read >>= next) ≡ Err kinds
+ends {A = A} kinds read next is = ap (λ (r : Result A Kinds). r >>= next) is
+
+-- ## Which intervals
+
+abbrev with_until : (listener talker : Option PartyName) → (from until : Option Date) → Result Query Kinds
+with_until listener talker from until =
+    Ok (record { listener = listener; talker = talker; from = from; until = until })
+
+abbrev with_from : List Row → (listener talker : Option PartyName) → Option Date → Result Query Kinds
+with_from rows listener talker from =
+    named_by date_of_text (codes "to") rows >>= with_until listener talker from
+
+abbrev with_talker : List Row → (listener talker : Option PartyName) → Result Query Kinds
+with_talker rows listener talker =
+    named_by date_of_text (codes "from") rows >>= with_from rows listener talker
+
+abbrev with_listener : List Row → Option PartyName → Result Query Kinds
+with_listener rows listener =
+    named_by party_name_of (codes "talker") rows >>= with_talker rows listener
+
+at_listener : (rows : List Row) (listener : Option PartyName) →
+    named_by party_name_of (codes "listener") rows ≡ Ok listener → query_in rows ≡ with_listener rows listener
+at_listener rows listener is =
+    goes_on listener (named_by party_name_of (codes "listener") rows) (with_listener rows) is
+
+at_talker : (rows : List Row) (listener talker : Option PartyName) →
+    named_by party_name_of (codes "listener") rows ≡ Ok listener →
+    named_by party_name_of (codes "talker") rows ≡ Ok talker → query_in rows ≡ with_talker rows listener talker
+at_talker rows listener talker is heard =
+    at_listener rows listener is ∙
+    goes_on talker (named_by party_name_of (codes "talker") rows) (with_talker rows listener) heard
+
+at_from : (rows : List Row) (listener talker : Option PartyName) (from : Option Date) →
+    named_by party_name_of (codes "listener") rows ≡ Ok listener →
+    named_by party_name_of (codes "talker") rows ≡ Ok talker →
+    named_by date_of_text (codes "from") rows ≡ Ok from → query_in rows ≡ with_from rows listener talker from
+at_from rows listener talker from is heard begins =
+    at_talker rows listener talker is heard ∙
+    goes_on from (named_by date_of_text (codes "from") rows) (with_from rows listener talker) begins
+
+pub query_is : (rows : List Row) (listener talker : Option PartyName) (from until : Option Date) →
+    named_by party_name_of (codes "listener") rows ≡ Ok listener →
+    named_by party_name_of (codes "talker") rows ≡ Ok talker →
+    named_by date_of_text (codes "from") rows ≡ Ok from → named_by date_of_text (codes "to") rows ≡ Ok until →
+    query_in rows ≡ with_until listener talker from until
+query_is rows listener talker from until is heard begins lasts =
+    at_from rows listener talker from is heard begins ∙
+    goes_on until (named_by date_of_text (codes "to") rows) (with_until listener talker from) lasts
+
+pub refuses_listener : (rows : List Row) →
+    named_by party_name_of (codes "listener") rows ≡ Err (ValueValidation ∷ []) →
+    query_in rows ≡ Err (ValueValidation ∷ [])
+refuses_listener rows none =
+    ends (ValueValidation ∷ []) (named_by party_name_of (codes "listener") rows) (with_listener rows) none
+
+pub refuses_talker : (rows : List Row) (listener : Option PartyName) →
+    named_by party_name_of (codes "listener") rows ≡ Ok listener →
+    named_by party_name_of (codes "talker") rows ≡ Err (ValueValidation ∷ []) →
+    query_in rows ≡ Err (ValueValidation ∷ [])
+refuses_talker rows listener is none =
+    at_listener rows listener is ∙
+    ends (ValueValidation ∷ []) (named_by party_name_of (codes "talker") rows) (with_talker rows listener) none
+
+pub refuses_from : (rows : List Row) (listener talker : Option PartyName) →
+    named_by party_name_of (codes "listener") rows ≡ Ok listener →
+    named_by party_name_of (codes "talker") rows ≡ Ok talker →
+    named_by date_of_text (codes "from") rows ≡ Err (ValueValidation ∷ []) →
+    query_in rows ≡ Err (ValueValidation ∷ [])
+refuses_from rows listener talker is heard none =
+    at_talker rows listener talker is heard ∙
+    ends (ValueValidation ∷ []) (named_by date_of_text (codes "from") rows) (with_from rows listener talker) none
+
+pub refuses_until : (rows : List Row) (listener talker : Option PartyName) (from : Option Date) →
+    named_by party_name_of (codes "listener") rows ≡ Ok listener →
+    named_by party_name_of (codes "talker") rows ≡ Ok talker →
+    named_by date_of_text (codes "from") rows ≡ Ok from →
+    named_by date_of_text (codes "to") rows ≡ Err (ValueValidation ∷ []) →
+    query_in rows ≡ Err (ValueValidation ∷ [])
+refuses_until rows listener talker from is heard begins none =
+    at_from rows listener talker from is heard begins ∙
+    ends (ValueValidation ∷ []) (named_by date_of_text (codes "to") rows) (with_until listener talker from) none
+
+-- ## What is asked
+
+abbrev with_file : Query → Option Date → Option Format → Option Text → Result Invocation Kinds
+with_file query time format file = Ok (Heard (record {
+  file = file;
+  format = unwrap_or format formats.Text;
+  query = query;
+  at = time;
+}))
+
+abbrev with_format : List Row → Query → Option Date → Option Format → Result Invocation Kinds
+with_format rows query time format = valid (file_in (codes "file") rows) >>= with_file query time format
+
+abbrev with_time : List Row → Query → Option Date → Result Invocation Kinds
+with_time rows query time = named_by format_of (codes "format") rows >>= with_format rows query time
+
+abbrev with_query : List Row → Query → Result Invocation Kinds
+with_query rows query = named_by date_of_text (codes "at") rows >>= with_time rows query
+
+at_query : (rows : List Row) (query : Query) → query_in rows ≡ Ok query → heard_in rows ≡ with_query rows query
+at_query rows query is = goes_on query (query_in rows) (with_query rows) is
+
+at_time : (rows : List Row) (query : Query) (time : Option Date) → query_in rows ≡ Ok query →
+    named_by date_of_text (codes "at") rows ≡ Ok time → heard_in rows ≡ with_time rows query time
+at_time rows query time is timed =
+    at_query rows query is ∙
+    goes_on time (named_by date_of_text (codes "at") rows) (with_time rows query) timed
+
+at_format : (rows : List Row) (query : Query) (time : Option Date) (format : Option Format) →
+    query_in rows ≡ Ok query → named_by date_of_text (codes "at") rows ≡ Ok time →
+    named_by format_of (codes "format") rows ≡ Ok format → heard_in rows ≡ with_format rows query time format
+at_format rows query time format is timed formed =
+    at_time rows query time is timed ∙
+    goes_on format (named_by format_of (codes "format") rows) (with_format rows query time) formed
+
+pub heard_is : (rows : List Row) (query : Query) (time : Option Date) (format : Option Format) (file : Option Text) →
+    query_in rows ≡ Ok query → named_by date_of_text (codes "at") rows ≡ Ok time →
+    named_by format_of (codes "format") rows ≡ Ok format → Ok file ≡ file_in (codes "file") rows →
+    heard_in rows ≡ with_file query time format file
+heard_is rows query time format file is timed formed named =
+    at_format rows query time format is timed formed ∙
+    goes_on file (valid (file_in (codes "file") rows)) (with_file query time format)
+    (ap (λ (r : Result (Option Text) FilePathFault). valid r) (sym named))
+
+pub refuses_query : (rows : List Row) → query_in rows ≡ Err (ValueValidation ∷ []) →
+    heard_in rows ≡ Err (ValueValidation ∷ [])
+refuses_query rows none = ends (ValueValidation ∷ []) (query_in rows) (with_query rows) none
+
+pub refuses_time : (rows : List Row) (query : Query) → query_in rows ≡ Ok query →
+    named_by date_of_text (codes "at") rows ≡ Err (ValueValidation ∷ []) →
+    heard_in rows ≡ Err (ValueValidation ∷ [])
+refuses_time rows query is none =
+    at_query rows query is ∙
+    ends (ValueValidation ∷ []) (named_by date_of_text (codes "at") rows) (with_time rows query) none
+
+pub refuses_format : (rows : List Row) (query : Query) (time : Option Date) → query_in rows ≡ Ok query →
+    named_by date_of_text (codes "at") rows ≡ Ok time →
+    named_by format_of (codes "format") rows ≡ Err (ValueValidation ∷ []) →
+    heard_in rows ≡ Err (ValueValidation ∷ [])
+refuses_format rows query time is timed none =
+    at_time rows query time is timed ∙
+    ends (ValueValidation ∷ []) (named_by format_of (codes "format") rows) (with_format rows query time) none
+
+pub refuses_file : (rows : List Row) (query : Query) (time : Option Date) (format : Option Format)
+    (fault : FilePathFault) → query_in rows ≡ Ok query → named_by date_of_text (codes "at") rows ≡ Ok time →
+    named_by format_of (codes "format") rows ≡ Ok format → Err fault ≡ file_in (codes "file") rows →
+    heard_in rows ≡ Err (ValueValidation ∷ [])
+refuses_file rows query time format fault is timed formed none =
+    at_format rows query time format is timed formed ∙
+    ends (ValueValidation ∷ []) (valid (file_in (codes "file") rows)) (with_file query time format)
+    (ap (λ (r : Result (Option Text) FilePathFault). valid r) (sym none))

@@ -1,0 +1,175 @@
+//! The options of `mg_bridge heard`.
+
+ghost use Rattle.std.specs.Prelude.{◌≡◌, ◌∷◌, [], Err, IfErr, IfOk, Ok, codes};
+ghost use Rattle.clap.specs.declared.error.kind.ErrorKind.TheVariants.{ValueValidation};
+ghost use Rattle.clap.specs.Words.{app_of, found_of, kind_of, rows_of, rule_of};
+ghost use Rattle.mg_dates.specs.Dates.{date_of_text};
+ghost use Rattle.mg_heard.specs.Query.{party_name_of};
+ghost use Rattle.mg_options.specs.Line.{text_rule};
+ghost use Rattle.mg_arguments.specs.Options.{format_of, heard_in, heard_line, named_by, query_in, script_rule};
+
+use crate::heard_request::HeardRequest;
+use crate::invocation::Invocation;
+use crate::options::file_of;
+use clap::error::ErrorKind;
+use clap::{Arg, ArgMatches, Command, Error};
+use mg_dates::Date;
+use mg_heard::{Format, PartyName, Query};
+use std::alloc::Global;
+
+const NO_LISTENER: &str =
+    "invalid value for '--listener <NAME>': not RTP/1, an IPv4 address, or an IPv4 address and a port";
+
+const NO_TALKER: &str =
+    "invalid value for '--talker <NAME>': not RTP/1, an IPv4 address, or an IPv4 address and a port";
+
+const NO_TIME: &str = "invalid value for '--at <TIME>': not a time such as 2026-11-27T14:03:20Z";
+
+const NO_FROM: &str = "invalid value for '--from <TIME>': not a time such as 2026-11-27T14:03:20Z";
+
+const NO_TO: &str = "invalid value for '--to <TIME>': not a time such as 2026-11-27T14:03:20Z";
+
+const NO_FORMAT: &str = "invalid value for '--format <FORMAT>': not text, csv or json";
+
+/// Creates an option that takes a text.
+fn option<'a>(alloc: Global, name: &'a str, value: &'a str) -> Arg<'a>
+    ensures rule { rule_of result ≡ text_rule name.now }
+{
+    Arg::new(alloc, name).long(name).value_name(value)
+}
+
+/// Creates the argument that names a script.
+fn script_argument<'a>(alloc: Global) -> Arg<'a>
+    ensures rule { rule_of result ≡ script_rule }
+{
+    Arg::new(alloc, "file")
+        .value_name("FILE")
+        .help("Journal or recording [default: standard input]")
+}
+
+/// Creates the subcommand that says who could hear whom.
+pub(crate) fn heard_command<'a>(alloc: Global) -> Result<Command<'a>, Error>
+    ensures app { IfOk result (λ command. app_of command ≡ heard_line) }
+    ensures memory { IfErr result (λ error. kind_of error ≡ ErrorKind.OutOfMemory) }
+{
+    let command = Command::new(alloc, "heard")
+        .about("Say who could hear whom, and when, from a journal or a recording")
+        .arg(script_argument(alloc))?
+        .arg(option(alloc, "listener", "NAME").help(
+            "Only this listener: RTP/1, or the IPv4 address of its Remote, with or without the port",
+        ))?
+        .arg(option(alloc, "talker", "NAME").help("Only this talker"))?
+        .arg(option(alloc, "at", "TIME").help(
+            "Only at this time; exit with 0 if the talker could be heard, 1 if not, 2 if FILE doesn't say",
+        ))?
+        .arg(option(alloc, "from", "TIME").help("Only what ended after this time"))?
+        .arg(option(alloc, "to", "TIME").help("Only what began before this time"))?
+        .arg(option(alloc, "format", "FORMAT").help("text, csv or json [default: text]"))?;
+    Ok(command)
+}
+
+/// Returns the termination that an option names, if it is given, or the error message.
+fn name_of(
+    name: &str,
+    message: &'static str,
+    matches: &ArgMatches<'_>,
+) -> Result<Option<PartyName>, &'static str>
+    ensures value { IfOk result (λ party. named_by party_name_of name.now (rows_of (found_of matches.now)) ≡ Ok party) }
+    ensures refused { IfErr result (λ _. named_by party_name_of name.now (rows_of (found_of matches.now)) ≡
+        Err (ValueValidation ∷ [])) }
+{
+    let Some(text) = matches.get_str(name) else {
+        return Ok(None);
+    };
+    match PartyName::of(text.as_bytes()) {
+        Some(party) => Ok(Some(party)),
+        None => Err(message),
+    }
+}
+
+/// Returns the time that an option names, if it is given, or the error message.
+fn time_of(
+    name: &str,
+    message: &'static str,
+    matches: &ArgMatches<'_>,
+) -> Result<Option<Date>, &'static str>
+    ensures value { IfOk result (λ time. named_by date_of_text name.now (rows_of (found_of matches.now)) ≡ Ok time) }
+    ensures refused { IfErr result (λ _. named_by date_of_text name.now (rows_of (found_of matches.now)) ≡
+        Err (ValueValidation ∷ [])) }
+{
+    let Some(text) = matches.get_str(name) else {
+        return Ok(None);
+    };
+    match Date::of_text(text) {
+        Some(date) => Ok(Some(date)),
+        None => Err(message),
+    }
+}
+
+/// Returns the format with this name.
+fn format_of(text: &str) -> Option<Format>
+    ensures value { result ≡ format_of text.now }
+{
+    if text == "text" {
+        Some(Format::Text)
+    } else if text == "csv" {
+        Some(Format::Csv)
+    } else if text == "json" {
+        Some(Format::Json)
+    } else {
+        None
+    }
+}
+
+/// Returns the format that an option names, if it is given, or the error message.
+fn given_format(matches: &ArgMatches<'_>) -> Result<Option<Format>, &'static str>
+    ensures value { IfOk result (λ format. named_by format_of (codes "format") (rows_of (found_of matches.now)) ≡
+        Ok format) }
+    ensures refused { IfErr result (λ _. named_by format_of (codes "format") (rows_of (found_of matches.now)) ≡
+        Err (ValueValidation ∷ [])) }
+{
+    let Some(text) = matches.get_str("format") else {
+        return Ok(None);
+    };
+    match format_of(text) {
+        Some(format) => Ok(Some(format)),
+        None => Err(NO_FORMAT),
+    }
+}
+
+/// Returns which intervals the options ask for, or the error message.
+fn query_in(matches: &ArgMatches<'_>) -> Result<Query, &'static str>
+    ensures query { IfOk result (λ query. query_in (rows_of (found_of matches.now)) ≡ Ok query) }
+    ensures refused { IfErr result (λ _. query_in (rows_of (found_of matches.now)) ≡ Err (ValueValidation ∷ [])) }
+{
+    let listener = name_of("listener", NO_LISTENER, matches)?;
+    let talker = name_of("talker", NO_TALKER, matches)?;
+    let from = time_of("from", NO_FROM, matches)?;
+    let until = time_of("to", NO_TO, matches)?;
+    Ok(Query {
+        listener,
+        talker,
+        from,
+        until,
+    })
+}
+
+/// Returns the question that the options ask about a script, or the error message.
+pub(crate) fn heard_in(matches: &ArgMatches<'_>) -> Result<Invocation, &'static str>
+    ensures run { IfOk result (λ run. heard_in (rows_of (found_of matches.now)) ≡ Ok run) }
+    ensures refused { IfErr result (λ _. heard_in (rows_of (found_of matches.now)) ≡ Err (ValueValidation ∷ [])) }
+{
+    let query = query_in(matches)?;
+    let at = time_of("at", NO_TIME, matches)?;
+    let format = given_format(matches)?;
+    let file = match file_of("file", matches) {
+        Ok(file) => file,
+        Err(fault) => return Err(fault.script_message()),
+    };
+    Ok(Invocation::Heard(HeardRequest {
+        file,
+        format: format.unwrap_or(Format::Text),
+        query,
+        at,
+    }))
+}

@@ -1,0 +1,173 @@
+-- Reading the first line of a script, and then the script; and what an exit status answers.
+use Rattle.std.proofs.Common.{◌≡◌, ◌⊎◌, ◌∙◌, ℕ, true, List, ◌++◌, Option, Some, None, ap, append_assoc, codes, inl, inr, refl, subst, sym}
+use Rattle.std.proofs.Math.Seq.{take-append_seam}
+use Rattle.std.specs.Prelude.{IfSome}
+use Rattle.std.specs.Io.{StartsWith}
+use Rattle.std.specs.Io.KnownBytes.{Consumes, IsAtEnd}
+use Rattle.std.specs.Fmt.{option_append}
+use Rattle.mg_engine.specs.declared.config.Config.{Config}
+use Rattle.mg_core.specs.declared.state.CoreState.{CoreState}
+use Rattle.mg_core.specs.Follow.{IsFollowed}
+use Rattle.mg_core.specs.Note.{Note}
+use Rattle.mg_core.specs.Run.{HasRead}
+use Rattle.mg_dates.specs.declared.date.Date.{Date}
+use Rattle.mg_heard.specs.declared.entry.Entry.{Entry}
+use Rattle.mg_heard.specs.declared.extent.Extent.{Extent}
+use Rattle.mg_heard.specs.declared.verdict.Verdict.{Verdict}
+use Rattle.mg_heard.specs.declared.verdict.Verdict.TheVariants.{CouldHear}
+use Rattle.mg_heard.specs.declared.verdict.Verdict.TheVariants as verdicts
+use Rattle.mg_heard.specs.Reported.{WritesReport, WritesVerdict}
+use Rattle.mg_heard.specs.Told.{TellsAll}
+use Rattle.mg_heard.specs.Verdict.{verdict_at}
+use Rattle.mg_options.specs.declared.status.Status.{Status}
+use Rattle.mg_options.specs.declared.status.Status.TheVariants.{Done, CouldNotHear, Unknown}
+use Rattle.mg_options.specs.declared.status.Status.TheVariants.{Failed, NoMemory, BadJournal}
+use Rattle.mg_arguments.specs.declared.heard_request.HeardRequest.{HeardRequest}
+use Rattle.mg_hearing.specs.Heard.{Hears, IsHeard, Prints, status_for}
+use Rattle.mg_arguments.specs.Title.{title_line}
+use Rattle.mg_arguments.specs.Title.{title_text}
+
+-- ## The first line
+
+consumed_all : (old mid rest : Option (List ℕ)) (front script : List ℕ) → Consumes old mid front →
+    Consumes (option_append (Some front) mid) rest script → Consumes old rest script
+consumed_all None mid rest front script first all = tt
+consumed_all (Some xs) None rest front script first all = absurd first
+consumed_all (Some xs) (Some ys) rest front script first all =
+    subst (λ (l : List ℕ). Consumes (Some l) rest script) (sym first) all
+
+pub read_all : (old mid rest : Option (List ℕ)) (front script : List ℕ) → Consumes old mid front →
+    HasRead (option_append (Some front) mid) rest script true → HasRead old rest script true
+read_all old mid rest front script first h = record {
+  consumed = consumed_all old mid rest front script first h.consumed;
+  at_end = h.at_end;
+}
+
+starts : (front ys : List ℕ) → StartsWith (front ++ ys) front
+starts front ys = take-append_seam front ys
+
+titled : (old mid : Option (List ℕ)) (front title : List ℕ) → Consumes old mid front → front ≡ title →
+    IfSome old (λ text. StartsWith text title)
+titled None mid front title first is = tt
+titled (Some xs) None front title first is = absurd first
+titled (Some xs) (Some ys) front title first is =
+    subst (λ (l : List ℕ). StartsWith xs l) is
+    (subst (λ (l : List ℕ). StartsWith l front) (sym first) (starts front ys))
+
+-- a line that is a title between its mark and its line feed
+pub title_is : (line text title : List ℕ) (found : Option Config) → line ≡ text ++ codes "\n" →
+    text ≡ codes "# " ++ title → IfSome found (λ config. title ≡ title_text config) →
+    IfSome found (λ config. line ≡ title_line config)
+title_is line text title None fed marked is = tt
+title_is line text title (Some config) fed marked is =
+    fed ∙ ap (λ (l : List ℕ). l ++ codes "\n") (marked ∙ ap (λ (l : List ℕ). codes "# " ++ l) is)
+    ∙ append_assoc (codes "# ") (title_text config) (codes "\n")
+
+-- ## The answer
+
+abbrev pub IsAnswer : Status → Type 0
+IsAnswer status = (status ≡ Done) ⊎ (status ≡ CouldNotHear) ⊎ (status ≡ Unknown)
+
+answers_by : (verdict : Verdict) → IsAnswer (status_for verdict)
+answers_by (CouldHear x) = inl refl
+answers_by verdicts.CouldNotHear = inr (inl refl)
+answers_by verdicts.Unknown = inr (inr refl)
+
+answers : (request : HeardRequest) (time : Option Date) (old new : Option (List ℕ)) (status : Status)
+    (xs : List Entry) → Prints request time old new status xs → IsAnswer status
+answers request None old new status xs h = inl h.1
+answers request (Some time) old new status xs (extent, line, is) =
+    subst IsAnswer (sym is) (answers_by (verdict_at request.query time extent xs))
+
+hears_of : (heard silent : Type 0) (status : Status) → IsAnswer status → heard × silent → Hears heard silent status
+hears_of heard silent status (inl is) h = subst (λ (s : Status). Hears heard silent s) (sym is) h
+hears_of heard silent status (inr (inl is)) h = subst (λ (s : Status). Hears heard silent s) (sym is) h
+hears_of heard silent status (inr (inr is)) h = subst (λ (s : Status). Hears heard silent s) (sym is) h
+
+-- ## What is printed
+
+prints_more : (config : Config) (input rest : Option (List ℕ)) (state : CoreState) (P Q : List Entry → Type 0) →
+    ((xs : List Entry) → P xs → Q xs) → IsFollowed config input rest state (λ notes. TellsAll config notes P) →
+    IsFollowed config input rest state (λ notes. TellsAll config notes Q)
+prints_more config input rest state P Q more h = record {
+  script = h.script;
+  read = h.read;
+  notes = h.notes;
+  are = h.are;
+  run = h.run;
+  follows = record {
+    xs = h.follows.xs;
+    are = h.follows.are;
+    flow = h.follows.flow;
+    told = more h.follows.xs h.follows.told;
+  };
+}
+
+-- the line of the answer about a given time
+pub prints_answer : (request : HeardRequest) (at : Option Date) (time : Date) (config : Config)
+    (input rest old new : Option (List ℕ)) (verdict : Verdict) (status : Status) → at ≡ Some time →
+    WritesVerdict request.format verdict old new → status ≡ status_for verdict →
+    ((state : CoreState) × (extent : Extent) × IsFollowed config input rest state
+    (λ notes. TellsAll config notes (λ xs. verdict ≡ verdict_at request.query time extent xs))) →
+    (state : CoreState) × IsFollowed config input rest state
+    (λ notes. TellsAll config notes (Prints request at old new status))
+prints_answer request at time config input rest old new verdict status asked written is (state, extent, h) = (
+  state,
+  prints_more config input rest state (λ xs. verdict ≡ verdict_at request.query time extent xs)
+      (Prints request at old new status)
+      (λ (xs : List Entry) (e : verdict ≡ verdict_at request.query time extent xs).
+      subst (λ (t : Option Date). Prints request t old new status xs) (sym asked) (
+        extent,
+        subst (λ (v : Verdict). WritesVerdict request.format v old new) e written,
+        is ∙ ap (λ (v : Verdict). status_for v) e,
+      )) h,
+)
+
+-- a line for each interval and each gap
+pub prints_report : (request : HeardRequest) (at : Option Date) (config : Config)
+    (input rest old new : Option (List ℕ)) (status : Status) → at ≡ None → status ≡ Done →
+    ((state : CoreState) × IsFollowed config input rest state
+    (λ notes. TellsAll config notes (WritesReport request.format request.query old new))) →
+    (state : CoreState) × IsFollowed config input rest state
+    (λ notes. TellsAll config notes (Prints request at old new status))
+prints_report request at config input rest old new status asked is (state, h) = (
+  state,
+  prints_more config input rest state (WritesReport request.format request.query old new)
+      (Prints request at old new status)
+      (λ (xs : List Entry) (written : WritesReport request.format request.query old new xs).
+      subst (λ (t : Option Date). Prints request t old new status xs) (sym asked) (written, is)) h,
+)
+
+-- a script with its first line in front
+pub is_heard : (request : HeardRequest) (config : Config) (old mid : Option (List ℕ)) (front : List ℕ)
+    (held written : Option (List ℕ)) (status : Status) → Consumes old mid front → front ≡ title_line config →
+    ((rest : Option (List ℕ)) × (state : CoreState) × IsFollowed config (option_append (Some front) mid) rest state
+    (λ notes. TellsAll config notes (Prints request request.at held written status))) →
+    IsHeard request old held written status
+is_heard request config old mid front held written status first is (rest, state, h) = record {
+  config = config;
+  titled = titled old mid front (title_line config) first is;
+  rest = rest;
+  state = state;
+  prints = record {
+    script = h.script;
+    read = read_all old mid rest front h.script first h.read;
+    notes = h.notes;
+    are = h.are;
+    run = h.run;
+    follows = h.follows;
+  };
+}
+
+pub hears : (request : HeardRequest) (script old new : Option (List ℕ)) (silent : Type 0) (status : Status) →
+    IsHeard request script old new status → silent → Hears (IsHeard request script old new status) silent status
+hears request script old new silent status h quiet =
+    hears_of (IsHeard request script old new status) silent status
+    (answers request request.at old new status h.prints.follows.xs h.prints.follows.told) (h, quiet)
+
+-- a fault is no answer, and nothing is promised
+pub hears_fault : (heard silent : Type 0) (status : Status) →
+    (status ≡ Failed) ⊎ (status ≡ NoMemory) ⊎ (status ≡ BadJournal) → Hears heard silent status
+hears_fault heard silent status (inl is) = subst (λ (s : Status). Hears heard silent s) (sym is) tt
+hears_fault heard silent status (inr (inl is)) = subst (λ (s : Status). Hears heard silent s) (sym is) tt
+hears_fault heard silent status (inr (inr is)) = subst (λ (s : Status). Hears heard silent s) (sym is) tt

@@ -1,0 +1,66 @@
+-- What `mg_bridge heard` prints, and what its exit status answers.
+use Rattle.std.specs.Prelude.{◌≡◌, ℕ, ⊤, List, Option, Some, None, IfSome}
+use Rattle.std.specs.Io.{StartsWith}
+use Rattle.mg_engine.specs.declared.config.Config.{Config}
+use Rattle.mg_core.specs.declared.state.CoreState.{CoreState}
+use Rattle.mg_core.specs.Follow.{IsFollowed}
+use Rattle.mg_dates.specs.declared.date.Date.{Date}
+use Rattle.mg_heard.specs.declared.entry.Entry.{Entry}
+use Rattle.mg_heard.specs.declared.extent.Extent.{Extent}
+use Rattle.mg_heard.specs.declared.verdict.Verdict.{Verdict}
+use Rattle.mg_heard.specs.declared.verdict.Verdict.TheVariants.{CouldHear}
+use Rattle.mg_heard.specs.declared.verdict.Verdict.TheVariants as verdicts
+use Rattle.mg_heard.specs.Reported.{WritesReport, WritesVerdict}
+use Rattle.mg_heard.specs.Told.{TellsAll}
+use Rattle.mg_heard.specs.Verdict.{verdict_at}
+use Rattle.mg_options.specs.declared.status.Status.{Status}
+use Rattle.mg_options.specs.declared.status.Status.TheVariants.{Done, CouldNotHear, Unknown}
+use Rattle.mg_options.specs.declared.status.Status.TheVariants.{Failed, NoMemory, BadJournal}
+use Rattle.mg_arguments.specs.declared.heard_request.HeardRequest.{HeardRequest}
+use Rattle.mg_arguments.specs.Title.{title_line}
+
+-- the exit status that answers a question about a given time
+abbrev pub status_for : Verdict → Status
+status_for (CouldHear x) = Done
+status_for verdicts.CouldNotHear = CouldNotHear
+status_for verdicts.Unknown = Unknown
+
+-- What is printed about the intervals and gaps of a script. Without a time, it is a line for each
+-- that is asked for. With one, it is the line of the answer that follows from them, and the status
+-- answers too. (No contract says that gaps, dates and the extent are those of the script.)
+abbrev pub Prints : HeardRequest → Option Date → (old new : Option (List ℕ)) → Status → List Entry
+    → Type 0
+Prints request None old new status xs =
+    WritesReport request.format request.query old new xs × (status ≡ Done)
+Prints request (Some time) old new status xs =
+    (extent : Extent)
+    × WritesVerdict request.format (verdict_at request.query time extent xs) old new
+    × (status ≡ status_for (verdict_at request.query time extent xs))
+
+-- A script was read to its end. It begins with the title of the configuration with which it is run,
+-- and what is printed is about all its intervals.
+pub record IsHeard (request : HeardRequest) (script old new : Option (List ℕ)) (status : Status)
+    : Type 0 where
+  pub config : Config
+  pub titled : IfSome script (λ text. StartsWith text (title_line config))
+  pub rest : Option (List ℕ)
+  pub state : CoreState
+  pub prints : IsFollowed config script rest state
+      (λ notes. TellsAll config notes (Prints request request.at old new status))
+
+-- Without a file, the script is the input. (No contract says what a file contains.)
+abbrev pub IsHeardFrom : HeardRequest → (input old new : Option (List ℕ)) → Status → Type 0
+IsHeardFrom request input old new status =
+    (script : Option (List ℕ)) × (request.file ≡ None → script ≡ input)
+    × IsHeard request script old new status
+
+-- What is true after a run, given its status. The statuses of answers aren't those of faults: a
+-- read or a write failed, memory ran out, or the script can't be used.
+abbrev pub Hears : (heard silent : Type 0) → Status → Type 0
+Hears heard silent Done = heard × silent
+Hears heard silent CouldNotHear = heard × silent
+Hears heard silent Unknown = heard × silent
+Hears heard silent Failed = ⊤
+Hears heard silent NoMemory = ⊤
+Hears heard silent BadJournal = ⊤
+Hears heard silent status = ⊥

@@ -1,0 +1,141 @@
+ghost use Rattle.std.specs.Prelude.{◌≡◌, ◌⊎◌, IfOk, IfSome, IsSome, Option, List, ℕ};
+ghost use Rattle.mg_core.specs.Follow.{IsFollowed};
+ghost use Rattle.mg_core.specs.declared.state.CoreState.{CoreState};
+ghost use Rattle.mg_heard.specs.Told.{TellsAll};
+ghost use Rattle.mg_hearing.specs.Heard.{Hears, IsHeard, IsHeardFrom, Prints, status_for};
+ghost use Rattle.mg_arguments.specs.Title.{title_line};
+
+use crate::first_line::first_line;
+use mg_arguments::{HeardRequest, titled};
+use mg_core::{Config, RunFault};
+use mg_heard::{HeardFault, Verdict, write_answer, write_report};
+use mg_options::Status;
+use std::alloc::Global;
+use std::fs::{Files, OpenOptions};
+use std::io::{Read, Write};
+
+/// The name of standard input in messages.
+const INPUT: &str = "standard input";
+
+/// Returns the exit status after a fault.
+fn status_of(fault: HeardFault) -> Status
+    ensures ends { (result ≡ Status.Failed) ⊎ (result ≡ Status.NoMemory) ⊎ (result ≡ Status.BadJournal) }
+{
+    match fault {
+        HeardFault::Run(RunFault::Read) => Status::Failed,
+        HeardFault::Run(RunFault::NoMemory) => Status::NoMemory,
+        HeardFault::Run(_) => Status::BadJournal,
+        HeardFault::Clock(_) => Status::BadJournal,
+        HeardFault::Stopped => Status::Failed,
+        HeardFault::NoMemory => Status::NoMemory,
+    }
+}
+
+/// Returns the exit status that answers a question about a given time.
+fn status_for(verdict: &Verdict) -> Status
+    ensures value { result ≡ status_for verdict.now }
+{
+    match verdict {
+        Verdict::CouldHear(_) => Status::Done,
+        Verdict::CouldNotHear => Status::CouldNotHear,
+        Verdict::Unknown => Status::Unknown,
+    }
+}
+
+/// Prints what a request asks about a script with this configuration. Returns the exit status.
+fn print_heard<R: Read, W: Write>(
+    alloc: Global,
+    config: Config,
+    request: &HeardRequest,
+    reader: &mut R,
+    output: &mut W,
+) -> Result<Status, HeardFault>
+    ensures value { IfOk result (λ status. (state : CoreState) ×
+        IsFollowed config (R.remaining reader.old) (R.remaining reader.new) state
+        (λ notes. TellsAll config notes
+        (Prints request.now request.now.at (W.contents output.old) (W.contents output.new) status))) }
+{
+    let (format, query) = (request.format, request.query);
+    match request.at {
+        Some(time) => {
+            let verdict = write_answer(alloc, config, reader, format, query, time, output)?;
+            Ok(status_for(&verdict))
+        }
+        None => {
+            write_report(alloc, config, reader, format, query, output)?;
+            Ok(Status::Done)
+        }
+    }
+}
+
+/// Returns the configuration in the title on a script's first line, if the line is one.
+fn config_in(alloc: Global, line: &[u8]) -> Option<Config>
+    ensures value { IfSome result (λ config. line.now ≡ title_line config) }
+{
+    let text = line.strip_suffix(b"\n".as_slice())?;
+    let title = text.strip_prefix(b"# ".as_slice())?;
+    titled(alloc, title)
+}
+
+/// Prints what a request asks about the script with this name. A fault is reported to `errors`.
+fn hear_script<R: Read, W: Write, E: Write>(
+    alloc: Global,
+    name: &str,
+    request: &HeardRequest,
+    reader: &mut R,
+    output: &mut W,
+    errors: &mut E,
+) -> Status
+    ensures value { Hears (IsHeard request.now (R.remaining reader.old) (W.contents output.old) (W.contents output.new)
+        result) (errors.new ≡ errors.old) result }
+{
+    let line = match first_line(reader) {
+        Ok(line) => line,
+        Err(error) => {
+            let _ = writeln!(errors, "{name}: cannot be read: {error}");
+            return Status::Failed;
+        }
+    };
+    let Some(config) = config_in(alloc, line.as_slice()) else {
+        let _ = writeln!(
+            errors,
+            "{name}: line 1 isn't the title of a journal or a recording"
+        );
+        return Status::BadJournal;
+    };
+    let mut script = line.as_slice().chain(reader);
+    match print_heard(alloc, config, request, &mut script, output) {
+        Ok(status) => status,
+        Err(fault) => {
+            let _ = writeln!(errors, "{name}: {fault}");
+            status_of(fault)
+        }
+    }
+}
+
+/// Prints who could hear whom while a script ran, or answers a question about a given time. Returns the exit status. A
+/// fault is reported to `errors`.
+pub fn heard<F: Files, R: Read, W: Write, E: Write>(
+    files: &F,
+    alloc: Global,
+    request: &HeardRequest,
+    input: &mut R,
+    output: &mut W,
+    errors: &mut E,
+) -> Status
+    ensures value { Hears (IsHeardFrom request.now (R.remaining input.old) (W.contents output.old)
+        (W.contents output.new) result) (errors.new ≡ errors.old) result }
+    ensures unread { IsSome request.now.file → input.new ≡ input.old }
+{
+    let Some(path) = &request.file else {
+        return hear_script(alloc, INPUT, request, input, output, errors);
+    };
+    let name = path.as_str();
+    match OpenOptions::new().read(true).open(files, name) {
+        Ok(mut file) => hear_script(alloc, name, request, &mut file, output, errors),
+        Err(error) => {
+            let _ = writeln!(errors, "{name}: cannot be opened: {error}");
+            Status::BadJournal
+        }
+    }
+}

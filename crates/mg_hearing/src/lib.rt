@@ -1,0 +1,17 @@
+//! What `mg_bridge heard` prints: who could hear whom while a script ran, or whether a talker could be heard at a given
+//! time.
+//!
+//! ```rust
+//! let status = heard(&rt, alloc, &request, &mut input, &mut output, &mut errors);
+//! ```
+//!
+//! The script is a journal or a recording, whose first line states the configuration of its gateway. [`heard`] runs it
+//! with the same configuration, and returns the program's exit status.
+//!
+//! `specs/Heard.antt` defines what is printed, and what the status answers.
+#![tactic(auto)]
+
+mod answering;
+mod first_line;
+
+pub use crate::answering::heard;

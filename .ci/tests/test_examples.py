@@ -1,0 +1,15 @@
+"""The stored scripts, and the output that is stored beside each."""
+from programs import ROOT, Commands
+
+# How a script is run, by the ending of its output's name.
+COMMANDS = {".out": ["replay"], ".flows": ["replay", "--flows"], ".heard": ["heard"]}
+
+
+class Examples(Commands):
+    def test_output_is_as_stored(self):
+        for script in sorted((ROOT / "examples").rglob("*.txt")):
+            stored = {ending: script.with_suffix(ending) for ending in COMMANDS}
+            stored = {ending: output for ending, output in stored.items() if output.exists()}
+            self.assertTrue(stored, script)
+            for ending, output in stored.items():
+                self.ends(0, output.read_text(), "", *COMMANDS[ending], text=script.read_text())

@@ -1,0 +1,241 @@
+"""Who could hear whom, and when."""
+import tempfile
+from pathlib import Path
+
+from media import description
+from programs import Commands, run
+
+TITLE = (
+    "# mg_bridge replay --address=127.0.0.1 --control-address=127.0.0.1 --control-port=2944 --base-port=30000"
+    " --slots=256 --first-termination=1 --first-context=1 --ssrc=0 --sequence=0 --timestamp=0\n"
+)
+
+
+def say(number, actions):
+    """The line of a message with one request."""
+    return f"say 127.0.0.1:2945 MEGACO/1 [127.0.0.1]:2945 Transaction={number}{{{actions}}}\n"
+
+
+def media(address):
+    """Descriptors for a caller at this address."""
+    local, remote = (description(*it).replace("\n", "\\n") for it in (("$", "$"), (address, 40000)))
+    return f"Local{{{local}}},Remote{{{remote}}}"
+
+
+def date(seconds):
+    """The line for a time after 14:03, in seconds."""
+    return f"# time 2026-11-27T14:{3 + seconds // 60:02}:{seconds % 60:02}Z\n"
+
+
+TALKS = "Add=${Media{LocalControl{Mode=SendReceive}}}"
+PAIR = say(1, f"Context=${{{TALKS},{TALKS}}}")
+# The first caller doesn't hear the second, and then does again. Both move to a new context.
+PART = say(2, "Context=1{Topology{RTP/1,RTP/2,Oneway}}")
+JOIN = say(3, "Context=1{Topology{RTP/1,RTP/2,Bothway}}")
+MOVE = say(4, "Context=${Move=RTP/1,Move=RTP/2}")
+REMOTE = say(5, f"Context=1{{Modify=RTP/1{{Media{{{media('192.0.2.7')}}}}}}}")
+# Three callers are in a conference. The first and the third are isolated, the second only listens, the third moves to a
+# new context, and the second is subtracted after the last tick.
+CHANGES = (
+    "tick\n" + say(1, f"Context=${{{TALKS},{TALKS},{TALKS}}}") + "tick\nrtp 30000 127.0.0.1:5004 80\n"
+    + say(2, "Context=1{Topology{RTP/1,RTP/3,Isolate}}") + "tick\ntick\n"
+    + say(3, "Context=1{Modify=RTP/2{Media{LocalControl{Mode=SendOnly}}}}") + "# a comment\n"
+    + say(4, "Context=${Move=RTP/3}") + "tick\n" + say(5, "Context=1{Subtract=RTP/2{Audit{}}}")
+)
+# Two callers with a date. The first doesn't hear the second from the third tick on. Then the gateway is restarted.
+DATED = date(20) + PAIR + "tick\ntick\n" + PART + "tick\n# missed 2 ticks\ntick\ntick\ntick\n"
+# The ticks before the date, and the ticks after a change, have no dates of their own.
+LASTING = PAIR + "tick\n" + date(20) + "tick\n" + PART + "tick\n"
+# The first caller stops hearing the second before the date.
+OVER = PAIR + "tick\n" + PART + "tick\n" + date(20) + "tick\n"
+# Without a date, no time is known.
+NEVER = PAIR + "tick\ntick\n"
+
+
+class Heard(Commands):
+    """Two callers from 14:03:20 on. The first one no longer hears the second after two ticks, and three ticks follow."""
+
+    TITLE = TITLE
+    CALL = (
+        date(20)
+        + say(1, f"Context=${{Add=${{Media{{LocalControl{{Mode=SendReceive}},{media('192.0.2.7')}}}}},{TALKS}}}")
+        + "tick\ntick\n" + PART + "tick\ntick\ntick\n"
+    )
+    FIRST = (
+        "RTP/1 (192.0.2.7:40000) could hear RTP/2 in context 1 from 2026-11-27T14:03:20Z (tick 0)"
+        " until 2026-11-27T14:03:20.04Z (tick 2)\n"
+    )
+    SECOND = (
+        "RTP/2 could hear RTP/1 (192.0.2.7:40000) in context 1 from 2026-11-27T14:03:20Z (tick 0) until the end\n"
+    )
+
+    def test_intervals(self):
+        both = self.FIRST + self.SECOND
+        for words, wanted in (
+            ([], both),
+            (["--listener=RTP/1"], self.FIRST),
+            (["--listener=192.0.2.7"], self.FIRST),
+            (["--talker=192.0.2.7:40000"], self.SECOND),
+            (["--talker=192.0.2.7:40001"], ""),
+            (["--from=2026-11-27T14:03:20.04Z"], self.SECOND),
+            (["--to=2026-11-27T14:03:20Z"], ""),
+        ):
+            self.ends(0, wanted, "", "heard", *words, text=self.TITLE + self.CALL)
+
+    def test_faulty_scripts(self):
+        other = "# mg_bridge replay --slots=4\n"
+        no_title = "line 1 isn't the title of a journal or a recording"
+        for text, message in (
+            (self.TITLE + "tick\ntock\n", "line 3: bad script line"),
+            (self.TITLE + "tick\n# a\ntock\n", "line 4: bad script line"),
+            (self.TITLE + self.CALL + date(18), "line 10: the clock went back"),
+            (self.TITLE + date(20) + "tick\ntick\n" + date(18), "line 5: the clock went back"),
+            (self.TITLE + "tick\n" + other, "line 3: the title of another gateway"),
+            (self.TITLE + "tick\n\n" + other, "line 4: the title of another gateway"),
+            ("", no_title),
+            (self.CALL, no_title),
+            ("#" * 5000, no_title),
+        ):
+            for word in ("--format=text", "--at=2026-11-27T14:03:20Z"):
+                with self.subTest(text=text, word=word):
+                    status, _, errors = run("heard", word, text=text)
+                    self.assertEqual((status, errors), (6, f"standard input: {message}\n"))
+
+    def test_joined_scripts(self):
+        """A script may have the title of the same gateway several times."""
+        self.ends(0, "", "", "heard", text=f"{self.TITLE}tick\n{self.TITLE}")
+
+    def test_files(self):
+        with tempfile.TemporaryDirectory() as folder:
+            path = f"{folder}/script.txt"
+            Path(path).write_text(self.TITLE + self.CALL)
+            self.ends(0, self.FIRST, "", "heard", path, "--talker", "RTP/2", text="not a script")
+            self.refuses(f"{folder}/none.txt", "heard", f"{folder}/none.txt", status=6)
+
+
+class Intervals(Commands):
+    def test_what_holds_before_a_tick(self):
+        for script, rows in (
+            # Intervals end with their flows.
+            (
+                CHANGES,
+                ["1,3,,1,1,2", "3,1,,1,1,2", "1,2,,1,1,4", "2,3,,1,1,4", "3,2,,1,1,4", "2,1,,1,1,5"],
+            ),
+            # What is undone before the next tick makes no difference.
+            (PAIR + "tick\n" + PART + JOIN + "tick\n", ["1,2,,1,0,", "2,1,,1,0,"]),
+            # At the very tick of a change.
+            (
+                PAIR + "tick\ntick\n" + PART + "tick\n" + JOIN + "tick\n",
+                ["1,2,,1,0,2", "1,2,,1,3,", "2,1,,1,0,"],
+            ),
+            # A change after the last tick concerns the tick that comes next.
+            ("tick\n" + PAIR, ["1,2,,1,1,", "2,1,,1,1,"]),
+            # Another context is another interval.
+            (PAIR + "tick\n" + MOVE + "tick\n", ["1,2,,1,0,1", "2,1,,1,0,1", "1,2,,2,1,", "2,1,,2,1,"]),
+            ("", []),
+        ):
+            self.ends(0, self.table(rows), "", "heard", "--format=csv", text=TITLE + script)
+
+    def table(self, rows):
+        """The report with these intervals, without times and Remotes: listener, talker, nothing, context and ticks."""
+        lines = ["kind,listener,listener_at,talker,talker_at,context,first_tick,end_tick,from,until"]
+        for listener, talker, rest in (row.split(",", 2) for row in rows):
+            lines.append(f"heard,RTP/{listener},,RTP/{talker},{rest},,")
+        return "".join(f"{line}\n" for line in lines)
+
+    def test_remotes_are_named(self):
+        at = "192.0.2.7:40000"
+        wanted = self.table([]) + (
+            f"heard,RTP/1,,RTP/2,,1,0,1,,\nheard,RTP/2,,RTP/1,,1,0,1,,\n"
+            f"heard,RTP/1,{at},RTP/2,,1,1,,,\nheard,RTP/2,,RTP/1,{at},1,1,,,\n"
+        )
+        text = TITLE + PAIR + "tick\n" + REMOTE + "tick\n"
+        self.ends(0, wanted, "", "heard", "--format=csv", text=text)
+
+    def test_times_come_from_dates(self):
+        text = TITLE + date(20) + PAIR + "tick\ntick\n# time 2026-11-27T14:03:20.041Z\n" + PART
+        text += "tick\n# missed 3 ticks\ntick\ntick\ntick\n" + date(80) + "tick\n"
+        hour = "2026-11-27T14:"
+        wanted = (
+            f"heard,RTP/1,,RTP/2,,1,0,2,{hour}03:20Z,{hour}03:20.04Z\n"
+            f"gap,,,,,,3,6,{hour}03:20.06Z,{hour}03:20.12Z\n"
+            f"gap,,,,,,6,6,{hour}03:20.12Z,{hour}04:20Z\n"
+            f"heard,RTP/2,,RTP/1,,1,0,,{hour}03:20Z,\n"
+        )
+        self.ends(0, self.table([]) + wanted, "", "heard", "--format=csv", text=text)
+        # The script covers the time until the end of its last tick.
+        for time, status, answer in (("20.019", 1, "could not hear\n"), ("20.02", 2, "not known\n")):
+            words = ["--listener=RTP/1", "--talker=RTP/2", f"--at={hour}04:{time}Z"]
+            self.ends(status, answer, "", "heard", *words, text=text)
+
+
+class Formats(Commands):
+    def test_reports(self):
+        both = (
+            "RTP/1 could hear RTP/2 in context 1 from 2026-11-27T14:03:20Z (tick 0) until 2026-11-27T14:03:20.04Z (tick 2)\n"
+            "gap from 2026-11-27T14:03:20.06Z (tick 3) until 2026-11-27T14:03:20.1Z (tick 5)\n"
+            "RTP/2 could hear RTP/1 in context 1 from 2026-11-27T14:03:20Z (tick 0) until the end\n"
+        )
+        table = (
+            "kind,listener,listener_at,talker,talker_at,context,first_tick,end_tick,from,until\n"
+            "heard,RTP/1,,RTP/2,,1,0,2,2026-11-27T14:03:20Z,2026-11-27T14:03:20.04Z\n"
+            "gap,,,,,,3,5,2026-11-27T14:03:20.06Z,2026-11-27T14:03:20.1Z\n"
+            "heard,RTP/2,,RTP/1,,1,0,,2026-11-27T14:03:20Z,\n"
+        )
+        second = (
+            '{"kind":"gap","first_tick":3,"end_tick":5,"from":"2026-11-27T14:03:20.06Z","until":"2026-11-27T14:03:20.1Z"}\n'
+            '{"kind":"heard","listener":"RTP/2","listener_at":null,"talker":"RTP/1","talker_at":null,"context":1,'
+            '"first_tick":0,"end_tick":null,"from":"2026-11-27T14:03:20Z","until":null}\n'
+        )
+        for words, wanted in (
+            (["--format=text"], both),
+            (["--format=csv"], table),
+            (["--format=json", "--listener=RTP/2"], second),
+        ):
+            self.ends(0, wanted, "", "heard", *words, text=TITLE + DATED)
+
+    def test_answers(self):
+        yes = "RTP/1 could hear RTP/2 in context 1 from 2026-11-27T14:03:20Z (tick 0) until 2026-11-27T14:03:20.04Z (tick 2)\n"
+        for form, time, status, wanted in (
+            ("text", "20Z", 0, yes),
+            ("text", "20.04Z", 1, "could not hear\n"),
+            ("text", "20.06Z", 2, "not known\n"),
+            ("csv", "20.02Z", 0, "heard,RTP/1,,RTP/2,,1,0,2,2026-11-27T14:03:20Z,2026-11-27T14:03:20.04Z\n"),
+            ("csv", "20.04Z", 1, "not heard,,,,,,,,,\n"),
+            ("csv", "20.06Z", 2, "not known,,,,,,,,,\n"),
+            ("json", "20.04Z", 1, '{"kind":"not heard"}\n'),
+            ("json", "20.06Z", 2, '{"kind":"not known"}\n'),
+        ):
+            words = [f"--format={form}", "--listener=RTP/1", f"--at=2026-11-27T14:03:{time}"]
+            self.ends(status, wanted, "", "heard", *words, text=TITLE + DATED)
+
+
+class Answers(Commands):
+    def test_at_a_time(self):
+        yes, no, unknown = (0, "RTP/1 could hear RTP/2 "), (1, "could not hear\n"), (2, "not known\n")
+        for script, time, (status, wanted) in (
+            (DATED, "14:03:19.999Z", unknown),
+            (DATED, "14:03:20Z", yes),
+            (DATED, "14:03:20.039Z", yes),
+            # The very tick of the change, also with another offset.
+            (DATED, "14:03:20.04Z", no),
+            (DATED, "15:03:20.04+01:00", no),
+            (DATED, "14:03:20.059Z", no),
+            # The gap, and then the last tick.
+            (DATED, "14:03:20.06Z", unknown),
+            (DATED, "14:03:20.099Z", unknown),
+            (DATED, "14:03:20.1Z", no),
+            (DATED, "14:03:20.119Z", no),
+            (DATED, "14:03:20.12Z", unknown),
+            (DATED, "14:03:20.5Z", unknown),
+            (LASTING, "14:03:19.999Z", unknown),
+            (LASTING, "14:03:20Z", yes),
+            (LASTING, "14:03:20.02Z", no),
+            (OVER, "14:03:20Z", no),
+            (NEVER, "14:03:20Z", unknown),
+        ):
+            with self.subTest(script=script, time=time):
+                words = ["--listener=RTP/1", "--talker=RTP/2", f"--at=2026-11-27T{time}"]
+                found, output, errors = run("heard", *words, text=TITLE + script)
+                self.assertEqual((found, output[: len(wanted)], errors), (status, wanted, ""))
+                self.assertEqual(output.count("\n"), 1)

@@ -1,0 +1,143 @@
+"""Gateways that keep a journal."""
+import os
+import re
+import tempfile
+from datetime import datetime, timedelta, timezone
+from pathlib import Path
+
+from media import add, conference, request, spoken
+from programs import FIRST, Commands, Gateway, bound, counted, ports, run, udp, waiting
+
+
+def line_of(message):
+    """The line of a message from a controller."""
+    return f"control 127.0.0.1:2945 {message.hex()}\n"
+
+
+class Journals(Commands):
+    TITLE = (
+        "# mg_bridge replay --address=127.0.0.1 --control-address=127.0.0.1 --control-port=28807 --base-port=28808"
+        " --slots=2 --first-termination=1 --first-context=1 --ssrc=7 --sequence=0 --timestamp=0\n"
+    )
+
+    def setUp(self):
+        handle, self.path = tempfile.mkstemp()
+        os.close(handle)
+        self.addCleanup(os.remove, self.path)
+
+    def session(self, caller, words, lines):
+        """Serves these lines after a message from the caller. Returns the exit status, the output after `ready` and the
+        error messages."""
+        with Gateway("serve", *words) as gateway:
+            self.assertEqual(gateway.ready, "ready\n")
+            caller.sendto(conference("Add=${Media{LocalControl{Mode=SendReceive}}}"), ("127.0.0.1", FIRST))
+            return gateway.finish(*lines.splitlines())
+
+    def test_goes_on(self):
+        os.remove(self.path)
+        with bound(FIRST + 30) as (caller,):
+            words = [*ports(0, 2), "--ssrc=7", "--sync", "--journal", self.path]
+            self.assertEqual(self.session(caller, words, "tick\ntick\npoll\ntick\nquit\n")[:2], (0, ""))
+            answer = caller.recv(2000)
+            self.assertTrue(Path(self.path).read_text().startswith("# mg_bridge replay --address=127.0.0.1 "))
+            # The next gateway takes the options from the title. It knows the message, and doesn't run it again.
+            words = ["--journal", self.path]
+            status, output, errors = self.session(caller, words, "stats\npoll\nstats\nquit\n")
+            self.assertEqual((status, output.startswith("control=1 media=0 ticks=")), (0, True))
+            self.assertTrue(errors.endswith(": continues after 1 messages and 2 ticks\n"), errors)
+            self.assertEqual(caller.recv(2000), answer)
+
+    def test_missed_ticks_are_passed(self):
+        """Ten seconds have passed since the journal's date, but only five ticks were run."""
+        start = datetime.now(timezone.utc).replace(microsecond=0) - timedelta(seconds=10)
+        text = f"{self.TITLE}# time {start:%Y-%m-%dT%H:%M:%S}Z\n" + "tick\n" * 5
+        text = text.replace("28807", str(FIRST)).replace("28808", str(FIRST + 2))
+        Path(self.path).write_text(text)
+
+        def passed():
+            return (datetime.now(timezone.utc) - start) // timedelta(milliseconds=20)
+
+        least = passed()
+        with Gateway("serve", "--journal", self.path) as gateway:
+            most = passed()
+            counts = gateway.stats()
+            ticks = int(re.search("ticks=([0-9]+)", counts)[1])
+            self.assertEqual(counts, counted(ticks=ticks))
+            self.assertEqual(gateway.finish("quit")[:2], (0, ""))
+        self.assertTrue(500 <= least <= ticks <= most, (least, ticks, most))
+        self.assertEqual(Path(self.path).read_text(), text + "tick\n" * (ticks - 5))
+
+    def test_goes_on_like_a_replay(self):
+        """A gateway that resumes from a script answers and sends what a gateway does that ran the script."""
+        speech = "".join(
+            f"rtp {FIRST + 2 + 2 * slot} 127.0.0.1:40000 {spoken(1, byte * 160).hex()}\n"
+            for slot, byte in enumerate((b"\x10", b"\x9c"))
+        )
+        part = request(2, "Context=1{Topology{RTP/1,RTP/2,Oneway}}")
+        for end in ("", speech + "tick\ntick\n"):
+            with self.subTest(end=end), udp() as controller, udp() as first, udp() as second, udp() as third:
+                modes = {first: "SendReceive", second: "SendReceive", third: "SendOnly"}
+                adds = [add(it.getsockname()[1], mode) for it, mode in modes.items()]
+                script = "tick\n" + line_of(conference(*adds)) + "tick\ntick\n" + line_of(part) + "tick\n"
+                self.check_resumed(script + end, controller, list(modes))
+
+    def check_resumed(self, text, controller, callers):
+        """A gateway that resumes from this script goes on like a replay of it."""
+        audit = request(3, "Context=1{AuditValue=RTP/1{Audit{Media,Statistics}}},Context=1{ContextAudit{Topology}}")
+        title = self.TITLE.replace("28807", str(FIRST)).replace("28808", str(FIRST + 2)).replace("=2 ", "=3 ")
+        Path(self.path).write_text(title + text)
+        source = "127.0.0.1:%d" % controller.getsockname()[1]
+        rest = f"control {source} {audit.hex()}\n" + "tick\n" * 4
+        status, output, errors = run(*title.split()[2:], text=text + rest)
+        self.assertEqual((status, errors), (0, ""))
+        # An answer, and three packets for each of four ticks.
+        sent = output.splitlines()[-13:]
+        ticks, media = text.count("tick\n"), text.count("rtp ")
+        with Gateway("serve", "--journal", self.path, "--report=1") as gateway:
+            controller.sendto(audit, ("127.0.0.1", FIRST))
+            self.assertEqual(gateway.received(3, media), counted(control=3, media=media, ticks=ticks, sent=1))
+            answer = controller.recv(4000).decode().replace("\r", "\\r").replace("\n", "\\n")
+            self.assertEqual(sent[0], f"say {source} {answer}")
+            counts = gateway.stats("tick", "tick", "tick", "tick")
+            self.assertEqual(counts, counted(control=3, media=media, ticks=ticks + 4, sent=13))
+            for place, line in enumerate(sent[1:]):
+                caller = callers[place % 3]
+                packet, (_, port) = caller.recvfrom(2000)
+                self.assertEqual(line, f"rtp {port} 127.0.0.1:{caller.getsockname()[1]} {packet.hex()}")
+            self.assertEqual([waiting(caller) for caller in callers], [[], [], []])
+            # The report at 50 ticks says what happened to the frames.
+            status, _, errors = gateway.finish(*["tick"] * (46 - ticks), "quit")
+            self.assertEqual(status, 0)
+            self.assertIn(f" strangers=0 started={media} placed=0 pushed=0 again=0 late=0 dropped=0,0,0,0,0,0 ", errors)
+
+    def test_bad_lines_are_named(self):
+        for text, line in (
+            ("tack\n", 2),
+            ("tick\ntick\ntick\ntack\ntick\n", 5),
+            ("# one\r\ntick\r\n\r\n\r\r\n", 5),
+            ("tick\nsay 127.0.0.1:2945 no\ntick\ntick\r\r\n", 5),
+            ("tick\n say 127.0.0.1:2945 no\n", 3),
+            ("tick\n" + "#" * 140000 + "\r\ntack\n", 4),
+            ("tick\n" + "#" * 140001 + "\r\ntack\n", 3),
+        ):
+            with self.subTest(text=text[:99]):
+                Path(self.path).write_bytes((self.TITLE + text).encode())
+                status, output, errors = run("serve", "--journal", self.path, text="quit\n")
+                wanted = f": line {line} isn't a line of a script\n"
+                self.assertEqual((status, output, errors[-len(wanted) :]), (6, "", wanted))
+                message = f"{self.path}: line {line}: bad script line\n"
+                self.ends(6, "", message, "heard", "--at=2026-11-27T14:03:20Z", self.path)
+
+    def test_other_files(self):
+        bad = self.TITLE + "tick\ntick\n\nspeech\ntick\n"
+        for text, option, wanted in (
+            ("tick\n", "--report=0", ": line 1 isn't the title of a journal\n"),
+            ("# a comment\ntick\n", "--report=0", ": line 1 isn't the title of a journal\n"),
+            (self.TITLE, "--slots=3", ": line 1 has another --slots\n"),
+            (bad, "--slots=2", ": line 5 isn't a line of a script\n"),
+        ):
+            with self.subTest(text=text):
+                Path(self.path).write_text(text)
+                status, output, errors = run("serve", "--journal", self.path, option, text="quit\n")
+                self.assertEqual((status, output, errors[-len(wanted) :]), (6, "", wanted))
+                self.assertEqual(Path(self.path).read_text(), text)

@@ -1,0 +1,48 @@
+"""Each subcommand in its simplest form."""
+import threading
+
+from programs import FIRST, HEARTBEAT, Commands, Gateway, bound, counted, ports, run
+
+
+def answer(gateway, message):
+    """Answers three heartbeats with this message."""
+    for _ in range(3):
+        gateway.sendto(message, gateway.recvfrom(200)[1])
+
+
+class Runs(Commands):
+    def test_replay(self):
+        answer = "say 127.0.0.1:2945 MEGACO/1 [127.0.0.1]:{port}\\nReply=1{{Context=-{{AuditValue=ROOT}}}}\n"
+        for port, words in ((2944, []), (4000, ["--control-port", "4000"])):
+            text = f"say 127.0.0.1:2945 {HEARTBEAT}\n"
+            self.ends(0, answer.format(port=port), "", "replay", *words, text=text)
+
+    def test_replay_of_a_bad_line(self):
+        self.ends(1, "", "line 2: bad script line\n", "replay", text="tick\ntock\n")
+
+    def test_serve(self):
+        wanted = "ready\nunknown command\n" + counted(ticks=1)
+        self.ends(0, wanted, "", "serve", *ports(0, 4), text="poll\ntick\npol\nstats\nquit\nstats\n")
+
+    def test_check(self):
+        with Gateway("live", *ports(0, 1)):
+            status, output, errors = run("check", f"127.0.0.1:{FIRST}")
+        self.assertEqual((status, errors), (0, ""))
+        self.assertRegex(output, rf"\A127\.0\.0\.1:{FIRST} answered in [0-9]+ us\n\Z")
+
+    def test_check_of_a_gateway_that_answers_something_else(self):
+        with bound(FIRST) as (gateway,):
+            other = threading.Thread(target=answer, args=(gateway, b"MEGACO/1 mg\nReply=2{Context=-{AuditValue=ROOT}}"))
+            other.start()
+            self.ends(2, "", f"127.0.0.1:{FIRST} doesn't answer: timed out\n", "check", f"127.0.0.1:{FIRST}")
+            other.join()
+
+    def test_check_of_a_gateway_that_is_not_there(self):
+        wanted = f"127.0.0.1:{FIRST} doesn't answer: Connection refused (os error 111)\n"
+        self.ends(2, "", wanted, "check", f"127.0.0.1:{FIRST}")
+
+    def test_check_of_a_gateway_that_keeps_silent(self):
+        with bound(FIRST) as (gateway,):
+            self.ends(2, "", f"127.0.0.1:{FIRST} doesn't answer: timed out\n", "check", f"127.0.0.1:{FIRST}")
+            heartbeat = b"MEGACO/1 <check>\nTransaction=1{Context=-{AuditValue=ROOT}}"
+            self.assertEqual([gateway.recv(100) for _ in range(3)], [heartbeat] * 3)

@@ -45,19 +45,6 @@ fn journal(alloc: Global, faults: &[InjectedFault]) -> io::Result<FileJournal<Me
 }
 
 #[test]
-fn reads_dates(rt: HostRuntime) -> Result<(), Fail> {
-    for (text, date) in [
-        ("2026-11-27T14:03:20Z", Some(after(0))),
-        ("2026-11-27T14:03:20.5Z", Some(after(500))),
-        ("1969-12-31T23:59:59Z", None),
-        ("today", None),
-    ] {
-        assert_equal(&rt, Date::of_text(text), date);
-    }
-    Ok(())
-}
-
-#[test]
 fn dates_messages_and_old_ticks(rt: HostRuntime) -> Result<(), Fail> {
     let clock = FixedClock {
         millis: Cell::new(START),

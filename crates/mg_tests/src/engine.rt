@@ -116,7 +116,6 @@ enum Scene {
     DropMalformedPackets,
     DropDatagramsWithoutTermination,
     IsolateByAnEdit,
-    LeadOneWay,
     TickAtAPrice,
     TickWithMany,
     ShareAPayload,
@@ -139,7 +138,6 @@ fn show(
         Scene::DropMalformedPackets => drop_malformed_packets(rt, engine),
         Scene::DropDatagramsWithoutTermination => drop_datagrams_without_termination(rt, engine),
         Scene::IsolateByAnEdit => isolate_by_an_edit(rt, alloc, engine, outbox),
-        Scene::LeadOneWay => lead_one_way(rt, alloc, engine, outbox),
         Scene::TickAtAPrice => tick_at_a_price(rt, engine, outbox),
         Scene::TickWithMany => tick_with_many(rt, alloc, engine, outbox),
         Scene::ShareAPayload => share_a_payload(rt, alloc, engine, outbox),
@@ -342,33 +340,13 @@ fn isolate_by_an_edit(
     assert_equal(rt, third_payloads(alloc, engine, outbox)?.as_slice(), want);
     assert_equal(rt, engine.total(1, 0), Some(32124));
     assert!(rt; !engine.flow(1, 3) && !engine.flow(3, 1) && engine.flow(1, 2));
+    assert!(rt; !engine.hears(1, 3) && engine.hears(2, 1) && !engine.hears(1, 1));
     Ok(())
 }
 
 #[test]
 fn isolates_by_an_edit(rt: HostRuntime) -> Result<(), Fail> {
     play(&rt, rt.alloc(), Scene::IsolateByAnEdit, &SPEAKERS[..3])
-}
-
-/// A Oneway lets the third caller hear the first.
-fn lead_one_way(
-    rt: &impl Abort,
-    alloc: Global,
-    engine: &mut Engine,
-    outbox: &mut Outbox,
-) -> Result<(), Fail> {
-    let oneway = triple(FIRST, THIRD, Association::Oneway);
-    assert_equal(rt, apply(engine, &[oneway]), Ok(1));
-    let want: &[u8] = &[0xff, 0x80, 0x80];
-    assert_equal(rt, third_payloads(alloc, engine, outbox)?.as_slice(), want);
-    assert!(rt; engine.flow(1, 3) && !engine.flow(3, 1));
-    assert!(rt; engine.hears(3, 1) && !engine.hears(1, 3) && !engine.hears(1, 1));
-    Ok(())
-}
-
-#[test]
-fn leads_one_way(rt: HostRuntime) -> Result<(), Fail> {
-    play(&rt, rt.alloc(), Scene::LeadOneWay, &SPEAKERS[..3])
 }
 
 /// Returns how many rows a call cost.

@@ -4,12 +4,9 @@ ghost use Rattle.mg_core.specs.Parsed.{IsReadingOf};
 
 use crate::equality::assert_equal;
 use crate::scripts::{Part, run_script, script_of};
-use mg_core::{
-    Answer, Config, Core, Counts, NoMemory, Parsed, Peer, RunFault, Shown, StartFault, TERMINATIONS,
-};
+use mg_core::{Answer, Config, Core, Counts, NoMemory, Parsed, Peer, RunFault, Shown};
 use mg_fakes::{FailingReader, FailingWriter};
-use mg_words::ErrorNumber;
-use std::alloc::{AllocError, Global};
+use std::alloc::Global;
 use std::io::Cursor;
 use std::process::Abort;
 use std::test::Fail;
@@ -18,11 +15,6 @@ const CONTROLLER: Peer = Peer {
     address: [127, 0, 0, 1],
     port: 2945,
 };
-
-const HEARTBEAT: &[u8] =
-    b"MEGACO/1 [127.0.0.1]:2945 Transaction=1{Context=-{AuditValue=ROOT{Audit{}}}}";
-
-const REPLY: &[u8] = b"MEGACO/1 [127.0.0.1]:2944\nReply=1{Context=-{AuditValue=ROOT}}";
 
 const LINE: &[u8] =
     b"say 127.0.0.1:2945 MEGACO/1 [127.0.0.1]:2945 Transaction=1{Context=-{AuditValue=ROOT{Audit{}}}}\n";
@@ -44,121 +36,29 @@ fn has_one(core: &Core) -> bool {
     is_alone && core.rooms().members(1) == [1].as_slice()
 }
 
-/// Passes a message from the controller to a core.
-pub fn hand(alloc: Global, core: &mut Core, message: &[u8]) -> Result<Answer, NoMemory> {
-    core.control(alloc, CONTROLLER, message)
+/// A datagram that is not a message is rejected with an error.
+fn rejects_what_is_no_message(alloc: Global, core: &mut Core) -> Result<bool, NoMemory> {
+    let answer = core.control(alloc, CONTROLLER, b"MEGACO/1 mg K{7")?;
+    let error = b"MEGACO/1 [127.0.0.1]:2944\nError=400{\"syntax\"}";
+    Ok(answer == Answer::Send && core.answer() == error.as_slice())
 }
 
-/// Returns whether a core answers a message from the controller with this text, or leaves it unanswered if the text is
-/// empty.
-fn is_answered(
-    alloc: Global,
-    core: &mut Core,
-    message: &[u8],
-    text: &[u8],
-) -> Result<bool, NoMemory> {
-    let answer = hand(alloc, core, message)?;
-    Ok((answer == Answer::Silent) == text.is_empty() && core.answer() == text)
-}
+const ADD: &[u8] =
+    b"!/1 [127.0.0.1]:2945 T=2{C=${A=${M{O{MO=SR},L{v=0\nc=IN IP4 $\nm=audio $ RTP/AVP 0\n},R{v=0\nc=IN IP4 127.0.0.1\nm=audio 40000 RTP/AVP 0\n}}}}}";
 
-/// Messages from the controller, each with the text of its answer.
-type Messages<'a> = &'a [(&'a [u8], &'a [u8])];
-
-/// Returns whether a core answers these messages one after another.
-fn answers_each(alloc: Global, core: &mut Core, messages: Messages) -> Result<bool, NoMemory> {
-    for (message, text) in messages {
-        if !is_answered(alloc, core, message, text)? {
-            return Ok(false);
-        }
-    }
-    Ok(true)
-}
-
-/// Returns whether a new core answers these messages one after another.
-fn answers_all(alloc: Global, config: Config, messages: Messages) -> Result<bool, Fail> {
-    let mut core = start(alloc, config)?;
-    Ok(answers_each(alloc, &mut core, messages)?)
-}
-
-const ADD: &[u8] = b"!/1 [127.0.0.1]:2945 T=2{C=${A=$}}";
-
-const ADDED: &[u8] = b"MEGACO/1 [127.0.0.1]:2944\nReply=2{Context=1{Add=RTP/1}}";
+const ADDED: &[u8] = b"MEGACO/1 [127.0.0.1]:2944\n\
+    Reply=2{Context=1{Add=RTP/1{Media{Stream=1{Local{v=0\r\nc=IN IP4 127.0.0.1\r\nm=audio 30000 RTP/AVP 0\r\na=ptime:20\r\n}}}}}}";
 
 const FULL: &[u8] = b"!/1 [127.0.0.1]:2945 T=3{C=1{A=$}}";
 
 const FULL_REPLY: &[u8] = b"MEGACO/1 [127.0.0.1]:2944\n\
     Reply=3{Context=1{Add=${Error=432{\"no termination or port left\"}}}}";
 
-/// A core with one slot answers a heartbeat, an Add, and an Add that finds no slot, but not an acknowledgement.
-const IN_TURN: Messages = &[
-    (HEARTBEAT, REPLY),
-    (b"MEGACO/1 mg K{7}", b""),
-    (ADD, ADDED),
-    (FULL, FULL_REPLY),
-];
-
-/// The last termination has the largest 32-bit number.
-const LAST_TERMINATION: Messages = &[(
-    b"!/1 [127.0.0.1]:2945 T=1{C=${A=$,A=$}}",
-    b"MEGACO/1 [127.0.0.1]:2944\nReply=1{Context=1{Add=RTP/4294967295,Add=${Error=432{\"no termination or port left\"}}}}",
-)];
-
-/// The last context's number is just below the numbers that denote a new context and all contexts.
-const LAST_CONTEXT: Messages = &[
-    (
-        ADD,
-        b"MEGACO/1 [127.0.0.1]:2944\nReply=2{Context=4294967293{Add=RTP/1}}",
-    ),
-    (
-        b"!/1 [127.0.0.1]:2945 T=3{C=${A=$}}",
-        b"MEGACO/1 [127.0.0.1]:2944\nReply=3{Context=${Add=${Error=412{\"no context left\"}}}}",
-    ),
-];
-
-/// The standard configuration with one slot.
-fn one_slot() -> Config {
-    Config {
-        slots: 1,
-        ..Config::default()
-    }
-}
-
-#[test]
-fn answers_messages(rt: HostRuntime) -> Result<(), Fail> {
-    let last_termination = Config {
-        first_termination: 4294967295,
-        ..Config::default()
-    };
-    let last_context = Config {
-        first_context: 4294967293,
-        ..Config::default()
-    };
-    for (config, messages) in [
-        (one_slot(), IN_TURN),
-        (last_termination, LAST_TERMINATION),
-        (last_context, LAST_CONTEXT),
-    ] {
-        assert!(rt; answers_all(rt.alloc(), config, messages)?);
-    }
-    Ok(())
-}
-
 /// Returns whether a core answers a datagram, which has already been read, with this text.
 fn runs(core: &mut Core, bytes: &[u8], parsed: &Parsed, text: &[u8]) -> bool
     requires reading { IsReadingOf bytes.now parsed.now }
 {
     core.run(CONTROLLER, bytes, parsed) == Answer::Send && core.answer() == text
-}
-
-/// Reads a datagram and runs it at once. Returns whether it is answered with this text.
-fn reads_and_runs(
-    alloc: Global,
-    core: &mut Core,
-    bytes: &[u8],
-    text: &[u8],
-) -> Result<bool, NoMemory> {
-    let parsed = Core::read(alloc, bytes)?;
-    Ok(runs(core, bytes, &parsed, text))
 }
 
 /// Runs an Add, then a message that was read before the Add, then the Add again.
@@ -184,11 +84,9 @@ fn reads_then_runs(alloc: Global, core: &mut Core, bytes: &[u8]) -> Result<bool,
     runs_around(alloc, core, bytes, &parsed)
 }
 
-/// A datagram is run when it is passed to `run`, in the world at that moment, and not when it is read. A datagram that
-/// is not a message is answered with an error. Both are counted.
+/// A datagram is run when it is passed to `run`, in the world at that moment, and not when it is read. Each is counted.
 fn run_what_was_read(rt: &impl Abort, alloc: Global, core: &mut Core) -> Result<(), Fail> {
-    let error = b"MEGACO/1 [127.0.0.1]:2944\nError=400{\"syntax\"}";
-    assert!(rt; reads_and_runs(alloc, core, b"MEGACO/1 mg K{7", error)?);
+    assert!(rt; rejects_what_is_no_message(alloc, core)?);
     assert_equal(rt, core.counts().control, 1);
     assert!(rt; reads_then_runs(alloc, core, FULL)?);
     assert!(rt; has_one(core));
@@ -196,152 +94,42 @@ fn run_what_was_read(rt: &impl Abort, alloc: Global, core: &mut Core) -> Result<
     Ok(())
 }
 
-#[test]
-fn runs_what_was_read(rt: HostRuntime) -> Result<(), Fail> {
-    let mut core = start(rt.alloc(), one_slot())?;
-    run_what_was_read(&rt, rt.alloc(), &mut core)
-}
-
-/// Returns the error with which a datagram is rejected, or `None` if it is not rejected.
-fn refusal(alloc: Global, bytes: &[u8]) -> Result<Option<ErrorNumber>, NoMemory> {
-    Ok(match Core::read(alloc, bytes)? {
-        Parsed::Message(_) => None,
-        Parsed::Refused(number) => Some(number),
-    })
-}
-
-#[test]
-fn reads_messages_and_refusals(rt: HostRuntime) -> Result<(), Fail> {
-    for (bytes, number) in [
-        (HEARTBEAT, None),
-        (b"MEGACO/1 mg K{7}".as_slice(), None),
-        (b"MEGACO/1 mg K{7", Some(ErrorNumber::Syntax)),
-        (b"MEGACO/2 mg K{7}", Some(ErrorNumber::Version)),
-        ([b' '; 8193].as_slice(), Some(ErrorNumber::NotServed)),
-    ] {
-        assert_equal(&rt, refusal(rt.alloc(), bytes)?, number);
+/// Returns the header of a tick's only packet, or `None` if the tick sends another number of packets.
+fn sent_header(core: &mut Core) -> Option<[u8; 12]> {
+    core.tick();
+    match core.outbox() {
+        [packet] => packet.bytes.first_chunk().copied(),
+        _ => None,
     }
-    Ok(())
 }
 
-/// Returns why a gateway does not start with a configuration, or `None` if it starts.
-fn start_fault(alloc: Global, config: Config) -> Option<StartFault> {
-    Core::new(alloc, config).err()
+/// Sequence numbers, timestamps and SSRCs wrap to 0. A skip counts its ticks and makes no packets, and the last answer
+/// is unchanged.
+fn send_and_skip(rt: &impl Abort, core: &mut Core) {
+    let first = [128, 128, 255, 255, 255, 255, 255, 160, 0, 0, 0, 0];
+    assert_equal(rt, sent_header(core), Some(first));
+    let second = [128, 0, 0, 0, 0, 0, 0, 64, 0, 0, 0, 0];
+    assert_equal(rt, sent_header(core), Some(second));
+    core.skip(1_000_000_000_000);
+    assert!(rt; core.outbox().is_empty() && !core.answer().is_empty());
+    assert_equal(rt, core.counts().ticks, 1_000_000_000_002);
+    core.skip(u64::MAX);
+    assert_equal(rt, core.counts().ticks, u64::MAX);
 }
 
+/// What a program does with a core: it reads and runs messages, and runs or skips ticks.
 #[test]
-fn refuses_bad_configurations(rt: HostRuntime) {
-    let standard = Config::default();
-    for config in [
-        Config {
-            slots: 0,
-            ..standard
-        },
-        Config {
-            slots: TERMINATIONS as u16 + 1,
-            ..standard
-        },
-        Config {
-            base_port: 30001,
-            ..standard
-        },
-        Config {
-            base_port: 65530,
-            slots: 4,
-            ..standard
-        },
-        Config {
-            control_port: 30000,
-            ..standard
-        },
-        Config {
-            first_termination: 0,
-            ..standard
-        },
-        Config {
-            first_context: 4294967294,
-            ..standard
-        },
-    ] {
-        assert_equal(
-            &rt,
-            start_fault(rt.alloc(), config),
-            Some(StartFault::BadConfig),
-        );
-    }
-    let last = Config {
-        base_port: 65530,
-        slots: 3,
-        ..standard
+fn runs_messages_and_ticks(rt: HostRuntime) -> Result<(), Fail> {
+    let config = Config {
+        slots: 1,
+        ssrc: 4294967295,
+        sequence: 65535,
+        timestamp: 4294967200,
+        ..Config::default()
     };
-    assert_equal(&rt, start_fault(rt.alloc(), last), None);
-}
-
-/// Returns how running a script ended, and how many bytes it wrote.
-fn outcome_of(alloc: Global, script: &[u8]) -> (Option<RunFault>, usize) {
-    let mut reader = Cursor::new(script);
-    let mut written = Vec::new(alloc);
-    let outcome = run_script(alloc, Shown::Sent, &mut reader, &mut written);
-    (outcome.err(), written.len())
-}
-
-#[test]
-fn names_the_first_bad_line(rt: HostRuntime) {
-    for (script, line) in [
-        (b"tick\ntock\n".as_slice(), 2),
-        (b"tick\r", 1),
-        (b"Tick\n", 1),
-        (b"tick \n", 1),
-        (b"say 127.0.0.1:2945\n", 1),
-        (b"say 127.0.0.1 x\n", 1),
-        (b"say 127.0.0.1:2945 \\t\n", 1),
-        (b"say 127.0.0.1:2945 \\\n", 1),
-        (b"control 127.0.0.1:2945 4d4\n", 1),
-        (b"\n\n\nrtp 30000 127.0.0.1:40000 8\n", 4),
-        (b"rtp 30000 127.0.0.1 80\n", 1),
-        (b"rtp 127.0.0.1:40000 80\n", 1),
-    ] {
-        let wanted = (Some(RunFault::Script(line)), 0);
-        assert_equal(&rt, outcome_of(rt.alloc(), script), wanted);
-    }
-}
-
-/// Returns why a script fails that has this byte so many times between a front and an end.
-fn fault_of_long(
-    alloc: Global,
-    front: &[u8],
-    byte: u8,
-    count: usize,
-    end: &[u8],
-) -> Result<Option<RunFault>, AllocError> {
-    let mut script = Vec::from_slice(alloc, front)?;
-    script.resize(front.len().saturating_add(count), byte)?;
-    script.extend_from_slice(end)?;
-    let (fault, _) = outcome_of(alloc, script.as_slice());
-    Ok(fault)
-}
-
-/// A line has at most 140,000 bytes, and its datagram at most 65,535.
-#[test]
-fn limits_a_line_and_its_datagram(rt: HostRuntime) -> Result<(), Fail> {
-    let control = b"control 127.0.0.1:2945 ".as_slice();
-    for (front, byte, count, end, fault) in [
-        (b"".as_slice(), b'#', 140000, b"".as_slice(), None),
-        (b"", b'#', 140000, b"\r\n", None),
-        (b"", b'#', 140001, b"", Some(RunFault::Script(1))),
-        (
-            b"tick\n",
-            b'#',
-            140003,
-            b"\ntick\n",
-            Some(RunFault::Script(2)),
-        ),
-        (control, b'0', 2 * 65535, b"", None),
-        (control, b'0', 2 * 65536, b"", Some(RunFault::Script(1))),
-    ] {
-        let found = fault_of_long(rt.alloc(), front, byte, count, end)?;
-        assert_equal(&rt, found, fault);
-    }
+    let mut core = start(rt.alloc(), config)?;
+    run_what_was_read(&rt, rt.alloc(), &mut core)?;
+    send_and_skip(&rt, &mut core);
     Ok(())
 }
 
@@ -523,47 +311,6 @@ fn reports_each_failed_write(rt: HostRuntime) -> Result<(), Fail> {
 fn reads_a_byte_at_a_time(rt: HostRuntime) -> Result<(), Fail> {
     let script = script_of(rt.alloc(), &[(1000, Part::Text(b"tick\n"))])?;
     let (_, outcome) = read_in_pieces(rt.alloc(), script.as_slice(), 1, 5001);
-    let ticks = outcome.ok().map(|counts| counts.ticks);
-    assert_equal(&rt, ticks, Some(1000));
+    assert_equal(&rt, outcome?.ticks, 1000);
     Ok(())
-}
-
-const CALLER: &[u8] =
-    b"!/1 [127.0.0.1]:2945 T=1{C=${A=${M{O{MO=SR},L{v=0\nc=IN IP4 $\nm=audio $ RTP/AVP 0\n},R{v=0\nc=IN IP4 127.0.0.1\nm=audio 40000 RTP/AVP 0\n}}}}}";
-
-/// Returns the header of a tick's only packet, or `None` if the tick sends another number of packets.
-fn sent_header(core: &mut Core) -> Option<[u8; 12]> {
-    core.tick();
-    match core.outbox() {
-        [packet] => packet.bytes.first_chunk().copied(),
-        _ => None,
-    }
-}
-
-/// Sequence numbers, timestamps and SSRCs wrap to 0. A skip counts its ticks and makes no packets, and the last answer
-/// is unchanged.
-fn send_and_skip(rt: &impl Abort, alloc: Global, core: &mut Core) -> Result<(), Fail> {
-    assert!(rt; hand(alloc, core, CALLER)? == Answer::Send);
-    let first = [128, 128, 255, 255, 255, 255, 255, 160, 0, 0, 0, 0];
-    assert_equal(rt, sent_header(core), Some(first));
-    let second = [128, 0, 0, 0, 0, 0, 0, 64, 0, 0, 0, 0];
-    assert_equal(rt, sent_header(core), Some(second));
-    core.skip(1_000_000_000_000);
-    assert!(rt; core.outbox().is_empty() && !core.answer().is_empty());
-    assert_equal(rt, core.counts().ticks, 1_000_000_000_002);
-    core.skip(u64::MAX);
-    assert_equal(rt, core.counts().ticks, u64::MAX);
-    Ok(())
-}
-
-#[test]
-fn packets_are_numbered_and_ticks_counted(rt: HostRuntime) -> Result<(), Fail> {
-    let config = Config {
-        ssrc: 4294967295,
-        sequence: 65535,
-        timestamp: 4294967200,
-        ..Config::default()
-    };
-    let mut core = start(rt.alloc(), config)?;
-    send_and_skip(&rt, rt.alloc(), &mut core)
 }

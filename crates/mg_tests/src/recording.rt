@@ -1,12 +1,10 @@
-//! The lines of a recording: their text, and how a run reads them.
+//! The lines of a recording.
 
 ghost use Rattle.std.specs.Prelude.{◌≤◌, length};
 
 use crate::equality::assert_equal;
-use crate::scripts::run_script;
-use mg_core::{Counts, EventLine, Peer, Shown};
+use mg_core::{EventLine, Peer};
 use std::alloc::Global;
-use std::io::Cursor;
 use std::test::Fail;
 
 const CONTROLLER: Peer = Peer {
@@ -101,68 +99,5 @@ fn writes_the_longest(rt: HostRuntime) -> Result<(), Fail> {
     let line = media(alloc, 65535, LAST, bytes.as_slice())?;
     let wanted = line_of(alloc, b"rtp 65535 255.255.255.255:65535 ", 65535)?;
     assert!(rt; line.as_slice() == wanted.as_slice());
-    Ok(())
-}
-
-/// Returns what running a script wrote and counted.
-fn played(alloc: Global, script: &[u8]) -> Result<(Vec<u8>, Counts), Fail> {
-    let mut reader = Cursor::new(script);
-    let mut written = Vec::new(alloc);
-    let outcome = run_script(alloc, Shown::Sent, &mut reader, &mut written);
-    match outcome {
-        Ok(counts) => Ok((written, counts)),
-        Err(_) => Err("no script".into()),
-    }
-}
-
-/// Returns whether the line for a control datagram runs like the `say` line with the same text.
-fn is_as_said(alloc: Global, text: &[u8]) -> Result<bool, Fail> {
-    let line = control(alloc, CONTROLLER, text)?;
-    let mut said = Vec::from_slice(alloc, b"say 127.0.0.1:2945 ")?;
-    said.extend_from_slice(text)?;
-    let (written, counts) = played(alloc, line.as_slice())?;
-    let (wanted, wanted_counts) = played(alloc, said.as_slice())?;
-    let is_same = counts == wanted_counts && written.as_slice() == wanted.as_slice();
-    Ok(is_same && counts.control == 1)
-}
-
-const HEARTBEAT: &[u8] = b"!/1 [127.0.0.1]:2945 T=1{C=-{AV=ROOT{AT{}}}}";
-
-#[test]
-fn runs_control_datagrams(rt: HostRuntime) -> Result<(), Fail> {
-    let longest = marks(rt.alloc(), 65507)?;
-    for text in [b"".as_slice(), b"!", HEARTBEAT, longest.as_slice()] {
-        assert!(rt; is_as_said(rt.alloc(), text)?);
-    }
-    Ok(())
-}
-
-/// Creates a termination on port 30000 that accepts mu-law from any address.
-const ADD: &[u8] = b"!/1 [127.0.0.1]:2945 T=1{C=${\
-    A=${M{O{MO=SR},L{v=0\nc=IN IP4 $\nm=audio $ RTP/AVP 0\n}}}}}";
-
-/// Returns the line for a frame of silence.
-fn frame(alloc: Global) -> Result<Vec<u8>, Fail> {
-    let mut packet = Vec::from_slice(alloc, b"\x80\0\0\x01\0\0\0\0\0\0\0\x63")?;
-    packet.resize(172, 0xFF)?;
-    media(alloc, 30000, CALLER, packet.as_slice())
-}
-
-/// Returns a recording in which a termination is created and accepts a frame.
-fn recording(alloc: Global) -> Result<Vec<u8>, Fail> {
-    let mut script = control(alloc, CONTROLLER, ADD)?;
-    let frame = frame(alloc)?;
-    script.extend_from_slice(frame.as_slice())?;
-    script.extend_from_slice(b"# end\r\n")?;
-    Ok(script)
-}
-
-#[test]
-fn runs_rtp_datagrams(rt: HostRuntime) -> Result<(), Fail> {
-    let script = recording(rt.alloc())?;
-    let (_, counts) = played(rt.alloc(), script.as_slice())?;
-    let placed = counts.placed;
-    let found = (counts.lines, counts.control, placed);
-    assert_equal(&rt, found, (3, 1, [1, 0, 0, 0, 0]));
     Ok(())
 }

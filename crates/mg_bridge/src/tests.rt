@@ -1,63 +1,36 @@
-mod commanding;
-mod conversation;
+//! What no run of the built program shows: values of its libraries, and clocks and random numbers that fail. Everything
+//! else is tested on the built program.
+
 mod drawing;
 mod ending;
 mod equality;
-mod in_real_time;
-mod journal;
-mod titles;
+mod receiving;
 
-use mg_program::{System, program};
-use std::io::Read;
-use std::net::{IpAddr, Ipv4Addr, SocketAddr};
-use std::random::RandomSource;
-use std::time::Clock;
+use std::io;
+use std::net::{IpAddr, Ipv4Addr, SocketAddr, UdpSocket};
+use std::test::Fail;
 
-/// How a run of the program ended, and its output.
-#[derive(Drop)]
-struct Outcome {
-    status: u8,
-    output: Vec<u8>,
-    errors: Vec<u8>,
-    reports: Vec<u8>,
-}
-
-/// Runs the program with these arguments, this input, this clock and this source of random numbers.
-fn run_with<C: Clock, G: RandomSource, R: Read>(
-    rt: &HostRuntime,
-    clock: &C,
-    random: &G,
-    words: &[&str],
-    input: &mut R,
-) -> Outcome {
-    let alloc = rt.alloc();
-    let mut output = Vec::new(alloc);
-    let mut errors = Vec::new(alloc);
-    let mut reports = Vec::new(alloc);
-    let system = System {
-        net: rt,
-        clock,
-        random,
-        files: rt,
-    };
-    let status = program(
-        &system,
-        alloc,
-        words,
-        input,
-        &mut output,
-        &mut errors,
-        &mut reports,
-    );
-    Outcome {
-        status,
-        output,
-        errors,
-        reports,
-    }
-}
-
-/// Returns a port of 127.0.0.1.
+/// Returns a port of 127.0.0.1. Port 0 is a free one that the system chooses.
 fn local(port: u16) -> SocketAddr {
     SocketAddr::new(IpAddr::V4(Ipv4Addr::new(127, 0, 0, 1)), port)
+}
+
+/// Returns a non-blocking socket on a free port, and the port.
+fn caller(rt: &HostRuntime) -> io::Result<(UdpSocket, u16)> {
+    let socket = UdpSocket::bind(rt, local(0))?;
+    socket.set_nonblocking(true)?;
+    let port = socket.local_addr()?.port();
+    Ok((socket, port))
+}
+
+/// Returns two free ports, for media and for control. The first is even.
+fn free_ports(rt: &HostRuntime) -> Result<(u16, u16), Fail> {
+    for _ in 0..100 {
+        let (_media, base) = caller(rt)?;
+        let (_control, control) = caller(rt)?;
+        if base % 2 == 0 {
+            return Ok((base, control));
+        }
+    }
+    Err("no free ports".into())
 }

@@ -1,34 +1,15 @@
+//! Random numbers that count up, random numbers that fail, and a clock that fails.
+
 use super::equality::assert_equal;
-use super::{Outcome, run_with};
+use super::free_ports;
+use mg_arguments::Draws;
+use mg_core::Config;
+use mg_program::{System, program};
 use std::cell::Cell;
-use std::io;
-use std::io::ErrorKind;
+use std::io::{self, ErrorKind};
 use std::random::RandomSource;
+use std::test::Fail;
 use std::time::{Clock, Duration};
-
-/// A clock that advances only by waiting, and fails after 40 ms.
-#[derive(Drop)]
-struct ShortClock {
-    now: Cell<u64>,
-}
-
-impl Clock for ShortClock {
-    fn monotonic(&self) -> io::Result<Duration> {
-        if self.now.get() > 40_000_000 {
-            return Err(io::Error::from(ErrorKind::Other));
-        }
-        Ok(Duration::from_nanos(self.now.get()))
-    }
-
-    fn since_1970(&self) -> io::Result<Duration> {
-        Err(io::Error::from(ErrorKind::Other))
-    }
-
-    fn sleep(&self, duration: Duration) {
-        let time = u64::try_from(duration.as_nanos()).unwrap_or(u64::MAX);
-        self.now.set(self.now.get().saturating_add(time));
-    }
-}
 
 /// A random source whose bytes count up from 1, or that has no bytes.
 #[derive(Drop)]
@@ -50,73 +31,109 @@ impl RandomSource for Counting {
     }
 }
 
-/// Runs a gateway in real time for two ticks.
-fn run_live(rt: &HostRuntime, random: &Counting, words: &[&str]) -> Outcome {
-    let clock = ShortClock { now: Cell::new(0) };
+/// A clock that can be read once.
+#[derive(Drop)]
+struct FailingClock {
+    works: Cell<bool>,
+}
+
+impl Clock for FailingClock {
+    fn monotonic(&self) -> io::Result<Duration> {
+        if self.works.replace(false) {
+            return Ok(Duration::ZERO);
+        }
+        Err(io::Error::from(ErrorKind::Other))
+    }
+
+    fn since_1970(&self) -> io::Result<Duration> {
+        Err(io::Error::from(ErrorKind::Other))
+    }
+}
+
+/// How a run of the program ended, and its output and error messages.
+#[derive(Drop)]
+struct Outcome {
+    status: u8,
+    output: Vec<u8>,
+    errors: Vec<u8>,
+}
+
+/// Runs the program with these arguments and this source of random numbers, and with a clock that can be read once.
+fn run_with(rt: &HostRuntime, random: &Counting, words: &[&str]) -> Outcome {
+    let alloc = rt.alloc();
+    let clock = FailingClock {
+        works: Cell::new(true),
+    };
+    let mut outcome = Outcome {
+        status: 0,
+        output: Vec::new(alloc),
+        errors: Vec::new(alloc),
+    };
+    let mut reports = Vec::new(alloc);
+    let system = System {
+        net: rt,
+        clock: &clock,
+        random,
+        files: rt,
+    };
     let mut input: &[u8] = b"";
-    run_with(rt, &clock, random, words, &mut input)
+    outcome.status = program(
+        &system,
+        alloc,
+        words,
+        &mut input,
+        &mut outcome.output,
+        &mut outcome.errors,
+        &mut reports,
+    );
+    outcome
 }
 
 #[test]
-fn draws_the_numbers_that_no_option_gives(rt: HostRuntime) {
-    let counting = Counting { works: true };
-    let words = [
-        "live",
-        "--control-port=28940",
-        "--base-port=28942",
-        "--slots=1",
-        "--record",
-    ];
-    let done = run_live(&rt, &counting, &words);
-    let wanted =
-        b"# mg_bridge replay --address=127.0.0.1 --control-address=127.0.0.1 --control-port=28940 \
-        --base-port=28942 --slots=1 --first-termination=1 --first-context=1 --ssrc=16909060 --sequence=1286 \
-        --timestamp=117967114\n";
-    assert!(rt; done.output.as_slice().starts_with(wanted.as_slice()));
-    let words = [
-        "live",
-        "--control-port=28944",
-        "--base-port=28946",
-        "--slots=1",
-        "--record",
-        "--sequence=0",
-    ];
-    let done = run_live(&rt, &counting, &words);
-    let wanted =
-        b"# mg_bridge replay --address=127.0.0.1 --control-address=127.0.0.1 --control-port=28944 \
-        --base-port=28946 --slots=1 --first-termination=1 --first-context=1 --ssrc=16909060 --sequence=0 \
-        --timestamp=117967114\n";
-    assert!(rt; done.output.as_slice().starts_with(wanted.as_slice()));
+fn draws_the_numbers_that_no_option_gives(rt: HostRuntime) -> Result<(), Fail> {
+    for (sequence, wanted) in [(true, 1286), (false, 0)] {
+        let draws = Draws {
+            ssrc: true,
+            sequence,
+            timestamp: true,
+        };
+        let drawn = draws.draw(&Counting { works: true }, Config::default())?;
+        let found = (drawn.ssrc, drawn.sequence, drawn.timestamp);
+        assert_equal(&rt, found, (16909060, wanted, 117967114));
+    }
+    Ok(())
 }
 
+/// No gateway gets past its ports, because 192.0.2.1 isn't an address of this machine.
 #[test]
 fn reports_a_lack_of_random_numbers(rt: HostRuntime) {
     let none = Counting { works: false };
     let words = [
         "live",
-        "--control-port=28950",
-        "--base-port=28952",
-        "--slots=1",
+        "--bind-address=192.0.2.1",
         "--ssrc=1",
         "--timestamp=2",
-    ];
-    let done = run_live(&rt, &none, &words);
-    assert_equal(&rt, done.status, 3);
-    assert!(rt; done.output.is_empty());
-    assert!(rt;
-        done.errors
-            .as_slice()
-            .starts_with(b"cannot draw random numbers: ")
-    );
-    let words = [
-        "live",
-        "--control-port=28954",
-        "--base-port=28956",
-        "--slots=1",
-        "--ssrc=1",
         "--sequence=3",
-        "--timestamp=2",
     ];
-    let done = run_live(&rt, &none, &words);
+    for (words, status, message) in [
+        (&words[..4], 3, b"cannot draw random numbers: ".as_slice()),
+        (&words, 5, b"cannot bind 192.0.2.1:2944: "),
+    ] {
+        let done = run_with(&rt, &none, words);
+        assert_equal(&rt, done.status, status);
+        assert!(rt; done.output.is_empty() && done.errors.as_slice().starts_with(message));
+    }
+}
+
+#[test]
+fn ends_if_the_clock_fails(rt: HostRuntime) -> Result<(), Fail> {
+    let (base, control) = free_ports(&rt)?;
+    let control = format!(in rt.alloc(); "--control-port={control}")?;
+    let base = format!(in rt.alloc(); "--base-port={base}")?;
+    let words = ["live", control.as_str(), base.as_str(), "--slots=1"];
+    let done = run_with(&rt, &Counting { works: true }, &words);
+    assert_equal(&rt, done.status, 3);
     assert_equal(&rt, done.output.as_slice(), b"ready\n".as_slice());
+    assert_equal(&rt, done.errors.as_slice(), b"read failed\n".as_slice());
+    Ok(())
 }

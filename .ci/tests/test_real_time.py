@@ -63,9 +63,9 @@ class RealTime(Commands):
             caller.recv(2000)
             first = [numbers(caller.recv(2000)) for _ in range(4)]
             self.stall(gateway, 1)
-            # Reports follow until all packets of the stall have been counted.
+            # A report that falls into the late ticks comes before the line that counts them.
             late, totals = 0, ["", "0"]
-            while int(totals[1]) == 0 or late < int(totals[1]):
+            while not 0 < int(totals[1]) == late:
                 line = gateway.process.stderr.readline()
                 if found := re.fullmatch(r"([0-9]+) packets were too late\n", line):
                     late += int(found[1])

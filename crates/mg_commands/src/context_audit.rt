@@ -9,7 +9,7 @@ ghost use Rattle.mg_commands.specs.ContextProperties.{pair_item, audit_pair, aud
 
 use crate::named_member::NamedMember;
 use mg_engine::{Association, Engine};
-use mg_text::{Item, Reply};
+use mg_reply::{Item, Reply};
 
 /// Returns the item that reports which of two members hears the other.
 fn pair_item(

@@ -17,7 +17,8 @@ use crate::named_member::named_members;
 use crate::progress::Progress;
 use arrayvec::ArrayVec;
 use mg_engine::{Engine, FEW_TRIPLES, TRIPLES, TopologyTriple, TripleTerm};
-use mg_text::{ContextProperty, ErrorNumber, Item, NamedTriple, Reply};
+use mg_reply::{Item, Reply};
+use mg_text::{ContextProperty, ErrorNumber, NamedTriple};
 
 /// Returns the meaning of a name in a triple.
 fn term_of(made: Option<u32>, name: Name) -> TripleTerm

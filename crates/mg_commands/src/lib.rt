@@ -3,7 +3,7 @@
 //! See RFC 3525, section 8.
 //!
 //! A [`Request`](mg_text::Request) refers to parts of its message by spans, so [`transaction`] needs the message too.
-//! It runs the commands on an [`Engine`](mg_engine::Engine), puts their outcomes into a [`Reply`](mg_text::Reply), and
+//! It runs the commands on an [`Engine`](mg_engine::Engine), puts their outcomes into a [`Reply`](mg_reply::Reply), and
 //! does not allocate:
 //!
 //! ```rust
@@ -46,6 +46,5 @@ mod served;
 pub mod theorems;
 mod transactions;
 
-pub use crate::name::{Name, name_of, written_name};
 pub use crate::transactions::transaction;
 pub use mg_kept::Kept;

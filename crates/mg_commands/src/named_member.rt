@@ -3,7 +3,7 @@ ghost use Rattle.mg_words.specs.Term.{rtp_name};
 
 use arrayvec::ArrayVec;
 use mg_engine::SeatedMember;
-use mg_text::RtpName;
+use mg_reply::RtpName;
 use mg_words::MEMBERS;
 use std::marker::Model;
 

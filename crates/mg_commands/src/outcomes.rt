@@ -16,7 +16,8 @@ use crate::reply_descriptors::ReplyDescriptors;
 use crate::reply_parts::reply_parts;
 use crate::served::Served;
 use mg_engine::{Engine, Target};
-use mg_text::{CommandWord, ErrorNumber, Parts, Term};
+use mg_reply::Parts;
+use mg_text::{CommandWord, ErrorNumber, Term};
 
 /// Returns what is reported about the termination with this number.
 fn served_at(target: Target, number: u32, parts: Parts) -> Served

@@ -6,7 +6,7 @@ ghost use Rattle.mg_commands.specs.aids.Steps.{whole_media, local_media};
 
 use crate::reply_descriptors::ReplyDescriptors;
 use mg_engine::{Engine, Record, Stats};
-use mg_text::{Control, Media, Parts};
+use mg_reply::{Control, Media, Parts};
 
 /// Returns all settings of a termination's media, from its record.
 fn media_of_record(termination: Record) -> Media

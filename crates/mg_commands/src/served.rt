@@ -1,5 +1,6 @@
 use mg_engine::Target;
-use mg_text::{Parts, Term};
+use mg_reply::Parts;
+use mg_text::Term;
 
 /// The result of a successful command.
 #[derive(Drop)]

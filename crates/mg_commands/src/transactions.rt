@@ -23,7 +23,8 @@ use crate::name::{Name, name_of, written_as, written_name};
 use crate::outcomes::outcome;
 use crate::progress::Progress;
 use mg_engine::{Engine, Target};
-use mg_text::{Action, Command, ContextId, ErrorNumber, Item, Outcome, Reply, Request};
+use mg_reply::{Item, Outcome, Reply};
+use mg_text::{Action, Command, ContextId, ErrorNumber, Request};
 
 /// Tries a command for one name. Returns the progress of the action, and whether the command succeeded.
 fn try_name(

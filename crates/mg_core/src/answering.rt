@@ -18,9 +18,9 @@ use crate::state::CoreState;
 use mg_commands::{Kept, transaction};
 use mg_engine::Config;
 use mg_reply::theorems::too_long_by_text;
+use mg_reply::{Bytes, HEAD_LIMIT, Item, Reply, write_error, write_head, write_reply};
 use mg_text::{
-    Body, Bytes, ERROR_LIMIT, ErrorNumber, HEAD_LIMIT, Item, MessageItem, REPLY_LIMIT, Range,
-    ReadFault, Reply, Request, write_error, write_head, write_reply,
+    Body, ERROR_LIMIT, ErrorNumber, MessageItem, REPLY_LIMIT, Range, ReadFault, Request,
 };
 use mg_words::SENDER_LIMIT;
 

@@ -6,7 +6,7 @@ ghost use Rattle.mg_core.specs.Flows.{changes, ended_line, hearing, in_mode, is_
 
 use crate::listener::KeptListener;
 use itoa::Buffer;
-use mg_text::Bytes;
+use mg_reply::Bytes;
 use mg_words::{MEMBERS, Mode};
 
 /// The maximum length, in bytes, of a number in decimal.

@@ -7,8 +7,7 @@ ghost use Rattle.mg_core.specs.Recording.{datagram_text, event_line};
 use crate::output::{PEER_LIMIT, push_peer};
 use crate::script::DATAGRAM_LIMIT;
 use mg_engine::Peer;
-use mg_reply::PORT_LIMIT;
-use mg_text::{Bytes, write_port};
+use mg_reply::{Bytes, PORT_LIMIT, write_port};
 use std::alloc::{AllocError, Global};
 use std::marker::Model;
 

@@ -60,5 +60,5 @@ pub use crate::stopped::Stopped;
 // Contracts in other crates can name a core only if the type of the core's state is exported.
 #[doc(hidden)]
 pub use crate::state::CoreState;
-pub use mg_engine::{Config, Datagram, DropCause, Peer, Record, Rooms, StartFault, Stats, Taken};
-pub use mg_rooms::{LAST_CONTEXT, TERMINATIONS};
+pub use mg_engine::{Config, Datagram, Peer, Record, StartFault, Taken};
+pub use mg_rooms::TERMINATIONS;

@@ -18,7 +18,7 @@ use crate::shown::Shown;
 use crate::watched::Watched;
 use mg_engine::{Config, Peer, StartFault};
 use mg_lines::write_whole;
-use mg_text::Bytes;
+use mg_reply::Bytes;
 use std::alloc::{AllocError, Global};
 use std::io::Write;
 

@@ -29,8 +29,9 @@ use crate::parsed::Parsed;
 use crate::state::CoreState;
 use mg_commands::Kept;
 use mg_engine::{Config, Datagram, Engine, Outbox, Peer, Record, Rooms, StartFault, Stats, Taken};
+use mg_reply::{Bytes, HEAD_LIMIT, Reply, write_head};
 use mg_rooms::TERMINATIONS;
-use mg_text::{Bytes, ErrorNumber, HEAD_LIMIT, Message, REQUEST_LIMIT, Reply, read, write_head};
+use mg_text::{ErrorNumber, Message, REQUEST_LIMIT, read};
 use std::alloc::{AllocError, Global};
 use std::marker::Model;
 

@@ -7,9 +7,8 @@ ghost use Rattle.mg_core.specs.Run.{answer_line, packet_line, lines_for};
 ghost use Rattle.mg_core.specs.Step.{Packet};
 
 use mg_engine::{Datagram, Peer};
-use mg_reply::PORT_LIMIT;
+use mg_reply::{Bytes, PORT_LIMIT, write_address, write_port};
 use mg_rtp::PACKET_LEN;
-use mg_text::{Bytes, write_address, write_port};
 use mg_words::ADDRESS_LIMIT;
 
 /// The maximum length of a peer, in bytes: an address, a colon and a port.

@@ -13,7 +13,7 @@ use crate::script_runner::PARTIAL_LIMIT;
 use memchr::memchr;
 use mg_engine::{Config, StartFault};
 use mg_lines::{READ_SIZE, read_some, without_return};
-use mg_text::Bytes;
+use mg_reply::Bytes;
 use std::alloc::Global;
 use std::io::Read;
 

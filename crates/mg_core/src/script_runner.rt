@@ -14,7 +14,7 @@ use crate::script::LINE_LIMIT;
 use crate::shown::Shown;
 use mg_engine::{Config, StartFault};
 use mg_lines::{READ_SIZE, read_some, without_return};
-use mg_text::Bytes;
+use mg_reply::Bytes;
 use std::alloc::Global;
 use std::io::{Read, Write};
 

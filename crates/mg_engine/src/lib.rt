@@ -62,9 +62,6 @@ pub use crate::seated_member::SeatedMember;
 pub use crate::taken::{DropCause, Taken};
 pub use crate::topology_triple::{FEW_TRIPLES, TRIPLES, TopologyTriple, TopologyTriples};
 pub use crate::triple_term::TripleTerm;
-pub use mg_rooms::{
-    ErrorNumber, Limits, MediaSetting, Mode, Record, Rooms, Settings, Target, mode_listens,
-    mode_talks,
-};
-pub use mg_sums::{Room, Row, Sums};
+pub use mg_rooms::{ErrorNumber, MediaSetting, Mode, Record, Rooms, Settings, Target};
+pub use mg_sums::{Room, Row};
 pub use mg_words::{Association, Peer, Stats};

@@ -32,5 +32,4 @@ mod room_flows;
 pub mod theorems;
 
 pub use flow_table::FlowTable;
-pub use mg_words::CONTEXTS;
 pub use place::Place;

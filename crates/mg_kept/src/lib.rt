@@ -23,4 +23,3 @@ mod kept;
 pub mod theorems;
 
 pub use crate::kept::Kept;
-pub use mg_words::{KEPT_REPLIES, REPLY_LIMIT, SENDER_LIMIT};

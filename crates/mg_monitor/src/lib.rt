@@ -27,7 +27,6 @@ mod seconds;
 mod sink;
 
 pub use crate::both::Both;
-pub use crate::delays::Delays;
 pub use crate::loss::Loss;
 pub use crate::metrics::Metrics;
 pub use crate::reports::Reports;

@@ -38,7 +38,7 @@ mod source;
 pub mod theorems;
 mod turn;
 
-pub use mg_words::{FIRST_DEPTH, MAX_DEPTH, MIN_DEPTH};
+pub use mg_words::{MAX_DEPTH, MIN_DEPTH};
 pub use phase::Phase;
 pub use placed::Placed;
 // Contracts in other crates can name a play list only if the types of its fields are exported.

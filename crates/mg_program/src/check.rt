@@ -9,7 +9,7 @@ use std::net::{Ipv4Addr, Net, SocketAddrV4, UdpSocket};
 use std::time::{Clock, Duration};
 
 /// The heartbeat: an audit of ROOT in the null context (RFC 3525, section 7.2.5).
-pub const HEARTBEAT: &[u8] = b"MEGACO/1 <check>\nTransaction=1{Context=-{AuditValue=ROOT}}";
+const HEARTBEAT: &[u8] = b"MEGACO/1 <check>\nTransaction=1{Context=-{AuditValue=ROOT}}";
 
 /// Acknowledges the heartbeat's reply, so that the gateway does not keep it.
 const ACKNOWLEDGEMENT: &[u8] = b"MEGACO/1 <check>\nTransactionResponseAck{1}";
@@ -27,7 +27,7 @@ const WAIT_MS: u64 = 1000;
 const REPLY_ROOM: usize = 512;
 
 /// Returns whether a message replies to the heartbeat.
-pub fn answers_heartbeat(message: &[u8]) -> bool {
+fn answers_heartbeat(message: &[u8]) -> bool {
     message.ends_with(REPLY)
 }
 

@@ -33,8 +33,6 @@ mod udp_ports;
 mod unsent;
 
 pub use crate::bind_fault::BindFault;
-pub use crate::check::{HEARTBEAT, answers_heartbeat};
-pub use crate::control_watch::ControlWatch;
 pub use crate::entry::program;
 pub use crate::readiness::SOCKETS;
 pub use crate::sockets::Sockets;

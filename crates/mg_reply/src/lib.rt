@@ -43,7 +43,4 @@ pub use crate::writing::{
     HEAD_LIMIT, PORT_LIMIT, TooLong, write_address, write_error, write_head, write_port,
     write_reply,
 };
-pub use mg_words::{
-    Association, CommandWord, ContextId, ERROR_LIMIT, ErrorNumber, Mode, REPLY_LIMIT, Stats,
-    TERM_LIMIT, Term,
-};
+pub use mg_words::{Association, CommandWord, ContextId, ErrorNumber, Mode, Stats, Term};

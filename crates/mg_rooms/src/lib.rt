@@ -49,8 +49,7 @@ pub use limits::Limits;
 pub use media_setting::MediaSetting;
 pub use member::Member;
 pub use mg_words::{
-    CONTEXTS, ErrorNumber, FIRST_DEPTH, LAST_CONTEXT, LAST_TERMINATION, MAX_DEPTH, MEMBERS,
-    MIN_DEPTH, Mode, TERMINATIONS, mode_listens, mode_talks,
+    ErrorNumber, LAST_CONTEXT, MEMBERS, Mode, TERMINATIONS, mode_listens, mode_talks,
 };
 pub use moved::Moved;
 pub use record::Record;

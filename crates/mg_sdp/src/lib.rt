@@ -39,4 +39,3 @@ pub use crate::offer::Offer;
 pub use crate::reader::read_sessions;
 pub use crate::sessions::Sessions;
 pub use crate::writing::{TEXT_LIMIT, write_local, write_remote};
-pub use mg_words::ALTERNATIVE_LIMIT;

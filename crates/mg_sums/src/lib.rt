@@ -38,7 +38,7 @@ mod rows;
 mod sums;
 pub mod theorems;
 
-pub use mg_words::{CONTEXTS, TERMINATIONS};
+pub use mg_words::TERMINATIONS;
 pub use room::Room;
 pub use row::Row;
 pub use sums::Sums;

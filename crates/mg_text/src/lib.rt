@@ -1,8 +1,7 @@
 //! The parser for control messages in text encoding (Megaco, RFC 3525, Annex B).
 //!
 //! [`read`] parses the bytes of a datagram as a [`Message`], or returns why they are not a message. The tree refers to
-//! text by its span in the source, and doesn't copy it. Replies are collected in a [`Reply`] and written by
-//! [`write_reply`] to [`Bytes`]; these types are in the crate `mg_reply`:
+//! text by its span in the source, and doesn't copy it. The crate `mg_reply` writes replies:
 //!
 //! ```rust
 //! let source = b"MEGACO/1 [127.0.0.1]:2945 Transaction=1{Context=-{AuditValue=ROOT}}".as_slice();
@@ -53,11 +52,7 @@ pub use crate::message::Message;
 pub use crate::reading::read;
 pub use crate::request::{Action, Request};
 pub use crate::tree_list::TreeList;
-pub use mg_reply::{
-    Bytes, Control, HEAD_LIMIT, ITEM_LIMIT, Item, Media, Outcome, Parts, Reply, RtpName, TooLong,
-    write_address, write_error, write_head, write_port, write_reply,
-};
 pub use mg_words::{
-    Association, COMMAND_LIMIT, CommandWord, ContextId, ERROR_LIMIT, ErrorNumber, MESSAGE_LIMIT,
-    Mode, REPLY_LIMIT, REQUEST_LIMIT, Stats, TERM_LIMIT, Term,
+    Association, CommandWord, ContextId, ERROR_LIMIT, ErrorNumber, Mode, REPLY_LIMIT,
+    REQUEST_LIMIT, Term,
 };

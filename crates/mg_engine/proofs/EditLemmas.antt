@@ -16,6 +16,7 @@ use Rattle.mg_rooms.specs.aids.Sound.{IsSound}
 use Rattle.mg_rooms.specs.Registry as rooms
 use Rattle.mg_rooms.specs.Registry.{record_at}
 use Rattle.mg_engine.specs.declared.config.Config.{Config}
+use Rattle.mg_engine.specs.declared.engine.Engine.TheInside.{Inside}
 use Rattle.mg_flow.specs.Table as flow
 use Rattle.mg_sums.specs.Samples.{silence}
 use Rattle.mg_engine.specs.Gateway.{Gateway, TerminationMedia, Enter, new_media, media_of}
@@ -65,48 +66,23 @@ more_terminations : (old new : rooms.Registry) (d : Record) → Adds old new d �
     length new.terminations ≡ length old.terminations + 1
 more_terminations old new d a = ap length a.terminations ∙ length_push old.terminations d
 
-pub slots_kept : (config : Config) (old new : rooms.Registry) (pool : Limits) (kept : List media.SlotMedia)
-    (held : List ℕ) (flows : List flow.RoomFlows) (seating : List ℕ) (rows : List (Option ℕ)) →
-    IsWholeEngine config old pool kept held flows seating rows → new.limits ≡ old.limits →
-    new.limits.slots ≤ length kept
-slots_kept config old new pool kept held flows seating rows h same =
-    omega (arith, ap (λ (l : Limits). l.slots) (same ∙ h.limits), h.media)
+pub slots_kept : (e : Inside) (new : rooms.Registry) → IsWholeEngine e → new.limits ≡ e.rooms.limits →
+    new.limits.slots ≤ length e.media.items
+slots_kept e new h same = omega (arith, ap (λ (l : Limits). l.slots) (same ∙ h.limits), h.media)
 
-pub room_left : (config : Config) (old new : rooms.Registry) (d : Record) (pool : Limits)
-    (kept : List media.SlotMedia) (held : List ℕ) (flows : List flow.RoomFlows) (seating : List ℕ)
-    (rows : List (Option ℕ))
-    → IsWholeEngine config old pool kept held flows seating rows → Adds old new d → IsSound new →
-    length held < TERMINATIONS
-room_left config old new d pool kept held flows seating rows h a sound =
-    let some = ap length h.held ∙ length-map old.terminations (λ r. r.slot) in
-    omega (arith, sound.few, more_terminations old new d a, some, sound.consistent.limits.0.few_slots)
+pub room_left : (e : Inside) (new : rooms.Registry) (d : Record) → IsWholeEngine e → Adds e.rooms new d →
+    IsSound new → length e.held.items < TERMINATIONS
+room_left e new d h a sound =
+    let some = ap length h.held ∙ length-map e.rooms.terminations (λ r. r.slot) in
+    omega (arith, sound.few, more_terminations e.rooms new d a, some, sound.consistent.limits.0.few_slots)
 
-pub whole_added : (config : Config) (old new : rooms.Registry) (d : Record) (pool : Limits)
-    (kept after : List media.SlotMedia) (held now : List ℕ) (before flows : List flow.RoomFlows)
-    (seating seated : List ℕ)
-    (rows joined : List (Option ℕ)) → IsWholeEngine config old pool kept held before seating rows →
-    (a : Adds old new d) →
-    IsSound new
-    → length after ≡ length kept → now ≡ held ++ d.slot ∷ [] → HasMembers new flows → AreSeated new seated →
-    length seated ≡ length seating → AreJoined new joined → length joined ≡ termination_limit →
-    IsWholeEngine config new pool after now flows seated joined
-whole_added config old new d pool kept after held now before flows seating seated rows joined h a sound same pushed
-    members seats long at_rooms limited =
-    record {
-      sound = sound;
-      row_count = limited;
-      joined = at_rooms;
-      members = members;
-      seats = seats;
-      places = long ∙ h.places;
-      limits = a.limits ∙ h.limits;
-      ports = h.ports;
-      media = same ∙ h.media;
-      held = pushed
-          ∙ ap (λ (slots : List ℕ). slots ++ d.slot ∷ []) h.held
-          ∙ sym (map-append (λ r. r.slot) old.terminations (d ∷ []))
-          ∙ ap (map (λ r. r.slot)) (sym a.terminations);
-    }
+pub held_added : (old new : rooms.Registry) (d : Record) (held now : List ℕ) → Adds old new d →
+    held ≡ map (λ r. r.slot) old.terminations → now ≡ held ++ d.slot ∷ [] → now ≡ map (λ r. r.slot) new.terminations
+held_added old new d held now a before pushed =
+    pushed
+    ∙ ap (λ (slots : List ℕ). slots ++ d.slot ∷ []) before
+    ∙ sym (map-append (λ r. r.slot) old.terminations (d ∷ []))
+    ∙ ap (map (λ r. r.slot)) (sym a.terminations)
 
 -- media that begin and are tuned
 pub begun_tuned : (kept first after : List media.SlotMedia) (slot : ℕ) (initial_media : media.SlotMedia) (depth : Option ℕ) →
@@ -254,25 +230,9 @@ kept_by f k new n d a same =
     ap (map f) (a.terminations ∙ ap (λ (m : ℕ). change (λ x. x.number) m (λ _. Some d) k.rooms.terminations) number)
     ∙ mapped_kept (λ x. x.number) f n (λ _. Some d) k.rooms.terminations a.was (ap (λ (b : _). b ∷ []) same) a.there
 
-pub whole_changed : (k : EngineState) (new : rooms.Registry) (n : ℕ) (d : Record) (pool : Limits)
-    (after : List media.SlotMedia) (held : List ℕ) (flows : List flow.RoomFlows) (seating seated : List ℕ)
-    (joined : List (Option ℕ)) → IsWholeEngine k.config k.rooms pool k.media held k.flows seating k.sums.rooms →
-    Changes k.rooms new n d → IsSound new → length after ≡ length k.media
-    → HasMembers new flows → AreSeated new seated → length seated ≡ length seating → AreJoined new joined →
-    length joined ≡ termination_limit → IsWholeEngine k.config new pool after held flows seated joined
-whole_changed k new n d pool after held flows seating seated joined h a sound same members seats long at_rooms
-    limited = record {
-      sound = sound;
-      row_count = limited;
-      joined = at_rooms;
-      members = members;
-      seats = seats;
-      places = long ∙ h.places;
-      limits = a.limits ∙ h.limits;
-      ports = h.ports;
-      media = same ∙ h.media;
-      held = h.held ∙ sym (kept_by (λ r. r.slot) k new n d a a.slot);
-    }
+pub held_changed : (k : EngineState) (new : rooms.Registry) (n : ℕ) (d : Record) (held : List ℕ) →
+    Changes k.rooms new n d → held ≡ map (λ r. r.slot) k.rooms.terminations → held ≡ map (λ r. r.slot) new.terminations
+held_changed k new n d held a before = before ∙ sym (kept_by (λ r. r.slot) k new n d a a.slot)
 
 tuned_media : (k : EngineState) (new : rooms.Registry) (after : List media.SlotMedia) (frames : List (List ℤ))
     (w : Gateway) (settings : Settings) (n : ℕ) (d : Record) (a : Changes k.rooms new n d) → Slots new →
@@ -359,29 +319,15 @@ left_terminations : (k : EngineState) (new : rooms.Registry) (n : ℕ) (d : Reco
 left_terminations k new n d a = a.terminations ∙
     ap (λ (m : ℕ). change (λ x. x.number) m (λ _. None) k.rooms.terminations) (removed_at k new n d a)
 
-pub whole_removed : (k : EngineState) (new : rooms.Registry) (n : ℕ) (d : Record) (pool : Limits) (held now : List ℕ)
-    (flows : List flow.RoomFlows) (seating : List ℕ) (joined : List (Option ℕ)) →
-    IsWholeEngine k.config k.rooms pool k.media held k.flows seating k.sums.rooms → (a : Removes k.rooms new n d) →
-    IsSound k.rooms → IsSound new → now ≡ filter (λ s. not (eqb s d.slot)) held
-    → HasMembers new flows → AreSeated new seating → AreJoined new joined → length joined ≡ termination_limit →
-    IsWholeEngine k.config new pool k.media now flows seating joined
-whole_removed k new n d pool held now flows seating joined h a sound after left members seats at_rooms limited =
-    record {
-      sound = after;
-      row_count = limited;
-      joined = at_rooms;
-      members = members;
-      seats = seats;
-      places = h.places;
-      limits = a.limits ∙ h.limits;
-      ports = h.ports;
-      media = h.media;
-      held = left
-          ∙ ap (filter (λ s. not (eqb s d.slot))) h.held
-          ∙ spots_left (λ x. x.number) (λ r. r.slot) d.slot n k.rooms.terminations d
-          (sound.consistent.terminations.one_slot d.slot) a.there refl
-          ∙ ap (map (λ r. r.slot)) (sym (left_terminations k new n d a));
-    }
+pub held_removed : (k : EngineState) (new : rooms.Registry) (n : ℕ) (d : Record) (held now : List ℕ) →
+    Removes k.rooms new n d → IsSound k.rooms → held ≡ map (λ r. r.slot) k.rooms.terminations →
+    now ≡ filter (λ s. not (eqb s d.slot)) held → now ≡ map (λ r. r.slot) new.terminations
+held_removed k new n d held now a sound before left =
+    left
+    ∙ ap (filter (λ s. not (eqb s d.slot))) before
+    ∙ spots_left (λ x. x.number) (λ r. r.slot) d.slot n k.rooms.terminations d
+    (sound.consistent.terminations.one_slot d.slot) a.there refl
+    ∙ ap (map (λ r. r.slot)) (sym (left_terminations k new n d a))
 
 left_media : (k : EngineState) (new : rooms.Registry) (w : Gateway) (n : ℕ) (d : Record) → Removes k.rooms new n d →
     IsSound k.rooms → Others k.rooms new n → StandsFor k w

@@ -103,8 +103,7 @@ impl Model for Engine {
       shares = e.shares;
     } };
 
-    ghost invariant = { λ e. IsWholeEngine e.config e.rooms e.ports e.media.items e.held.items e.flows e.seating
-        e.sums.rooms };
+    ghost invariant = { IsWholeEngine };
 }
 
 /// Creates idle media for `slots` slots. Fails only if the allocation fails.

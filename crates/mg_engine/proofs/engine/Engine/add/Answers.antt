@@ -2,13 +2,14 @@ use Rattle.std.proofs.Common.{◌<◌, ℕ, List, Option, length, sym, ap, subst
 use Rattle.std.proofs.lemmas.List.{length-set}
 use Rattle.mg_rooms.specs.Outcome as commands
 use Rattle.mg_rooms.specs.Registry as rooms
+use Rattle.mg_engine.specs.declared.engine.Engine.TheView.{view}
 use Rattle.mg_engine.specs.aids.MediaSteps as media_steps
 use Rattle.mg_engine.specs.Outcome.{added, done_with}
 use Rattle.mg_engine.specs.Place.{member_place}
 use Rattle.mg_engine.specs.Stands.{EngineState, StandsFor}
 use Rattle.mg_rooms.proofs.SoundLemmas.{sound_if}
 use Rattle.mg_engine.proofs.OutcomeLemmas.{add_adds}
-use Rattle.mg_engine.proofs.EditLemmas.{slots_kept, room_left, whole_added, unknown_before, begun_tuned, added_stands}
+use Rattle.mg_engine.proofs.EditLemmas.{slots_kept, room_left, held_added, unknown_before, begun_tuned, added_stands}
 use Rattle.mg_engine.proofs.MemberLemmas.{no_record, same_others, carry, hears_carry, unknown, hears_some, free_place, has_entered, hears_entered}
 use Rattle.mg_engine.specs.Work.{RisesAtMost}
 use Rattle.mg_engine.specs.aids.Joined.{SetsRow, room_for}
@@ -24,9 +25,7 @@ begin-requires c =
     let at = c.in_ok-made.ensures.member in
     let a = add_adds c.self.inside.rooms c.args.target c.args.settings.now c.add.new.self c.in_ok-made.made.record
     c.in_ok-made.ensures.outcome in
-    let slots = slots_kept c.self.inside.config c.self.inside.rooms c.add.new.self c.self.inside.ports
-    c.self.inside.media.items c.self.inside.held.items c.self.inside.flows c.self.inside.seating
-    c.self.inside.sums.rooms c.self.invariant a.limits in
+    let slots = slots_kept c.self.inside c.add.new.self c.self.invariant a.limits in
     let is = (sound.termination c.in_ok-made.made.record.number c.in_ok-made.made.record at.found).1 in
     record { slot = (omega (arith, is.slot, slots), omega (arith, is.slot, sound.consistent.limits.0.few_slots)) }
 
@@ -36,9 +35,7 @@ tune-requires c =
     let at = c.in_ok-made.ensures.member in
     let a = add_adds c.self.inside.rooms c.args.target c.args.settings.now c.add.new.self c.in_ok-made.made.record
     c.in_ok-made.ensures.outcome in
-    let slots = slots_kept c.self.inside.config c.self.inside.rooms c.add.new.self c.self.inside.ports
-    c.self.inside.media.items c.self.inside.held.items c.self.inside.flows c.self.inside.seating
-    c.self.inside.sums.rooms c.self.invariant a.limits in
+    let slots = slots_kept c.self.inside c.add.new.self c.self.invariant a.limits in
     let is = (sound.termination c.in_ok-made.made.record.number c.in_ok-made.made.record at.found).1 in
     let long = ap length c.begin.ensures.initial_media ∙ length-set c.self.inside.media.items _ _ in
     record { slot = omega (arith, is.slot, slots, long) }
@@ -48,9 +45,8 @@ push-requires c =
     let a = add_adds c.self.inside.rooms c.args.target c.args.settings.now c.add.new.self c.in_ok-made.made.record
     c.in_ok-made.ensures.outcome in (
       omega arith,
-      room_left c.self.inside.config c.self.inside.rooms c.add.new.self c.in_ok-made.made.record
-          c.self.inside.ports c.self.inside.media.items c.self.inside.held.items c.self.inside.flows
-          c.self.inside.seating c.self.inside.sums.rooms c.self.invariant a (sound_if _ c.add.ensures.consistent),
+      room_left c.self.inside c.add.new.self c.in_ok-made.made.record c.self.invariant a
+          (sound_if _ c.add.ensures.consistent),
     )
 
 pub enter-requires : goal.enter-requires
@@ -104,11 +100,19 @@ invariant_of-self-2 c =
     (λ was there. absurd (no_record was (sym there ∙ none))) rows c.self.invariant.joined in
     let tuned = ap length c.tune.ensures.tuned ∙ length-set c.begin.new.media.items _ _ in
     let long = tuned ∙ ap length c.begin.ensures.initial_media ∙ length-set c.self.inside.media.items _ _ in
-    whole_added c.self.inside.config old new d c.self.inside.ports c.self.inside.media.items c.tune.new.media.items
-    c.self.inside.held.items c.push.new.self.items c.self.inside.flows c.enter.new.flows c.self.inside.seating
-    c.enter.new.seating c.self.inside.sums.rooms c.enter.new.sums.rooms c.self.invariant a sound long
-    c.push.ensures.items
-    members (rw put seats) (ap length put ∙ length-set c.self.inside.seating _ _) joined c.enter.ensures.rows
+    record {
+      sound = sound;
+      limits = a.limits ∙ c.self.invariant.limits;
+      ports = c.self.invariant.ports;
+      media = long ∙ c.self.invariant.media;
+      held = held_added old new d c.self.inside.held.items c.push.new.self.items a c.self.invariant.held
+          c.push.ensures.items;
+      members = members;
+      seats = rw put seats;
+      places = ap length put ∙ length-set c.self.inside.seating _ _ ∙ c.self.invariant.places;
+      row_count = c.enter.ensures.rows;
+      joined = joined;
+    }
 
 pub returns-clause-outcome : goal.returns-clause-outcome
 returns-clause-outcome c w h =
@@ -120,22 +124,14 @@ returns-clause-outcome c w h =
     let p = member_place m in
     let settings = c.args.settings.now in
     let done = c.in_ok-made.ensures.outcome in
-    let k : EngineState = record {
-      config = c.self.inside.config;
-      rooms = c.self.inside.rooms;
-      media = c.self.inside.media.items;
-      flows = c.self.inside.flows;
-      sums = c.self.inside.sums;
-      shares = c.self.inside.shares;
-    } in
+    let k = view c.self.inside in
     let before = c.self.invariant.sound in
     let sound = sound_if _ c.add.ensures.consistent in
     let at = c.in_ok-made.ensures.member in
     let on = on_its_place new n m at in
     let a = add_adds old c.args.target settings new d done in
     let is = (sound.termination n d at.found).1 in
-    let slots = slots_kept k.config old new c.self.inside.ports k.media c.self.inside.held.items k.flows
-    c.self.inside.seating c.self.inside.sums.rooms c.self.invariant a.limits in
+    let slots = slots_kept c.self.inside new c.self.invariant a.limits in
     let lt : d.slot < length k.media = omega (arith, is.slot, slots) in
     let in_rows : d.slot < length k.sums.frames =
     omega (arith, is.slot, sound.consistent.limits.0.few_slots, c.begin.ensures.rows) in

@@ -1,5 +1,6 @@
 use Rattle.std.proofs.Common.{map, ℕ, ◌+◌, ◌%◌, ◌^◌, ◌<◌, ◌++◌, ◌∷◌, [], length, List, get_or, refl, sym, ap, ◌∙◌, arith}
 use Rattle.mg_rtp.specs.Header.{header_bytes, plain}
+use Rattle.mg_engine.specs.declared.engine.Engine.TheView.{view}
 use Rattle.mg_engine.specs.declared.datagram.Datagram.{Datagram}
 use Rattle.mg_engine.specs.aids.Shares.{payload_of}
 use Rattle.std.proofs.lemmas.List.{get_or_default}
@@ -17,14 +18,7 @@ use Rattle.mg_engine.proofs.engine.Engine.address.Goals as goal
 
 pub returns-clause-put : goal.returns-clause-put
 returns-clause-put c before last was body =
-    let k : EngineState = record {
-      config = c.self.inside.config;
-      rooms = c.self.inside.rooms;
-      media = c.self.inside.media.items;
-      flows = c.self.inside.flows;
-      sums = c.self.inside.sums;
-      shares = c.self.inside.shares;
-    } in
+    let k = view c.self.inside in
     let r = c.args.sender.now in
     let to = c.args.to in
     let all = c.as_slice-media.ensures.value in

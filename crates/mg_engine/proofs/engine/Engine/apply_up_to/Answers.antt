@@ -4,6 +4,7 @@ use Rattle.mg_topology.specs.declared.triple.Triple.{Triple}
 use Rattle.mg_topology.specs.Triple.{Overlaps}
 use Rattle.mg_flow.specs.Table.{hears, hears_after}
 use Rattle.mg_rooms.specs.Registry.{members_at}
+use Rattle.mg_engine.specs.declared.engine.Engine.TheView.{view}
 use Rattle.mg_engine.specs.Triples.{check_triples, with_triples}
 use Rattle.mg_engine.specs.aids.Triples.{AreMatched}
 use Rattle.mg_engine.specs.Stands.{EngineState, StandsFor}
@@ -13,14 +14,7 @@ use Rattle.mg_engine.proofs.engine.Engine.apply_up_to.Goals as goal
 
 pub returns-in_err-at-clause-outcome : goal.returns-in_err-at-clause-outcome
 returns-in_err-at-clause-outcome g c w h =
-    let k : EngineState = record {
-      config = c.self.inside.config;
-      rooms = c.self.inside.rooms;
-      media = c.self.inside.media.items;
-      flows = c.self.inside.flows;
-      sums = c.self.inside.sums;
-      shares = c.self.inside.shares;
-    } in
+    let k = view c.self.inside in
     let stands = subst (λ (x : EngineState). StandsFor x w) (sym c.self.view_is) h in
     err_is c.args.self.now c.from_residual.result _ c.in_err-at.field-0.0 (search rules)
     (refused_there k w c.args.target c.args.triples.now c.in_err-at.field-0.0 stands
@@ -28,14 +22,7 @@ returns-in_err-at-clause-outcome g c w h =
 
 pub returns-in_err-by_seats-clause-outcome : goal.returns-in_err-by_seats-clause-outcome
 returns-in_err-by_seats-clause-outcome g c w h =
-    let k : EngineState = record {
-      config = c.self.inside.config;
-      rooms = c.self.inside.rooms;
-      media = c.self.inside.media.items;
-      flows = c.self.inside.flows;
-      sums = c.self.inside.sums;
-      shares = c.self.inside.shares;
-    } in
+    let k = view c.self.inside in
     let stands = subst (λ (x : EngineState). StandsFor x w) (sym c.self.view_is) h in
     err_is c.args.self.now c.from_residual-in_err-by_seats.result _ c.in_err-by_seats.field-0.0 (search rules)
     (refused_triples k w c.args.target c.args.triples.now c.in_ok-at.at.context c.in_err-by_seats.field-0.0
@@ -58,14 +45,7 @@ invariant_of-self g c = record {
 
 pub returns-clause-outcome : goal.returns-clause-outcome
 returns-clause-outcome g c w h =
-    let k : EngineState = record {
-      config = c.self.inside.config;
-      rooms = c.self.inside.rooms;
-      media = c.self.inside.media.items;
-      flows = c.self.inside.flows;
-      sums = c.self.inside.sums;
-      shares = c.self.inside.shares;
-    } in
+    let k = view c.self.inside in
     let stands = subst (λ (x : EngineState). StandsFor x w) (sym c.self.view_is) h in
     let at = c.in_ok-at.at in
     let xs = c.args.triples.now in

@@ -2,6 +2,7 @@ use Rattle.std.proofs.Common.{ℕ, List, refl, sym, ap, subst, ◌∙◌}
 use Rattle.mg_playout.specs.Played.{is_concealed}
 use Rattle.mg_playout.specs.Playout as play_lists
 use Rattle.mg_rooms.specs.Registry.{record_at}
+use Rattle.mg_engine.specs.declared.engine.Engine.TheView.{view}
 use Rattle.mg_engine.specs.Gateway.{media_of}
 use Rattle.mg_engine.specs.Media as media
 use Rattle.mg_engine.specs.Stands.{EngineState, StandsFor, media_at}
@@ -14,14 +15,7 @@ use Rattle.mg_engine.proofs.engine.Engine.conceals.Goals as goal
 pub returns-in-Some : goal.returns-in-Some
 returns-in-Some c = record {
   value = λ w h.
-      let k : EngineState = record {
-        config = c.self.inside.config;
-        rooms = c.self.inside.rooms;
-        media = c.self.inside.media.items;
-        flows = c.self.inside.flows;
-        sums = c.self.inside.sums;
-        shares = c.self.inside.shares;
-      } in
+      let k = view c.self.inside in
       let stands = subst (λ (x : EngineState). StandsFor x w) (sym c.self.view_is) h in
       let (r, there, slot) = with_slot (record_at k.rooms c.args.number) c.in-Some.slot
       (sym c.slot_of.ensures.value ∙ c.in-Some.is) in
@@ -36,14 +30,7 @@ returns-in-Some c = record {
 pub returns-in-None : goal.returns-in-None
 returns-in-None c = record {
   value = λ w h.
-      let k : EngineState = record {
-        config = c.self.inside.config;
-        rooms = c.self.inside.rooms;
-        media = c.self.inside.media.items;
-        flows = c.self.inside.flows;
-        sums = c.self.inside.sums;
-        shares = c.self.inside.shares;
-      } in
+      let k = view c.self.inside in
       let stands = subst (λ (x : EngineState). StandsFor x w) (sym c.self.view_is) h in
       let none = with_no_slot (record_at k.rooms c.args.number) (sym c.slot_of.ensures.value ∙ c.in-None.is) in
       ap conceals_in (sym (none_too k w c.args.number stands.numbers none (media_of w c.args.number) refl));

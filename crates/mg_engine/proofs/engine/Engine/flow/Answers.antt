@@ -2,6 +2,7 @@ use Rattle.std.proofs.Common.{ℕ, IsTrue, sym, ap, subst, ◌∙◌}
 use Rattle.mg_topology.specs.Mask.{has_seat}
 use Rattle.mg_flow.specs.declared.place.Place.{Place}
 use Rattle.mg_flow.specs.Table as table
+use Rattle.mg_engine.specs.declared.engine.Engine.TheView.{view}
 use Rattle.mg_engine.specs.Place.{member_place}
 use Rattle.mg_engine.specs.Stands.{EngineState, StandsFor}
 use Rattle.mg_engine.proofs.FlowLemmas.{flow_places}
@@ -18,14 +19,7 @@ open-requires c =
 pub returns-then-from-to : goal.returns-then-from-to
 returns-then-from-to c = record {
   value = λ w h.
-      let k : EngineState = record {
-        config = c.self.inside.config;
-        rooms = c.self.inside.rooms;
-        media = c.self.inside.media.items;
-        flows = c.self.inside.flows;
-        sums = c.self.inside.sums;
-        shares = c.self.inside.shares;
-      } in
+      let k = view c.self.inside in
       let stands = subst (λ (x : EngineState). StandsFor x w) (sym c.self.view_is) h in
       let t = c.in-Some-Some.speaking in
       let l = c.in-Some-Some.hearing in

@@ -1,6 +1,7 @@
 use Rattle.std.proofs.Common.{sym, ap, subst, ◌∙◌}
 use Rattle.mg_flow.specs.declared.place.Place.{Place}
 use Rattle.mg_flow.specs.Table as table
+use Rattle.mg_engine.specs.declared.engine.Engine.TheView.{view}
 use Rattle.mg_engine.specs.Place.{member_place}
 use Rattle.mg_engine.specs.Stands.{EngineState, StandsFor}
 use Rattle.mg_engine.proofs.FlowLemmas.{hears_places}
@@ -10,14 +11,7 @@ use Rattle.mg_engine.proofs.engine.Engine.hears.Goals as goal
 pub returns-in-Some-Some : goal.returns-in-Some-Some
 returns-in-Some-Some c = record {
   value = λ w h.
-      let k : EngineState = record {
-        config = c.self.inside.config;
-        rooms = c.self.inside.rooms;
-        media = c.self.inside.media.items;
-        flows = c.self.inside.flows;
-        sums = c.self.inside.sums;
-        shares = c.self.inside.shares;
-      } in
+      let k = view c.self.inside in
       let stands = subst (λ (x : EngineState). StandsFor x w) (sym c.self.view_is) h in
       let t = c.in-Some-Some.speaking in
       let l = c.in-Some-Some.hearing in

@@ -1,6 +1,7 @@
 use Rattle.std.proofs.Common.{sym, ap, subst, ◌∙◌}
 use Rattle.mg_flow.specs.declared.place.Place.{Place}
 use Rattle.mg_flow.specs.Table as table
+use Rattle.mg_engine.specs.declared.engine.Engine.TheView.{view}
 use Rattle.mg_engine.specs.Place.{IsOnSeat, seated_place}
 use Rattle.mg_engine.specs.Stands.{EngineState, StandsFor}
 use Rattle.mg_engine.proofs.FlowLemmas.{hears_places}
@@ -9,14 +10,7 @@ use Rattle.mg_engine.proofs.engine.Engine.hears_seated.Goals as goal
 pub returns : goal.returns
 returns c = record {
   value = λ w h.
-      let k : EngineState = record {
-        config = c.self.inside.config;
-        rooms = c.self.inside.rooms;
-        media = c.self.inside.media.items;
-        flows = c.self.inside.flows;
-        sums = c.self.inside.sums;
-        shares = c.self.inside.shares;
-      } in
+      let k = view c.self.inside in
       let stands = subst (λ (x : EngineState). StandsFor x w) (sym c.self.view_is) h in
       let t = c.args.talker in
       let l = c.args.listener in

@@ -1,7 +1,7 @@
 use Rattle.std.proofs.Common.{ℕ, List, length, ap, subst, ◌∙◌, arith}
 use Rattle.mg_rooms.specs.declared.limits.Limits.{Limits}
+use Rattle.mg_engine.specs.declared.engine.Engine.TheView.{view}
 use Rattle.mg_engine.specs.Media.{SlotMedia}
-use Rattle.mg_engine.specs.Stands.{EngineState}
 use Rattle.mg_engine.specs.aids.Playing.{IsIdleEngine, IsIdleSlot}
 use Rattle.mg_engine.proofs.HeldLemmas.{held_below, held_at}
 use Rattle.mg_engine.proofs.engine.Engine.is_idle.Goals as goal
@@ -24,14 +24,7 @@ are_idle-requires c =
 pub returns : goal.returns
 returns c = record {
   value = λ yes.
-      let k : EngineState = record {
-        config = c.self.inside.config;
-        rooms = c.self.inside.rooms;
-        media = c.self.inside.media.items;
-        flows = c.self.inside.flows;
-        sums = c.self.inside.sums;
-        shares = c.self.inside.shares;
-      } in
+      let k = view c.self.inside in
       let slots = c.as_slice.result.now in
       let held = c.as_slice.ensures.value ∙ c.self.invariant.held in
       let all : IsIdleEngine k = λ n r found.

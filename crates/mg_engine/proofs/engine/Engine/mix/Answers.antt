@@ -6,6 +6,7 @@ use Rattle.mg_rooms.specs.Registry.{context_at}
 use Rattle.mg_flow.specs.Place.{sibling_place}
 use Rattle.mg_sums.specs.Sums.{SumsState, AreOfRoom, left_out_by, mix_of}
 use Rattle.mg_sums.specs.Samples.{nearest_sample}
+use Rattle.mg_engine.specs.declared.engine.Engine.TheView.{view}
 use Rattle.mg_engine.specs.Place.{IsOnPlace}
 use Rattle.mg_engine.specs.Stands.{EngineState}
 use Rattle.mg_engine.specs.aids.Sending.{heard_now, silenced_now}
@@ -15,14 +16,7 @@ use Rattle.mg_engine.proofs.engine.Engine.mix.Goals as goal
 
 pub silenced-requires : goal.silenced-requires
 silenced-requires c =
-    let k : EngineState = record {
-      config = c.self.inside.config;
-      rooms = c.self.inside.rooms;
-      media = c.self.inside.media.items;
-      flows = c.self.inside.flows;
-      sums = c.self.inside.sums;
-      shares = c.self.inside.shares;
-    } in
+    let k = view c.self.inside in
     let l = c.args.listener.now in
     let p = c.args.place in
     let sound = c.self.invariant.sound in
@@ -41,14 +35,7 @@ rows_on-silenced-requires-clause-slots c seat h =
 
 pub mix-requires : goal.mix-requires
 mix-requires c =
-    let k : EngineState = record {
-      config = c.self.inside.config;
-      rooms = c.self.inside.rooms;
-      media = c.self.inside.media.items;
-      flows = c.self.inside.flows;
-      sums = c.self.inside.sums;
-      shares = c.self.inside.shares;
-    } in
+    let k = view c.self.inside in
     let l = c.args.listener.now in
     let p = c.args.place in
     let sound = c.self.invariant.sound in
@@ -81,14 +68,7 @@ mix-requires c =
 
 pub returns-clause-value : goal.returns-clause-value
 returns-clause-value c =
-    let k : EngineState = record {
-      config = c.self.inside.config;
-      rooms = c.self.inside.rooms;
-      media = c.self.inside.media.items;
-      flows = c.self.inside.flows;
-      sums = c.self.inside.sums;
-      shares = c.self.inside.shares;
-    } in
+    let k = view c.self.inside in
     let l = c.args.listener.now in
     let p = c.args.place in
     let sound = c.self.invariant.sound in
@@ -142,14 +122,7 @@ returns-clause-value c =
 
 pub returns-clause-work : goal.returns-clause-work
 returns-clause-work c =
-    let k : EngineState = record {
-      config = c.self.inside.config;
-      rooms = c.self.inside.rooms;
-      media = c.self.inside.media.items;
-      flows = c.self.inside.flows;
-      sums = c.self.inside.sums;
-      shares = c.self.inside.shares;
-    } in
+    let k = view c.self.inside in
     let l = c.args.listener.now in
     let p = c.args.place in
     let sound = c.self.invariant.sound in

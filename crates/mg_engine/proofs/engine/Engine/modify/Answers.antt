@@ -4,13 +4,14 @@ use Rattle.std.proofs.lemmas.Option.{same_Some}
 use Rattle.mg_rooms.specs.declared.record.Record.{Record}
 use Rattle.mg_rooms.specs.Outcome as commands
 use Rattle.mg_rooms.specs.Registry as rooms
+use Rattle.mg_engine.specs.declared.engine.Engine.TheView.{view}
 use Rattle.mg_engine.specs.Outcome.{modified, media_with, done_with}
 use Rattle.mg_engine.specs.Place.{member_place}
 use Rattle.mg_engine.specs.Stands.{EngineState, StandsFor}
 use Rattle.mg_engine.specs.Work.{RisesAtMost}
 use Rattle.mg_rooms.proofs.SoundLemmas.{sound_if}
 use Rattle.mg_engine.proofs.OutcomeLemmas.{modify_changes}
-use Rattle.mg_engine.proofs.EditLemmas.{slots_kept, whole_changed, changed_at, changed_stands}
+use Rattle.mg_engine.proofs.EditLemmas.{slots_kept, held_changed, changed_at, changed_stands}
 use Rattle.mg_engine.proofs.MemberLemmas.{same_others, stayed_at, has_mode, hears_mode}
 use Rattle.mg_engine.proofs.JoinedLemmas.{joined_changed}
 use Rattle.mg_engine.proofs.WorkLemmas.{rises_less}
@@ -29,9 +30,7 @@ tune-requires c =
     let sound = sound_if _ c.modify.ensures.consistent in
     let at = c.in_ok-changed.ensures.member in
     let (a, _) = modify_changes old c.args.target n c.args.settings.now new d c.in_ok-changed.ensures.outcome in
-    let slots = slots_kept c.self.inside.config old new c.self.inside.ports c.self.inside.media.items
-    c.self.inside.held.items c.self.inside.flows c.self.inside.seating c.self.inside.sums.rooms c.self.invariant
-    a.limits in
+    let slots = slots_kept c.self.inside new c.self.invariant a.limits in
     record { slot = omega (arith, (sound.termination n d at.found).1.slot, slots) }
 
 pub take_mode-requires : goal.take_mode-requires
@@ -47,14 +46,7 @@ take_mode-requires c =
     let p = member_place m in
     let settings = c.args.settings.now in
     let done = c.in_ok-changed.ensures.outcome in
-    let k : EngineState = record {
-      config = c.self.inside.config;
-      rooms = c.self.inside.rooms;
-      media = c.self.inside.media.items;
-      flows = c.self.inside.flows;
-      sums = c.self.inside.sums;
-      shares = c.self.inside.shares;
-    } in
+    let k = view c.self.inside in
     let others = c.in_ok-changed.ensures.others.termination in
     let on = on_its_place new n m at in
     let (a, context) = modify_changes old c.args.target n settings new d done in
@@ -79,14 +71,7 @@ invariant_of-self-2 c =
     let p = member_place m in
     let settings = c.args.settings.now in
     let done = c.in_ok-changed.ensures.outcome in
-    let k : EngineState = record {
-      config = c.self.inside.config;
-      rooms = c.self.inside.rooms;
-      media = c.self.inside.media.items;
-      flows = c.self.inside.flows;
-      sums = c.self.inside.sums;
-      shares = c.self.inside.shares;
-    } in
+    let k = view c.self.inside in
     let others = c.in_ok-changed.ensures.others.termination in
     let on = on_its_place new n m at in
     let (a, context) = modify_changes old c.args.target n settings new d done in
@@ -99,9 +84,18 @@ invariant_of-self-2 c =
     on (λ x there. ap (λ (y : Record). y.slot) (same_Some x a.was (sym there ∙ a.there)) ∙ sym a.slot)
     c.take_mode.ensures.joined c.self.invariant.joined in
     let long = ap length c.tune.ensures.tuned ∙ length-set c.self.inside.media.items _ _ in
-    whole_changed k new n d c.self.inside.ports c.tune.new.media.items c.self.inside.held.items c.take_mode.new.flows
-    c.self.inside.seating c.self.inside.seating c.take_mode.new.sums.rooms c.self.invariant a sound long members
-    seats refl joined c.take_mode.ensures.rows
+    record {
+      sound = sound;
+      limits = a.limits ∙ c.self.invariant.limits;
+      ports = c.self.invariant.ports;
+      media = long ∙ c.self.invariant.media;
+      held = held_changed k new n d c.self.inside.held.items a c.self.invariant.held;
+      members = members;
+      seats = seats;
+      places = c.self.invariant.places;
+      row_count = c.take_mode.ensures.rows;
+      joined = joined;
+    }
 
 pub returns-clause-outcome : goal.returns-clause-outcome
 returns-clause-outcome c w h =
@@ -116,21 +110,13 @@ returns-clause-outcome c w h =
     let p = member_place m in
     let settings = c.args.settings.now in
     let done = c.in_ok-changed.ensures.outcome in
-    let k : EngineState = record {
-      config = c.self.inside.config;
-      rooms = c.self.inside.rooms;
-      media = c.self.inside.media.items;
-      flows = c.self.inside.flows;
-      sums = c.self.inside.sums;
-      shares = c.self.inside.shares;
-    } in
+    let k = view c.self.inside in
     let others = c.in_ok-changed.ensures.others.termination in
     let on = on_its_place new n m at in
     let (a, context) = modify_changes old c.args.target n settings new d done in
     let same = same_others old new n before.there sound.there c.modify.ensures.lasts.room others in
     let was = stayed_at old new n a.was d p before.there c.modify.ensures.lasts a.there context on in
-    let slots = slots_kept k.config old new c.self.inside.ports c.self.inside.media.items c.self.inside.held.items
-    c.self.inside.flows c.self.inside.seating c.self.inside.sums.rooms c.self.invariant a.limits in
+    let slots = slots_kept c.self.inside new c.self.invariant a.limits in
     let lt : d.slot < length k.media = omega (arith, (sound.termination n d at.found).1.slot, slots) in
     let stands = subst (λ (x : EngineState). StandsFor x w) (sym c.self.view_is) h in
     let hears = hears_mode old new n a.was d p k.flows c.take_mode.new.flows sound.one_room sound.one_seat same was on

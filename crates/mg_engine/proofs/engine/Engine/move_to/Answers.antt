@@ -4,6 +4,7 @@ use Rattle.std.proofs.lemmas.Option.{same_Some}
 use Rattle.mg_rooms.specs.declared.record.Record.{Record}
 use Rattle.mg_rooms.specs.Outcome as commands
 use Rattle.mg_rooms.specs.Registry as rooms
+use Rattle.mg_engine.specs.declared.engine.Engine.TheView.{view}
 use Rattle.mg_engine.specs.Gateway.{Enter, Leave}
 use Rattle.mg_engine.specs.Outcome.{moved, media_with, done_with}
 use Rattle.mg_engine.specs.Place.{member_place}
@@ -11,7 +12,7 @@ use Rattle.mg_engine.specs.Stands.{EngineState, StandsFor}
 use Rattle.mg_engine.specs.Work.{RisesAtMost}
 use Rattle.mg_rooms.proofs.SoundLemmas.{sound_if}
 use Rattle.mg_engine.proofs.OutcomeLemmas.{move_changes}
-use Rattle.mg_engine.proofs.EditLemmas.{slots_kept, whole_changed, changed_at, changed_stands}
+use Rattle.mg_engine.proofs.EditLemmas.{slots_kept, held_changed, changed_at, changed_stands}
 use Rattle.mg_engine.proofs.MemberLemmas.{Hears, same_others, carry, hears_carry, has_left, hears_left, free_place, has_entered, hears_entered}
 use Rattle.mg_engine.proofs.JoinedLemmas.{joined_changed}
 use Rattle.mg_engine.proofs.WorkLemmas.{rises_less}
@@ -30,9 +31,7 @@ tune-requires c =
     let sound = sound_if _ c.move_to.ensures.consistent in
     let at = c.in_ok-moved.ensures.to in
     let a = move_changes old c.args.target n c.args.settings.now new d c.in_ok-moved.ensures.outcome in
-    let slots = slots_kept c.self.inside.config old new c.self.inside.ports c.self.inside.media.items
-    c.self.inside.held.items c.self.inside.flows c.self.inside.seating c.self.inside.sums.rooms c.self.invariant
-    a.limits in
+    let slots = slots_kept c.self.inside new c.self.invariant a.limits in
     record { slot = omega (arith, (sound.termination n d at.found).1.slot, slots) }
 
 pub vacate-requires : goal.vacate-requires
@@ -58,14 +57,7 @@ enter-requires c =
     let from = member_place c.in_ok-moved.moved.from in
     let settings = c.args.settings.now in
     let done = c.in_ok-moved.ensures.outcome in
-    let k : EngineState = record {
-      config = c.self.inside.config;
-      rooms = c.self.inside.rooms;
-      media = c.self.inside.media.items;
-      flows = c.self.inside.flows;
-      sums = c.self.inside.sums;
-      shares = c.self.inside.shares;
-    } in
+    let k = view c.self.inside in
     let others = c.in_ok-moved.ensures.others.termination in
     let was = on_its_place old n c.in_ok-moved.moved.from c.in_ok-moved.ensures.from in
     let on = on_its_place new n m at in
@@ -96,14 +88,7 @@ invariant_of-self-2 c =
     let from = member_place c.in_ok-moved.moved.from in
     let settings = c.args.settings.now in
     let done = c.in_ok-moved.ensures.outcome in
-    let k : EngineState = record {
-      config = c.self.inside.config;
-      rooms = c.self.inside.rooms;
-      media = c.self.inside.media.items;
-      flows = c.self.inside.flows;
-      sums = c.self.inside.sums;
-      shares = c.self.inside.shares;
-    } in
+    let k = view c.self.inside in
     let others = c.in_ok-moved.ensures.others.termination in
     let was = on_its_place old n c.in_ok-moved.moved.from c.in_ok-moved.ensures.from in
     let on = on_its_place new n m at in
@@ -123,9 +108,18 @@ invariant_of-self-2 c =
     (λ x there. ap (λ (y : Record). y.slot) (same_Some x a.was (sym there ∙ a.there)) ∙ sym a.slot)
     c.enter.ensures.joined c.self.invariant.joined in
     let long = ap length c.tune.ensures.tuned ∙ length-set c.self.inside.media.items _ _ in
-    whole_changed k new n d c.self.inside.ports c.tune.new.media.items c.self.inside.held.items c.enter.new.flows
-    c.self.inside.seating c.enter.new.seating c.enter.new.sums.rooms c.self.invariant a sound long members
-    (rw put seats) (ap length put ∙ length-set c.self.inside.seating _ _) joined c.enter.ensures.rows
+    record {
+      sound = sound;
+      limits = a.limits ∙ c.self.invariant.limits;
+      ports = c.self.invariant.ports;
+      media = long ∙ c.self.invariant.media;
+      held = held_changed k new n d c.self.inside.held.items a c.self.invariant.held;
+      members = members;
+      seats = rw put seats;
+      places = ap length put ∙ length-set c.self.inside.seating _ _ ∙ c.self.invariant.places;
+      row_count = c.enter.ensures.rows;
+      joined = joined;
+    }
 
 pub returns-clause-outcome : goal.returns-clause-outcome
 returns-clause-outcome c w h =
@@ -142,14 +136,7 @@ returns-clause-outcome c w h =
     let from = member_place c.in_ok-moved.moved.from in
     let settings = c.args.settings.now in
     let done = c.in_ok-moved.ensures.outcome in
-    let k : EngineState = record {
-      config = c.self.inside.config;
-      rooms = c.self.inside.rooms;
-      media = c.self.inside.media.items;
-      flows = c.self.inside.flows;
-      sums = c.self.inside.sums;
-      shares = c.self.inside.shares;
-    } in
+    let k = view c.self.inside in
     let others = c.in_ok-moved.ensures.others.termination in
     let was = on_its_place old n c.in_ok-moved.moved.from c.in_ok-moved.ensures.from in
     let on = on_its_place new n m at in
@@ -159,8 +146,7 @@ returns-clause-outcome c w h =
     let without = carry old new n c.vacate.new.flows same
     (has_left old n r from c.self.inside.flows c.vacate.new.flows before.one_room before.one_seat was left
     c.self.invariant.members) in
-    let slots = slots_kept k.config old new c.self.inside.ports c.self.inside.media.items c.self.inside.held.items
-    c.self.inside.flows c.self.inside.seating c.self.inside.sums.rooms c.self.invariant a.limits in
+    let slots = slots_kept c.self.inside new c.self.invariant a.limits in
     let lt : d.slot < length k.media = omega (arith, (sound.termination n d at.found).1.slot, slots) in
     let stands = subst (λ (x : EngineState). StandsFor x w) (sym c.self.view_is) h in
     let apart = hears_carry old new n c.vacate.new.flows w.edits same

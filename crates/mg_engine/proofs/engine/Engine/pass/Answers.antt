@@ -1,5 +1,6 @@
 use Rattle.std.proofs.Common.{ℕ, length, sym, ap, subst, ◌∙◌, arith}
 use Rattle.mg_rooms.specs.declared.limits.Limits.{Limits}
+use Rattle.mg_engine.specs.declared.engine.Engine.TheView.{view}
 use Rattle.mg_engine.specs.Stands.{EngineState, StandsFor}
 use Rattle.mg_engine.specs.aids.Playing.{HasPassed, IsIdleEngine}
 use Rattle.mg_engine.proofs.HeldLemmas.{held_below, held_apart, held_at}
@@ -25,14 +26,7 @@ returns-clause-none c w h = passed_conceals c.args.self.now w c.args.count c.req
 
 pub returns-clause-after : goal.returns-clause-after
 returns-clause-after c w h =
-    let k : EngineState = record {
-      config = c.self.inside.config;
-      rooms = c.self.inside.rooms;
-      media = c.self.inside.media.items;
-      flows = c.self.inside.flows;
-      sums = c.self.inside.sums;
-      shares = c.self.inside.shares;
-    } in
+    let k = view c.self.inside in
     let sound = c.self.invariant.sound in
     let slots = c.as_slice.result.now in
     let held = c.as_slice.ensures.value ∙ c.self.invariant.held in

@@ -1,5 +1,6 @@
 use Rattle.std.proofs.Common.{◌≡◌, ℕ, ◌*◌, length, sym, ap, subst, ◌∙◌, arith}
 use Rattle.mg_rooms.specs.declared.limits.Limits.{Limits}
+use Rattle.mg_engine.specs.declared.engine.Engine.TheView.{view}
 use Rattle.mg_engine.specs.Stands.{EngineState, StandsFor}
 use Rattle.mg_engine.specs.Work.{RisesAtMost}
 use Rattle.mg_engine.specs.aids.Playing.{IsPlayed}
@@ -25,14 +26,7 @@ play_slots-requires c =
 
 pub returns-clause-after : goal.returns-clause-after
 returns-clause-after c w h =
-    let k : EngineState = record {
-      config = c.self.inside.config;
-      rooms = c.self.inside.rooms;
-      media = c.self.inside.media.items;
-      flows = c.self.inside.flows;
-      sums = c.self.inside.sums;
-      shares = c.self.inside.shares;
-    } in
+    let k = view c.self.inside in
     let slots = c.as_slice.result.now in
     let held = c.as_slice.ensures.value ∙ c.self.invariant.held in
     let stands = subst (λ (x : EngineState). StandsFor x w) (sym c.self.view_is) h in
@@ -44,14 +38,7 @@ returns-clause-after c w h =
 
 pub returns-clause-concealed : goal.returns-clause-concealed
 returns-clause-concealed c w h =
-    let k : EngineState = record {
-      config = c.self.inside.config;
-      rooms = c.self.inside.rooms;
-      media = c.self.inside.media.items;
-      flows = c.self.inside.flows;
-      sums = c.self.inside.sums;
-      shares = c.self.inside.shares;
-    } in
+    let k = view c.self.inside in
     let held = c.as_slice.ensures.value ∙ c.self.invariant.held in
     let stands = subst (λ (x : EngineState). StandsFor x w) (sym c.self.view_is) h in
     c.play_slots.ensures.concealed ∙ concealed_is k w c.as_slice.result.now stands c.self.invariant.sound.by_number held

@@ -3,6 +3,7 @@ use Rattle.std.specs.List.{range_with_len}
 use Rattle.std.proofs.lemmas.List.Elements.{All-contains}
 use Rattle.mg_g711.specs.Law.{byte_of}
 use Rattle.mg_sums.specs.Samples.{nearest_sample}
+use Rattle.mg_engine.specs.declared.engine.Engine.TheView.{view}
 use Rattle.mg_engine.specs.declared.share.Share.{Share}
 use Rattle.mg_engine.specs.Place.{IsOnPlace}
 use Rattle.mg_engine.specs.Stands.{EngineState}
@@ -15,14 +16,7 @@ use Rattle.mg_engine.proofs.engine.Engine.put_heard.Goals as goal
 
 pub open-talkers-requires : goal.open-talkers-requires
 open-talkers-requires c =
-    let k : EngineState = record {
-      config = c.self.inside.config;
-      rooms = c.self.inside.rooms;
-      media = c.self.inside.media.items;
-      flows = c.self.inside.flows;
-      sums = c.self.inside.sums;
-      shares = c.self.inside.shares;
-    } in
+    let k = view c.self.inside in
     let l = c.args.listener.now in
     let p = c.args.place in
     let outbox = c.args.outbox.now.items in
@@ -34,14 +28,7 @@ open-talkers-requires c =
 
 pub lend-requires-clause-there : goal.lend-requires-clause-there
 lend-requires-clause-there c =
-    let k : EngineState = record {
-      config = c.self.inside.config;
-      rooms = c.self.inside.rooms;
-      media = c.self.inside.media.items;
-      flows = c.self.inside.flows;
-      sums = c.self.inside.sums;
-      shares = c.self.inside.shares;
-    } in
+    let k = view c.self.inside in
     let l = c.args.listener.now in
     let p = c.args.place in
     let outbox = c.args.outbox.now.items in
@@ -56,14 +43,7 @@ lend-requires-clause-there c =
 
 pub returns-in-Some-clause-put : goal.returns-in-Some-clause-put
 returns-in-Some-clause-put c =
-    let k : EngineState = record {
-      config = c.self.inside.config;
-      rooms = c.self.inside.rooms;
-      media = c.self.inside.media.items;
-      flows = c.self.inside.flows;
-      sums = c.self.inside.sums;
-      shares = c.self.inside.shares;
-    } in
+    let k = view c.self.inside in
     let l = c.args.listener.now in
     let p = c.args.place in
     let outbox = c.args.outbox.now.items in
@@ -100,14 +80,7 @@ returns-clause-put c =
 
 pub returns-clause-shared : goal.returns-clause-shared
 returns-clause-shared c sent e =
-    let k : EngineState = record {
-      config = c.self.inside.config;
-      rooms = c.self.inside.rooms;
-      media = c.self.inside.media.items;
-      flows = c.self.inside.flows;
-      sums = c.self.inside.sums;
-      shares = c.self.inside.shares;
-    } in
+    let k = view c.self.inside in
     let l = c.args.listener.now in
     let p = c.args.place in
     let outbox = c.args.outbox.now.items in

@@ -3,6 +3,7 @@ use Rattle.std.specs.List.{range_with_len}
 use Rattle.mg_g711.specs.Law.{byte_of}
 use Rattle.mg_rooms.specs.Registry.{record_at, context_at}
 use Rattle.mg_sums.specs.Samples.{nearest_sample}
+use Rattle.mg_engine.specs.declared.engine.Engine.TheView.{view}
 use Rattle.mg_engine.specs.Stands.{EngineState}
 use Rattle.mg_engine.specs.aids.Sending.{sample_at, heard_now, mixed_now}
 use Rattle.mg_engine.proofs.MaskLemmas.{somewhere}
@@ -12,14 +13,7 @@ use Rattle.mg_engine.proofs.engine.Engine.put_payload.Goals as goal
 
 pub returns-then-is_loopback-clause-put : goal.returns-then-is_loopback-clause-put
 returns-then-is_loopback-clause-put c =
-    let k : EngineState = record {
-      config = c.self.inside.config;
-      rooms = c.self.inside.rooms;
-      media = c.self.inside.media.items;
-      flows = c.self.inside.flows;
-      sums = c.self.inside.sums;
-      shares = c.self.inside.shares;
-    } in
+    let k = view c.self.inside in
     let l = c.args.sender.now in
     let frame = c.frame.ensures.value ∙ ap (λ (row : ℕ). get_or k.sums.frames row []) c.new.ensures in
     let samples = list_is (sample_at k.sums.frames l.slot) c.frame.result.now 160 (pos 0) c.frame.ensures.frame.whole

@@ -1,5 +1,6 @@
 use Rattle.std.proofs.Common.{ℕ, sym, ap, subst, ◌∙◌}
 use Rattle.std.specs.Prelude.{sum_by}
+use Rattle.mg_engine.specs.declared.engine.Engine.TheView.{view}
 use Rattle.mg_engine.specs.Stands.{EngineState, StandsFor}
 use Rattle.mg_engine.specs.Work.{RisesAtMost, sending_work}
 use Rattle.mg_engine.proofs.CostLemmas.{all_work_is}
@@ -9,14 +10,7 @@ use Rattle.mg_engine.proofs.engine.Engine.send_all.Goals as goal
 
 pub returns-clause-sent : goal.returns-clause-sent
 returns-clause-sent c w old h =
-    let k : EngineState = record {
-      config = c.self.inside.config;
-      rooms = c.self.inside.rooms;
-      media = c.self.inside.media.items;
-      flows = c.self.inside.flows;
-      sums = c.self.inside.sums;
-      shares = c.self.inside.shares;
-    } in
+    let k = view c.self.inside in
     let sound = c.self.invariant.sound in
     let stands = subst (λ (x : EngineState). StandsFor x w) (sym c.self.view_is) h in
     c.fill.ensures.value
@@ -24,28 +18,14 @@ returns-clause-sent c w old h =
 
 pub returns-clause-after : goal.returns-clause-after
 returns-clause-after c w h =
-    let k : EngineState = record {
-      config = c.self.inside.config;
-      rooms = c.self.inside.rooms;
-      media = c.self.inside.media.items;
-      flows = c.self.inside.flows;
-      sums = c.self.inside.sums;
-      shares = c.self.inside.shares;
-    } in
+    let k = view c.self.inside in
     let stands = subst (λ (x : EngineState). StandsFor x w) (sym c.self.view_is) h in
     subst (λ (x : EngineState). StandsFor x w) (sym c.fill.ensures.same)
     (mixed_stands k w c.fill.new.engine.sums.work c.fill.new.engine.shares stands)
 
 pub returns-clause-work : goal.returns-clause-work
 returns-clause-work c w h =
-    let k : EngineState = record {
-      config = c.self.inside.config;
-      rooms = c.self.inside.rooms;
-      media = c.self.inside.media.items;
-      flows = c.self.inside.flows;
-      sums = c.self.inside.sums;
-      shares = c.self.inside.shares;
-    } in
+    let k = view c.self.inside in
     let sound = c.self.invariant.sound in
     let stands = subst (λ (x : EngineState). StandsFor x w) (sym c.self.view_is) h in
     let most = all_work_is k w sound.one_room sound.one_seat sound.there sound.by_number c.self.invariant.members

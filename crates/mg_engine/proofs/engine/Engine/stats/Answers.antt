@@ -2,6 +2,7 @@ use Rattle.std.proofs.Common.{ℕ, List, Some, refl, sym, ap, subst, ◌∙◌}
 use Rattle.std.specs.Option.{option_map}
 use Rattle.mg_rooms.specs.Registry.{record_at}
 use Rattle.mg_words.specs.declared.stats.Stats.{Stats}
+use Rattle.mg_engine.specs.declared.engine.Engine.TheView.{view}
 use Rattle.mg_engine.specs.Gateway.{TerminationMedia, media_of}
 use Rattle.mg_engine.specs.Media as media
 use Rattle.mg_engine.specs.Stands.{EngineState, StandsFor, media_at}
@@ -12,14 +13,7 @@ use Rattle.mg_engine.proofs.engine.Engine.stats.Goals as goal
 pub returns-in-Some : goal.returns-in-Some
 returns-in-Some c = record {
   value = λ w h.
-      let k : EngineState = record {
-        config = c.self.inside.config;
-        rooms = c.self.inside.rooms;
-        media = c.self.inside.media.items;
-        flows = c.self.inside.flows;
-        sums = c.self.inside.sums;
-        shares = c.self.inside.shares;
-      } in
+      let k = view c.self.inside in
       let stands = subst (λ (x : EngineState). StandsFor x w) (sym c.self.view_is) h in
       let (r, there, slot) = with_slot (record_at k.rooms c.args.number) c.in-Some.slot
       (sym c.slot_of.ensures.value ∙ c.in-Some.is) in
@@ -34,14 +28,7 @@ returns-in-Some c = record {
 pub returns-in-None : goal.returns-in-None
 returns-in-None c = record {
   value = λ w h.
-      let k : EngineState = record {
-        config = c.self.inside.config;
-        rooms = c.self.inside.rooms;
-        media = c.self.inside.media.items;
-        flows = c.self.inside.flows;
-        sums = c.self.inside.sums;
-        shares = c.self.inside.shares;
-      } in
+      let k = view c.self.inside in
       let stands = subst (λ (x : EngineState). StandsFor x w) (sym c.self.view_is) h in
       let none = with_no_slot (record_at k.rooms c.args.number) (sym c.slot_of.ensures.value ∙ c.in-None.is) in
       ap (option_map (λ (x : TerminationMedia). x.stats))

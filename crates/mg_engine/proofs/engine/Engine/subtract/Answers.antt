@@ -1,6 +1,7 @@
 use Rattle.std.proofs.Common.{ℕ, None, arith, sym, ap, subst, ◌∙◌}
 use Rattle.mg_rooms.specs.Outcome as commands
 use Rattle.mg_rooms.specs.Registry as rooms
+use Rattle.mg_engine.specs.declared.engine.Engine.TheView.{view}
 use Rattle.mg_engine.specs.Outcome.{subtracted, done_with}
 use Rattle.mg_engine.specs.Place.{member_place}
 use Rattle.mg_engine.specs.Stands.{EngineState, StandsFor}
@@ -8,7 +9,7 @@ use Rattle.mg_engine.specs.Work.{RisesAtMost}
 use Rattle.mg_engine.specs.aids.Joined.{SetsRow}
 use Rattle.mg_rooms.proofs.SoundLemmas.{sound_if}
 use Rattle.mg_engine.proofs.OutcomeLemmas.{subtract_removes}
-use Rattle.mg_engine.proofs.EditLemmas.{whole_removed, removed_stands, gone}
+use Rattle.mg_engine.proofs.EditLemmas.{held_removed, removed_stands, gone}
 use Rattle.mg_engine.proofs.MemberLemmas.{same_others, carry, hears_carry, has_left, hears_left, members_all, hears_all}
 use Rattle.mg_engine.proofs.JoinedLemmas.{joined_left}
 use Rattle.mg_engine.proofs.WorkLemmas.{rises_less}
@@ -33,14 +34,7 @@ invariant_of-self-2 c =
     let d = m.record in
     let p = member_place m in
     let done = c.in_ok-gone.ensures.outcome in
-    let k : EngineState = record {
-      config = c.self.inside.config;
-      rooms = c.self.inside.rooms;
-      media = c.self.inside.media.items;
-      flows = c.self.inside.flows;
-      sums = c.self.inside.sums;
-      shares = c.self.inside.shares;
-    } in
+    let k = view c.self.inside in
     let before = c.self.invariant.sound in
     let sound = sound_if _ c.subtract.ensures.consistent in
     let a = subtract_removes old c.args.target n new d done in
@@ -59,9 +53,19 @@ invariant_of-self-2 c =
     c.part.ensures.rooms in
     let joined = joined_left old new n d c.self.inside.sums.rooms c.part.new.sums.rooms before.one_slot same was.found
     none apart c.self.invariant.joined in
-    whole_removed k new n d c.self.inside.ports c.self.inside.held.items c.without.new.held.items c.vacate.new.flows
-    c.self.inside.seating c.part.new.sums.rooms c.self.invariant a before sound c.without.ensures.value members
-    seats joined c.part.ensures.rows
+    record {
+      sound = sound;
+      limits = a.limits ∙ c.self.invariant.limits;
+      ports = c.self.invariant.ports;
+      media = c.self.invariant.media;
+      held = held_removed k new n d c.self.inside.held.items c.without.new.held.items a before c.self.invariant.held
+          c.without.ensures.value;
+      members = members;
+      seats = seats;
+      places = c.self.invariant.places;
+      row_count = c.part.ensures.rows;
+      joined = joined;
+    }
 
 pub returns-clause-outcome : goal.returns-clause-outcome
 returns-clause-outcome c w h =
@@ -72,14 +76,7 @@ returns-clause-outcome c w h =
     let d = m.record in
     let p = member_place m in
     let done = c.in_ok-gone.ensures.outcome in
-    let k : EngineState = record {
-      config = c.self.inside.config;
-      rooms = c.self.inside.rooms;
-      media = c.self.inside.media.items;
-      flows = c.self.inside.flows;
-      sums = c.self.inside.sums;
-      shares = c.self.inside.shares;
-    } in
+    let k = view c.self.inside in
     let before = c.self.invariant.sound in
     let sound = sound_if _ c.subtract.ensures.consistent in
     let a = subtract_removes old c.args.target n new d done in

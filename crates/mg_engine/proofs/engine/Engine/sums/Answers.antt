@@ -1,6 +1,7 @@
 use Rattle.std.proofs.Common.{Option, get_or, sym, ap, subst, ◌∙◌, arith}
 use Rattle.mg_rooms.specs.Registry as rooms
 use Rattle.mg_rooms.specs.Registry.{record_at, context_at}
+use Rattle.mg_engine.specs.declared.engine.Engine.TheView.{view}
 use Rattle.mg_engine.specs.Gateway.{TerminationMedia}
 use Rattle.mg_engine.specs.aids.Found.{frame_in}
 use Rattle.mg_engine.specs.Stands.{EngineState, StandsFor}
@@ -10,14 +11,7 @@ use Rattle.mg_engine.proofs.engine.Engine.sums.Goals as goal
 
 pub returns-clause-represented : goal.returns-clause-represented
 returns-clause-represented c w h =
-    let k : EngineState = record {
-      config = c.self.inside.config;
-      rooms = c.self.inside.rooms;
-      media = c.self.inside.media.items;
-      flows = c.self.inside.flows;
-      sums = c.self.inside.sums;
-      shares = c.self.inside.shares;
-    } in
+    let k = view c.self.inside in
     let sound = c.self.invariant.sound in
     let stands = subst (λ (x : EngineState). StandsFor x w) (sym c.self.view_is) h in
     record {

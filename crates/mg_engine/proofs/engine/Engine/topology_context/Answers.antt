@@ -1,4 +1,5 @@
 use Rattle.std.proofs.Common.{rules, [], refl, sym, subst}
+use Rattle.mg_engine.specs.declared.engine.Engine.TheView.{view}
 use Rattle.mg_engine.specs.Stands.{EngineState, StandsFor}
 use Rattle.mg_engine.proofs.TripleLemmas.{refused_there, done_triples, err_is}
 use Rattle.mg_engine.proofs.engine.Engine.topology_context.Goals as goal
@@ -6,14 +7,7 @@ use Rattle.mg_engine.proofs.engine.Engine.topology_context.Goals as goal
 pub returns-in_err-at : goal.returns-in_err-at
 returns-in_err-at c = record {
   outcome = λ w h.
-      let k : EngineState = record {
-        config = c.self.inside.config;
-        rooms = c.self.inside.rooms;
-        media = c.self.inside.media.items;
-        flows = c.self.inside.flows;
-        sums = c.self.inside.sums;
-        shares = c.self.inside.shares;
-      } in
+      let k = view c.self.inside in
       let stands = subst (λ (x : EngineState). StandsFor x w) (sym c.self.view_is) h in
       err_is c.args.self.now c.from_residual.result _ c.in_err-at.field-0.0 (search rules)
       (refused_there k w c.args.target [] c.in_err-at.field-0.0 stands c.in_err-at.ensures.value);
@@ -22,14 +16,7 @@ returns-in_err-at c = record {
 pub returns : goal.returns
 returns c = record {
   outcome = λ w h.
-      let k : EngineState = record {
-        config = c.self.inside.config;
-        rooms = c.self.inside.rooms;
-        media = c.self.inside.media.items;
-        flows = c.self.inside.flows;
-        sums = c.self.inside.sums;
-        shares = c.self.inside.shares;
-      } in
+      let k = view c.self.inside in
       let stands = subst (λ (x : EngineState). StandsFor x w) (sym c.self.view_is) h in
       (w, done_triples k w c.args.target [] c.in_ok-at.at.context stands c.in_ok-at.ensures.value.0 refl, h);
 }

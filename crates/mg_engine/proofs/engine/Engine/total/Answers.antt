@@ -2,6 +2,7 @@ use Rattle.std.proofs.Common.{◌<◌, ℕ, ℤ, Some, get_or, w32, sym, ap, sub
 use Rattle.std.proofs.lemmas.Int.{to_z-of_z}
 use Rattle.mg_rooms.specs.Registry.{context_at}
 use Rattle.mg_sums.specs.Sums.{total_of}
+use Rattle.mg_engine.specs.declared.engine.Engine.TheView.{view}
 use Rattle.mg_engine.specs.Stands.{EngineState, StandsFor}
 use Rattle.mg_engine.proofs.TotalLemmas.{context_with, total_is, total_there}
 use Rattle.mg_engine.proofs.engine.Engine.total.Goals as goal
@@ -9,14 +10,7 @@ use Rattle.mg_engine.proofs.engine.Engine.total.Goals as goal
 pub returns : goal.returns
 returns c = record {
   value = λ w h.
-      let k : EngineState = record {
-        config = c.self.inside.config;
-        rooms = c.self.inside.rooms;
-        media = c.self.inside.media.items;
-        flows = c.self.inside.flows;
-        sums = c.self.inside.sums;
-        shares = c.self.inside.shares;
-      } in
+      let k = view c.self.inside in
       let sound = c.self.invariant.sound in
       let stands = subst (λ (x : EngineState). StandsFor x w) (sym c.self.view_is) h in
       let lt : c.args.i < 160 = omega (arith, c.if-i-ge-SAMPLES.false) in

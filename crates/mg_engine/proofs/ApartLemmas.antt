@@ -1,35 +1,16 @@
 -- What keeps two gateways in agreement outside some terminations.
-use Rattle.std.proofs.Common.{◌≡◌, ℕ, ℤ, ◌+◌, eqb, Bool, true, false, cond, ◌&&◌, List, [], ◌∷◌, ◌++◌, map, find, Option, Some, None, Result, Ok, Err, refl, sym, ap, subst, ◌∙◌}
-use Rattle.std.proofs.lemmas.Bool.{eqb-true, true≢false}
-use Rattle.std.specs.Prelude.{option_to_list}
-use Rattle.std.specs.Option.{option_map}
-use Rattle.mg_words.specs.ResultSteps.{◌>>=◌}
-use Rattle.mg_words.specs.declared.error_number.ErrorNumber.{ErrorNumber}
+use Rattle.mg_engine.proofs.Common.{◌≡◌, ℕ, ℤ, ◌+◌, eqb, Bool, true, false, cond, ◌&&◌, List, [], ◌∷◌, ◌++◌, map, find, Option, Some, None, Result, Ok, Err, refl, sym, ap, subst, ◌∙◌, eqb-true, option_to_list, option_map, ◌>>=◌, ErrorNumber, Header, Reading, Record, Settings, Target, change, members_at, silence, TopologyTriple, Arrived, arrived, at_port, frame_placed, taken_at, frame_placed_at, taken_by, has, Gateway, TerminationMedia, ContextEdit, Enter, Leave, media_of, new_media, frame_in, added, modified, moved, subtracted, existing_context, done_with, tuned, all_played, played, sends_at, sent, check_triples, with_triples}
+use Rattle.std.proofs.lemmas.Bool.{true≢false}
 use Rattle.mg_playout.specs.Playout.{first_list}
-use Rattle.mg_rtp.specs.declared.header.Header.{Header}
-use Rattle.mg_rtp.specs.Reading.{Reading}
-use Rattle.mg_rooms.specs.declared.record.Record.{Record}
-use Rattle.mg_rooms.specs.declared.settings.Settings.{Settings}
-use Rattle.mg_rooms.specs.declared.target.Target.{Target}
-use Rattle.mg_rooms.specs.Changes.{change}
 use Rattle.mg_rooms.specs.Outcome as commands
 use Rattle.mg_rooms.specs.Registry as rooms
-use Rattle.mg_rooms.specs.Registry.{members_at}
-use Rattle.mg_sums.specs.Samples.{silence}
-use Rattle.mg_engine.specs.declared.topology_triple.TopologyTriple.{TopologyTriple}
 use Rattle.mg_engine.specs.Apart.{AgreeOutside, IsPortAmong, SamePackets, but_received, unless_among, without_arrivals}
 use Rattle.mg_engine.specs.aids.Agreement.{EndsAlike, SameEditsKeepAgreement, AgreementIsMutual, SameStatsButReceived, SameTickKeepsAgreement}
-use Rattle.mg_engine.specs.Arrival.{Arrived, arrived, at_port, frame_placed, taken_at}
-use Rattle.mg_engine.specs.aids.Placing.{frame_placed_at}
-use Rattle.mg_engine.specs.aids.Found.{taken_by}
-use Rattle.mg_engine.specs.Flow.{has}
 use Rattle.mg_engine.specs.Steps.{counted_up}
-use Rattle.mg_engine.specs.Gateway.{Gateway, TerminationMedia, ContextEdit, Enter, Leave, frame_of, media_of, new_media}
-use Rattle.mg_engine.specs.aids.Found.{frame_in}
+use Rattle.mg_engine.specs.Gateway.{frame_of}
 use Rattle.mg_engine.specs.Isolation.{hears_itself, progress_of}
-use Rattle.mg_engine.specs.Outcome.{added, modified, moved, subtracted, apply_triples, existing_context, done_with, tuned}
-use Rattle.mg_engine.specs.Tick.{all_ended, all_played, played, sends_at, sent}
-use Rattle.mg_engine.specs.Triples.{check_triples, with_triples}
+use Rattle.mg_engine.specs.Outcome.{apply_triples}
+use Rattle.mg_engine.specs.Tick.{all_ended}
 use Rattle.mg_engine.proofs.IsolationLemmas.{packets_depend_on_heard}
 use Rattle.mg_engine.proofs.OrderLemmas.{found_passes}
 

@@ -1,32 +1,15 @@
 -- An engine stands for the world after an RTP datagram.
-use Rattle.std.proofs.Common.{◌≡◌, ℕ, ◌<◌, eqb, Bool, true, false, List, ℤ, [], ◌∷◌, length, get_or, set, Some, Ok, Err, refl, sym, ap, subst, ◌∙◌}
+use Rattle.mg_engine.proofs.Common.{◌≡◌, ℕ, ◌<◌, eqb, Bool, true, false, List, ℤ, [], ◌∷◌, length, get_or, set, Some, Ok, Err, refl, sym, ap, subst, ◌∙◌, option_map, eqb-true, same_Some, get_or-set_same, Header, PlayList, Record, change, record_at, Share, Config, Taken, Gateway, TerminationMedia, media_of, Arrived, frame_placed, taken_at, frame_placed_at, idle, EngineState, StandsFor, IsMediaOf, media_at}
 use Rattle.std.specs.Prelude.{find}
-use Rattle.std.specs.Option.{option_map}
-use Rattle.std.proofs.lemmas.Bool.{eqb-true}
-use Rattle.std.proofs.lemmas.Option.{same_Some}
-use Rattle.std.proofs.lemmas.List.{get_or-set_same}
-use Rattle.mg_rtp.specs.declared.header.Header.{Header}
 use Rattle.mg_playout.specs.Playout as play_lists
-use Rattle.mg_playout.specs.Playout.{PlayList}
-use Rattle.mg_rooms.specs.declared.record.Record.{Record}
-use Rattle.mg_rooms.specs.Changes.{change}
 use Rattle.mg_rooms.specs.Registry as rooms
-use Rattle.mg_rooms.specs.Registry.{record_at}
 use Rattle.mg_flow.specs.Table as table
 use Rattle.mg_sums.specs.Sums as sums
-use Rattle.mg_engine.specs.declared.share.Share.{Share}
-use Rattle.mg_engine.specs.declared.config.Config.{Config}
-use Rattle.mg_engine.specs.declared.taken.Taken.{Taken}
 use Rattle.mg_engine.specs.declared.taken.Taken.TheVariants.{Placed}
-use Rattle.mg_engine.specs.Gateway.{Gateway, TerminationMedia, media_of}
 use Rattle.mg_engine.specs.Steps.{received}
-use Rattle.mg_engine.specs.Arrival.{Arrived, frame_placed, taken_at}
-use Rattle.mg_engine.specs.aids.Placing.{frame_placed_at}
 use Rattle.mg_engine.specs.Media as media
 use Rattle.mg_engine.specs.aids.MediaSteps as media_steps
-use Rattle.mg_engine.specs.Media.{idle}
 use Rattle.mg_engine.specs.aids.Sending.{PlacedAt}
-use Rattle.mg_engine.specs.Stands.{EngineState, StandsFor, IsMediaOf, media_at}
 use Rattle.mg_engine.proofs.JoinedLemmas.{Slots}
 use Rattle.mg_engine.proofs.EditLemmas.{others_kept, apart_from}
 use Rattle.mg_engine.proofs.KeyLemmas.{found_changed, found_other, mapped_kept}

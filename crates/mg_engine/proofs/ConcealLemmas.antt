@@ -1,17 +1,11 @@
 -- How many frames of a tick are concealed, by slots and by terminations.
-use Rattle.std.proofs.Common.{◌≡◌, ℕ, suc, ◌+◌, ◌<◌, Bool, true, false, cond, List, [], ◌∷◌, length, map, get_or, take, Some, refl, sym, ap, ◌∙◌, arith}
-use Rattle.std.specs.Prelude.{count_by}
+use Rattle.mg_engine.proofs.Common.{◌≡◌, ℕ, suc, ◌+◌, ◌<◌, Bool, true, false, cond, List, [], ◌∷◌, length, map, get_or, take, Some, refl, sym, ap, ◌∙◌, arith, count_by, sum_by-cons, is_concealed, PlayList, Record, Gateway, EngineState, StandsFor, media_at}
 use Rattle.std.specs.Int.{from_bool}
-use Rattle.std.proofs.lemmas.List.Sums.{sum_by-cons, sum_by_more}
-use Rattle.mg_playout.specs.Played.{is_concealed}
+use Rattle.std.proofs.lemmas.List.Sums.{sum_by_more}
 use Rattle.mg_playout.specs.Playout as play_lists
-use Rattle.mg_playout.specs.Playout.{PlayList}
-use Rattle.mg_rooms.specs.declared.record.Record.{Record}
 use Rattle.mg_rooms.specs.Registry as rooms
-use Rattle.mg_engine.specs.Gateway.{Gateway}
 use Rattle.mg_engine.specs.Media as media
 use Rattle.mg_engine.specs.aids.MediaSteps as media_steps
-use Rattle.mg_engine.specs.Stands.{EngineState, StandsFor, media_at}
 use Rattle.mg_engine.specs.Tick.{conceals, concealed_in_tick}
 use Rattle.mg_engine.specs.aids.Found.{conceals_in}
 use Rattle.mg_engine.proofs.GatewayLemmas.{has_media}

@@ -1,20 +1,9 @@
 -- What mixes cost, by what an engine keeps and in the worlds that it stands for.
-use Rattle.std.proofs.Common.{◌≡◌, ℕ, suc, ◌+◌, ◌<◌, Bool, cond, List, [], ◌∷◌, length, map, get_or, Option, Some, refl, sym, ap, ◌∙◌, arith}
-use Rattle.std.specs.Prelude.{count_by, sum_by, is_some}
-use Rattle.std.proofs.lemmas.List.Sums.{sum_by-cons}
-use Rattle.mg_rooms.specs.declared.record.Record.{Record}
+use Rattle.mg_engine.proofs.Common.{◌≡◌, ℕ, suc, ◌+◌, ◌<◌, Bool, cond, List, [], ◌∷◌, length, map, get_or, Option, Some, refl, sym, ap, ◌∙◌, arith, count_by, sum_by, is_some, sum_by-cons, Record, record_at, Place, Gateway, is_loopback, place_of, EngineState, StandsFor, sent_to, sending_work, HasMembers, silenced_now, sending_work_now}
 use Rattle.mg_rooms.specs.Registry as rooms
-use Rattle.mg_rooms.specs.Registry.{record_at}
-use Rattle.mg_flow.specs.declared.place.Place.{Place}
-use Rattle.mg_engine.specs.Gateway.{Gateway}
 use Rattle.mg_engine.specs.Flow.{is_silenced}
-use Rattle.mg_engine.specs.Mix.{is_loopback}
-use Rattle.mg_engine.specs.Place.{place_of}
-use Rattle.mg_engine.specs.Stands.{EngineState, StandsFor}
-use Rattle.mg_engine.specs.Tick.{sent_to}
-use Rattle.mg_engine.specs.Work.{silenced_for, sending_work}
-use Rattle.mg_engine.specs.aids.Members.{HasMembers}
-use Rattle.mg_engine.specs.aids.Sending.{is_silenced_between, silenced_now, sending_work_now}
+use Rattle.mg_engine.specs.Work.{silenced_for}
+use Rattle.mg_engine.specs.aids.Sending.{is_silenced_between}
 use Rattle.mg_engine.proofs.FlowLemmas.{silenced_places}
 use Rattle.mg_engine.proofs.PlaceLemmas.{ByNumber, HaveContexts, OneRoom, OneSeat, on_place}
 use Rattle.mg_engine.proofs.SendingLemmas.{nobody}

@@ -1,35 +1,16 @@
 -- An engine stands for the worlds that its edits lead to, and stays whole.
-use Rattle.std.proofs.Common.{◌≡◌, ◌≢◌, ℕ, ◌+◌, ◌<◌, ◌≤◌, eqb, not, Bool, true, false, ℤ, List, [], ◌∷◌, ◌++◌, length, map, get_or, set, Option, Some, None, refl, sym, ap, subst, ◌∙◌, arith}
-use Rattle.std.specs.Prelude.{find, filter, count_by}
-use Rattle.std.specs.Option.{option_map}
-use Rattle.std.proofs.lemmas.Bool.{eqb-true, eq-eqb}
-use Rattle.std.proofs.lemmas.Option.{same_Some}
-use Rattle.std.proofs.lemmas.List.{length-map, map-append, get_or-set_same, get_or-set_other, set-set, length_push}
-use Rattle.mg_playout.specs.Playout.{PlayList}
-use Rattle.mg_rooms.specs.declared.limits.Limits.{Limits}
+use Rattle.mg_engine.proofs.Common.{◌≡◌, ◌≢◌, ℕ, ◌+◌, ◌<◌, ◌≤◌, eqb, not, Bool, true, false, ℤ, List, [], ◌∷◌, ◌++◌, length, map, get_or, set, Option, Some, None, refl, sym, ap, subst, ◌∙◌, arith, count_by, option_map, eqb-true, eq-eqb, same_Some, length-map, map-append, get_or-set_same, get_or-set_other, PlayList, Limits, termination_limit, Record, Settings, change, IsSound, record_at, Config, silence, Gateway, TerminationMedia, Enter, new_media, media_of, idle, tuned, media_with, added, subtracted, EngineState, StandsFor, IsMediaOf, media_at, AreJoined, HasMembers, AreSeated}
+use Rattle.std.specs.Prelude.{find, filter}
+use Rattle.std.proofs.lemmas.List.{set-set, length_push}
 use Rattle.mg_words.specs.declared.limits.TheConstants.{TERMINATIONS}
-use Rattle.mg_words.specs.Limits.{termination_limit}
-use Rattle.mg_rooms.specs.declared.record.Record.{Record}
-use Rattle.mg_rooms.specs.declared.settings.Settings.{Settings}
-use Rattle.mg_rooms.specs.Changes.{change}
-use Rattle.mg_rooms.specs.aids.Sound.{IsSound}
 use Rattle.mg_rooms.specs.Registry as rooms
-use Rattle.mg_rooms.specs.Registry.{record_at}
-use Rattle.mg_engine.specs.declared.config.Config.{Config}
 use Rattle.mg_engine.specs.declared.engine.Engine.TheInside.{Inside}
 use Rattle.mg_flow.specs.Table as flow
-use Rattle.mg_sums.specs.Samples.{silence}
-use Rattle.mg_engine.specs.Gateway.{Gateway, TerminationMedia, Enter, new_media, media_of}
 use Rattle.mg_engine.specs.Steps.{play_after}
 use Rattle.mg_engine.specs.Media as media
 use Rattle.mg_engine.specs.aids.MediaSteps as media_steps
-use Rattle.mg_engine.specs.Media.{idle}
-use Rattle.mg_engine.specs.Outcome.{tuned, media_with, media_without, added, subtracted}
-use Rattle.mg_engine.specs.Stands.{EngineState, StandsFor, IsMediaOf, media_at}
+use Rattle.mg_engine.specs.Outcome.{media_without}
 use Rattle.mg_sums.specs.Sums as sums
-use Rattle.mg_engine.specs.aids.Joined.{AreJoined}
-use Rattle.mg_engine.specs.aids.Members.{HasMembers}
-use Rattle.mg_engine.specs.aids.Seating.{AreSeated}
 use Rattle.mg_engine.specs.aids.Whole.{IsWholeEngine}
 use Rattle.mg_engine.proofs.MemberLemmas.{Others, Hears, no_record, unequal}
 use Rattle.mg_engine.proofs.JoinedLemmas.{Slots}

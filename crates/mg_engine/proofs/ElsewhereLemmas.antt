@@ -1,26 +1,17 @@
 -- What a command on a termination leaves of a context that it isn't about.
-use Rattle.std.proofs.Common.{◌≡◌, ℕ, ◌<◌, eqb, not, Bool, true, false, List, [], ◌∷◌, ◌++◌, Option, Some, None, Result, Ok, refl, sym, ap, subst, ◌∙◌, arith, find, ◌&&◌, nat_lt, length, nat_le}
-use Rattle.std.specs.Prelude.{IsSome, ok_or, option_to_list}
-use Rattle.std.proofs.lemmas.Bool.{eqb-true, ne_eqb}
+use Rattle.mg_engine.proofs.Common.{◌≡◌, ℕ, ◌<◌, eqb, not, Bool, true, false, List, [], ◌∷◌, ◌++◌, Option, Some, None, Result, Ok, refl, sym, ap, subst, ◌∙◌, arith, find, ◌&&◌, nat_lt, length, nat_le, IsSome, option_to_list, eqb-true, ne_eqb, Context, Record, Settings, Target, is_number, Registry, record_at, context_at, members_at, passes, IsSound, ErrorNumber, has}
+use Rattle.std.specs.Prelude.{ok_or}
 use Rattle.mg_rooms.proofs.LastLemmas.{record_entered}
-use Rattle.mg_rooms.specs.declared.context.Context.{Context}
 use Rattle.mg_rooms.specs.declared.place.EntryPlace.{EntryPlace}
-use Rattle.mg_rooms.specs.declared.record.Record.{Record}
-use Rattle.mg_rooms.specs.declared.settings.Settings.{Settings}
-use Rattle.mg_rooms.specs.declared.target.Target.{Target}
 use Rattle.mg_rooms.specs.declared.target.Target.TheVariants.{Null, New, Number}
 use Rattle.mg_rooms.specs.Changes.{inserted, replaced, removed, entered, left, with_members}
 use Rattle.mg_rooms.specs.aids.Entering.{entered_at}
 use Rattle.mg_rooms.specs.Members.{without}
-use Rattle.mg_rooms.specs.Outcome.{may_enter, member, named, is_number, new_slot, new_place, add, modify, move_to, subtract}
+use Rattle.mg_rooms.specs.Outcome.{may_enter, member, named, new_slot, new_place, add, modify, move_to, subtract}
 use Rattle.mg_rooms.specs.Record.{fresh, at_place, with_settings}
-use Rattle.mg_rooms.specs.Registry.{Registry, record_at, context_at, members_at, free_room, free_seat}
-use Rattle.mg_rooms.specs.Results.{passes}
-use Rattle.mg_rooms.specs.aids.Sound.{IsSound}
+use Rattle.mg_rooms.specs.Registry.{free_room, free_seat}
 use Rattle.mg_words.specs.Limits.{context_limit, member_limit, last_context}
-use Rattle.mg_words.specs.declared.error_number.ErrorNumber.{ErrorNumber}
 use Rattle.mg_words.specs.declared.error_number.ErrorNumber.TheVariants.{AlreadyInContext, ContextFull, NoContextLeft}
-use Rattle.mg_engine.specs.Flow.{has}
 use Rattle.mg_engine.proofs.GatewayLemmas.{found_key}
 use Rattle.mg_engine.proofs.KeyLemmas.{found_push_other, found_other}
 use Rattle.mg_engine.proofs.MemberLemmas.{neither, some_context}

@@ -1,24 +1,16 @@
 -- Who hears whom in the worlds that an engine stands for.
-use Rattle.std.proofs.Common.{◌≡◌, ℕ, ◌&&◌, not, eqb, Bool, true, false, List, Some, Option, refl, sym, ap, subst, ◌∙◌}
-use Rattle.std.specs.Prelude.{is_some}
+use Rattle.mg_engine.proofs.Common.{◌≡◌, ℕ, ◌&&◌, not, eqb, Bool, true, false, List, Some, Option, refl, sym, ap, subst, ◌∙◌, is_some, eqb-true, eq-eqb, ne_eqb, Record, record_at, Place, Gateway, may_hear, place_of, IsOnPlace, EngineState, StandsFor, ShareContext, HasMembers, flows_between}
 use Rattle.std.proofs.Math.Bool.{and-false}
-use Rattle.std.proofs.lemmas.Bool.{eqb-true, eq-eqb, ne_eqb}
-use Rattle.mg_rooms.specs.declared.record.Record.{Record}
 use Rattle.mg_rooms.specs.Registry as rooms
-use Rattle.mg_rooms.specs.Registry.{record_at}
 use Rattle.mg_words.specs.Mode as mode
-use Rattle.mg_flow.specs.declared.place.Place.{Place}
 use Rattle.mg_flow.specs.Table as flow
-use Rattle.mg_engine.specs.Gateway.{Gateway, mode_of, context_of}
+use Rattle.mg_engine.specs.Gateway.{mode_of, context_of}
 use Rattle.mg_engine.specs.aids.Found.{context_in}
 use Rattle.mg_engine.specs.aids.Found.{mode_or_inactive}
-use Rattle.mg_engine.specs.Flow.{may_hear, share_context, is_silenced}
+use Rattle.mg_engine.specs.Flow.{share_context, is_silenced}
 use Rattle.mg_engine.specs.Flow as worlds
-use Rattle.mg_engine.specs.Place.{place_of, IsOnPlace}
 use Rattle.mg_engine.specs.Masks.{RepresentsFlows}
-use Rattle.mg_engine.specs.Stands.{EngineState, StandsFor, ShareContext}
-use Rattle.mg_engine.specs.aids.Members.{HasMembers}
-use Rattle.mg_engine.specs.aids.Sending.{flows_between, flows_now}
+use Rattle.mg_engine.specs.aids.Sending.{flows_now}
 use Rattle.mg_engine.proofs.MemberLemmas.{seats_differ, unequal}
 use Rattle.mg_engine.proofs.PlaceLemmas.{HaveContexts, OneRoom, OneSeat, on_place, one_place, in_one_room, in_one_context, hears_apart, no_hearing}
 

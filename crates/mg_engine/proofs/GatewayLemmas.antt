@@ -1,16 +1,8 @@
 -- What is looked up in a world that an engine stands for.
-use Rattle.std.proofs.Common.{◌≡◌, ℕ, suc, ◌<◌, eqb, Bool, true, false, cond, ℤ, length, get_or, subst, arith, List, [], ◌∷◌, map, Option, Some, None, refl, sym, ap, ◌∙◌}
+use Rattle.mg_engine.proofs.Common.{◌≡◌, ℕ, suc, ◌<◌, eqb, Bool, true, false, cond, ℤ, length, get_or, subst, arith, List, [], ◌∷◌, map, Option, Some, None, refl, sym, ap, ◌∙◌, option_map, eqb-true, same_Some, Record, record_at, Gateway, TerminationMedia, media_of, Config, EngineState, StandsFor, IsMediaOf, media_at}
 use Rattle.std.specs.Prelude.{find}
-use Rattle.std.specs.Option.{option_map}
-use Rattle.std.proofs.lemmas.Bool.{eqb-true}
-use Rattle.std.proofs.lemmas.Option.{same_Some}
-use Rattle.mg_rooms.specs.declared.record.Record.{Record}
-use Rattle.mg_rooms.specs.Registry.{record_at}
 use Rattle.mg_sums.specs.Sums as sums
-use Rattle.mg_engine.specs.Gateway.{Gateway, TerminationMedia, media_of}
-use Rattle.mg_engine.specs.declared.config.Config.{Config}
 use Rattle.mg_engine.specs.Media as media
-use Rattle.mg_engine.specs.Stands.{EngineState, StandsFor, IsMediaOf, media_at}
 
 abbrev some : {A : Type 0} → A → Option A
 some x = Some x

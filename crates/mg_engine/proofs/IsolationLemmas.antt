@@ -1,30 +1,19 @@
 -- Who isn't heard.
-use Rattle.std.proofs.Common.{◌≡◌, ℕ, ℤ, pos, ◌+◌, ◌-◌, ◌*◌, ◌%◌, ◌^◌, ◌<◌, eqb, not, ◌&&◌, ◌||◌, Bool, true, false, List, [], ◌∷◌, ◌++◌, length, map, get_or, find, Option, Some, None, refl, sym, ap, ◌∙◌, arith, if◌then◌else◌}
-use Rattle.std.specs.List.{list_all, range_with_len}
-use Rattle.std.specs.Option.{option_map}
-use Rattle.std.proofs.lemmas.Option.{same_Some}
+use Rattle.mg_engine.proofs.Common.{◌≡◌, ℕ, ℤ, pos, ◌+◌, ◌-◌, ◌*◌, ◌%◌, ◌^◌, ◌<◌, eqb, not, ◌&&◌, ◌||◌, Bool, true, false, List, [], ◌∷◌, ◌++◌, length, map, get_or, find, Option, Some, None, refl, sym, ap, ◌∙◌, arith, if◌then◌else◌, range_with_len, option_map, same_Some, eqb-true, eq-eqb, byte_of, header_bytes, plain, Chosen, talks, Record, slot_port, nearest_sample, map_agree, sum_of-same, Datagram, Gateway, TerminationMedia, ContextEdit, Enter, Leave, Apply, media_of, frame_in, may_hear, played_sample, is_loopback, sent_to, type_of}
+use Rattle.std.specs.List.{list_all}
 use Rattle.std.specs.Prelude.{slice_index_or}
-use Rattle.std.proofs.lemmas.Bool.{eqb-true, eq-eqb, not-true, and_parts}
+use Rattle.std.proofs.lemmas.Bool.{not-true, and_parts}
 use Rattle.std.proofs.lemmas.List.{get_or-append-add}
 use Rattle.std.proofs.lemmas.List.FromFn.{get_or-map-range_with_len}
-use Rattle.mg_g711.specs.Law.{byte_of}
-use Rattle.mg_rtp.specs.Header.{header_bytes, plain}
-use Rattle.mg_sdp.specs.declared.chosen.Chosen.{Chosen}
 use Rattle.mg_topology.specs.Triple.{permits}
-use Rattle.mg_words.specs.Mode.{talks, listens}
+use Rattle.mg_words.specs.Mode.{listens}
 use Rattle.mg_words.specs.declared.association.Association.TheVariants.{Isolate}
-use Rattle.mg_rooms.specs.declared.record.Record.{Record}
-use Rattle.mg_rooms.specs.Limits.{slot_port}
 use Rattle.mg_rooms.specs.Registry as rooms
-use Rattle.mg_sums.specs.Samples.{nearest_sample, sum_of}
-use Rattle.mg_sums.proofs.HeardLemmas.{map_agree}
-use Rattle.mg_sums.proofs.SumLemmas.{sum_of-same}
-use Rattle.mg_engine.specs.declared.datagram.Datagram.{Datagram}
-use Rattle.mg_engine.specs.Gateway.{Gateway, TerminationMedia, ContextEdit, Enter, Leave, Apply, media_of, frame_of, mode_of, context_of, numbers_of}
-use Rattle.mg_engine.specs.aids.Found.{frame_in}
-use Rattle.mg_engine.specs.Flow.{flow, is_forward, mentions, may_hear}
-use Rattle.mg_engine.specs.Mix.{played_sample, part_of_mix, heard, mix, mixed, is_loopback}
-use Rattle.mg_engine.specs.Tick.{packet, header_of, sent_to, type_of}
+use Rattle.mg_sums.specs.Samples.{sum_of}
+use Rattle.mg_engine.specs.Gateway.{frame_of, mode_of, context_of, numbers_of}
+use Rattle.mg_engine.specs.Flow.{flow, is_forward, mentions}
+use Rattle.mg_engine.specs.Mix.{part_of_mix, heard, mix, mixed}
+use Rattle.mg_engine.specs.Tick.{packet, header_of}
 use Rattle.mg_engine.specs.aids.Found.{packet_to}
 use Rattle.mg_engine.specs.Isolation.{NoneHearsItself, leaves_isolated, IsolatedAreNotHeard, replayed, with_frame, hears_itself, progress_of, PacketsDependOnHeard, OwnSpeechChangesNoPacket, UnheardChangesNoPacket, PayloadsAreMixes}
 

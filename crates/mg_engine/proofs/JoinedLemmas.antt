@@ -1,12 +1,7 @@
 -- The rooms that the rows of terminations are joined to, when one of them changes.
-use Rattle.std.proofs.Common.{◌≡◌, ◌≢◌, ℕ, eqb, Bool, true, false, cond, List, Option, Some, None, refl, sym, ap, ◌∙◌}
-use Rattle.std.proofs.lemmas.Bool.{eqb-true, eq-eqb, ne_eqb}
-use Rattle.mg_rooms.specs.declared.limits.Limits.{Limits}
-use Rattle.mg_rooms.specs.declared.record.Record.{Record}
-use Rattle.mg_rooms.specs.Registry.{Registry, record_at, start_of}
-use Rattle.mg_flow.specs.declared.place.Place.{Place}
-use Rattle.mg_engine.specs.Place.{IsOnPlace}
-use Rattle.mg_engine.specs.aids.Joined.{AreJoined, SetsRow, room_of_row, room_for}
+use Rattle.mg_engine.proofs.Common.{◌≡◌, ◌≢◌, ℕ, eqb, Bool, true, false, cond, List, Option, Some, None, refl, sym, ap, ◌∙◌, eqb-true, eq-eqb, ne_eqb, Limits, Record, Registry, record_at, Place, IsOnPlace, AreJoined, SetsRow, room_for}
+use Rattle.mg_rooms.specs.Registry.{start_of}
+use Rattle.mg_engine.specs.aids.Joined.{room_of_row}
 use Rattle.mg_engine.proofs.MemberLemmas.{SameOthers, no_record, unequal}
 use Rattle.mg_engine.proofs.PlaceLemmas.{one_record, one_place}
 

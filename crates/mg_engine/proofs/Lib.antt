@@ -1,3 +1,4 @@
+pub mod Common
 pub mod PoolLemmas
 pub mod PlaceLemmas
 pub mod MemberLemmas

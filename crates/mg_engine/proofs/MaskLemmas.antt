@@ -1,29 +1,15 @@
 -- Sums over the seats of a mask, as sums over the terminations that are on them.
-use Rattle.std.proofs.Common.{◌≡◌, ℕ, ◌<◌, ◌≤◌, ◌&&◌, eqb, Bool, true, false, cond, ℤ, pos, List, map, get_or, inl, inr, Option, Some, None, refl, sym, ap, ◌∙◌, arith}
-use Rattle.std.specs.Prelude.{IsTrue, IsSome}
-use Rattle.std.specs.List.{count_by, range_with_len}
-use Rattle.std.specs.Option.{option_map}
-use Rattle.std.proofs.lemmas.Bool.{cases_eq, eqb-true, eq-eqb, and_from}
+use Rattle.mg_engine.proofs.Common.{◌≡◌, ℕ, ◌<◌, ◌≤◌, ◌&&◌, eqb, Bool, true, false, cond, ℤ, pos, List, map, get_or, inl, inr, Option, Some, None, refl, sym, ap, ◌∙◌, arith, IsSome, range_with_len, option_map, cases_eq, eqb-true, eq-eqb, seat_limit, has_seat, Record, Context, record_at, context_at, IsSound, Place, sibling_place, nearest_sample, sum_of-same, place_of, IsOnPlace, slot_at, AreSeated, sample_at, flows_between, heard_now, byte_of, map_agree, EngineState}
+use Rattle.std.specs.Prelude.{IsTrue}
+use Rattle.std.specs.List.{count_by}
+use Rattle.std.proofs.lemmas.Bool.{and_from}
 use Rattle.std.proofs.lemmas.Bool.Decides.{nat_tests}
-use Rattle.mg_topology.specs.Mask.{seat_limit, has_seat, seats_of}
-use Rattle.mg_rooms.specs.declared.record.Record.{Record}
-use Rattle.mg_rooms.specs.declared.context.Context.{Context}
+use Rattle.mg_topology.specs.Mask.{seats_of}
 use Rattle.mg_rooms.specs.Registry as rooms
-use Rattle.mg_rooms.specs.Registry.{record_at, context_at}
-use Rattle.mg_rooms.specs.aids.Sound.{IsSound}
-use Rattle.mg_flow.specs.declared.place.Place.{Place}
-use Rattle.mg_flow.specs.Place.{sibling_place}
 use Rattle.mg_flow.specs.Table as flow
-use Rattle.mg_sums.specs.Samples.{sum_of, nearest_sample}
-use Rattle.mg_sums.proofs.SumLemmas.{sum_of-same}
-use Rattle.mg_engine.specs.Place.{place_of, IsOnPlace}
-use Rattle.mg_engine.specs.aids.Seating.{slot_at, AreSeated}
-use Rattle.mg_engine.specs.aids.Sending.{sample_at, flows_between, heard_now}
+use Rattle.mg_sums.specs.Samples.{sum_of}
 use Rattle.mg_engine.specs.aids.Shares.{is_seated_in, sits_among, heard_on, payload_on}
 use Rattle.mg_g711.specs.declared.law.Law.{Law}
-use Rattle.mg_g711.specs.Law.{byte_of}
-use Rattle.mg_sums.proofs.HeardLemmas.{map_agree}
-use Rattle.mg_engine.specs.Stands.{EngineState}
 use Rattle.mg_engine.proofs.SendingLemmas.{nobody}
 use Rattle.mg_engine.proofs.PlaceLemmas.{ByNumber, HaveContexts, OneRoom, seated, place, hears_apart, no_hearing}
 use Rattle.mg_engine.proofs.SeatSums.{sum-seats_of, found_counts, seat_sums}

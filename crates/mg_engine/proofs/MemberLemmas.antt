@@ -1,23 +1,12 @@
 -- The table of who hears whom when one member enters, leaves or has another mode.
-use Rattle.std.proofs.Common.{◌≡◌, ◌≢◌, ℕ, eqb, ◌||◌, Bool, true, false, cond, List, [], ◌∷◌, Option, Some, None, refl, sym, ap, subst, ◌∙◌}
-use Rattle.std.specs.Prelude.{IsTrue, IsFalse, is_some}
-use Rattle.std.specs.Option.{option_map}
-use Rattle.std.proofs.lemmas.Bool.{eqb-true, eq-eqb}
-use Rattle.mg_rooms.specs.declared.context.Context.{Context}
-use Rattle.mg_rooms.specs.declared.record.Record.{Record}
-use Rattle.mg_rooms.specs.declared.limits.Limits.{Limits}
+use Rattle.mg_engine.proofs.Common.{◌≡◌, ◌≢◌, ℕ, eqb, ◌||◌, Bool, true, false, cond, List, [], ◌∷◌, Option, Some, None, refl, sym, ap, subst, ◌∙◌, is_some, option_map, eqb-true, eq-eqb, Context, Record, Limits, Registry, record_at, context_at, Place, RoomFlows, hears, ContextEdit, Enter, may_hear, place_of, IsOnPlace, ShareContext, AreSeated, HasMembers}
+use Rattle.std.specs.Prelude.{IsTrue, IsFalse}
 use Rattle.mg_rooms.specs.Lasting.{Lasts}
-use Rattle.mg_rooms.specs.Registry.{Registry, start_of, record_at, context_at}
-use Rattle.mg_flow.specs.declared.place.Place.{Place}
+use Rattle.mg_rooms.specs.Registry.{start_of}
 use Rattle.mg_flow.specs.Place.{is_same_place, are_together}
 use Rattle.mg_flow.specs.Table as flow
-use Rattle.mg_flow.specs.Table.{RoomFlows, holds, talks_at, listens_at, hears, SetsPlace}
-use Rattle.mg_engine.specs.Gateway.{ContextEdit, Enter}
-use Rattle.mg_engine.specs.Flow.{may_hear}
-use Rattle.mg_engine.specs.Place.{place_of, IsOnPlace}
-use Rattle.mg_engine.specs.Stands.{ShareContext}
-use Rattle.mg_engine.specs.aids.Seating.{AreSeated}
-use Rattle.mg_engine.specs.aids.Members.{Enters, Leaves, TakesMode, SaysOf, HasMembers}
+use Rattle.mg_flow.specs.Table.{holds, talks_at, listens_at, SetsPlace}
+use Rattle.mg_engine.specs.aids.Members.{Enters, Leaves, TakesMode, SaysOf}
 use Rattle.mg_engine.proofs.PlaceLemmas.{HaveContexts, OneSeat, OneRoom, at, one_record, one_place, one_member, in_one_room, both, apart_places}
 
 same_is : (p : Place) → is_same_place p p ≡ true

@@ -1,33 +1,18 @@
 -- A total without the listener itself and those silenced for it is what the listener hears.
-use Rattle.std.proofs.Common.{◌≡◌, ◌≢◌, ℕ, ◌+◌, ◌<◌, ◌&&◌, not, eqb, Bool, true, false, cond, ℤ, pos, ◌+ℤ◌, List, [], ◌∷◌, length, map, get_or, Option, Some, None, refl, sym, ap, ◌∙◌, arith}
-use Rattle.std.specs.Prelude.{IsTrue, All, AllPairs}
-use Rattle.std.specs.List.{count_by, range_with_len}
+use Rattle.mg_engine.proofs.Common.{◌≡◌, ◌≢◌, ℕ, ◌+◌, ◌<◌, ◌&&◌, not, eqb, Bool, true, false, cond, ℤ, pos, ◌+ℤ◌, List, [], ◌∷◌, length, map, get_or, Option, Some, None, refl, sym, ap, ◌∙◌, arith, All, range_with_len, eqb-true, eq-eqb, get_or-map, length-map, sum_by-cons, termination_limit, seat_limit, has_seat, Context, Record, IsSound, record_at, context_at, Place, sibling_place, SumsState, total_of, nearest_sample, sum_of-cons, sum_of-same, place_of, IsOnPlace, EngineState, ShareContext, AreJoined, HasMembers, slot_at, AreSeated, sample_at, flows_between, heard_now, silenced_now, map_agree}
+use Rattle.std.specs.Prelude.{IsTrue, AllPairs}
+use Rattle.std.specs.List.{count_by}
 use Rattle.std.proofs.lemmas.Int.{ints}
-use Rattle.std.proofs.lemmas.Bool.{eqb-true, eq-eqb}
-use Rattle.std.proofs.lemmas.List.{get_or-map, length-map}
 use Rattle.std.proofs.lemmas.List.Elements.{All-cons, All-map, filter_passes, All-weaker}
 use Rattle.std.proofs.lemmas.List.FromFn.{length-range_with_len, get_or-range_with_len}
 use Rattle.std.proofs.lemmas.List.Kept.{AllPairs-cons, AllPairs-filter}
-use Rattle.std.proofs.lemmas.List.Sums.{sum_by-cons}
 use Rattle.mg_words.specs.Mode as mode
-use Rattle.mg_words.specs.Limits.{termination_limit}
-use Rattle.mg_topology.specs.Mask.{seat_limit, has_seat, seats_of}
-use Rattle.mg_rooms.specs.declared.context.Context.{Context}
-use Rattle.mg_rooms.specs.declared.record.Record.{Record}
-use Rattle.mg_rooms.specs.aids.Sound.{IsSound}
-use Rattle.mg_rooms.specs.Registry.{record_at, context_at}
-use Rattle.mg_flow.specs.declared.place.Place.{Place}
-use Rattle.mg_flow.specs.Place.{sibling_place}
+use Rattle.mg_topology.specs.Mask.{seats_of}
 use Rattle.mg_flow.specs.Table as flow
-use Rattle.mg_sums.specs.Sums.{SumsState, AreOfRoom, sample_in, is_joined, total_of, heard_of, left_out_by, mix_of}
-use Rattle.mg_sums.specs.Samples.{sum_of, nearest_sample}
-use Rattle.mg_sums.proofs.SumLemmas.{sum_of-cons, sum_of-map, sum_of-nil, sum_of-none, sum_of-plus, sum_of-same}
-use Rattle.mg_engine.specs.Place.{place_of, IsOnPlace}
-use Rattle.mg_engine.specs.Stands.{EngineState, ShareContext}
-use Rattle.mg_engine.specs.aids.Joined.{AreJoined}
-use Rattle.mg_engine.specs.aids.Members.{HasMembers}
-use Rattle.mg_engine.specs.aids.Seating.{slot_at, AreSeated}
-use Rattle.mg_engine.specs.aids.Sending.{sample_at, flows_between, is_silenced_between, part_now, heard_now, silenced_now}
+use Rattle.mg_sums.specs.Sums.{AreOfRoom, sample_in, is_joined, heard_of, left_out_by, mix_of}
+use Rattle.mg_sums.specs.Samples.{sum_of}
+use Rattle.mg_sums.proofs.SumLemmas.{sum_of-map, sum_of-nil, sum_of-none, sum_of-plus}
+use Rattle.mg_engine.specs.aids.Sending.{is_silenced_between, part_now}
 use Rattle.mg_engine.specs.aids.Shares.{sits_among, is_seated_in}
 use Rattle.mg_engine.proofs.FlowLemmas.{nobody_hears_itself, silenced_apart, not_itself}
 use Rattle.mg_engine.proofs.MaskLemmas.{SeatWithin, flows_apart, seated_is, sum_on_seats}
@@ -36,7 +21,6 @@ use Rattle.mg_engine.proofs.PlaceLemmas.{ByNumber, HaveContexts, OneRoom, OneSea
 use Rattle.mg_engine.proofs.RowSums.{Spots, joined_is, total_by_terminations}
 use Rattle.mg_engine.proofs.SeatSums.{one_passes, found_counts}
 use Rattle.mg_engine.proofs.SendingLemmas.{nobody}
-use Rattle.mg_sums.proofs.HeardLemmas.{map_agree}
 use Rattle.mg_engine.proofs.SumLemmas.{sum-cong}
 
 -- ## One part of a total

@@ -1,29 +1,10 @@
 -- Packets at two ports, in one order and in the other; and what holds of the terminations in any world.
-use Rattle.std.proofs.Common.{◌≡◌, ◌≢◌, ℕ, ◌+◌, ◌≤◌, eqb, Bool, true, false, cond, ℤ, List, [], ◌∷◌, Option, Some, None, Result, Ok, Err, refl, sym, ap, ◌∙◌, arith}
-use Rattle.std.specs.Prelude.{find, count_by}
-use Rattle.std.proofs.lemmas.Bool.{eqb-true, eq-eqb}
-use Rattle.std.proofs.lemmas.Option.{same_Some}
-use Rattle.std.proofs.lemmas.List.Sums.{sum_by-cons}
-use Rattle.mg_words.specs.ResultSteps.{◌>>=◌}
-use Rattle.mg_words.specs.declared.error_number.ErrorNumber.{ErrorNumber}
-use Rattle.mg_rtp.specs.declared.header.Header.{Header}
-use Rattle.mg_rtp.specs.Reading.{Reading}
-use Rattle.mg_rooms.specs.declared.record.Record.{Record}
-use Rattle.mg_rooms.specs.declared.target.Target.{Target}
-use Rattle.mg_rooms.specs.Changes.{change}
+use Rattle.mg_engine.proofs.Common.{◌≡◌, ◌≢◌, ℕ, ◌+◌, ◌≤◌, eqb, Bool, true, false, cond, ℤ, List, [], ◌∷◌, Option, Some, None, Result, Ok, Err, refl, sym, ap, ◌∙◌, arith, count_by, eqb-true, eq-eqb, same_Some, sum_by-cons, ◌>>=◌, ErrorNumber, Header, Reading, Record, Target, change, slot_port, members_at, Taken, TopologyTriple, Arrived, Takes, arrived, at_port, frame_placed, taken_at, frame_placed_at, taken_by, Gateway, TerminationMedia, media_of, existing_context, done_with, check_triples, with_triples}
+use Rattle.std.specs.Prelude.{find}
 use Rattle.mg_rooms.specs.Consistent.{IsConsistent}
-use Rattle.mg_rooms.specs.Limits.{slot_port}
 use Rattle.mg_rooms.specs.Registry as rooms
-use Rattle.mg_rooms.specs.Registry.{members_at}
-use Rattle.mg_engine.specs.declared.taken.Taken.{Taken}
-use Rattle.mg_engine.specs.declared.topology_triple.TopologyTriple.{TopologyTriple}
-use Rattle.mg_engine.specs.Arrival.{Arrived, Takes, arrived, at_port, frame_placed, taken_at}
-use Rattle.mg_engine.specs.aids.Placing.{frame_placed_at}
-use Rattle.mg_engine.specs.aids.Found.{taken_by}
-use Rattle.mg_engine.specs.Gateway.{Gateway, TerminationMedia, media_of}
 use Rattle.mg_engine.specs.aids.Order.{ArrivalOrderIsIrrelevant}
-use Rattle.mg_engine.specs.Outcome.{apply_triples, existing_context, done_with}
-use Rattle.mg_engine.specs.Triples.{check_triples, with_triples}
+use Rattle.mg_engine.specs.Outcome.{apply_triples}
 use Rattle.mg_engine.proofs.KeyLemmas.{found_other}
 
 -- ## One of each number

@@ -1,10 +1,7 @@
 -- What is written to a packet of an outbox.
-use Rattle.std.proofs.Common.{◌≡◌, ℕ, ◌++◌, ◌∷◌, [], List, length, take, drop, sym, ap, ◌∙◌}
-use Rattle.std.specs.List.{refill}
-use Rattle.std.proofs.lemmas.List.{length-set}
+use Rattle.mg_engine.proofs.Common.{◌≡◌, ℕ, ◌++◌, ◌∷◌, [], List, length, take, drop, sym, ap, ◌∙◌, refill, length-set, Datagram}
 use Rattle.std.proofs.Math.ListN.{set}
 use Rattle.std.proofs.Math.Seq.{set-append_seam, take-append_seam}
-use Rattle.mg_engine.specs.declared.datagram.Datagram.{Datagram}
 
 pub refilled : (xs : List Datagram) (at : ℕ) (y : Datagram) → refill (length xs) xs (set xs at y) ≡ set xs at y
 refilled xs at y =

@@ -1,24 +1,15 @@
 -- What a command on a termination does to the records of terminations.
-use Rattle.std.proofs.Common.{◌≡◌, ℕ, not, [], ◌∷◌, ◌++◌, Option, Some, None, Result, Ok, Err, refl, sym, ap, subst, ◌∙◌}
+use Rattle.mg_engine.proofs.Common.{◌≡◌, ℕ, not, [], ◌∷◌, ◌++◌, Option, Some, None, Result, Ok, Err, refl, sym, ap, subst, ◌∙◌, Record, ErrorNumber, Settings, Target, ◌>>=◌, passes, Limits, slot_port, Registry, record_at, change, is_number}
 use Rattle.std.specs.Prelude.{ok_or}
 use Rattle.mg_rooms.proofs.LastLemmas.{entered_terminations}
 use Rattle.mg_rooms.specs.declared.place.EntryPlace.{EntryPlace}
-use Rattle.mg_rooms.specs.declared.record.Record.{Record}
-use Rattle.mg_words.specs.declared.error_number.ErrorNumber.{ErrorNumber}
 use Rattle.mg_words.specs.declared.error_number.ErrorNumber.TheVariants.{AlreadyInContext, NotInContext, UnknownTermination}
-use Rattle.mg_rooms.specs.declared.settings.Settings.{Settings}
-use Rattle.mg_rooms.specs.declared.target.Target.{Target}
-use Rattle.mg_words.specs.ResultSteps.{◌>>=◌}
-use Rattle.mg_rooms.specs.Results.{passes}
-use Rattle.mg_rooms.specs.declared.limits.Limits.{Limits}
-use Rattle.mg_rooms.specs.Limits.{slot_port}
 use Rattle.mg_rooms.specs.Settings.{media_after}
 use Rattle.mg_sdp.specs.Choice.{local_choice, remote_choice}
-use Rattle.mg_rooms.specs.Registry.{Registry, record_at}
 use Rattle.mg_rooms.specs.Record.{fresh, at_place, with_settings}
-use Rattle.mg_rooms.specs.Changes.{change, inserted, replaced, removed, entered, left}
+use Rattle.mg_rooms.specs.Changes.{inserted, replaced, removed, entered, left}
 use Rattle.mg_rooms.specs.aids.Entering.{entered_at}
-use Rattle.mg_rooms.specs.Outcome.{may_enter, may_have_members, member, named, is_number, new_slot, new_place, add, modify, move_to, subtract}
+use Rattle.mg_rooms.specs.Outcome.{may_enter, may_have_members, member, named, new_slot, new_place, add, modify, move_to, subtract}
 
 -- each step of an outcome that is done is done
 pub after_ok : {A B : Type 0} (P : Type 0) (r : Result A ErrorNumber) (f : A → Result B ErrorNumber) (y : B) →

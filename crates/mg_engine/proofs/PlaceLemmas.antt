@@ -1,21 +1,11 @@
 -- Places of members: each has one, and no two of them one place.
-use Rattle.std.proofs.Common.{arith, ◌≡◌, ◌≢◌, ℕ, ◌<◌, eqb, ◌&&◌, Bool, true, false, List, length, get_or, Option, Some, None, refl, sym, ap, ◌∙◌}
-use Rattle.std.specs.Prelude.{is_some, IsSome}
-use Rattle.std.specs.Option.{option_map}
-use Rattle.std.proofs.lemmas.Bool.{eqb-true}
-use Rattle.std.proofs.lemmas.Option.{same_Some}
-use Rattle.mg_rooms.specs.declared.context.Context.{Context}
-use Rattle.mg_rooms.specs.declared.record.Record.{Record}
+use Rattle.mg_engine.proofs.Common.{arith, ◌≡◌, ◌≢◌, ℕ, ◌<◌, eqb, ◌&&◌, Bool, true, false, List, length, get_or, Option, Some, None, refl, sym, ap, ◌∙◌, is_some, IsSome, option_map, eqb-true, same_Some, Context, Record, IsTermination, IsSound, Registry, record_at, context_at, Place, RoomFlows, hears, place_of, member_place, IsOnPlace}
 use Rattle.mg_rooms.specs.declared.member.Member.{Member}
-use Rattle.mg_rooms.specs.Consistent.{IsTermination, IsContext}
+use Rattle.mg_rooms.specs.Consistent.{IsContext}
 use Rattle.mg_rooms.specs.Member.{ExistsAs}
-use Rattle.mg_rooms.specs.aids.Sound.{IsSound}
-use Rattle.mg_rooms.specs.Registry.{Registry, record_at, context_at}
-use Rattle.mg_flow.specs.declared.place.Place.{Place}
 use Rattle.mg_flow.specs.Place.{IsWithinLimits, is_same_place}
-use Rattle.mg_flow.specs.Table.{RoomFlows, room_at, talks_at, listens_at, hears, flows}
+use Rattle.mg_flow.specs.Table.{room_at, talks_at, listens_at, flows}
 use Rattle.mg_topology.specs.Topology as topology
-use Rattle.mg_engine.specs.Place.{place_of, member_place, IsOnPlace}
 
 -- ## Facts of the registry, as the calls of mg_rooms hand them out
 

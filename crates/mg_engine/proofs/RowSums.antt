@@ -1,19 +1,10 @@
 -- Sums over rows that are joined to a room, as sums over terminations.
-use Rattle.std.proofs.Common.{◌≡◌, ℕ, ◌<◌, ◌&&◌, eqb, Bool, true, false, cond, ℤ, pos, List, length, get_or, Option, Some, None, refl, ap, ◌∙◌, arith}
-use Rattle.std.specs.List.{count_by, range_with_len}
-use Rattle.std.proofs.lemmas.Bool.{eq-eqb}
-use Rattle.mg_words.specs.declared.mode.Mode.{Mode}
-use Rattle.mg_words.specs.Mode.{talks}
-use Rattle.mg_words.specs.Limits.{termination_limit}
-use Rattle.mg_rooms.specs.declared.record.Record.{Record}
-use Rattle.mg_rooms.specs.aids.Sound.{IsSound}
-use Rattle.mg_rooms.specs.Registry.{Registry}
-use Rattle.mg_flow.specs.declared.place.Place.{Place}
-use Rattle.mg_sums.specs.Sums.{SumsState, sample_in, is_room, is_joined, joined_rows, total_of}
+use Rattle.mg_engine.proofs.Common.{◌≡◌, ℕ, ◌<◌, ◌&&◌, eqb, Bool, true, false, cond, ℤ, pos, List, length, get_or, Option, Some, None, refl, ap, ◌∙◌, arith, range_with_len, eq-eqb, Mode, talks, termination_limit, Record, IsSound, Registry, Place, SumsState, total_of, AreJoined, room_for, sample_at}
+use Rattle.std.specs.List.{count_by}
+use Rattle.mg_sums.specs.Sums.{sample_in, is_room, is_joined, joined_rows}
 use Rattle.mg_sums.specs.Samples.{sum_of}
 use Rattle.mg_sums.proofs.SumLemmas.{sum_of-filter}
-use Rattle.mg_engine.specs.aids.Joined.{AreJoined, room_of_row, room_for}
-use Rattle.mg_engine.specs.aids.Sending.{sample_at}
+use Rattle.mg_engine.specs.aids.Joined.{room_of_row}
 use Rattle.mg_engine.proofs.SendingLemmas.{nobody}
 use Rattle.mg_engine.proofs.SeatSums.{found_counts, seat_sums}
 

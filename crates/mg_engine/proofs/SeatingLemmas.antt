@@ -1,13 +1,7 @@
 -- The slots of members by their places.
-use Rattle.std.proofs.Common.{arith, ◌≡◌, ◌≢◌, ℕ, ◌<◌, eqb, Bool, true, false, List, length, set, None, refl, sym, ap, ◌∙◌}
-use Rattle.std.proofs.lemmas.Bool.{eqb-true}
-use Rattle.std.proofs.lemmas.List.{get_or-set_same, get_or-set_other}
-use Rattle.mg_rooms.specs.declared.record.Record.{Record}
-use Rattle.mg_rooms.specs.Registry.{Registry, record_at}
-use Rattle.mg_flow.specs.declared.place.Place.{Place}
+use Rattle.mg_engine.proofs.Common.{arith, ◌≡◌, ◌≢◌, ℕ, ◌<◌, eqb, Bool, true, false, List, length, set, None, refl, sym, ap, ◌∙◌, eqb-true, get_or-set_same, get_or-set_other, Record, Registry, record_at, Place, IsOnPlace, place_count, slot_at, AreSeated}
 use Rattle.mg_flow.specs.Place.{IsWithinLimits}
-use Rattle.mg_engine.specs.Place.{IsOnPlace}
-use Rattle.mg_engine.specs.aids.Seating.{place_count, index_of, slot_at, AreSeated}
+use Rattle.mg_engine.specs.aids.Seating.{index_of}
 use Rattle.mg_engine.proofs.PlaceLemmas.{OneRoom, OneSeat, one_member, one_place, one_record}
 use Rattle.mg_engine.proofs.MemberLemmas.{SameOthers, no_record, unequal}
 

@@ -1,21 +1,9 @@
 -- What is sent in a tick, part by part.
-use Rattle.std.specs.Prelude.{filter_map, option_to_list}
-use Rattle.std.proofs.lemmas.List.{take_more}
 use Rattle.std.proofs.lemmas.List.Elements.{filter_map-append}
-use Rattle.std.proofs.Common.{◌≡◌, ℕ, ◌+◌, ◌<◌, [], ◌∷◌, length, get_or, take, ◌%◌, ◌^◌, List, ◌++◌, map, Option, Some, None, refl, ap, ◌∙◌}
-use Rattle.mg_g711.specs.Law.{byte_of}
-use Rattle.mg_rtp.specs.declared.header.Header.{Header}
-use Rattle.mg_rtp.specs.Header.{header_bytes, plain}
-use Rattle.mg_sdp.specs.declared.chosen.Chosen.{Chosen}
+use Rattle.mg_engine.proofs.Common.{◌≡◌, ℕ, ◌+◌, ◌<◌, [], ◌∷◌, length, get_or, take, ◌%◌, ◌^◌, List, ◌++◌, map, Option, Some, None, refl, ap, ◌∙◌, filter_map, option_to_list, take_more, byte_of, Header, header_bytes, plain, Chosen, Record, slot_port, Datagram, packet_now, mixed_now, EngineState, media_at, type_of}
 use Rattle.mg_words.specs.declared.mode.Mode.TheVariants.{Inactive}
-use Rattle.mg_rooms.specs.declared.record.Record.{Record}
-use Rattle.mg_rooms.specs.Limits.{slot_port}
-use Rattle.mg_engine.specs.declared.datagram.Datagram.{Datagram}
 use Rattle.mg_engine.specs.Media as media
 use Rattle.mg_engine.specs.aids.MediaSteps as media_steps
-use Rattle.mg_engine.specs.aids.Sending.{packet_now, mixed_now}
-use Rattle.mg_engine.specs.Stands.{EngineState, media_at}
-use Rattle.mg_engine.specs.Tick.{type_of}
 
 abbrev datagram : Chosen → ℕ → List ℕ → Datagram
 datagram to from bytes = record { from = from; to = record { address = to.address; port = to.port }; bytes = bytes }

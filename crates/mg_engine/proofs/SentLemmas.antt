@@ -1,34 +1,16 @@
 -- What an engine sends in a tick is what the world sends.
-use Rattle.std.proofs.Common.{◌≡◌, ℕ, suc, ◌+◌, ◌-◌, ◌*◌, ◌%◌, ◌^◌, ◌<◌, ◌≤◌, ◌++◌, not, Bool, cond, List, [], ◌∷◌, ℤ, pos, length, map, get_or, Option, Some, None, refl, sym, ap, subst, ◌∙◌, arith}
-use Rattle.std.specs.Prelude.{filter_map}
+use Rattle.mg_engine.proofs.Common.{◌≡◌, ℕ, suc, ◌+◌, ◌-◌, ◌*◌, ◌%◌, ◌^◌, ◌<◌, ◌≤◌, ◌++◌, not, Bool, cond, List, [], ◌∷◌, ℤ, pos, length, map, get_or, Option, Some, None, refl, sym, ap, subst, ◌∙◌, arith, filter_map, range_with_len, option_map, byte_of, Header, header_bytes, plain, Chosen, Mode, Record, slot_port, record_at, nearest_sample, Config, Datagram, Gateway, TerminationMedia, media_of, frame_in, played_sample, is_loopback, type_of, sent_to, HasMembers, sample_at, heard_now, mixed_now, packet_now, EngineState, StandsFor, IsMediaOf, media_at, map_agree}
 use Rattle.std.specs.List.{cons_option}
-use Rattle.std.specs.List.{range_with_len}
-use Rattle.std.specs.Option.{option_map}
-use Rattle.mg_g711.specs.Law.{byte_of}
-use Rattle.mg_rtp.specs.declared.header.Header.{Header}
-use Rattle.mg_rtp.specs.Header.{header_bytes, plain}
-use Rattle.mg_sdp.specs.declared.chosen.Chosen.{Chosen}
-use Rattle.mg_words.specs.declared.mode.Mode.{Mode}
-use Rattle.mg_rooms.specs.declared.record.Record.{Record}
-use Rattle.mg_rooms.specs.Limits.{slot_port}
-use Rattle.mg_rooms.specs.Registry.{record_at}
 use Rattle.mg_rooms.specs.Registry as rooms
-use Rattle.mg_sums.specs.Samples.{sum_of, nearest_sample}
+use Rattle.mg_sums.specs.Samples.{sum_of}
 use Rattle.mg_sums.proofs.SumLemmas.{sum_of-map}
-use Rattle.mg_engine.specs.declared.config.Config.{Config}
-use Rattle.mg_engine.specs.declared.datagram.Datagram.{Datagram}
-use Rattle.mg_engine.specs.Gateway.{Gateway, TerminationMedia, media_of}
-use Rattle.mg_engine.specs.aids.Found.{frame_in}
-use Rattle.mg_engine.specs.Mix.{played_sample, part_of_mix, heard, mix, mixed, is_loopback}
+use Rattle.mg_engine.specs.Mix.{part_of_mix, heard, mix, mixed}
 use Rattle.mg_engine.specs.Media as media
 use Rattle.mg_engine.specs.aids.MediaSteps as media_steps
-use Rattle.mg_engine.specs.Tick.{type_of, header_of, packet, packet_of, packets, sent_to}
+use Rattle.mg_engine.specs.Tick.{header_of, packet, packet_of, packets}
 use Rattle.mg_engine.specs.aids.Found.{packet_to}
-use Rattle.mg_engine.specs.aids.Members.{HasMembers}
-use Rattle.mg_engine.specs.aids.Sending.{flows_now, sample_at, part_now, heard_now, mix_now, mixed_now, packet_now, packets_now}
-use Rattle.mg_engine.specs.Stands.{EngineState, StandsFor, IsMediaOf, media_at}
+use Rattle.mg_engine.specs.aids.Sending.{flows_now, part_now, mix_now, packets_now}
 use Rattle.mg_engine.specs.aids.Playing.{HaveTicked}
-use Rattle.mg_sums.proofs.HeardLemmas.{map_agree}
 use Rattle.mg_engine.proofs.SumLemmas.{sum-cong}
 use Rattle.mg_engine.proofs.SendingLemmas.{nobody}
 use Rattle.mg_engine.proofs.FlowLemmas.{flow_is, mode_found}

@@ -1,17 +1,11 @@
 -- Packets that lend their payloads keep them.
-use Rattle.std.proofs.Common.{◌≡◌, ℕ, zero, suc, ◌<◌, eqb, Bool, true, false, cond, List, [], ◌∷◌, ◌++◌, length, get_or, replicate, refl, sym, ap, subst, ◌∙◌, arith, nat_lt}
-use Rattle.std.specs.Prelude.{All}
+use Rattle.mg_engine.proofs.Common.{◌≡◌, ℕ, zero, suc, ◌<◌, eqb, Bool, true, false, cond, List, [], ◌∷◌, ◌++◌, length, get_or, replicate, refl, sym, ap, subst, ◌∙◌, arith, nat_lt, All, eqb-true, get_or-set_same, get_or-set_other, Datagram, Share, EngineState, with_mixes, AreShared}
 use Rattle.std.proofs.Math.Seq.{get_or-append_seam}
-use Rattle.std.proofs.lemmas.Bool.{eqb-true}
-use Rattle.std.proofs.lemmas.List.{get_or-set_same, get_or-set_other, length_push}
+use Rattle.std.proofs.lemmas.List.{length_push}
 use Rattle.std.proofs.lemmas.List.Elements.{All-nil, All-weaker, All-push}
 use Rattle.mg_words.specs.Limits.{context_limit, member_limit}
-use Rattle.mg_engine.specs.declared.datagram.Datagram.{Datagram}
-use Rattle.mg_engine.specs.declared.share.Share.{Share}
 use Rattle.mg_engine.specs.Datagram.{blank}
-use Rattle.mg_engine.specs.Stands.{EngineState}
-use Rattle.mg_engine.specs.aids.Sending.{with_mixes}
-use Rattle.mg_engine.specs.aids.Shares.{AreShared, IsShared, one_more, packet_at, payload_of, payload_on, shares_in, with_share}
+use Rattle.mg_engine.specs.aids.Shares.{IsShared, one_more, packet_at, payload_of, payload_on, shares_in, with_share}
 use Rattle.mg_engine.proofs.MemberLemmas.{unequal}
 
 before : {A : Type 0} (xs : List A) (y d : A) (i : ℕ) → i < length xs → get_or (xs ++ y ∷ []) i d ≡ get_or xs i d

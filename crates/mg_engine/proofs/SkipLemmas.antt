@@ -1,32 +1,25 @@
 -- Ticks at once are ticks one after another, while no play list has a frame.
-use Rattle.std.proofs.Common.{◌≡◌, ℕ, zero, suc, ◌+◌, ◌*◌, ◌%◌, ◌^◌, ◌<◌, Bool, true, false, cond, List, ℤ, [], ◌∷◌, map, get_or, Option, Some, None, refl, sym, ap, subst, ◌∙◌, arith}
-use Rattle.std.specs.Prelude.{IsTrue, count_by}
+use Rattle.mg_engine.proofs.Common.{◌≡◌, ℕ, zero, suc, ◌+◌, ◌*◌, ◌%◌, ◌^◌, ◌<◌, Bool, true, false, cond, List, ℤ, [], ◌∷◌, map, get_or, Option, Some, None, refl, sym, ap, subst, ◌∙◌, arith, count_by, option_map, sum_by-cons, is_concealed, PlayList, Record, record_at, silence, Config, Gateway, ContextEdit, TerminationMedia, media_of, may_hear, HasPassed, IsIdleEngine, EngineState, StandsFor, IsMediaOf, media_at, played, sent, sends_at, after_ticks, concealed_in_ticks}
+use Rattle.std.specs.Prelude.{IsTrue}
 use Rattle.std.specs.Fn.{iterate}
-use Rattle.std.specs.Option.{option_map, option_map_or}
-use Rattle.std.proofs.lemmas.List.Sums.{sum_by-cons}
+use Rattle.std.specs.Option.{option_map_or}
 use Rattle.std.proofs.lemmas.Simd.{map-map}
 use Rattle.mg_playout.specs.declared.phase.Phase.{Phase}
 use Rattle.mg_playout.specs.declared.phase.Phase.TheVariants.{Idle, Wait, Run}
 use Rattle.mg_playout.specs.declared.played.Played.{Played}
 use Rattle.mg_playout.specs.declared.played.Played.TheVariants.{Silence}
-use Rattle.mg_playout.specs.Played.{is_concealed, sound_of}
+use Rattle.mg_playout.specs.Played.{sound_of}
 use Rattle.mg_playout.specs.Playout as play_lists
-use Rattle.mg_playout.specs.Playout.{PlayList, is_idle}
-use Rattle.mg_rooms.specs.declared.record.Record.{Record}
+use Rattle.mg_playout.specs.Playout.{is_idle}
 use Rattle.mg_rooms.specs.Registry as rooms
-use Rattle.mg_rooms.specs.Registry.{record_at}
-use Rattle.mg_sums.specs.Samples.{silence, frame_or_silence}
-use Rattle.mg_engine.specs.declared.config.Config.{Config}
-use Rattle.mg_engine.specs.Gateway.{Gateway, ContextEdit, TerminationMedia, media_of, numbers_of}
-use Rattle.mg_engine.specs.Flow.{may_hear}
+use Rattle.mg_sums.specs.Samples.{frame_or_silence}
+use Rattle.mg_engine.specs.Gateway.{numbers_of}
 use Rattle.mg_engine.specs.Media.{SlotMedia}
 use Rattle.mg_engine.specs.Steps.{counted_up}
 use Rattle.mg_engine.specs.aids.MediaSteps as media_steps
 use Rattle.mg_engine.specs.aids.MediaSteps.{slot_ended, slot_played, slot_ticked, slot_passed}
-use Rattle.mg_engine.specs.aids.Playing.{HasPassed, IsIdleEngine}
 use Rattle.mg_engine.specs.aids.Sending.{slot_sends}
-use Rattle.mg_engine.specs.Stands.{EngineState, StandsFor, IsMediaOf, media_at}
-use Rattle.mg_engine.specs.Tick.{played, sent, sends_at, after_tick, after_ticks, conceals, concealed_in_tick, concealed_in_ticks}
+use Rattle.mg_engine.specs.Tick.{after_tick, conceals, concealed_in_tick}
 use Rattle.mg_engine.proofs.GatewayLemmas.{found_in_map, found_key, found_too}
 use Rattle.mg_engine.proofs.TickLemmas.{BySlot, ended_is, from_mapped, numbers_kept, played_is, same_sender, sent_number, with_media}
 

@@ -1,6 +1,6 @@
 -- Sums over lists, one part more at a time.
 use Rattle.mg_sums.specs.Samples.{sum_of}
-use Rattle.std.proofs.Common.{◌≡◌, ℕ, suc, ◌<◌, ℤ, ◌+ℤ◌, List, [], ◌∷◌, length, get_or, map, refl, sym, ap, ◌∙◌, arith}
+use Rattle.mg_engine.proofs.Common.{◌≡◌, ℕ, suc, ◌<◌, ℤ, ◌+ℤ◌, List, [], ◌∷◌, length, get_or, map, refl, sym, ap, ◌∙◌, arith}
 use Rattle.std.specs.List.{range_with_len}
 use Rattle.std.proofs.lemmas.List.{get_or_default, same_lists}
 use Rattle.std.proofs.lemmas.List.FromFn.{get_or-map-range_with_len, length-map-range_with_len}

@@ -1,28 +1,19 @@
 -- An engine stands for the world after each step of a tick.
-use Rattle.std.proofs.Common.{◌≡◌, ℕ, ◌≤◌, eqb, Bool, true, false, List, ℤ, [], ◌∷◌, map, get_or, Option, Some, None, refl, sym, ap, subst, ◌∙◌, arith}
+use Rattle.mg_engine.proofs.Common.{◌≡◌, ℕ, ◌≤◌, eqb, Bool, true, false, List, ℤ, [], ◌∷◌, map, get_or, Option, Some, None, refl, sym, ap, subst, ◌∙◌, arith, option_map, same_Some, PlayList, Record, record_at, holder_of, Config, Share, Gateway, TerminationMedia, media_of, played, all_played, sent, sends_at, IsPlayed, with_mixes, IsEnded, EngineState, StandsFor, IsMediaOf, media_at}
 use Rattle.std.specs.Prelude.{find}
-use Rattle.std.specs.Option.{option_map}
-use Rattle.std.proofs.lemmas.Option.{same_Some}
 use Rattle.std.proofs.lemmas.Simd.{map-map}
 use Rattle.mg_playout.specs.Played.{sound_of}
 use Rattle.mg_playout.specs.Playout as play_lists
-use Rattle.mg_playout.specs.Playout.{PlayList}
-use Rattle.mg_rooms.specs.declared.record.Record.{Record}
-use Rattle.mg_rooms.specs.Registry.{record_at, holder_of}
 use Rattle.mg_rooms.specs.Registry as rooms
 use Rattle.mg_sums.specs.Sums as sums
-use Rattle.mg_engine.specs.declared.config.Config.{Config}
-use Rattle.mg_engine.specs.declared.share.Share.{Share}
-use Rattle.mg_engine.specs.Gateway.{Gateway, TerminationMedia, media_of}
 use Rattle.mg_engine.specs.Steps.{transmitted}
 use Rattle.mg_sums.specs.Samples.{frame_or_silence}
 use Rattle.mg_engine.specs.Media as media
 use Rattle.mg_engine.specs.aids.MediaSteps as media_steps
-use Rattle.mg_engine.specs.Tick.{played, all_played, sent, sends_at, all_ended}
+use Rattle.mg_engine.specs.Tick.{all_ended}
 use Rattle.mg_engine.specs.aids.Found.{has_destination}
-use Rattle.mg_engine.specs.aids.Playing.{HaveTicked, IsPlayed}
-use Rattle.mg_engine.specs.aids.Sending.{slot_sends, with_mixes, IsEnded}
-use Rattle.mg_engine.specs.Stands.{EngineState, StandsFor, IsMediaOf, media_at}
+use Rattle.mg_engine.specs.aids.Playing.{HaveTicked}
+use Rattle.mg_engine.specs.aids.Sending.{slot_sends}
 use Rattle.mg_engine.proofs.GatewayLemmas.{found_in_map, found_key, media_is}
 
 abbrev pub with_media : EngineState → List media.SlotMedia → EngineState

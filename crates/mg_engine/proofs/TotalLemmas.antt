@@ -1,29 +1,13 @@
 -- The totals that are kept are those of the world.
-use Rattle.std.proofs.Common.{◌≡◌, ℕ, zero, suc, ◌+◌, ◌<◌, ◌≤◌, ◌&&◌, ◌||◌, eqb, Bool, true, false, cond, ℤ, pos, List, [], ◌∷◌, length, get_or, Option, Some, None, refl, sym, ap, ◌∙◌, nat_lt, arith}
-use Rattle.std.specs.Prelude.{is_some, IsTrue, ◌↔◌}
-use Rattle.std.specs.List.{count_by, list_any, range_with_len}
-use Rattle.std.specs.Option.{option_map}
-use Rattle.std.proofs.lemmas.Bool.{lt-ltb, eqb-true, eq-eqb, ne_eqb, or_right}
-use Rattle.std.proofs.lemmas.Option.{same_Some}
-use Rattle.std.proofs.lemmas.List.Sums.{sum_by-cons}
-use Rattle.mg_rooms.specs.declared.context.Context.{Context}
-use Rattle.mg_rooms.specs.declared.record.Record.{Record}
-use Rattle.mg_words.specs.declared.mode.Mode.{Mode}
-use Rattle.mg_words.specs.Mode.{talks}
-use Rattle.mg_words.specs.Limits.{last_termination, termination_limit}
-use Rattle.mg_rooms.specs.Consistent.{IsTermination}
-use Rattle.mg_rooms.specs.aids.Sound.{IsSound}
+use Rattle.mg_engine.proofs.Common.{◌≡◌, ℕ, zero, suc, ◌+◌, ◌<◌, ◌≤◌, ◌&&◌, ◌||◌, eqb, Bool, true, false, cond, ℤ, pos, List, [], ◌∷◌, length, get_or, Option, Some, None, refl, sym, ap, ◌∙◌, nat_lt, arith, is_some, list_any, range_with_len, option_map, eqb-true, eq-eqb, ne_eqb, same_Some, sum_by-cons, Context, Record, Mode, talks, termination_limit, IsTermination, IsSound, record_at, context_at, members_at, Place, total_of, Gateway, played_sample, IsOnPlace, EngineState, StandsFor, AreJoined, sample_at}
+use Rattle.std.specs.Prelude.{IsTrue, ◌↔◌}
+use Rattle.std.specs.List.{count_by}
+use Rattle.std.proofs.lemmas.Bool.{lt-ltb, or_right}
+use Rattle.mg_words.specs.Limits.{last_termination}
 use Rattle.mg_rooms.specs.Registry as rooms
-use Rattle.mg_rooms.specs.Registry.{record_at, context_at, members_at, IsMember}
-use Rattle.mg_flow.specs.declared.place.Place.{Place}
-use Rattle.mg_sums.specs.Sums.{total_of}
+use Rattle.mg_rooms.specs.Registry.{IsMember}
 use Rattle.mg_sums.specs.Samples.{sum_of}
-use Rattle.mg_engine.specs.Gateway.{Gateway}
-use Rattle.mg_engine.specs.Mix.{played_sample, part_of_total, total, total_at}
-use Rattle.mg_engine.specs.Place.{IsOnPlace}
-use Rattle.mg_engine.specs.Stands.{EngineState, StandsFor}
-use Rattle.mg_engine.specs.aids.Joined.{AreJoined}
-use Rattle.mg_engine.specs.aids.Sending.{sample_at}
+use Rattle.mg_engine.specs.Mix.{part_of_total, total, total_at}
 use Rattle.mg_engine.proofs.FlowLemmas.{mode_found}
 use Rattle.mg_engine.proofs.KeyLemmas.{none_counted}
 use Rattle.mg_engine.proofs.MemberLemmas.{unequal}

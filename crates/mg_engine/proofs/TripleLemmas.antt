@@ -1,41 +1,24 @@
 -- Triples by the seats of the members that their terms match.
-use Rattle.std.proofs.Common.{◌≡◌, ℕ, zero, suc, ◌+◌, ◌<◌, eqb, ◌&&◌, ◌||◌, Bool, true, false, cond, List, [], ◌∷◌, ◌++◌, ◌==◌, length, get_or, take, drop, Option, Some, None, Result, Ok, Err, refl, sym, ap, subst, ◌∙◌, arith}
-use Rattle.std.specs.Prelude.{IsTrue, ◌↔◌, Any}
-use Rattle.std.specs.List.{list_any}
+use Rattle.mg_engine.proofs.Common.{◌≡◌, ℕ, zero, suc, ◌+◌, ◌<◌, eqb, ◌&&◌, ◌||◌, Bool, true, false, cond, List, [], ◌∷◌, ◌++◌, ◌==◌, length, get_or, take, drop, Option, Some, None, Result, Ok, Err, refl, sym, ap, subst, ◌∙◌, arith, Any, list_any, option_map, eqb-true, eq-eqb, same_Some, take_more, Triple, has_seat, Overlaps, Context, Record, Registry, record_at, context_at, members_at, Place, RoomFlows, hears, Target, Gateway, ContextEdit, Apply, may_hear, existing_context, EngineState, StandsFor, ShareContext, has, place_of, IsOnPlace, HasMembers, ErrorNumber, TopologyTriple, with_triples, check_triples, AreMatched}
+use Rattle.std.specs.Prelude.{IsTrue, ◌↔◌}
 use Rattle.std.specs.Cmp.{both_ways}
-use Rattle.std.specs.Option.{option_map}
-use Rattle.std.proofs.lemmas.Bool.{eqb-true, eq-eqb}
-use Rattle.std.proofs.lemmas.Option.{same_Some}
-use Rattle.std.proofs.lemmas.List.{drop_more, take_more}
-use Rattle.mg_topology.specs.declared.triple.Triple.{Triple}
-use Rattle.mg_topology.specs.Mask.{has_seat}
-use Rattle.mg_topology.specs.Triple.{Overlaps, overlaps}
-use Rattle.mg_rooms.specs.declared.context.Context.{Context}
-use Rattle.mg_rooms.specs.declared.record.Record.{Record}
-use Rattle.mg_rooms.specs.Registry.{Registry, record_at, context_at, members_at, IsMember}
-use Rattle.mg_flow.specs.declared.place.Place.{Place}
+use Rattle.std.proofs.lemmas.List.{drop_more}
+use Rattle.mg_topology.specs.Triple.{overlaps}
+use Rattle.mg_rooms.specs.Registry.{IsMember}
 use Rattle.mg_flow.specs.Place.{are_together}
-use Rattle.mg_flow.specs.Table.{RoomFlows, holds, hears, hears_after, KeepsPlaces, KeepsOthers}
+use Rattle.mg_flow.specs.Table.{holds, hears_after, KeepsPlaces, KeepsOthers}
 use Rattle.mg_topology.specs.Topology as topology
 use Rattle.mg_topology.specs.Triple as seats
 use Rattle.mg_topology.specs.Triple.{permits}
-use Rattle.mg_rooms.specs.declared.target.Target.{Target}
-use Rattle.mg_engine.specs.Gateway.{Gateway, ContextEdit, Apply}
-use Rattle.mg_engine.specs.Flow.{may_hear}
-use Rattle.mg_engine.specs.Outcome.{existing_context, apply_triples}
-use Rattle.mg_engine.specs.Stands.{EngineState, StandsFor, ShareContext, IsOutcome}
-use Rattle.mg_engine.specs.Flow.{has}
-use Rattle.mg_engine.specs.Place.{place_of, IsOnPlace}
-use Rattle.mg_engine.specs.aids.Members.{HasMembers}
+use Rattle.mg_engine.specs.Outcome.{apply_triples}
+use Rattle.mg_engine.specs.Stands.{IsOutcome}
 use Rattle.mg_words.specs.declared.association.Association.{Association}
 use Rattle.mg_words.specs.declared.association.Association.TheVariants.{Isolate, Oneway, Bothway}
-use Rattle.mg_words.specs.declared.error_number.ErrorNumber.{ErrorNumber}
 use Rattle.mg_words.specs.declared.error_number.ErrorNumber.TheVariants as errors
 use Rattle.mg_topology.specs.Triple.{is_oneway}
-use Rattle.mg_engine.specs.declared.topology_triple.TopologyTriple.{TopologyTriple}
 use Rattle.mg_engine.specs.Triples as terms
-use Rattle.mg_engine.specs.Triples.{with_triples, matched, is_barred, names_others, check_triple, check_triples}
-use Rattle.mg_engine.specs.aids.Triples.{IsRoomOf, IsSeated, Matches, IsMatched, AreMatched}
+use Rattle.mg_engine.specs.Triples.{matched, is_barred, names_others, check_triple}
+use Rattle.mg_engine.specs.aids.Triples.{IsRoomOf, IsSeated, Matches, IsMatched}
 use Rattle.mg_engine.proofs.MemberLemmas.{Hears, seats_differ, unequal}
 use Rattle.mg_engine.proofs.PlaceLemmas.{HaveContexts, OneSeat, OneRoom, at, on_place, one_record, in_one_room, both}
 

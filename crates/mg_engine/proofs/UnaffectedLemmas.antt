@@ -1,53 +1,32 @@
 -- What an edit and an RTP datagram leave alone.
-use Rattle.std.proofs.Common.{◌≡◌, ℕ, ℤ, pos, eqb, not, ◌&&◌, ◌||◌, Bool, true, false, cond, List, [], ◌∷◌, Option, Some, None, Result, Ok, Err, refl, sym, ap, subst, ◌∙◌}
-use Rattle.std.specs.Prelude.{IsSome, is_some, slice_index_or}
-use Rattle.std.proofs.lemmas.Bool.{eqb-true, eq-eqb, or_right}
-use Rattle.std.proofs.lemmas.Option.{same_Some}
-use Rattle.mg_words.specs.Mode.{talks, listens}
-use Rattle.mg_words.specs.declared.error_number.ErrorNumber.{ErrorNumber}
+use Rattle.mg_engine.proofs.Common.{◌≡◌, ℕ, ℤ, pos, eqb, not, ◌&&◌, ◌||◌, Bool, true, false, cond, List, [], ◌∷◌, Option, Some, None, Result, Ok, Err, refl, sym, ap, subst, ◌∙◌, IsSome, is_some, eqb-true, eq-eqb, same_Some, talks, ErrorNumber, Header, Reading, Context, Record, Settings, Target, is_number, record_at, context_at, members_at, passes, IsSound, Taken, TopologyTriple, Arrived, Takes, arrived, at_port, taken_at, frame_placed_at, taken_by, has, may_hear, Gateway, TerminationMedia, ContextEdit, Apply, Enter, media_of, new_media, frame_in, added, modified, moved, subtracted, existing_context, tuned, EngineState, StandsFor, check_triples, with_triples, sum_of-cons}
+use Rattle.std.specs.Prelude.{slice_index_or}
+use Rattle.std.proofs.lemmas.Bool.{or_right}
+use Rattle.mg_words.specs.Mode.{listens}
 use Rattle.mg_words.specs.declared.error_number.ErrorNumber.TheVariants.{IdentifierNotAllowed, NotInContext}
-use Rattle.mg_rtp.specs.declared.header.Header.{Header}
-use Rattle.mg_rtp.specs.Reading.{Reading}
-use Rattle.mg_rooms.specs.declared.context.Context.{Context}
-use Rattle.mg_rooms.specs.declared.record.Record.{Record}
-use Rattle.mg_rooms.specs.declared.settings.Settings.{Settings}
-use Rattle.mg_rooms.specs.declared.target.Target.{Target}
 use Rattle.mg_rooms.specs.declared.target.Target.TheVariants.{Null, New, Number}
-use Rattle.mg_rooms.specs.Outcome.{is_number}
 use Rattle.mg_rooms.specs.Outcome as commands
 use Rattle.mg_rooms.specs.Registry as rooms
-use Rattle.mg_rooms.specs.Registry.{record_at, context_at, members_at}
 use Rattle.mg_rooms.specs.aids.Found.{members_of}
-use Rattle.mg_rooms.specs.Results.{passes}
-use Rattle.mg_rooms.specs.aids.Sound.{IsSound}
 use Rattle.mg_sums.specs.Samples.{sum_of}
 use Rattle.mg_engine.specs.declared.done.Done.{Done}
 use Rattle.mg_engine.specs.declared.done.Done.TheVariants.{Termination, Topology}
 use Rattle.mg_engine.specs.declared.edit.Edit.{Edit}
 use Rattle.mg_engine.specs.declared.edit.Edit.TheVariants as edits
-use Rattle.mg_engine.specs.declared.taken.Taken.{Taken}
-use Rattle.mg_engine.specs.declared.topology_triple.TopologyTriple.{TopologyTriple}
 use Rattle.mg_engine.specs.declared.triple_term.TripleTerm.{TripleTerm}
 use Rattle.mg_engine.specs.declared.triple_term.TripleTerm.TheVariants as terms
-use Rattle.mg_engine.specs.Arrival.{Arrived, Takes, arrived, at_port, taken_at}
-use Rattle.mg_engine.specs.aids.Placing.{frame_placed_at}
-use Rattle.mg_engine.specs.aids.Found.{taken_by}
-use Rattle.mg_engine.specs.Flow.{has, flow, hears, may_hear}
-use Rattle.mg_engine.specs.Gateway.{Gateway, TerminationMedia, ContextEdit, Apply, Enter, media_of, new_media}
-use Rattle.mg_engine.specs.aids.Found.{frame_in}
+use Rattle.mg_engine.specs.Flow.{flow, hears}
 use Rattle.mg_engine.specs.aids.Found.{context_in}
 use Rattle.mg_engine.specs.aids.Found.{mode_or_inactive}
 use Rattle.mg_engine.specs.Unaffected.{IsUnaffected, IsElsewhere, IsEditElsewhere, IsPortElsewhere, is_member}
 use Rattle.mg_engine.specs.Mix.{total, part_of_total}
-use Rattle.mg_engine.specs.Outcome.{added, modified, moved, subtracted, add, modify, move_to, subtract, apply_triples, existing_context, done_as, outcome, tuned}
-use Rattle.mg_engine.specs.Stands.{EngineState, StandsFor}
-use Rattle.mg_engine.specs.Triples.{check_triple, check_triples, is_barred, matched, names_others, with_triples}
+use Rattle.mg_engine.specs.Outcome.{add, modify, move_to, subtract, apply_triples, done_as, outcome}
+use Rattle.mg_engine.specs.Triples.{check_triple, is_barred, matched, names_others}
 use Rattle.mg_engine.proofs.ElsewhereLemmas.{Spares, keys_apart, add_spares, modify_spares, move_spares, subtract_spares}
 use Rattle.mg_engine.proofs.KeyLemmas.{found_push_other, found_other}
 use Rattle.mg_engine.proofs.MemberLemmas.{neither}
 use Rattle.mg_engine.proofs.OrderLemmas.{done_is, other_media}
 use Rattle.mg_engine.proofs.OutcomeLemmas.{after_ok, after_ok_is}
-use Rattle.mg_sums.proofs.SumLemmas.{sum_of-cons}
 
 -- ## A context of which each record and each stream is as it was
 

@@ -1,6 +1,5 @@
 -- Numbers that rise, one step after another.
-use Rattle.std.proofs.Common.{◌≡◌, ℕ, ◌+◌, ◌≤◌, arith}
-use Rattle.mg_engine.specs.Work.{RisesAtMost}
+use Rattle.mg_engine.proofs.Common.{◌≡◌, ℕ, ◌+◌, ◌≤◌, arith, RisesAtMost}
 
 pub rises_twice : (a b most x y z : ℕ) → a + b ≤ most → RisesAtMost a x y → RisesAtMost b y z → RisesAtMost most x z
 rises_twice a b most x y z le h k = (h.0 + k.0, omega (arith, le, h.1, k.1), omega (arith, h.2, k.2))

@@ -1,8 +1,5 @@
 -- How members and records keep agreeing when a termination enters or leaves a context.
-use Rattle.std.proofs.Common.{◌≡◌, ℕ, ◌+◌, ◌≤◌, ◌&&◌, true, cond, List, [], ◌∷◌, ◌++◌, length, ap, arith, inl, inr, ◌==◌, length-append}
-use Rattle.std.specs.List.{count_by}
-use Rattle.std.proofs.lemmas.Bool.{cases_Bool, eqb-true}
-use Rattle.mg_rooms.specs.Members.{without}
+use Rattle.mg_rooms.proofs.Common.{◌≡◌, ℕ, ◌+◌, ◌≤◌, ◌&&◌, true, cond, List, [], ◌∷◌, ◌++◌, length, ap, arith, inl, inr, ◌==◌, length-append, count_by, cases_Bool, eqb-true, without}
 use Rattle.mg_rooms.proofs.CountLemmas.{one, one-false, count-cons, count-push}
 
 -- how often n is in a list

@@ -1,21 +1,9 @@
 -- What searches in the tables say of the registry that they stand for.
-use Rattle.std.proofs.Common.{◌≡◌, ℕ, ◌+◌, ◌<◌, ◌≤◌, ◌&&◌, ◌==◌, Bool, List, [], ◌∷◌, ◌++◌, option_and_then, vec_len, length, Option, Some, None, refl, sym, ◌∙◌, ap, arith, get_or, slice_get, find, option_map, is_none, not, Ok, Err, suc, subst, nat_lt, nat_le, true, false, set, IfSome}
-use Rattle.std.specs.List.{list_any, position_from, range_with_len}
-use Rattle.std.proofs.lemmas.Option.{get_or_from_slice_get, slice_get_past, slice_get_read}
+use Rattle.mg_rooms.proofs.Common.{◌≡◌, ℕ, ◌+◌, ◌<◌, ◌≤◌, ◌&&◌, ◌==◌, Bool, List, [], ◌∷◌, ◌++◌, option_and_then, vec_len, length, Option, Some, None, refl, sym, ◌∙◌, ap, arith, get_or, slice_get, find, option_map, is_none, not, Ok, Err, suc, subst, nat_lt, nat_le, true, false, set, IfSome, list_any, position_from, range_with_len, slice_get_read, Record, Context, NoContextLeft, eqb-true, lt-ltb, le-ltb, le-leb, in_order, has_key, passes_at, change, with_members, without, new_context, CONTEXTS, MEMBERS, LAST_CONTEXT, registry_of, Registry, record_at, context_at, free_slot, free_room, free_seat, members_of}
+use Rattle.std.proofs.lemmas.Option.{get_or_from_slice_get, slice_get_past}
 use Rattle.mg_rooms.specs.declared.tables.Tables.TheInside.{Inside}
-use Rattle.mg_rooms.specs.declared.record.Record.{Record}
-use Rattle.mg_rooms.specs.declared.context.Context.{Context}
-use Rattle.mg_words.specs.declared.error_number.ErrorNumber.TheVariants.{NoContextLeft}
-use Rattle.std.proofs.lemmas.Bool.{eqb-true, lt-ltb, le-ltb, le-leb}
-use Rattle.mg_rooms.specs.aids.Order.{in_order, has_key, passes_at}
-use Rattle.mg_rooms.specs.Changes.{change, with_members}
 use Rattle.mg_rooms.specs.aids.Entries.{entered_entry, left_entry}
-use Rattle.mg_rooms.specs.Members.{without}
-use Rattle.mg_rooms.specs.Outcome.{new_context}
-use Rattle.mg_words.specs.declared.limits.TheConstants.{CONTEXTS, MEMBERS, LAST_CONTEXT}
-use Rattle.mg_rooms.specs.aids.Tables.{HasTables, IsTable, registry_of}
-use Rattle.mg_rooms.specs.Registry.{Registry, record_at, context_at, free_slot, free_room, free_seat}
-use Rattle.mg_rooms.specs.aids.Found.{members_of}
+use Rattle.mg_rooms.specs.aids.Tables.{HasTables, IsTable}
 use Rattle.mg_rooms.proofs.OrderLemmas.{any-in_order, KeepsKey, change_at, change_none, found_key, in_order-push, length-in_order_room, length-in_order_full, find-in_order, first_at_zero}
 use Rattle.mg_rooms.proofs.TableLemmas.{OnlyAt, lookup_some, lookup_none, free-in_order, find_spot, entry_at, empty_place, IsTable-set}
 

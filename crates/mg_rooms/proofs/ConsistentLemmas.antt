@@ -1,17 +1,9 @@
 -- Each outcome of a command on a consistent registry is a consistent registry.
-use Rattle.std.proofs.Common.{◌≡◌, ℕ, ◌+◌, ◌<◌, ◌≤◌, ◌&&◌, Bool, true, false, cond, not, List, [], ◌∷◌, ◌++◌, length, Option, Some, None, Result, Ok, Err, refl, sym, ◌∙◌, ap, subst, arith, inl, inr, ◌==◌, nat_lt, nat_le, find, option_and_then, IfSome, IsSome, ok_or, unwrap_or}
-use Rattle.std.specs.List.{count_by, list_any, range_with_len}
+use Rattle.mg_rooms.proofs.Common.{◌≡◌, ℕ, ◌+◌, ◌<◌, ◌≤◌, ◌&&◌, Bool, true, false, cond, not, List, [], ◌∷◌, ◌++◌, length, Option, Some, None, Result, Ok, Err, refl, sym, ◌∙◌, ap, subst, arith, inl, inr, ◌==◌, nat_lt, nat_le, find, option_and_then, IfSome, IsSome, ok_or, unwrap_or, count_by, list_any, range_with_len, cases_Bool, eqb-true, eq-eqb, ltb-true, Record, Context, EntryPlace, Settings, Target, ErrorNumber, Limits, CONTEXTS, MEMBERS, LAST_CONTEXT, without, change, removed, left, with_members, Registry, record_at, context_at, members_at, free_slot, free_room, free_seat, members_of, named, member, new_slot, new_context, IsTermination, IsContext, AreContexts, IsConsistent}
 use Rattle.std.proofs.Common.{length-append}
-use Rattle.std.proofs.lemmas.Bool.{cases_Bool, eqb-true, eqb-false, eq-eqb, and_parts, and_from, not-true, ltb-true, leb-true}
-use Rattle.mg_rooms.specs.declared.record.Record.{Record}
-use Rattle.mg_rooms.specs.declared.context.Context.{Context}
-use Rattle.mg_rooms.specs.declared.place.EntryPlace.{EntryPlace}
-use Rattle.mg_rooms.specs.declared.settings.Settings.{Settings}
-use Rattle.mg_rooms.specs.declared.target.Target.{Target}
+use Rattle.std.proofs.lemmas.Bool.{eqb-false, and_parts, and_from, not-true, leb-true}
 use Rattle.mg_rooms.specs.declared.target.Target.TheVariants.{Null, New, Number}
-use Rattle.mg_words.specs.declared.error_number.ErrorNumber.{ErrorNumber}
-use Rattle.mg_rooms.specs.declared.limits.Limits.{Limits}
-use Rattle.mg_words.specs.declared.limits.TheConstants.{CONTEXTS, MEMBERS, LAST_TERMINATION, LAST_CONTEXT}
+use Rattle.mg_words.specs.declared.limits.TheConstants.{LAST_TERMINATION}
 use Rattle.mg_words.specs.declared.limits.TheConstants.{MIN_DEPTH, MAX_DEPTH}
 use Rattle.mg_words.specs.ResultSteps.{◌>>=◌}
 use Rattle.mg_rooms.specs.Results.{passes}
@@ -19,13 +11,11 @@ use Rattle.mg_rooms.specs.Settings.{depth_after, media_after}
 use Rattle.mg_sdp.specs.Choice.{local_choice, remote_choice}
 use Rattle.mg_rooms.specs.Limits.{slot_port, AreValidLimits}
 use Rattle.mg_rooms.specs.Record.{fresh, at_place, with_settings}
-use Rattle.mg_rooms.specs.Members.{without}
-use Rattle.mg_rooms.specs.Changes.{change, inserted, replaced, removed, entered, left, with_members}
+use Rattle.mg_rooms.specs.Changes.{inserted, replaced, entered}
 use Rattle.mg_rooms.specs.aids.Entering.{entered_at}
-use Rattle.mg_rooms.specs.Registry.{Registry, start_of, record_at, context_at, members_at, free_slot, free_room, free_seat}
-use Rattle.mg_rooms.specs.aids.Found.{members_of}
-use Rattle.mg_rooms.specs.Outcome.{named, may_enter, may_have_members, is_number, member, new_slot, new_seat, new_context, new_place, add, modify, move_to, subtract}
-use Rattle.mg_rooms.specs.Consistent.{IsTermination, AreTerminations, IsContext, AreContexts, Agree, IsConsistent}
+use Rattle.mg_rooms.specs.Registry.{start_of}
+use Rattle.mg_rooms.specs.Outcome.{may_enter, may_have_members, is_number, new_seat, new_place, add, modify, move_to, subtract}
+use Rattle.mg_rooms.specs.Consistent.{AreTerminations, Agree}
 use Rattle.mg_rooms.proofs.OrderLemmas.{found_key}
 use Rattle.mg_rooms.proofs.RisingLemmas.{rising-none}
 use Rattle.mg_rooms.proofs.TableLemmas.{find_in_range}

@@ -1,9 +1,7 @@
 -- Lemmas on counts, of what is found, and of what holds of each, when a list grows at its end or one entry changes.
-use Rattle.std.proofs.Common.{◌≡◌, ℕ, zero, suc, ◌+◌, ◌<◌, ◌≤◌, length, get_or, Bool, true, false, cond, List, [], ◌∷◌, ◌++◌, Option, Some, None, refl, sym, ◌∙◌, ap, subst, arith, inl, inr, ◌==◌, find, option_to_list, option_and_then, IfSome}
-use Rattle.std.specs.List.{list_any, count_by, AllByRecursion}
-use Rattle.std.proofs.lemmas.Bool.{cases_Bool, eqb-true, or_parts}
+use Rattle.mg_rooms.proofs.Common.{◌≡◌, ℕ, zero, suc, ◌+◌, ◌<◌, ◌≤◌, length, get_or, Bool, true, false, cond, List, [], ◌∷◌, ◌++◌, Option, Some, None, refl, sym, ◌∙◌, ap, subst, arith, inl, inr, ◌==◌, find, option_to_list, option_and_then, IfSome, list_any, count_by, AllByRecursion, cases_Bool, eqb-true, change}
+use Rattle.std.proofs.lemmas.Bool.{or_parts}
 use Rattle.std.proofs.lemmas.List.Sums.{sum_by-cons, sum_by-append, sum_by_push}
-use Rattle.mg_rooms.specs.Changes.{change}
 use Rattle.mg_rooms.proofs.OrderLemmas.{KeepsKey}
 
 -- 1 where it is true

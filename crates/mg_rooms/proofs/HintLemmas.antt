@@ -1,8 +1,6 @@
 -- An entry that was found where a hint said.
-use Rattle.std.proofs.Common.{◌≡◌, ℕ, zero, suc, ◌+◌, Bool, true, List, [], ◌∷◌, Option, Some, None, refl, sym, ◌∙◌, inl, inr, slice_get}
-use Rattle.std.proofs.lemmas.Bool.{cases_Bool, eqb-true, false≢true}
-use Rattle.std.specs.List.{position_from}
-use Rattle.mg_rooms.specs.aids.Order.{has_key}
+use Rattle.mg_rooms.proofs.Common.{◌≡◌, ℕ, zero, suc, ◌+◌, Bool, true, List, [], ◌∷◌, Option, Some, None, refl, sym, ◌∙◌, inl, inr, slice_get, cases_Bool, eqb-true, position_from, has_key}
+use Rattle.std.proofs.lemmas.Bool.{false≢true}
 use Rattle.mg_rooms.specs.aids.Tables.{HoldsOnce}
 use Rattle.mg_rooms.proofs.OrderLemmas.{IsFirst, find-in_order, first_at_zero}
 

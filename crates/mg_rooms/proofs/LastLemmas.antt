@@ -1,20 +1,11 @@
 -- What each outcome leaves as it was.
-use Rattle.std.proofs.Common.{◌≡◌, ℕ, false, not, List, [], ◌∷◌, ◌++◌, Option, Some, None, Ok, refl, sym, ◌∙◌, ap, subst, arith, inl, inr, ◌==◌, find, option_and_then, IfSome}
-use Rattle.std.proofs.lemmas.Bool.{cases_Bool, eqb-true, eq-eqb, ne_eqb, not-true}
-use Rattle.mg_rooms.specs.declared.record.Record.{Record}
-use Rattle.mg_rooms.specs.declared.context.Context.{Context}
-use Rattle.mg_rooms.specs.declared.place.EntryPlace.{EntryPlace}
-use Rattle.mg_rooms.specs.declared.settings.Settings.{Settings}
-use Rattle.mg_rooms.specs.declared.target.Target.{Target}
-use Rattle.mg_words.specs.declared.error_number.ErrorNumber.{ErrorNumber}
+use Rattle.mg_rooms.proofs.Common.{◌≡◌, ℕ, false, not, List, [], ◌∷◌, ◌++◌, Option, Some, None, Ok, refl, sym, ◌∙◌, ap, subst, arith, inl, inr, ◌==◌, find, option_and_then, IfSome, cases_Bool, eqb-true, eq-eqb, ne_eqb, Record, Context, EntryPlace, Settings, Target, ErrorNumber, without, removed, left, with_members, Registry, record_at, context_at, named, member, new_slot, IsTermination, AreContexts, IsConsistent}
+use Rattle.std.proofs.lemmas.Bool.{not-true}
 use Rattle.mg_rooms.specs.Results.{passes}
 use Rattle.mg_rooms.specs.Record.{fresh, at_place, with_settings}
-use Rattle.mg_rooms.specs.Members.{without}
-use Rattle.mg_rooms.specs.Changes.{inserted, replaced, removed, entered, left, with_members}
+use Rattle.mg_rooms.specs.Changes.{inserted, replaced, entered}
 use Rattle.mg_rooms.specs.aids.Entering.{entered_at}
-use Rattle.mg_rooms.specs.Registry.{Registry, record_at, context_at}
-use Rattle.mg_rooms.specs.Outcome.{named, may_enter, is_number, member, new_slot, new_place, add, modify, move_to, subtract}
-use Rattle.mg_rooms.specs.Consistent.{IsTermination, AreContexts, IsConsistent}
+use Rattle.mg_rooms.specs.Outcome.{may_enter, is_number, new_place, add, modify, move_to, subtract}
 use Rattle.mg_rooms.specs.Lasting.{Lasts, LeavesOthers}
 use Rattle.mg_rooms.proofs.OrderLemmas.{KeepsKey}
 use Rattle.mg_rooms.proofs.CountLemmas.{all-found, find-push_some, find-push_none, find-push_other, find-change_other, find-change_same}

@@ -1,13 +1,6 @@
 -- How the terminations and the contexts of a gateway stay sound when one is made, changes or ends.
-use Rattle.std.proofs.Common.{◌≡◌, ℕ, ◌+◌, ◌<◌, ◌≤◌, ◌&&◌, true, false, cond, List, [], ◌∷◌, ◌++◌, Option, Some, None, refl, sym, ◌∙◌, ap, subst, arith, inl, inr, ◌==◌, find, option_to_list, option_and_then, IfSome}
-use Rattle.std.specs.List.{count_by}
-use Rattle.std.proofs.lemmas.Bool.{cases_Bool, eqb-true, ne_eqb}
-use Rattle.mg_rooms.specs.declared.record.Record.{Record}
-use Rattle.mg_rooms.specs.declared.context.Context.{Context}
-use Rattle.mg_rooms.specs.declared.limits.Limits.{Limits}
-use Rattle.mg_rooms.specs.Changes.{change}
-use Rattle.mg_rooms.specs.aids.Found.{members_of}
-use Rattle.mg_rooms.specs.Consistent.{IsTermination, AreTerminations, IsContext, AreContexts}
+use Rattle.mg_rooms.proofs.Common.{◌≡◌, ℕ, ◌+◌, ◌<◌, ◌≤◌, ◌&&◌, true, false, cond, List, [], ◌∷◌, ◌++◌, Option, Some, None, refl, sym, ◌∙◌, ap, subst, arith, inl, inr, ◌==◌, find, option_to_list, option_and_then, IfSome, count_by, cases_Bool, eqb-true, ne_eqb, Record, Context, Limits, change, members_of, IsTermination, IsContext, AreContexts}
+use Rattle.mg_rooms.specs.Consistent.{AreTerminations}
 use Rattle.mg_rooms.proofs.OrderLemmas.{found_key, KeepsKey, change_none}
 use Rattle.mg_rooms.proofs.RisingLemmas.{rising-push, rising-change}
 use Rattle.mg_rooms.proofs.CountLemmas.{one, one-false, one-le, count-cons, count-push, count-zero, count-change, count-change_some, count-change_none, all-push, all-map, all-change, all-found, find-push_some, find-push_none, find-change_other, find-change_same}

@@ -1,8 +1,6 @@
 -- Lemmas on a context's members.
-use Rattle.std.proofs.Common.{◌≡◌, ℕ, zero, suc, ◌+◌, false, List, [], ◌∷◌, Some, None, refl, sym, ap, inl, inr, ◌==◌}
-use Rattle.std.proofs.lemmas.Bool.{cases_Bool}
-use Rattle.std.specs.List.{position_from, remove}
-use Rattle.mg_rooms.specs.Members.{without}
+use Rattle.mg_rooms.proofs.Common.{◌≡◌, ℕ, zero, suc, ◌+◌, false, List, [], ◌∷◌, Some, None, refl, sym, ap, inl, inr, ◌==◌, cases_Bool, position_from, without}
+use Rattle.std.specs.List.{remove}
 use Rattle.mg_rooms.proofs.OrderLemmas.{IsFirst, first_at_zero}
 
 without_first : (n : ℕ) (ms : List ℕ) (s : ℕ) → IsFirst (λ m. m == n) ms s → remove ms s ≡ without n ms

@@ -1,9 +1,5 @@
 -- Lemmas on registries.
-use Rattle.std.proofs.Common.{◌≡◌, ℕ, Option, Some, None, sym, subst, IfOk, ok_or, ◌==◌}
-use Rattle.std.proofs.lemmas.Bool.{eqb-true}
-use Rattle.mg_rooms.specs.declared.record.Record.{Record}
-use Rattle.mg_words.specs.declared.error_number.ErrorNumber.{ErrorNumber}
-use Rattle.mg_rooms.specs.Registry.{Registry, record_at}
+use Rattle.mg_rooms.proofs.Common.{◌≡◌, ℕ, Option, Some, None, sym, subst, IfOk, ok_or, ◌==◌, eqb-true, Record, ErrorNumber, Registry, record_at}
 use Rattle.mg_rooms.proofs.OrderLemmas.{found_key}
 
 -- a record that is found is the one at its number

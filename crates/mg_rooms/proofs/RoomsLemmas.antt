@@ -1,8 +1,5 @@
 -- What an outcome says of the terminations and contexts that a call left.
-use Rattle.std.proofs.Common.{◌≡◌, Result, Ok, Err, OnErr}
-use Rattle.mg_rooms.specs.declared.record.Record.{Record}
-use Rattle.mg_words.specs.declared.error_number.ErrorNumber.{ErrorNumber}
-use Rattle.mg_rooms.specs.Registry.{Registry}
+use Rattle.mg_rooms.proofs.Common.{◌≡◌, Result, Ok, Err, OnErr, Record, ErrorNumber, Registry}
 use Rattle.mg_rooms.specs.Outcome.{Gives}
 
 -- a refused call changes nothing

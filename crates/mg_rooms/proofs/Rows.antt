@@ -1,16 +1,12 @@
 -- Small runs, computed.
+use Rattle.mg_rooms.proofs.Common.{Target, ErrorNumber, NoContextLeft, Settings, Limits, Record, Registry, record_at, context_at, members_at}
 use Rattle.std.specs.Prelude.{◌≡◌, ℕ, ◌+◌, ◌-◌, List, [], ◌∷◌, ◌++◌, Option, Some, None, Result, Ok, Err, refl, replicate}
-use Rattle.mg_rooms.specs.declared.target.Target.{Target}
 use Rattle.mg_rooms.specs.declared.target.Target.TheVariants.{Null, New, Number}
 use Rattle.mg_words.specs.Limits.{member_limit, context_limit, termination_limit}
-use Rattle.mg_words.specs.declared.error_number.ErrorNumber.{ErrorNumber}
-use Rattle.mg_words.specs.declared.error_number.ErrorNumber.TheVariants.{UnknownContext, NoContextLeft, UnknownTermination, NoTerminationLeft, AlreadyInContext, ContextFull, NotInContext, NoMedia}
+use Rattle.mg_words.specs.declared.error_number.ErrorNumber.TheVariants.{UnknownContext, UnknownTermination, NoTerminationLeft, AlreadyInContext, ContextFull, NotInContext, NoMedia}
 use Rattle.mg_words.specs.declared.mode.Mode.TheVariants.{SendOnly}
 use Rattle.mg_rooms.specs.declared.media_setting.MediaSetting.TheVariants.{Offer as Offered}
-use Rattle.mg_rooms.specs.declared.settings.Settings.{Settings}
-use Rattle.mg_rooms.specs.declared.limits.Limits.{Limits}
-use Rattle.mg_rooms.specs.declared.record.Record.{Record}
-use Rattle.mg_rooms.specs.Registry.{Registry, start_of, record_at, context_at, members_at}
+use Rattle.mg_rooms.specs.Registry.{start_of}
 use Rattle.mg_rooms.specs.Outcome.{add, modify, move_to, subtract}
 
 abbrev limits : ℕ → ℕ → ℕ → Limits

@@ -1,5 +1,5 @@
 -- Where fewer terminations are in a context than can be, a seat is free.
-use Rattle.std.proofs.Common.{◌≡◌, ℕ, zero, suc, ◌+◌, ◌<◌, ◌≤◌, Bool, true, false, not, cond, ◌&&◌, List, [], ◌∷◌, Option, Some, None, refl, ap, ◌∙◌, arith, inl, inr, ◌==◌, nat_le, nat_lt, find, IsSome, length}
+use Rattle.mg_rooms.proofs.Common.{◌≡◌, ℕ, zero, suc, ◌+◌, ◌<◌, ◌≤◌, Bool, true, false, not, cond, ◌&&◌, List, [], ◌∷◌, Option, Some, None, refl, ap, ◌∙◌, arith, inl, inr, ◌==◌, nat_le, nat_lt, find, IsSome, length}
 use Rattle.std.proofs.lemmas.Bool.{cases_Bool, cases_order, eq-eqb, ne_eqb, le-leb, lt-leb, lt-ltb, le-ltb}
 use Rattle.std.specs.List.{list_any, range_with_len, count_by, AllByRecursion}
 use Rattle.mg_rooms.proofs.CountLemmas.{one, count-cons}

@@ -1,5 +1,5 @@
 -- Lemmas on settings.
-use Rattle.std.proofs.Common.{◌≡◌, List, [], ◌∷◌, Option, Some, Ok, Err, refl}
+use Rattle.mg_rooms.proofs.Common.{◌≡◌, List, [], ◌∷◌, Option, Some, Ok, Err, refl}
 use Rattle.std.specs.Option.{option_map_or}
 use Rattle.mg_words.specs.declared.error_number.ErrorNumber.TheVariants.{NoMedia}
 use Rattle.mg_sdp.specs.declared.offer.Offer.{Offer}

@@ -1,20 +1,11 @@
 -- What is consistent is sound, and what a command that was done leaves.
-use Rattle.std.proofs.Common.{◌≡◌, ℕ, Some, Ok, Err, sym, IsSome, option_map, ◌<◌, ◌==◌, ◌∷◌, List, [], get_or, refl}
-use Rattle.std.specs.List.{AllByRecursion}
-use Rattle.std.proofs.lemmas.Bool.{eq-eqb, eqb-true}
-use Rattle.mg_rooms.specs.declared.record.Record.{Record}
-use Rattle.mg_rooms.specs.declared.settings.Settings.{Settings}
-use Rattle.mg_rooms.specs.declared.target.Target.{Target}
-use Rattle.mg_rooms.specs.Registry.{Registry, record_at, context_at}
-use Rattle.mg_rooms.specs.Consistent.{IsTermination, IsConsistent}
+use Rattle.mg_rooms.proofs.Common.{◌≡◌, ℕ, Some, Ok, Err, sym, IsSome, option_map, ◌<◌, ◌==◌, ◌∷◌, List, [], get_or, refl, AllByRecursion, eq-eqb, eqb-true, Record, Settings, Target, Registry, record_at, context_at, IsTermination, IsConsistent, ErrorNumber, named, member, removed, left}
 use Rattle.mg_rooms.specs.aids.Sound.{IsSound}
 use Rattle.mg_rooms.specs.declared.member.Member.{Member}
 use Rattle.mg_rooms.specs.Member.{ExistsAs}
-use Rattle.mg_words.specs.declared.error_number.ErrorNumber.{ErrorNumber}
 use Rattle.mg_words.specs.declared.error_number.ErrorNumber.TheVariants as refusals
 use Rattle.mg_rooms.specs.Lasting.{Lasts, LeavesOthers}
-use Rattle.mg_rooms.specs.Outcome.{named, member, add, modify, move_to, subtract}
-use Rattle.mg_rooms.specs.Changes.{removed, left}
+use Rattle.mg_rooms.specs.Outcome.{add, modify, move_to, subtract}
 use Rattle.mg_rooms.proofs.ConsistentLemmas.{ok_or_ok, found_number, add_sound, modify_sound, move_sound, subtract_sound, member_found}
 use Rattle.mg_rooms.proofs.LastLemmas.{add_own, modify_own, move_own, add_lasts, modify_lasts, move_lasts, subtract_lasts, ended}
 use Rattle.mg_rooms.proofs.CountLemmas.{find-at, find-found}

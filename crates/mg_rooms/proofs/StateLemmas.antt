@@ -1,17 +1,10 @@
 -- What a consistent registry says of who is found in it.
-use Rattle.std.proofs.Common.{◌≡◌, ℕ, ◌<◌, ◌≤◌, ◌&&◌, Bool, true, false, List, [], ◌∷◌, length, Option, Some, None, refl, sym, ◌∙◌, ap, arith, inl, inr, ◌==◌, ◌↔◌, find, IsSome, IsTrue, ◌⊎◌, Ok, Err, nat_lt, nat_le, ok_or, Result}
-use Rattle.std.specs.List.{count_by, list_any}
-use Rattle.std.proofs.lemmas.Bool.{cases_Bool, eqb-true, eq-eqb, and_parts, and_from, or_right, or_left, cases_lt, lt-ltb, le-ltb, le-leb, lt-leb, leb-false}
-use Rattle.mg_rooms.specs.declared.record.Record.{Record}
-use Rattle.mg_rooms.specs.declared.context.Context.{Context}
-use Rattle.mg_words.specs.declared.limits.TheConstants.{CONTEXTS, MEMBERS, LAST_TERMINATION, LAST_CONTEXT}
-use Rattle.mg_words.specs.declared.error_number.ErrorNumber.TheVariants.{ContextFull, NoContextLeft, NoTerminationLeft}
-use Rattle.mg_rooms.specs.Outcome.{new_slot, new_seat, new_context}
-use Rattle.mg_rooms.specs.declared.place.EntryPlace.{EntryPlace}
-use Rattle.mg_words.specs.declared.error_number.ErrorNumber.{ErrorNumber}
-use Rattle.mg_rooms.specs.Registry.{Registry, record_at, context_at, members_at, free_seat, free_room, IsMember, free_slot}
-use Rattle.mg_rooms.specs.aids.Found.{members_of}
-use Rattle.mg_rooms.specs.Consistent.{IsTermination, IsContext, IsConsistent}
+use Rattle.mg_rooms.proofs.Common.{◌≡◌, ℕ, ◌<◌, ◌≤◌, ◌&&◌, Bool, true, false, List, [], ◌∷◌, length, Option, Some, None, refl, sym, ◌∙◌, ap, arith, inl, inr, ◌==◌, ◌↔◌, find, IsSome, IsTrue, ◌⊎◌, Ok, Err, nat_lt, nat_le, ok_or, Result, count_by, list_any, cases_Bool, eqb-true, eq-eqb, lt-ltb, le-ltb, le-leb, lt-leb, Record, Context, CONTEXTS, MEMBERS, LAST_CONTEXT, NoContextLeft, new_slot, new_context, EntryPlace, ErrorNumber, Registry, record_at, context_at, members_at, free_seat, free_room, free_slot, members_of, IsTermination, IsContext, IsConsistent}
+use Rattle.std.proofs.lemmas.Bool.{and_parts, and_from, or_right, or_left, cases_lt, leb-false}
+use Rattle.mg_words.specs.declared.limits.TheConstants.{LAST_TERMINATION}
+use Rattle.mg_words.specs.declared.error_number.ErrorNumber.TheVariants.{ContextFull, NoTerminationLeft}
+use Rattle.mg_rooms.specs.Outcome.{new_seat}
+use Rattle.mg_rooms.specs.Registry.{IsMember}
 use Rattle.mg_rooms.proofs.OrderLemmas.{found_key}
 use Rattle.mg_rooms.proofs.CountLemmas.{one-true, one-false, count-cons, count-found, count-weaker, same_found, all-found}
 use Rattle.mg_rooms.proofs.ConsistentLemmas.{found_number}

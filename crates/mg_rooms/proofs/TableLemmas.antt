@@ -1,8 +1,6 @@
 -- Lemmas on tables whose entries name their places.
-use Rattle.std.proofs.Common.{◌≡◌, ℕ, nat_le, get_or, zero, suc, ◌+◌, ◌<◌, ◌≤◌, ◌⊎◌, Bool, true, false, not, cond, List, [], ◌∷◌, length, Option, Some, None, refl, sym, ◌∙◌, ap, subst, arith, inl, inr, set, replicate, ◌==◌, slice_get, find, is_none, IfSome}
-use Rattle.std.proofs.lemmas.Bool.{cases_Bool, eq-eqb, ne_eqb, true≢false}
-use Rattle.std.specs.List.{list_any, position_from, range_with_len}
-use Rattle.mg_rooms.specs.aids.Order.{in_order, has_key, passes_at}
+use Rattle.mg_rooms.proofs.Common.{◌≡◌, ℕ, nat_le, get_or, zero, suc, ◌+◌, ◌<◌, ◌≤◌, ◌⊎◌, Bool, true, false, not, cond, List, [], ◌∷◌, length, Option, Some, None, refl, sym, ◌∙◌, ap, subst, arith, inl, inr, set, replicate, ◌==◌, slice_get, find, is_none, IfSome, cases_Bool, eq-eqb, ne_eqb, list_any, position_from, range_with_len, in_order, has_key, passes_at}
+use Rattle.std.proofs.lemmas.Bool.{true≢false}
 use Rattle.mg_rooms.specs.aids.Tables.{IsTable}
 use Rattle.std.proofs.lemmas.Bool.{or_parts}
 use Rattle.std.proofs.lemmas.List.{length-replicate, length-set}

@@ -1,7 +1,5 @@
-use Rattle.std.proofs.Common.{◌≡◌, ◌-◌, ◌∷◌, [], List, length, length-append, get_or, ap, ◌∙◌, arith}
-use Rattle.std.specs.List.{refill}
+use Rattle.mg_engine.proofs.Common.{◌≡◌, ◌-◌, ◌∷◌, [], List, length, length-append, get_or, ap, ◌∙◌, arith, refill, Datagram}
 use Rattle.std.proofs.Math.ListN.{set}
-use Rattle.mg_engine.specs.declared.datagram.Datagram.{Datagram}
 use Rattle.mg_engine.proofs.OutboxLemmas.{refilled, last_set}
 use Rattle.mg_engine.proofs.datagram.push_payload.Goals as goal
 

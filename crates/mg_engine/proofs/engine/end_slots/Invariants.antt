@@ -1,6 +1,4 @@
-use Rattle.std.proofs.Common.{◌≡◌, ℕ, ◌<◌, ◌≤◌, get_or, length}
-use Rattle.mg_engine.specs.Stands.{media_at}
-use Rattle.mg_engine.specs.aids.Sending.{IsEnded}
+use Rattle.mg_engine.proofs.Common.{◌≡◌, ℕ, ◌<◌, ◌≤◌, get_or, length, media_at, IsEnded}
 use Rattle.mg_engine.proofs.engine.end_slots.Given as goal
 
 abbrev pub invariant-loop-slot : goal.invariant-loop-slot

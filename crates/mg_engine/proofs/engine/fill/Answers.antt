@@ -1,16 +1,6 @@
-use Rattle.std.proofs.Common.{◌≡◌, ◌<◌, ◌+◌, ℕ, List, ◌++◌, length, get_or, map, take, refl, sym, ap, subst, ◌∙◌, arith}
-use Rattle.std.specs.Prelude.{option_to_list, sum_by}
-use Rattle.std.specs.Option.{option_map}
-use Rattle.std.proofs.lemmas.List.{get_or-map}
+use Rattle.mg_engine.proofs.Common.{◌≡◌, ◌<◌, ◌+◌, ℕ, List, ◌++◌, length, get_or, map, take, refl, sym, ap, subst, ◌∙◌, arith, option_to_list, sum_by, option_map, get_or-map, Record, holder_of, Datagram, EngineState, sent_to, RisesAtMost, packet_now, sending_work_now, with_mixes}
 use Rattle.std.proofs.lemmas.List.Sums.{sum_by_more}
-use Rattle.mg_rooms.specs.declared.record.Record.{Record}
 use Rattle.mg_rooms.specs.Registry as rooms
-use Rattle.mg_rooms.specs.Registry.{holder_of}
-use Rattle.mg_engine.specs.declared.datagram.Datagram.{Datagram}
-use Rattle.mg_engine.specs.Stands.{EngineState}
-use Rattle.mg_engine.specs.Tick.{sent_to}
-use Rattle.mg_engine.specs.Work.{RisesAtMost}
-use Rattle.mg_engine.specs.aids.Sending.{packet_now, sending_work_now, with_mixes}
 use Rattle.mg_engine.proofs.SendingLemmas.{nobody, one_more}
 use Rattle.mg_engine.proofs.ShareLemmas.{none_shared}
 use Rattle.mg_engine.proofs.WorkLemmas.{rises_twice, stays}

@@ -1,10 +1,4 @@
-use Rattle.std.proofs.Common.{◌≡◌, ◌≤◌, length, take}
-use Rattle.std.specs.Prelude.{filter_map, sum_by}
-use Rattle.std.specs.Option.{option_map}
-use Rattle.mg_engine.specs.Tick.{sent_to}
-use Rattle.mg_engine.specs.Work.{RisesAtMost}
-use Rattle.mg_engine.specs.aids.Sending.{packet_now, sending_work_now, with_mixes}
-use Rattle.mg_engine.specs.aids.Shares.{AreShared}
+use Rattle.mg_engine.proofs.Common.{◌≡◌, ◌≤◌, length, take, filter_map, sum_by, option_map, sent_to, RisesAtMost, packet_now, sending_work_now, with_mixes, AreShared}
 use Rattle.mg_engine.proofs.engine.fill.Given as goal
 
 abbrev pub invariant-loop-i : goal.invariant-loop-i

@@ -1,4 +1,4 @@
-use Rattle.std.proofs.Common.{◌≡◌, replicate}
+use Rattle.mg_engine.proofs.Common.{◌≡◌, replicate}
 use Rattle.mg_engine.specs.Media.{idle}
 use Rattle.mg_engine.proofs.engine.idle_media.Given as goal
 

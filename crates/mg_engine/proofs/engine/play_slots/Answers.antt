@@ -1,4 +1,4 @@
-use Rattle.std.proofs.Common.{◌≢◌, ℕ, ◌<◌, ◌+◌, ◌*◌, get_or, length, inl, inr, refl, ap, ◌∙◌, arith}
+use Rattle.mg_engine.proofs.Common.{◌≢◌, ℕ, ◌<◌, ◌+◌, ◌*◌, get_or, length, inl, inr, refl, ap, ◌∙◌, arith}
 use Rattle.std.specs.Int.{from_bool}
 use Rattle.std.proofs.lemmas.Bool.{cases_eq}
 use Rattle.mg_engine.specs.aids.MediaSteps as media_steps

@@ -1,8 +1,4 @@
-use Rattle.std.proofs.Common.{◌≡◌, ℕ, ◌<◌, ◌≤◌, ◌*◌, get_or, length, take}
-use Rattle.std.specs.Prelude.{count_by}
-use Rattle.mg_engine.specs.Stands.{media_at}
-use Rattle.mg_engine.specs.Work.{RisesAtMost}
-use Rattle.mg_engine.specs.aids.Playing.{IsPlayed}
+use Rattle.mg_engine.proofs.Common.{◌≡◌, ℕ, ◌<◌, ◌≤◌, ◌*◌, get_or, length, take, count_by, media_at, RisesAtMost, IsPlayed}
 use Rattle.mg_engine.proofs.ConcealLemmas.{conceals_slot}
 use Rattle.mg_engine.proofs.engine.play_slots.Given as goal
 

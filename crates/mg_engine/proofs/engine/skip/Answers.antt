@@ -1,7 +1,5 @@
-use Rattle.std.proofs.Common.{◌≡◌, ℕ, ◌+◌, ◌-◌, refl, sym, ap, subst, ◌∙◌, arith}
-use Rattle.mg_engine.specs.Gateway.{Gateway}
-use Rattle.mg_engine.specs.Stands.{StandsFor}
-use Rattle.mg_engine.specs.Tick.{after_tick, after_ticks, concealed_in_ticks}
+use Rattle.mg_engine.proofs.Common.{◌≡◌, ℕ, ◌+◌, ◌-◌, refl, sym, ap, subst, ◌∙◌, arith, Gateway, StandsFor, after_ticks, concealed_in_ticks}
+use Rattle.mg_engine.specs.Tick.{after_tick}
 use Rattle.mg_engine.proofs.SkipLemmas.{concealed_both, concealed_last, iterate_both, iterate_last}
 use Rattle.mg_engine.proofs.engine.skip.Goals as goal
 

@@ -1,7 +1,4 @@
-use Rattle.std.proofs.Common.{◌≡◌, ◌-◌, ◌^◌, min}
-use Rattle.mg_engine.specs.Gateway.{Gateway}
-use Rattle.mg_engine.specs.Stands.{StandsFor}
-use Rattle.mg_engine.specs.Tick.{after_ticks, concealed_in_ticks}
+use Rattle.mg_engine.proofs.Common.{◌≡◌, ◌-◌, ◌^◌, min, Gateway, StandsFor, after_ticks, concealed_in_ticks}
 use Rattle.mg_engine.proofs.engine.skip.Given as goal
 
 abbrev pub invariant-loop-done : goal.invariant-loop-done

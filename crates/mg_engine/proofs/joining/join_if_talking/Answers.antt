@@ -1,4 +1,4 @@
-use Rattle.std.proofs.Common.{arith}
+use Rattle.mg_engine.proofs.Common.{arith}
 use Rattle.mg_engine.proofs.WorkLemmas.{rises_twice}
 use Rattle.mg_engine.proofs.joining.join_if_talking.Goals as goal
 

@@ -1,4 +1,4 @@
-use Rattle.std.proofs.Common.{◌≡◌, map}
+use Rattle.mg_engine.proofs.Common.{◌≡◌, map}
 use Rattle.mg_engine.specs.aids.Seating.{slot_at}
 use Rattle.mg_engine.proofs.mixing.rows_on.Given as goal
 

@@ -1,9 +1,6 @@
-use Rattle.std.proofs.Common.{ℕ, List, [], ◌∷◌, ◌++◌, map, take, sym, ap, subst, ◌∙◌}
-use Rattle.std.specs.Prelude.{All}
-use Rattle.std.proofs.lemmas.List.{map-append, take_more}
+use Rattle.mg_engine.proofs.Common.{ℕ, List, [], ◌∷◌, ◌++◌, map, take, sym, ap, subst, ◌∙◌, All, map-append, take_more, IsOnSeat}
 use Rattle.std.proofs.lemmas.List.Elements.{All-push}
 use Rattle.mg_engine.specs.declared.seated_member.SeatedMember.{SeatedMember}
-use Rattle.mg_engine.specs.Place.{IsOnSeat}
 use Rattle.mg_engine.proofs.seated_member.seated_members.Goals as goal
 
 pub loop-number-preserved : goal.loop-number-preserved

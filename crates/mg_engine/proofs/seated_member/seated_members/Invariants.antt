@@ -1,6 +1,4 @@
-use Rattle.std.proofs.Common.{◌≡◌, map, take}
-use Rattle.std.specs.Prelude.{All}
-use Rattle.mg_engine.specs.Place.{IsOnSeat}
+use Rattle.mg_engine.proofs.Common.{◌≡◌, map, take, All, IsOnSeat}
 use Rattle.mg_engine.proofs.seated_member.seated_members.Given as goal
 
 abbrev pub invariant-loop-number : goal.invariant-loop-number

@@ -1,4 +1,4 @@
-use Rattle.std.proofs.Common.{◌≡◌, ℕ, ◌<◌, [], get_or, length}
+use Rattle.mg_engine.proofs.Common.{◌≡◌, ℕ, ◌<◌, [], get_or, length}
 use Rattle.mg_engine.proofs.shares.clear_all.Given as goal
 
 abbrev pub invariant-loop-i : goal.invariant-loop-i

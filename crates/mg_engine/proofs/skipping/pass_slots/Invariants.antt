@@ -1,6 +1,4 @@
-use Rattle.std.proofs.Common.{◌≡◌, ℕ, ◌<◌, ◌≤◌, get_or, length}
-use Rattle.mg_engine.specs.Stands.{media_at}
-use Rattle.mg_engine.specs.aids.Playing.{HasPassed}
+use Rattle.mg_engine.proofs.Common.{◌≡◌, ℕ, ◌<◌, ◌≤◌, get_or, length, media_at, HasPassed}
 use Rattle.mg_engine.proofs.skipping.pass_slots.Given as goal
 
 abbrev pub invariant-loop-slot : goal.invariant-loop-slot

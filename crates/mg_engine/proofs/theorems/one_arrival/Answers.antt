@@ -1,8 +1,6 @@
-use Rattle.std.proofs.Common.{◌≡◌, ℕ, List, refl, sym, ap, ◌∙◌}
-use Rattle.mg_rtp.specs.Reading.{Reading, IsPacketReading}
-use Rattle.mg_engine.specs.declared.taken.Taken.{Taken}
-use Rattle.mg_engine.specs.Arrival.{taken, Takes}
-use Rattle.mg_engine.specs.Gateway.{Gateway}
+use Rattle.mg_engine.proofs.Common.{◌≡◌, ℕ, List, refl, sym, ap, ◌∙◌, Reading, Taken, Takes, Gateway}
+use Rattle.mg_rtp.specs.Reading.{IsPacketReading}
+use Rattle.mg_engine.specs.Arrival.{taken}
 use Rattle.mg_engine.proofs.theorems.one_arrival.Goals as goal
 
 one_way : ((list : List ℕ) (a b : Reading) → IsPacketReading list a → IsPacketReading list b → a ≡ b) →

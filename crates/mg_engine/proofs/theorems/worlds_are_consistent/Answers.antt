@@ -1,9 +1,7 @@
-use Rattle.std.proofs.Common.{sym, subst}
+use Rattle.mg_engine.proofs.Common.{sym, subst, Gateway, added, modified, moved, subtracted}
 use Rattle.mg_rooms.specs.Consistent.{IsConsistent}
 use Rattle.mg_rooms.specs.Outcome as commands
 use Rattle.mg_engine.specs.Config.{limits_of}
-use Rattle.mg_engine.specs.Gateway.{Gateway}
-use Rattle.mg_engine.specs.Outcome.{added, modified, moved, subtracted}
 use Rattle.mg_engine.proofs.OrderLemmas.{done_is, takes_rooms, triples_rooms}
 use Rattle.mg_engine.proofs.theorems.worlds_are_consistent.Goals as goal
 

@@ -1,4 +1,4 @@
-use Rattle.std.proofs.Common.{sym, ap, ◌∙◌, eqb, ℕ}
+use Rattle.mg_engine.proofs.Common.{sym, ap, ◌∙◌, eqb, ℕ}
 use Rattle.mg_engine.proofs.TripleLemmas.{matches_number}
 use Rattle.mg_engine.proofs.triples.seat_of.Goals as goal
 

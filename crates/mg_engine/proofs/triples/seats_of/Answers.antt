@@ -1,4 +1,4 @@
-use Rattle.std.proofs.Common.{refl}
+use Rattle.mg_engine.proofs.Common.{refl}
 use Rattle.mg_engine.proofs.TripleLemmas.{matches_every}
 use Rattle.mg_engine.proofs.triples.seats_of.Goals as goal
 

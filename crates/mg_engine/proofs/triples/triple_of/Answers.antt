@@ -1,6 +1,4 @@
-use Rattle.std.proofs.Common.{sym, ◌∙◌, refl}
-use Rattle.mg_topology.specs.declared.triple.Triple.{Triple}
-use Rattle.mg_rooms.specs.Registry.{members_at}
+use Rattle.mg_engine.proofs.Common.{sym, ◌∙◌, refl, Triple, members_at}
 use Rattle.mg_engine.specs.aids.Triples.{IsMatched}
 use Rattle.mg_engine.proofs.MemberLemmas.{neither}
 use Rattle.mg_engine.proofs.TripleLemmas.{overlaps_are, not_barred}

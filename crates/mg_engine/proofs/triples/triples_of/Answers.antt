@@ -1,9 +1,4 @@
-use Rattle.std.proofs.Common.{◌+◌, List, take, sym, refl, subst, arith}
-use Rattle.std.specs.Prelude.{Any}
-use Rattle.mg_topology.specs.declared.triple.Triple.{Triple}
-use Rattle.mg_topology.specs.Triple.{Overlaps}
-use Rattle.mg_rooms.specs.Registry.{members_at}
-use Rattle.mg_engine.specs.aids.Triples.{AreMatched}
+use Rattle.mg_engine.proofs.Common.{◌+◌, List, take, sym, refl, subst, arith, Any, Triple, Overlaps, members_at, AreMatched}
 use Rattle.mg_engine.proofs.TripleLemmas.{checked_to, matched_to, none_overlaps}
 use Rattle.mg_engine.proofs.triples.triples_of.Goals as goal
 

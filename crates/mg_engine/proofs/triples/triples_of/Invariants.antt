@@ -1,9 +1,4 @@
-use Rattle.std.proofs.Common.{◌≡◌, length, take, drop}
-use Rattle.std.specs.Prelude.{Any}
-use Rattle.mg_topology.specs.Triple.{Overlaps}
-use Rattle.mg_rooms.specs.Registry.{members_at}
-use Rattle.mg_engine.specs.Triples.{check_triples}
-use Rattle.mg_engine.specs.aids.Triples.{AreMatched}
+use Rattle.mg_engine.proofs.Common.{◌≡◌, length, take, drop, Any, Overlaps, members_at, check_triples, AreMatched}
 use Rattle.mg_engine.proofs.triples.triples_of.Given as goal
 
 abbrev pub invariant-loop-triple : goal.invariant-loop-triple

@@ -1,4 +1,4 @@
-use Rattle.std.proofs.Common.{◌≡◌, replicate, None}
+use Rattle.mg_rooms.proofs.Common.{◌≡◌, replicate, None}
 use Rattle.mg_rooms.proofs.entries.empty_table.Given as goal
 
 abbrev pub invariant-loop : goal.invariant-loop

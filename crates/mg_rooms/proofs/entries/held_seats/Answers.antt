@@ -1,4 +1,4 @@
-use Rattle.std.proofs.Common.{true, false, refl}
+use Rattle.mg_rooms.proofs.Common.{true, false, refl}
 use Rattle.std.proofs.lemmas.List.{get_or-replicate}
 use Rattle.mg_words.specs.declared.limits.TheConstants.{MEMBERS}
 use Rattle.mg_rooms.proofs.entries.held_seats.Goals as goal

@@ -1,7 +1,4 @@
-use Rattle.std.proofs.Common.{◌≡◌, ℕ, ◌<◌, ◌&&◌, ◌==◌, true, get_or, take, length}
-use Rattle.std.specs.List.{list_any}
-use Rattle.mg_words.specs.declared.limits.TheConstants.{MEMBERS}
-use Rattle.mg_rooms.specs.aids.Order.{passes_at}
+use Rattle.mg_rooms.proofs.Common.{◌≡◌, ℕ, ◌<◌, ◌&&◌, ◌==◌, true, get_or, take, length, list_any, MEMBERS, passes_at}
 use Rattle.mg_rooms.proofs.entries.held_seats.Given as goal
 
 abbrev pub invariant-loop-entry : goal.invariant-loop-entry

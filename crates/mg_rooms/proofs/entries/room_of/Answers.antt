@@ -1,6 +1,4 @@
-use Rattle.std.proofs.Common.{length, refl, sym, ◌∙◌}
-use Rattle.std.proofs.lemmas.Bool.{ltb-true}
-use Rattle.std.proofs.lemmas.Option.{slice_get_read}
+use Rattle.mg_rooms.proofs.Common.{length, refl, sym, ◌∙◌, ltb-true, slice_get_read}
 use Rattle.mg_rooms.proofs.HintLemmas.{found_here}
 use Rattle.mg_rooms.proofs.entries.room_of.Goals as goal
 

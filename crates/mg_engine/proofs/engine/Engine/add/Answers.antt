@@ -1,18 +1,10 @@
-use Rattle.std.proofs.Common.{◌<◌, ℕ, List, Option, length, sym, ap, subst, ◌∙◌, arith}
-use Rattle.std.proofs.lemmas.List.{length-set}
+use Rattle.mg_engine.proofs.Common.{◌<◌, ℕ, List, Option, length, sym, ap, subst, ◌∙◌, arith, length-set, view, added, done_with, member_place, EngineState, StandsFor, sound_if, RisesAtMost, SetsRow, room_for}
 use Rattle.mg_rooms.specs.Outcome as commands
 use Rattle.mg_rooms.specs.Registry as rooms
-use Rattle.mg_engine.specs.declared.engine.Engine.TheView.{view}
 use Rattle.mg_engine.specs.aids.MediaSteps as media_steps
-use Rattle.mg_engine.specs.Outcome.{added, done_with}
-use Rattle.mg_engine.specs.Place.{member_place}
-use Rattle.mg_engine.specs.Stands.{EngineState, StandsFor}
-use Rattle.mg_rooms.proofs.SoundLemmas.{sound_if}
 use Rattle.mg_engine.proofs.OutcomeLemmas.{add_adds}
 use Rattle.mg_engine.proofs.EditLemmas.{slots_kept, room_left, held_added, unknown_before, begun_tuned, added_stands}
 use Rattle.mg_engine.proofs.MemberLemmas.{no_record, same_others, carry, hears_carry, unknown, hears_some, free_place, has_entered, hears_entered}
-use Rattle.mg_engine.specs.Work.{RisesAtMost}
-use Rattle.mg_engine.specs.aids.Joined.{SetsRow, room_for}
 use Rattle.mg_engine.proofs.JoinedLemmas.{joined_changed}
 use Rattle.mg_engine.proofs.WorkLemmas.{rises_twice}
 use Rattle.mg_engine.proofs.PlaceLemmas.{on_its_place, member_within, within}

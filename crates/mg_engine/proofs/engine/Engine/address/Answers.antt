@@ -1,18 +1,7 @@
-use Rattle.std.proofs.Common.{map, ℕ, ◌+◌, ◌%◌, ◌^◌, ◌<◌, ◌++◌, ◌∷◌, [], length, List, get_or, refl, sym, ap, ◌∙◌, arith}
-use Rattle.mg_rtp.specs.Header.{header_bytes, plain}
-use Rattle.mg_engine.specs.declared.engine.Engine.TheView.{view}
-use Rattle.mg_engine.specs.declared.datagram.Datagram.{Datagram}
+use Rattle.mg_engine.proofs.Common.{map, ℕ, ◌+◌, ◌%◌, ◌^◌, ◌<◌, ◌++◌, ◌∷◌, [], length, List, get_or, refl, sym, ap, ◌∙◌, arith, header_bytes, plain, view, Datagram, get_or_default, byte_of, Limits, slot_port, record_at, idle, mixed_now, packet_now, EngineState}
 use Rattle.mg_engine.specs.aids.Shares.{payload_of}
-use Rattle.std.proofs.lemmas.List.{get_or_default}
-use Rattle.mg_g711.specs.Law.{byte_of}
-use Rattle.mg_rooms.specs.declared.limits.Limits.{Limits}
-use Rattle.mg_rooms.specs.Limits.{slot_port}
-use Rattle.mg_rooms.specs.Registry.{record_at}
 use Rattle.mg_engine.specs.Media as media
 use Rattle.mg_engine.specs.aids.MediaSteps as media_steps
-use Rattle.mg_engine.specs.Media.{idle}
-use Rattle.mg_engine.specs.aids.Sending.{mixed_now, packet_now}
-use Rattle.mg_engine.specs.Stands.{EngineState}
 use Rattle.mg_engine.proofs.SendingLemmas.{packet_is}
 use Rattle.mg_engine.proofs.engine.Engine.address.Goals as goal
 

@@ -1,13 +1,5 @@
-use Rattle.std.proofs.Common.{rules, ◌≡◌, List, Ok, refl, sym, ap, subst, ◌∙◌}
-use Rattle.std.specs.Prelude.{Any}
-use Rattle.mg_topology.specs.declared.triple.Triple.{Triple}
-use Rattle.mg_topology.specs.Triple.{Overlaps}
-use Rattle.mg_flow.specs.Table.{hears, hears_after}
-use Rattle.mg_rooms.specs.Registry.{members_at}
-use Rattle.mg_engine.specs.declared.engine.Engine.TheView.{view}
-use Rattle.mg_engine.specs.Triples.{check_triples, with_triples}
-use Rattle.mg_engine.specs.aids.Triples.{AreMatched}
-use Rattle.mg_engine.specs.Stands.{EngineState, StandsFor}
+use Rattle.mg_engine.proofs.Common.{rules, ◌≡◌, List, Ok, refl, sym, ap, subst, ◌∙◌, Any, Triple, Overlaps, hears, members_at, view, check_triples, with_triples, AreMatched, EngineState, StandsFor}
+use Rattle.mg_flow.specs.Table.{hears_after}
 use Rattle.mg_engine.proofs.TripleLemmas.{refused_there, refused_triples, done_triples, err_is, ok_is, has_still, hears_triples, words_stand}
 use Rattle.mg_engine.proofs.engine.Engine.apply_up_to.Goals.{in-Ok, in-Err}
 use Rattle.mg_engine.proofs.engine.Engine.apply_up_to.Goals as goal

@@ -1,8 +1,5 @@
-use Rattle.std.proofs.Common.{sym, ap, ◌∙◌}
-use Rattle.mg_rooms.specs.declared.limits.Limits.{Limits}
-use Rattle.mg_engine.specs.Arrival.{at_port}
+use Rattle.mg_engine.proofs.Common.{sym, ap, ◌∙◌, Limits, at_port, EngineState}
 use Rattle.mg_engine.specs.aids.Ports.{slot_of}
-use Rattle.mg_engine.specs.Stands.{EngineState}
 use Rattle.mg_engine.proofs.PoolLemmas.{at_slot_of, at_no_slot}
 use Rattle.mg_engine.proofs.engine.Engine.at_port.Goals as goal
 

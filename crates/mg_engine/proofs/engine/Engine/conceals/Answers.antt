@@ -1,11 +1,6 @@
-use Rattle.std.proofs.Common.{ℕ, List, refl, sym, ap, subst, ◌∙◌}
-use Rattle.mg_playout.specs.Played.{is_concealed}
+use Rattle.mg_engine.proofs.Common.{ℕ, List, refl, sym, ap, subst, ◌∙◌, is_concealed, record_at, view, media_of, EngineState, StandsFor, media_at}
 use Rattle.mg_playout.specs.Playout as play_lists
-use Rattle.mg_rooms.specs.Registry.{record_at}
-use Rattle.mg_engine.specs.declared.engine.Engine.TheView.{view}
-use Rattle.mg_engine.specs.Gateway.{media_of}
 use Rattle.mg_engine.specs.Media as media
-use Rattle.mg_engine.specs.Stands.{EngineState, StandsFor, media_at}
 use Rattle.mg_engine.specs.aids.Found.{conceals_in}
 use Rattle.mg_engine.specs.aids.MediaSteps.{is_concealing}
 use Rattle.mg_engine.proofs.EditLemmas.{none_too}

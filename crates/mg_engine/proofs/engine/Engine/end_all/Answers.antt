@@ -1,8 +1,4 @@
-use Rattle.std.proofs.Common.{ℕ, length, sym, ap, subst, ◌∙◌, arith}
-use Rattle.mg_rooms.specs.declared.limits.Limits.{Limits}
-use Rattle.mg_engine.specs.declared.engine.Engine.TheView.{view}
-use Rattle.mg_engine.specs.Stands.{EngineState, StandsFor}
-use Rattle.mg_engine.specs.aids.Sending.{IsEnded}
+use Rattle.mg_engine.proofs.Common.{ℕ, length, sym, ap, subst, ◌∙◌, arith, Limits, view, EngineState, StandsFor, IsEnded}
 use Rattle.mg_engine.proofs.HeldLemmas.{held_below, held_apart, held_at}
 use Rattle.mg_engine.proofs.TickLemmas.{AreEnded, ended_stands}
 use Rattle.mg_engine.proofs.engine.Engine.end_all.Goals as goal

@@ -1,10 +1,5 @@
-use Rattle.std.proofs.Common.{ℕ, IsTrue, sym, ap, subst, ◌∙◌}
-use Rattle.mg_topology.specs.Mask.{has_seat}
-use Rattle.mg_flow.specs.declared.place.Place.{Place}
+use Rattle.mg_engine.proofs.Common.{ℕ, IsTrue, sym, ap, subst, ◌∙◌, has_seat, Place, view, member_place, EngineState, StandsFor}
 use Rattle.mg_flow.specs.Table as table
-use Rattle.mg_engine.specs.declared.engine.Engine.TheView.{view}
-use Rattle.mg_engine.specs.Place.{member_place}
-use Rattle.mg_engine.specs.Stands.{EngineState, StandsFor}
 use Rattle.mg_engine.proofs.FlowLemmas.{flow_places}
 use Rattle.mg_engine.proofs.PlaceLemmas.{on_its_place}
 use Rattle.mg_engine.proofs.engine.Engine.flow.Goals as goal

@@ -1,6 +1,4 @@
-use Rattle.std.proofs.Common.{sym, subst}
-use Rattle.mg_engine.specs.declared.engine.Engine.TheView.{view}
-use Rattle.mg_engine.specs.Stands.{EngineState, StandsFor}
+use Rattle.mg_engine.proofs.Common.{sym, subst, view, EngineState, StandsFor}
 use Rattle.mg_engine.proofs.FlowLemmas.{tells}
 use Rattle.mg_engine.proofs.engine.Engine.flows.Goals as goal
 

@@ -1,9 +1,6 @@
-use Rattle.std.proofs.Common.{sym, ap, subst, ◌∙◌}
-use Rattle.mg_flow.specs.declared.place.Place.{Place}
+use Rattle.mg_engine.proofs.Common.{sym, ap, subst, ◌∙◌, Place, view, IsOnSeat, EngineState, StandsFor}
 use Rattle.mg_flow.specs.Table as table
-use Rattle.mg_engine.specs.declared.engine.Engine.TheView.{view}
-use Rattle.mg_engine.specs.Place.{IsOnSeat, seated_place}
-use Rattle.mg_engine.specs.Stands.{EngineState, StandsFor}
+use Rattle.mg_engine.specs.Place.{seated_place}
 use Rattle.mg_engine.proofs.FlowLemmas.{hears_places}
 use Rattle.mg_engine.proofs.engine.Engine.hears_seated.Goals as goal
 

@@ -1,8 +1,6 @@
-use Rattle.std.proofs.Common.{ℕ, List, length, ap, subst, ◌∙◌, arith}
-use Rattle.mg_rooms.specs.declared.limits.Limits.{Limits}
-use Rattle.mg_engine.specs.declared.engine.Engine.TheView.{view}
+use Rattle.mg_engine.proofs.Common.{ℕ, List, length, ap, subst, ◌∙◌, arith, Limits, view, IsIdleEngine}
 use Rattle.mg_engine.specs.Media.{SlotMedia}
-use Rattle.mg_engine.specs.aids.Playing.{IsIdleEngine, IsIdleSlot}
+use Rattle.mg_engine.specs.aids.Playing.{IsIdleSlot}
 use Rattle.mg_engine.proofs.HeldLemmas.{held_below, held_at}
 use Rattle.mg_engine.proofs.engine.Engine.is_idle.Goals as goal
 

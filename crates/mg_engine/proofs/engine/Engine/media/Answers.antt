@@ -1,12 +1,7 @@
-use Rattle.std.proofs.Common.{Option, refl, sym, ap, subst, ◌∙◌}
-use Rattle.mg_rooms.specs.declared.record.Record.{Record}
+use Rattle.mg_engine.proofs.Common.{Option, refl, sym, ap, subst, ◌∙◌, Record, SumsState, arrived, at_port, taken_by, EngineState, StandsFor}
 use Rattle.mg_rooms.specs.Registry as rooms
 use Rattle.mg_rtp.specs.aids.Read.{reading_of}
-use Rattle.mg_sums.specs.Sums.{SumsState}
 use Rattle.mg_rtp.proofs.Once.{is_reading}
-use Rattle.mg_engine.specs.Arrival.{arrived, at_port}
-use Rattle.mg_engine.specs.aids.Found.{taken_by}
-use Rattle.mg_engine.specs.Stands.{EngineState, StandsFor}
 use Rattle.mg_engine.proofs.ArrivalLemmas.{media_alone, took_stands}
 use Rattle.mg_engine.proofs.engine.Engine.media.Goals as goal
 

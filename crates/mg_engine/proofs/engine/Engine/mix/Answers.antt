@@ -1,15 +1,5 @@
-use Rattle.std.proofs.Common.{ℕ, ◌+◌, ℤ, cond, List, length, map, get_or, Option, Some, None, sym, ap, subst, ◌∙◌, arith}
-use Rattle.std.specs.List.{range_with_len}
-use Rattle.mg_g711.specs.Law.{byte_of}
-use Rattle.mg_words.specs.Mode.{talks}
-use Rattle.mg_rooms.specs.Registry.{context_at}
-use Rattle.mg_flow.specs.Place.{sibling_place}
-use Rattle.mg_sums.specs.Sums.{SumsState, AreOfRoom, left_out_by, mix_of}
-use Rattle.mg_sums.specs.Samples.{nearest_sample}
-use Rattle.mg_engine.specs.declared.engine.Engine.TheView.{view}
-use Rattle.mg_engine.specs.Place.{IsOnPlace}
-use Rattle.mg_engine.specs.Stands.{EngineState}
-use Rattle.mg_engine.specs.aids.Sending.{heard_now, silenced_now}
+use Rattle.mg_engine.proofs.Common.{ℕ, ◌+◌, ℤ, cond, List, length, map, get_or, Option, Some, None, sym, ap, subst, ◌∙◌, arith, range_with_len, byte_of, talks, context_at, sibling_place, SumsState, nearest_sample, view, IsOnPlace, EngineState, heard_now, silenced_now}
+use Rattle.mg_sums.specs.Sums.{AreOfRoom, left_out_by, mix_of}
 use Rattle.mg_engine.proofs.MaskLemmas.{seats_there}
 use Rattle.mg_engine.proofs.MixLemmas.{IsLeftAndHeard, left_out, how_many, mix_is}
 use Rattle.mg_engine.proofs.engine.Engine.mix.Goals as goal

@@ -1,16 +1,6 @@
-use Rattle.std.proofs.Common.{◌<◌, ◌∷◌, length, refl, sym, ap, subst, ◌∙◌, arith}
-use Rattle.std.proofs.lemmas.List.{length-set}
-use Rattle.std.proofs.lemmas.Option.{same_Some}
-use Rattle.mg_rooms.specs.declared.record.Record.{Record}
+use Rattle.mg_engine.proofs.Common.{◌<◌, ◌∷◌, length, refl, sym, ap, subst, ◌∙◌, arith, length-set, same_Some, Record, view, Enter, Leave, moved, media_with, done_with, member_place, EngineState, StandsFor, RisesAtMost, sound_if}
 use Rattle.mg_rooms.specs.Outcome as commands
 use Rattle.mg_rooms.specs.Registry as rooms
-use Rattle.mg_engine.specs.declared.engine.Engine.TheView.{view}
-use Rattle.mg_engine.specs.Gateway.{Enter, Leave}
-use Rattle.mg_engine.specs.Outcome.{moved, media_with, done_with}
-use Rattle.mg_engine.specs.Place.{member_place}
-use Rattle.mg_engine.specs.Stands.{EngineState, StandsFor}
-use Rattle.mg_engine.specs.Work.{RisesAtMost}
-use Rattle.mg_rooms.proofs.SoundLemmas.{sound_if}
 use Rattle.mg_engine.proofs.OutcomeLemmas.{move_changes}
 use Rattle.mg_engine.proofs.EditLemmas.{slots_kept, held_changed, changed_at, changed_stands}
 use Rattle.mg_engine.proofs.MemberLemmas.{Hears, same_others, carry, hears_carry, has_left, hears_left, free_place, has_entered, hears_entered}

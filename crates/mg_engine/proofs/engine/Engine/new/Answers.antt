@@ -1,9 +1,7 @@
-use Rattle.std.proofs.Common.{ℕ, length, map, sym, ap, ◌∙◌}
+use Rattle.mg_engine.proofs.Common.{ℕ, length, map, sym, ap, ◌∙◌, sound_if, place_count, SumsState}
 use Rattle.std.proofs.lemmas.List.{length-replicate}
 use Rattle.mg_rooms.specs.Registry as rooms
-use Rattle.mg_rooms.proofs.SoundLemmas.{sound_if}
-use Rattle.mg_engine.specs.aids.Seating.{place_count}
-use Rattle.mg_sums.specs.Sums.{SumsState, first_sums}
+use Rattle.mg_sums.specs.Sums.{first_sums}
 use Rattle.mg_engine.proofs.JoinedLemmas.{joined_nowhere}
 use Rattle.mg_engine.proofs.MemberLemmas.{has_nobody, nobody_seated}
 use Rattle.mg_engine.proofs.engine.Engine.new.Goals as goal

@@ -1,9 +1,4 @@
-use Rattle.std.proofs.Common.{◌≡◌, ℕ, ◌*◌, length, sym, ap, subst, ◌∙◌, arith}
-use Rattle.mg_rooms.specs.declared.limits.Limits.{Limits}
-use Rattle.mg_engine.specs.declared.engine.Engine.TheView.{view}
-use Rattle.mg_engine.specs.Stands.{EngineState, StandsFor}
-use Rattle.mg_engine.specs.Work.{RisesAtMost}
-use Rattle.mg_engine.specs.aids.Playing.{IsPlayed}
+use Rattle.mg_engine.proofs.Common.{◌≡◌, ℕ, ◌*◌, length, sym, ap, subst, ◌∙◌, arith, Limits, view, EngineState, StandsFor, RisesAtMost, IsPlayed}
 use Rattle.mg_engine.proofs.ConcealLemmas.{concealed_is}
 use Rattle.mg_engine.proofs.HeldLemmas.{many, held_below, held_apart, held_at}
 use Rattle.mg_engine.proofs.TickLemmas.{ArePlayed, played_stands}

@@ -1,17 +1,8 @@
-use Rattle.std.proofs.Common.{◌+◌, ◌∷◌, ◌++◌, [], List, map, sym, ap, subst, ◌∙◌}
-use Rattle.std.specs.List.{range_with_len}
+use Rattle.mg_engine.proofs.Common.{◌+◌, ◌∷◌, ◌++◌, [], List, map, sym, ap, subst, ◌∙◌, range_with_len, byte_of, nearest_sample, view, Share, IsOnPlace, EngineState, heard_now, silenced_now, with_mixes, AreShared, RisesAtMost}
 use Rattle.std.proofs.lemmas.List.Elements.{All-contains}
-use Rattle.mg_g711.specs.Law.{byte_of}
-use Rattle.mg_sums.specs.Samples.{nearest_sample}
-use Rattle.mg_engine.specs.declared.engine.Engine.TheView.{view}
-use Rattle.mg_engine.specs.declared.share.Share.{Share}
-use Rattle.mg_engine.specs.Place.{IsOnPlace}
-use Rattle.mg_engine.specs.Stands.{EngineState}
-use Rattle.mg_engine.specs.aids.Sending.{heard_now, silenced_now, with_mixes}
-use Rattle.mg_engine.specs.aids.Shares.{AreShared, IsShared, packet_at, shares_in}
+use Rattle.mg_engine.specs.aids.Shares.{IsShared, packet_at, shares_in}
 use Rattle.mg_engine.proofs.MaskLemmas.{payload_is_on}
 use Rattle.mg_engine.proofs.ShareLemmas.{still_shared, now_shared}
-use Rattle.mg_engine.specs.Work.{RisesAtMost}
 use Rattle.mg_engine.proofs.engine.Engine.put_heard.Goals as goal
 
 pub open-talkers-requires : goal.open-talkers-requires

@@ -1,16 +1,5 @@
-use Rattle.std.proofs.Common.{◌≡◌, ℕ, List, [], ◌∷◌, ◌++◌, cond, map, length, length-append, Option, sym, ap, subst, ◌∙◌, arith}
-use Rattle.std.specs.Prelude.{option_to_list, is_some}
-use Rattle.std.specs.Option.{option_map}
-use Rattle.mg_g711.specs.Law.{byte_of}
-use Rattle.mg_sdp.specs.declared.chosen.Chosen.{Chosen}
-use Rattle.mg_rooms.specs.declared.record.Record.{Record}
-use Rattle.mg_rooms.specs.Registry.{holder_of}
-use Rattle.mg_engine.specs.declared.datagram.Datagram.{Datagram}
-use Rattle.mg_engine.specs.Stands.{EngineState}
-use Rattle.mg_engine.specs.Tick.{sent_to}
-use Rattle.mg_engine.specs.Work.{RisesAtMost}
-use Rattle.mg_engine.specs.aids.Sending.{mixed_now, packet_now, mix_work_now, sending_work_now}
-use Rattle.mg_engine.specs.aids.Shares.{AreShared}
+use Rattle.mg_engine.proofs.Common.{◌≡◌, ℕ, List, [], ◌∷◌, ◌++◌, cond, map, length, length-append, Option, sym, ap, subst, ◌∙◌, arith, option_to_list, is_some, option_map, byte_of, Chosen, Record, holder_of, Datagram, EngineState, sent_to, RisesAtMost, mixed_now, packet_now, sending_work_now, AreShared}
+use Rattle.mg_engine.specs.aids.Sending.{mix_work_now}
 use Rattle.mg_engine.proofs.SendingLemmas.{found_is}
 use Rattle.mg_engine.proofs.engine.Engine.put_packet.Goals as goal
 

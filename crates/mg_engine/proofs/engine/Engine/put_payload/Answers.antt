@@ -1,11 +1,4 @@
-use Rattle.std.proofs.Common.{ℕ, ℤ, Bool, cond, List, [], map, pos, get_or, sym, ap, ◌∙◌}
-use Rattle.std.specs.List.{range_with_len}
-use Rattle.mg_g711.specs.Law.{byte_of}
-use Rattle.mg_rooms.specs.Registry.{record_at, context_at}
-use Rattle.mg_sums.specs.Samples.{nearest_sample}
-use Rattle.mg_engine.specs.declared.engine.Engine.TheView.{view}
-use Rattle.mg_engine.specs.Stands.{EngineState}
-use Rattle.mg_engine.specs.aids.Sending.{sample_at, heard_now, mixed_now}
+use Rattle.mg_engine.proofs.Common.{ℕ, ℤ, Bool, cond, List, [], map, pos, get_or, sym, ap, ◌∙◌, range_with_len, byte_of, record_at, context_at, nearest_sample, view, EngineState, sample_at, heard_now, mixed_now}
 use Rattle.mg_engine.proofs.MaskLemmas.{somewhere}
 use Rattle.mg_engine.proofs.ShareLemmas.{still_shared}
 use Rattle.mg_engine.proofs.SumLemmas.{list_is}

@@ -1,7 +1,5 @@
-use Rattle.std.proofs.Common.{ℕ, List, get_or, eqb, refl, subst}
+use Rattle.mg_engine.proofs.Common.{ℕ, List, get_or, eqb, refl, subst, list_any, eq-eqb}
 use Rattle.std.specs.Prelude.{IsTrue}
-use Rattle.std.specs.List.{list_any}
-use Rattle.std.proofs.lemmas.Bool.{eq-eqb}
 use Rattle.std.proofs.lemmas.List.Folds.{list_any_at}
 use Rattle.mg_engine.proofs.engine.Engine.seated.Goals as goal
 

@@ -1,8 +1,4 @@
-use Rattle.std.proofs.Common.{ℕ, sym, ap, subst, ◌∙◌}
-use Rattle.std.specs.Prelude.{sum_by}
-use Rattle.mg_engine.specs.declared.engine.Engine.TheView.{view}
-use Rattle.mg_engine.specs.Stands.{EngineState, StandsFor}
-use Rattle.mg_engine.specs.Work.{RisesAtMost, sending_work}
+use Rattle.mg_engine.proofs.Common.{ℕ, sym, ap, subst, ◌∙◌, sum_by, view, EngineState, StandsFor, RisesAtMost, sending_work}
 use Rattle.mg_engine.proofs.CostLemmas.{all_work_is}
 use Rattle.mg_engine.proofs.SentLemmas.{packets_are}
 use Rattle.mg_engine.proofs.TickLemmas.{mixed_stands}

@@ -1,11 +1,6 @@
-use Rattle.std.proofs.Common.{ℕ, List, Some, refl, sym, ap, subst, ◌∙◌}
-use Rattle.std.specs.Option.{option_map}
-use Rattle.mg_rooms.specs.Registry.{record_at}
+use Rattle.mg_engine.proofs.Common.{ℕ, List, Some, refl, sym, ap, subst, ◌∙◌, option_map, record_at, view, TerminationMedia, media_of, EngineState, StandsFor, media_at}
 use Rattle.mg_words.specs.declared.stats.Stats.{Stats}
-use Rattle.mg_engine.specs.declared.engine.Engine.TheView.{view}
-use Rattle.mg_engine.specs.Gateway.{TerminationMedia, media_of}
 use Rattle.mg_engine.specs.Media as media
-use Rattle.mg_engine.specs.Stands.{EngineState, StandsFor, media_at}
 use Rattle.mg_engine.proofs.EditLemmas.{none_too}
 use Rattle.mg_engine.proofs.GatewayLemmas.{has_media, with_slot, with_no_slot}
 use Rattle.mg_engine.proofs.engine.Engine.stats.Goals as goal

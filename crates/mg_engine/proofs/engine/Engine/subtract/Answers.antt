@@ -1,13 +1,6 @@
-use Rattle.std.proofs.Common.{ℕ, None, arith, sym, ap, subst, ◌∙◌}
+use Rattle.mg_engine.proofs.Common.{ℕ, None, arith, sym, ap, subst, ◌∙◌, view, subtracted, done_with, member_place, EngineState, StandsFor, RisesAtMost, SetsRow, sound_if}
 use Rattle.mg_rooms.specs.Outcome as commands
 use Rattle.mg_rooms.specs.Registry as rooms
-use Rattle.mg_engine.specs.declared.engine.Engine.TheView.{view}
-use Rattle.mg_engine.specs.Outcome.{subtracted, done_with}
-use Rattle.mg_engine.specs.Place.{member_place}
-use Rattle.mg_engine.specs.Stands.{EngineState, StandsFor}
-use Rattle.mg_engine.specs.Work.{RisesAtMost}
-use Rattle.mg_engine.specs.aids.Joined.{SetsRow}
-use Rattle.mg_rooms.proofs.SoundLemmas.{sound_if}
 use Rattle.mg_engine.proofs.OutcomeLemmas.{subtract_removes}
 use Rattle.mg_engine.proofs.EditLemmas.{held_removed, removed_stands, gone}
 use Rattle.mg_engine.proofs.MemberLemmas.{same_others, carry, hears_carry, has_left, hears_left, members_all, hears_all}

@@ -1,10 +1,5 @@
-use Rattle.std.proofs.Common.{Option, get_or, sym, ap, subst, ◌∙◌, arith}
+use Rattle.mg_engine.proofs.Common.{Option, get_or, sym, ap, subst, ◌∙◌, arith, record_at, context_at, view, TerminationMedia, frame_in, EngineState, StandsFor}
 use Rattle.mg_rooms.specs.Registry as rooms
-use Rattle.mg_rooms.specs.Registry.{record_at, context_at}
-use Rattle.mg_engine.specs.declared.engine.Engine.TheView.{view}
-use Rattle.mg_engine.specs.Gateway.{TerminationMedia}
-use Rattle.mg_engine.specs.aids.Found.{frame_in}
-use Rattle.mg_engine.specs.Stands.{EngineState, StandsFor}
 use Rattle.mg_engine.proofs.GatewayLemmas.{has_media}
 use Rattle.mg_engine.proofs.TotalLemmas.{total_is}
 use Rattle.mg_engine.proofs.engine.Engine.sums.Goals as goal

@@ -1,10 +1,6 @@
-use Rattle.std.proofs.Common.{◌≡◌, ◌<◌, ◌∙◌, ℕ, length, get_or, map, refl, sym, ap, arith}
-use Rattle.std.proofs.lemmas.List.{get_or-map}
+use Rattle.mg_engine.proofs.Common.{◌≡◌, ◌<◌, ◌∙◌, ℕ, length, get_or, map, refl, sym, ap, arith, get_or-map, Registry, holder_of, IsSound, EngineState}
 use Rattle.std.proofs.lemmas.Option.{slice_get-get_or}
 use Rattle.std.specs.List.{slice_get}
-use Rattle.mg_rooms.specs.Registry.{Registry, holder_of}
-use Rattle.mg_rooms.specs.aids.Sound.{IsSound}
-use Rattle.mg_engine.specs.Stands.{EngineState}
 use Rattle.mg_engine.proofs.SendingLemmas.{nobody}
 use Rattle.mg_engine.proofs.engine.Engine.termination.Goals as goal
 

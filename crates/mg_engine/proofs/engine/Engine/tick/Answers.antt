@@ -1,9 +1,6 @@
-use Rattle.std.proofs.Common.{◌*◌, ◌%◌, ◌^◌, length, ap, ◌∙◌, arith}
-use Rattle.std.specs.Prelude.{sum_by}
+use Rattle.mg_engine.proofs.Common.{◌*◌, ◌%◌, ◌^◌, length, ap, ◌∙◌, arith, sum_by, SumsState, all_played, sending_work}
 use Rattle.mg_rooms.specs.Registry as rooms
-use Rattle.mg_sums.specs.Sums.{SumsState}
-use Rattle.mg_engine.specs.Tick.{all_played}
-use Rattle.mg_engine.specs.Work.{sending_work, tick_work}
+use Rattle.mg_engine.specs.Work.{tick_work}
 use Rattle.mg_engine.proofs.TickLemmas.{played_old}
 use Rattle.mg_engine.proofs.WorkLemmas.{rises_twice}
 use Rattle.mg_engine.proofs.engine.Engine.tick.Goals as goal

@@ -1,6 +1,4 @@
-use Rattle.std.proofs.Common.{rules, [], refl, sym, subst}
-use Rattle.mg_engine.specs.declared.engine.Engine.TheView.{view}
-use Rattle.mg_engine.specs.Stands.{EngineState, StandsFor}
+use Rattle.mg_engine.proofs.Common.{rules, [], refl, sym, subst, view, EngineState, StandsFor}
 use Rattle.mg_engine.proofs.TripleLemmas.{refused_there, done_triples, err_is}
 use Rattle.mg_engine.proofs.engine.Engine.topology_context.Goals as goal
 

@@ -1,9 +1,5 @@
-use Rattle.std.proofs.Common.{◌<◌, ℕ, ℤ, Some, get_or, w32, sym, ap, subst, ◌∙◌, arith, rules}
+use Rattle.mg_engine.proofs.Common.{◌<◌, ℕ, ℤ, Some, get_or, w32, sym, ap, subst, ◌∙◌, arith, rules, context_at, total_of, view, EngineState, StandsFor}
 use Rattle.std.proofs.lemmas.Int.{to_z-of_z}
-use Rattle.mg_rooms.specs.Registry.{context_at}
-use Rattle.mg_sums.specs.Sums.{total_of}
-use Rattle.mg_engine.specs.declared.engine.Engine.TheView.{view}
-use Rattle.mg_engine.specs.Stands.{EngineState, StandsFor}
 use Rattle.mg_engine.proofs.TotalLemmas.{context_with, total_is, total_there}
 use Rattle.mg_engine.proofs.engine.Engine.total.Goals as goal
 

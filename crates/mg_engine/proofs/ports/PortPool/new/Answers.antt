@@ -1,4 +1,4 @@
-use Rattle.std.proofs.Common.{◌≡◌, ℕ, ◌+◌, ◌*◌, eqb, cond, Option, Some, sym, ap, ◌∙◌, arith}
+use Rattle.mg_engine.proofs.Common.{◌≡◌, ℕ, ◌+◌, ◌*◌, eqb, cond, Option, Some, sym, ap, ◌∙◌, arith}
 use Rattle.mg_engine.specs.aids.Ports.{slot_of}
 use Rattle.mg_engine.proofs.PoolLemmas.{slot_more, slot_below}
 use Rattle.mg_engine.proofs.ports.PortPool.new.Goals as goal

@@ -1,4 +1,4 @@
-use Rattle.std.proofs.Common.{◌≡◌, ℕ, ◌≤◌, nat_eq}
+use Rattle.mg_engine.proofs.Common.{◌≡◌, ℕ, ◌≤◌, nat_eq}
 use Rattle.indexmap.specs.IndexMap.{get}
 use Rattle.mg_engine.proofs.PoolLemmas.{slot_below}
 use Rattle.mg_engine.proofs.ports.PortPool.new.Given as goal

@@ -1,4 +1,4 @@
-use Rattle.std.proofs.Common.{◌∙◌, ◌-◌, ℕ, List, drop, length, subst, take, take-append-drop}
+use Rattle.mg_engine.proofs.Common.{◌∙◌, ◌-◌, ℕ, List, drop, length, subst, take, take-append-drop}
 use Rattle.std.specs.Prelude.{Contains}
 use Rattle.std.proofs.lemmas.List.Elements.{Contains-append_left, Contains-append_right}
 use Rattle.std.proofs.lemmas.Option.{IfSome_then}

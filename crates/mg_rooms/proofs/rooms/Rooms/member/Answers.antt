@@ -1,4 +1,4 @@
-use Rattle.std.proofs.Common.{sym}
+use Rattle.mg_rooms.proofs.Common.{sym}
 use Rattle.mg_rooms.proofs.StateLemmas.{is_in_a_context}
 use Rattle.mg_rooms.proofs.rooms.Rooms.member.Goals as goal
 

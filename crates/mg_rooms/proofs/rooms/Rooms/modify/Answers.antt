@@ -1,4 +1,4 @@
-use Rattle.std.proofs.Common.{sym, subst}
+use Rattle.mg_rooms.proofs.Common.{sym, subst}
 use Rattle.mg_rooms.specs.Consistent.{IsConsistent}
 use Rattle.mg_rooms.proofs.SoundLemmas.{modify_leaves, there_as}
 use Rattle.mg_rooms.proofs.rooms.Rooms.modify.Goals as goal

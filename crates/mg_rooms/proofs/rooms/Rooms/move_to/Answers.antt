@@ -1,7 +1,5 @@
-use Rattle.std.proofs.Common.{rules, ◌≡◌, ℕ, Ok, Err, sym, subst, refl, ap, ◌∙◌}
+use Rattle.mg_rooms.proofs.Common.{rules, ◌≡◌, ℕ, Ok, Err, sym, subst, refl, ap, ◌∙◌, IsConsistent, Record}
 use Rattle.mg_rooms.specs.Outcome as commands
-use Rattle.mg_rooms.specs.Consistent.{IsConsistent}
-use Rattle.mg_rooms.specs.declared.record.Record.{Record}
 use Rattle.mg_rooms.specs.declared.moved.Moved.{Moved}
 use Rattle.mg_rooms.proofs.RoomsLemmas.{gives_refusal}
 use Rattle.mg_rooms.proofs.StateLemmas.{is_in_a_context}

@@ -1,4 +1,4 @@
-use Rattle.std.proofs.Common.{sym}
+use Rattle.mg_rooms.proofs.Common.{sym}
 use Rattle.mg_rooms.proofs.SoundLemmas.{subtract_ends}
 use Rattle.mg_rooms.proofs.rooms.Rooms.subtract.Goals as goal
 

@@ -1,4 +1,4 @@
-use Rattle.std.proofs.Common.{◌∙◌}
+use Rattle.mg_rooms.proofs.Common.{◌∙◌}
 use Rattle.mg_rooms.proofs.CallLemmas.{free_seat_is}
 use Rattle.mg_rooms.proofs.tables.Tables.free_seat.Goals as goal
 

@@ -1,4 +1,4 @@
-use Rattle.std.proofs.Common.{None, Some}
+use Rattle.mg_rooms.proofs.Common.{None, Some}
 use Rattle.mg_rooms.proofs.CallLemmas.{free_slot_is}
 use Rattle.mg_rooms.proofs.tables.Tables.free_slot.Goals as goal
 

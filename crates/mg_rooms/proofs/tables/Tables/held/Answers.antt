@@ -1,4 +1,4 @@
-use Rattle.std.proofs.Common.{arith, length, ◌<◌, ◌≤◌}
+use Rattle.mg_rooms.proofs.Common.{arith, length, ◌<◌, ◌≤◌}
 use Rattle.mg_rooms.proofs.CallLemmas.{at_slot_is, at_slot_past}
 use Rattle.mg_rooms.proofs.tables.Tables.held.Goals as goal
 

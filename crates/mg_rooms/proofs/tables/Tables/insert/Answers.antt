@@ -1,4 +1,4 @@
-use Rattle.std.proofs.Common.{ap, arith}
+use Rattle.mg_rooms.proofs.Common.{ap, arith}
 use Rattle.mg_rooms.specs.aids.Tables.{registry_of}
 use Rattle.mg_rooms.proofs.CallLemmas.{with_more, slot_is_empty, inserted_kept, inserted_is}
 use Rattle.mg_rooms.proofs.tables.Tables.insert.Goals as goal

@@ -1,4 +1,4 @@
-use Rattle.std.proofs.Common.{ap}
+use Rattle.mg_rooms.proofs.Common.{ap}
 use Rattle.mg_rooms.specs.aids.Tables.{registry_of}
 use Rattle.mg_rooms.proofs.CallLemmas.{may_enter, entered_there, unchanged_context, with_contexts, with_last}
 use Rattle.mg_rooms.proofs.tables.Tables.join.Goals as goal

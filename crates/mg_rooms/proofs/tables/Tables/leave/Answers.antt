@@ -1,7 +1,4 @@
-use Rattle.std.proofs.Common.{ap}
-use Rattle.mg_rooms.specs.aids.Tables.{registry_of}
-use Rattle.mg_rooms.specs.Changes.{with_members}
-use Rattle.mg_rooms.specs.Members.{without}
+use Rattle.mg_rooms.proofs.Common.{ap, registry_of, with_members, without}
 use Rattle.mg_rooms.proofs.CallLemmas.{left_there, unchanged_context, with_contexts}
 use Rattle.mg_rooms.proofs.tables.Tables.leave.Goals as goal
 

@@ -1,4 +1,4 @@
-use Rattle.std.proofs.Common.{ap}
+use Rattle.mg_rooms.proofs.Common.{ap}
 use Rattle.mg_rooms.specs.aids.Tables.{registry_of}
 use Rattle.mg_rooms.proofs.CallLemmas.{room_is_empty, few_rooms, made_kept, made_context_is, with_made}
 use Rattle.mg_rooms.proofs.tables.Tables.make.Goals as goal

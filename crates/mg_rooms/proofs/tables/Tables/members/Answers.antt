@@ -1,4 +1,4 @@
-use Rattle.std.proofs.Common.{sym, ◌∙◌, ap}
+use Rattle.mg_rooms.proofs.Common.{sym, ◌∙◌, ap}
 use Rattle.mg_rooms.specs.aids.Found.{members_of}
 use Rattle.mg_rooms.proofs.CallLemmas.{context_some, context_none}
 use Rattle.mg_rooms.proofs.tables.Tables.members.Goals as goal

@@ -1,8 +1,6 @@
-use Rattle.std.proofs.Common.{refl}
-use Rattle.mg_rooms.specs.declared.record.Record.{Record}
+use Rattle.mg_rooms.proofs.Common.{refl, Record, CONTEXTS}
 use Rattle.mg_rooms.proofs.OrderLemmas.{in_order-empty}
 use Rattle.mg_rooms.proofs.TableLemmas.{IsTable-empty}
-use Rattle.mg_words.specs.declared.limits.TheConstants.{CONTEXTS}
 use Rattle.mg_rooms.proofs.tables.Tables.new.Goals as goal
 
 pub invariant_of-result : goal.invariant_of-result

@@ -1,4 +1,4 @@
-use Rattle.std.proofs.Common.{◌≤◌, sym, refl, arith, Some}
+use Rattle.mg_rooms.proofs.Common.{◌≤◌, sym, refl, arith, Some}
 use Rattle.mg_words.specs.declared.limits.TheConstants.{LAST_CONTEXT}
 use Rattle.mg_rooms.proofs.CallLemmas.{place_some, place_none, free_room_is}
 use Rattle.mg_rooms.proofs.tables.Tables.new_context.Goals as goal

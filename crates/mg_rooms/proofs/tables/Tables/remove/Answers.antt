@@ -1,4 +1,4 @@
-use Rattle.std.proofs.Common.{ap, None}
+use Rattle.mg_rooms.proofs.Common.{ap, None}
 use Rattle.mg_rooms.specs.aids.Tables.{registry_of}
 use Rattle.mg_rooms.proofs.CallLemmas.{removed_is, removed_kept, with_terminations, unchanged_termination}
 use Rattle.mg_rooms.proofs.tables.Tables.remove.Goals as goal

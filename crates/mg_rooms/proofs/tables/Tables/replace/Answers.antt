@@ -1,4 +1,4 @@
-use Rattle.std.proofs.Common.{List, Option, Some, ap, sym, subst}
+use Rattle.mg_rooms.proofs.Common.{List, Option, Some, ap, sym, subst}
 use Rattle.mg_rooms.specs.declared.record.Record.{Record}
 use Rattle.mg_rooms.specs.aids.Tables.{registry_of, HoldsOnce}
 use Rattle.mg_rooms.proofs.CallLemmas.{replaced_kept, replaced_is, with_terminations, unchanged_termination}

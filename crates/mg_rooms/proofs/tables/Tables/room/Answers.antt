@@ -1,4 +1,4 @@
-use Rattle.std.proofs.Common.{ap, option_map}
+use Rattle.mg_rooms.proofs.Common.{ap, option_map}
 use Rattle.mg_rooms.specs.declared.context.Context.{Context}
 use Rattle.mg_rooms.proofs.CallLemmas.{room_some, context_none}
 use Rattle.mg_rooms.proofs.tables.Tables.room.Goals as goal

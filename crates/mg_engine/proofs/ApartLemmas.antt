@@ -12,6 +12,7 @@ use Rattle.mg_engine.specs.Gateway.{frame_of}
 use Rattle.mg_engine.specs.Isolation.{hears_itself, progress_of}
 use Rattle.mg_engine.specs.Outcome.{apply_triples}
 use Rattle.mg_engine.specs.Tick.{all_ended}
+use Rattle.mg_engine.proofs.MemberLemmas.{not_so}
 use Rattle.mg_engine.proofs.IsolationLemmas.{packets_depend_on_heard}
 use Rattle.mg_engine.proofs.OrderLemmas.{found_passes}
 
@@ -359,10 +360,6 @@ module _ (some : List ℕ) where
       kept xs (Some s) e = ap Some (ap (λ (b : Bool). cond b (without_arrivals s) s)
           (ap (has some) (eqb-true s.number n (found_passes (λ m. eqb m.number n) xs s e)) ∙ out))
 
-  not_among : (b : Bool) (x : Bool) → b ≡ x → (b ≡ true → ⊥) → b ≡ false
-  not_among true x e h = absurd (h refl)
-  not_among false x e h = refl
-
 pub same_packets : SamePackets
 same_packets some a b r h none =
     let after = all_play some a b h in
@@ -372,10 +369,10 @@ same_packets some a b r h none =
     (seen some progress_of (λ s. refl) (media_of first r.number) (media_of second r.number)
     (found some r.number first.media second.media after.media))
     (λ talker flows. ap frame_in (media_same some first second talker after
-    (not_among some (has some talker) (has some talker) refl
+    (not_so (has some talker)
     (λ among. true≢false (sym flows ∙ none.others talker among)))))
     (λ own. ap frame_in (media_same some first second r.number after
-    (not_among some (has some r.number) (has some r.number) refl
+    (not_so (has some r.number)
     (λ among. true≢false (sym (ap (λ (x : Bool). x && hears_itself a r.number) among ∙ own) ∙ none.own)))))
 
 pub same_stats : SameStatsButReceived

@@ -21,14 +21,16 @@ is_place p q h =
 pub neither : true ≡ false → ⊥
 neither h = cc h
 
+pub not_so : (b : Bool) → (b ≡ true → ⊥) → b ≡ false
+not_so true h = absurd (h refl)
+not_so false h = refl
+
 -- two members of one context are on different seats
 pub seats_differ : (w : Registry) (talker listener : ℕ) (t l : Record) (a b : Place) → OneRoom w → OneSeat w →
     ShareContext w talker listener t l a b → eqb a.seat b.seat ≡ false
-seats_differ w talker listener t l a b rooms seats s = by_case (eqb a.seat b.seat) refl where
-  by_case : (x : Bool) → eqb a.seat b.seat ≡ x → x ≡ false
-  by_case true e = absurd (s.apart (one_member w talker listener t l a b rooms seats s.first s.second
-      (in_one_room w t l a b s.first.place s.second.place s.same) (eqb-true a.seat b.seat e)))
-  by_case false e = refl
+seats_differ w talker listener t l a b rooms seats s = not_so (eqb a.seat b.seat) (λ e.
+    s.apart (one_member w talker listener t l a b rooms seats s.first s.second
+    (in_one_room w t l a b s.first.place s.second.place s.same) (eqb-true a.seat b.seat e)))
 
 -- ## Others than one
 
@@ -213,12 +215,9 @@ module _ (w : Registry) (n : ℕ) (r : Record) (p : Place) (old new : List RoomF
 
 pub free_place : (w : Registry) (n : ℕ) (r : Record) (p : Place) (table : List RoomFlows) → OneRoom w → OneSeat w →
     HasOthers w n table → IsOnPlace w n r p → IsFalse (holds table p)
-free_place w n r p table rooms seats h on = by_case (holds table p) refl where
-  by_case : (b : Bool) → holds table p ≡ b → b ≡ false
-  by_case true e =
-      let (m, x, apart, there) = h.nobody p e in
-      absurd (neither (sym (same_is p) ∙ apart_places w m n x r p p rooms seats there on apart))
-  by_case false e = refl
+free_place w n r p table rooms seats h on = not_so (holds table p) (λ e.
+    let (m, x, apart, there) = h.nobody p e in
+    neither (sym (same_is p) ∙ apart_places w m n x r p p rooms seats there on apart))
 
 pub unequal : (m n : ℕ) → eqb m n ≡ false → m ≢ n
 unequal m n e same = neither (sym (eq-eqb m n same) ∙ e)

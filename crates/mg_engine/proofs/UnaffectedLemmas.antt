@@ -1,5 +1,5 @@
 -- What an edit and an RTP datagram leave alone.
-use Rattle.mg_engine.proofs.Common.{◌≡◌, ℕ, ℤ, pos, eqb, not, ◌&&◌, ◌||◌, Bool, true, false, cond, List, [], ◌∷◌, Option, Some, None, Result, Ok, Err, refl, sym, ap, subst, ◌∙◌, IsSome, is_some, eqb-true, eq-eqb, same_Some, talks, ErrorNumber, Header, Reading, Context, Record, Settings, Target, is_number, record_at, context_at, members_at, passes, IsSound, Taken, TopologyTriple, Arrived, Takes, arrived, at_port, taken_at, frame_placed_at, taken_by, has, may_hear, Gateway, TerminationMedia, ContextEdit, Apply, Enter, media_of, new_media, frame_in, added, modified, moved, subtracted, existing_context, tuned, EngineState, StandsFor, check_triples, with_triples, sum_of-cons}
+use Rattle.mg_engine.proofs.Common.{◌≡◌, ℕ, ℤ, pos, eqb, not, ◌&&◌, ◌||◌, Bool, true, false, cond, List, [], ◌∷◌, Option, Some, None, Result, Ok, Err, refl, sym, ap, subst, ◌∙◌, IsSome, is_some, eq-eqb, ne_eqb, same_Some, talks, ErrorNumber, Header, Reading, Context, Record, Settings, Target, is_number, record_at, context_at, members_at, passes, IsSound, Taken, TopologyTriple, Arrived, Takes, arrived, at_port, taken_at, frame_placed_at, taken_by, has, may_hear, Gateway, TerminationMedia, ContextEdit, Apply, Enter, media_of, new_media, frame_in, added, modified, moved, subtracted, existing_context, done_with, tuned, EngineState, StandsFor, check_triples, with_triples, sum_of-cons}
 use Rattle.std.specs.Prelude.{slice_index_or}
 use Rattle.std.proofs.lemmas.Bool.{or_right}
 use Rattle.mg_words.specs.Mode.{listens}
@@ -18,13 +18,13 @@ use Rattle.mg_engine.specs.declared.triple_term.TripleTerm.TheVariants as terms
 use Rattle.mg_engine.specs.Flow.{flow, hears}
 use Rattle.mg_engine.specs.aids.Found.{context_in}
 use Rattle.mg_engine.specs.aids.Found.{mode_or_inactive}
-use Rattle.mg_engine.specs.Unaffected.{IsUnaffected, IsElsewhere, IsEditElsewhere, IsPortElsewhere, is_member}
+use Rattle.mg_engine.specs.Unaffected.{IsUnaffected, IsEditElsewhere, IsPortElsewhere, is_member}
 use Rattle.mg_engine.specs.Mix.{total, part_of_total}
 use Rattle.mg_engine.specs.Outcome.{add, modify, move_to, subtract, apply_triples, done_as, outcome}
 use Rattle.mg_engine.specs.Triples.{check_triple, is_barred, matched, names_others}
 use Rattle.mg_engine.proofs.ElsewhereLemmas.{Spares, keys_apart, add_spares, modify_spares, move_spares, subtract_spares}
 use Rattle.mg_engine.proofs.KeyLemmas.{found_push_other, found_other}
-use Rattle.mg_engine.proofs.MemberLemmas.{neither}
+use Rattle.mg_engine.proofs.MemberLemmas.{neither, not_so}
 use Rattle.mg_engine.proofs.OrderLemmas.{done_is, other_media}
 use Rattle.mg_engine.proofs.OutcomeLemmas.{after_ok, after_ok_is}
 
@@ -97,25 +97,18 @@ same_alone w c = alone w w c refl (λ n there. refl) (λ n there. refl) (λ a b 
 
 -- ## Commands
 
-apart_at : (w : Gateway) (c n m : ℕ) (b : Bool) → eqb n m ≡ b → is_member w c n ≡ false → is_member w c m ≡ true →
-    eqb n m ≡ false
-apart_at w c n m true e out within = absurd (neither (sym within ∙ ap (is_member w c) (sym (eqb-true n m e)) ∙ out))
-apart_at w c n m false e out within = e
-
 -- a member is another than one that is no member
 apart_from : (w : Gateway) (c n m : ℕ) → is_member w c n ≡ false → is_member w c m ≡ true → eqb n m ≡ false
-apart_from w c n m out within = apart_at w c n m (eqb n m) refl out within
+apart_from w c n m out within = ne_eqb n m (λ same. neither (sym within ∙ ap (is_member w c) (sym same) ∙ out))
 
-turned_at : (w : Gateway) (c n m : ℕ) (b : Bool) → eqb m n ≡ b → is_member w c n ≡ false → is_member w c m ≡ true →
-    eqb m n ≡ false
-turned_at w c n m true e out within = absurd (neither (sym within ∙ ap (is_member w c) (eqb-true m n e) ∙ out))
-turned_at w c n m false e out within = e
+turned_from : (w : Gateway) (c n m : ℕ) → is_member w c n ≡ false → is_member w c m ≡ true → eqb m n ≡ false
+turned_from w c n m out within = ne_eqb m n (λ same. neither (sym within ∙ ap (is_member w c) same ∙ out))
 
 -- the last word on two looks at no entry of a third one
 entry_elsewhere : (w : Gateway) (c n : ℕ) (es : List ContextEdit) → is_member w c n ≡ false → (a b : ℕ) →
     is_member w c a ≡ true → is_member w c b ≡ true → may_hear (Enter n ∷ es) a b ≡ may_hear es a b
 entry_elsewhere w c n es out a b one two =
-    rw (turned_at w c n a (eqb a n) refl out one, turned_at w c n b (eqb b n) refl out two) refl
+    rw (turned_from w c n a out one, turned_from w c n b out two) refl
 
 module _ (w : Gateway) (z : rooms.Registry) (d : Record) (c : ℕ) (s : Spares w.rooms z c d.number) where
   kept : (n : ℕ) → is_member w c n ≡ true → record_at z n ≡ record_at w.rooms n
@@ -151,42 +144,15 @@ module _ (w : Gateway) (z : rooms.Registry) (d : Record) (c : ℕ) (s : Spares w
       rw out refl))
       (λ a b one two. refl)
 
-pub add_alone : (w next : Gateway) (target : Target) (settings : Settings) (r : Record) (c : ℕ) → IsSound w.rooms →
-    add w target settings ≡ Ok (next, r) → IsSome (context_at w.rooms c) → is_number target c ≡ false →
-    IsUnaffected w next c
-add_alone w next target settings r c h done there apart =
-    let (z, is, represents) = done_is (added w settings) (commands.add w.rooms target settings) next r done in
-    subst (λ (g : Gateway). IsUnaffected w g c) (sym represents)
-    (added_alone w z r c (add_spares w.rooms target settings z r c h there apart is) settings)
-
-pub modify_alone : (w next : Gateway) (target : Target) (n : ℕ) (settings : Settings) (r : Record) (c : ℕ) →
-    modify w target n settings ≡ Ok (next, r) → IsElsewhere w c target n → IsUnaffected w next c
-modify_alone w next target n settings r c done (_, out) =
-    let (z, is, represents) = done_is (modified w settings) (commands.modify w.rooms target n settings) next r done in
-    subst (λ (g : Gateway). IsUnaffected w g c) (sym represents)
-    (modified_alone w z r c (modify_spares w.rooms target n settings z r c out is) settings)
-
-pub move_alone : (w next : Gateway) (target : Target) (n : ℕ) (settings : Settings) (r : Record) (c : ℕ) →
-    IsSound w.rooms → move_to w target n settings ≡ Ok (next, r) → IsSome (context_at w.rooms c) →
-    IsElsewhere w c target n → IsUnaffected w next c
-move_alone w next target n settings r c h done there (apart, out) =
-    let (z, is, represents) = done_is (moved w settings) (commands.move_to w.rooms target n settings) next r done in
-    subst (λ (g : Gateway). IsUnaffected w g c) (sym represents)
-    (moved_alone w z r c (move_spares w.rooms target n settings z r c h there apart out is) settings)
-
-pub subtract_alone : (w next : Gateway) (target : Target) (n : ℕ) (r : Record) (c : ℕ) → IsSound w.rooms →
-    subtract w target n ≡ Ok (next, r) → IsElsewhere w c target n → IsUnaffected w next c
-subtract_alone w next target n r c h done (_, out) =
-    let (z, is, represents) = done_is (subtracted w) (commands.subtract w.rooms target n) next r done in
-    subst (λ (g : Gateway). IsUnaffected w g c) (sym represents)
-    (subtracted_alone w z r c (subtract_spares w.rooms target n z r c h out is))
+-- a command leaves what its outcome leaves
+command_alone : (w next : Gateway) (f : rooms.Registry → Record → Gateway)
+    (o : Result (rooms.Registry × Record) ErrorNumber) (r : Record) (c : ℕ) → done_with f o ≡ Ok (next, r) →
+    ((z : rooms.Registry) → o ≡ Ok (z, r) → IsUnaffected w (f z r) c) → IsUnaffected w next c
+command_alone w next f o r c done leaves =
+    let (z, is, represents) = done_is f o next r done in
+    subst (λ (g : Gateway). IsUnaffected w g c) (sym represents) (leaves z is)
 
 -- ## Triples
-
-number_at : (members : List ℕ) (k a : ℕ) (b : Bool) → eqb k a ≡ b → has members k ≡ true → has members a ≡ false →
-    has (k ∷ []) a ≡ false
-number_at members k a true e within out = absurd (neither (sym within ∙ ap (has members) (eqb-true k a e) ∙ out))
-number_at members k a false e within out = rw e refl
 
 is_there : (b : Bool) → not b ≡ false → b ≡ true
 is_there true e = refl
@@ -197,7 +163,7 @@ unmatched : (members : List ℕ) (term : TripleTerm) (a : ℕ) → names_others 
     has members a ≡ false → has (matched members term) a ≡ false
 unmatched members terms.Every a names out = out
 unmatched members (terms.Number k) a names out =
-    number_at members k a (eqb k a) refl (is_there (has members k) names) out
+    rw (ne_eqb k a (λ same. neither (sym (is_there (has members k) names) ∙ ap (has members) same ∙ out))) refl
 unmatched members terms.Barred a names out = refl
 unmatched members terms.Stranger a names out = refl
 
@@ -234,15 +200,13 @@ words_elsewhere members (x ∷ xs) es a b u e one two =
     (unmatched members x.first a names one) (unmatched members x.first b names two))
 
 -- a member of one context is none of another
-one_context_at : (w : Gateway) (c t n : ℕ) (b : Bool) → IsSound w.rooms → eqb t c ≡ false → is_member w c n ≡ true →
-    is_member w t n ≡ b → is_member w t n ≡ false
-one_context_at w c t n true h apart within e =
+one_context : (w : Gateway) (c t n : ℕ) → IsSound w.rooms → eqb t c ≡ false → is_member w c n ≡ true →
+    is_member w t n ≡ false
+one_context w c t n h apart within = not_so (is_member w t n) (λ e.
     let (r, found, here) = (h.members c n).0 within in
     let (q, also, too) = (h.members t n).0 e in
     let is = same_Some r q (sym found ∙ also) in
-    let same : t ≡ c = sym too ∙ ap (λ (x : Record). x.context) (sym is) ∙ here in
-    absurd (neither (sym (eq-eqb t c same) ∙ apart))
-one_context_at w c t n false h apart within e = e
+    neither (sym (eq-eqb t c (sym too ∙ ap (λ (x : Record). x.context) (sym is) ∙ here)) ∙ apart))
 
 another_target : (w : rooms.Registry) (target : Target) (t c : ℕ) → existing_context w target ≡ Ok t →
     is_number target c ≡ false → eqb t c ≡ false
@@ -261,8 +225,7 @@ triples_alone w next target xs t c h done apart =
     let after : Gateway = record w { edits = with_triples (members_at w.rooms k) xs w.edits } in
     let both : (after, k) ≡ (next, t) = cc two in
     let other = another_target w.rooms target k c at apart in
-    let strangers = λ (n : ℕ) (there : is_member w c n ≡ true). one_context_at w c k n (is_member w k n) h other there
-    refl in
+    let strangers = λ (n : ℕ) (there : is_member w c n ≡ true). one_context w c k n h other there in
     subst (λ (g : Gateway). IsUnaffected w g c) (ap (λ (p : Gateway × ℕ). p.0) both)
     (alone w after c refl (λ n there. refl) (λ n there. refl)
     (λ a b first second. words_elsewhere (members_at w.rooms k) xs w.edits a b u checked (strangers a first)
@@ -282,16 +245,20 @@ pub edit_alone : (w next : Gateway) (edit : Edit) (done : Done) (c : ℕ) → Is
     outcome w edit ≡ Ok (next, done) → IsSome (context_at w.rooms c) → IsEditElsewhere w c edit → IsUnaffected w next c
 edit_alone w next (edits.Add target settings) done c h e there apart =
     let (r, is) = as_done Termination (add w target settings) next done e in
-    add_alone w next target settings r c h is there apart
-edit_alone w next (edits.Modify target n settings) done c h e there apart =
+    command_alone w next (added w settings) (commands.add w.rooms target settings) r c is
+    (λ z one. added_alone w z r c (add_spares w.rooms target settings z r c h there apart one) settings)
+edit_alone w next (edits.Modify target n settings) done c h e there (apart, out) =
     let (r, is) = as_done Termination (modify w target n settings) next done e in
-    modify_alone w next target n settings r c is apart
-edit_alone w next (edits.Move target n settings) done c h e there apart =
+    command_alone w next (modified w settings) (commands.modify w.rooms target n settings) r c is
+    (λ z one. modified_alone w z r c (modify_spares w.rooms target n settings z r c out one) settings)
+edit_alone w next (edits.Move target n settings) done c h e there (apart, out) =
     let (r, is) = as_done Termination (move_to w target n settings) next done e in
-    move_alone w next target n settings r c h is there apart
-edit_alone w next (edits.Subtract target n) done c h e there apart =
+    command_alone w next (moved w settings) (commands.move_to w.rooms target n settings) r c is
+    (λ z one. moved_alone w z r c (move_spares w.rooms target n settings z r c h there apart out one) settings)
+edit_alone w next (edits.Subtract target n) done c h e there (apart, out) =
     let (r, is) = as_done Termination (subtract w target n) next done e in
-    subtract_alone w next target n r c h is apart
+    command_alone w next (subtracted w) (commands.subtract w.rooms target n) r c is
+    (λ z one. subtracted_alone w z r c (subtract_spares w.rooms target n z r c h out one))
 edit_alone w next (edits.Triples target xs) done c h e there apart =
     let (t, is) = as_done Topology (apply_triples w target xs.items) next done e in
     triples_alone w next target xs.items t c h is apart

@@ -1,0 +1,85 @@
+-- Reading a text line by line.
+use Rattle.std.proofs.Common.{◌≡◌, ℕ, zero, suc, ◌+◌, ◌<◌, ◌≤◌, Bool, true, false, eqb, List, [], ◌∷◌, ◌++◌, Option, None, Some, IfSome, cond, length, refl, sym, ap, subst, ◌∙◌, arith}
+use Rattle.std.specs.Io.KnownBytes.{IsAtEnd}
+use Rattle.std.specs.Io.BufRead.{take_through, drop_through, DropsThrough}
+use Rattle.sha2.specs.declared.Sha256.{Sha256}
+use Rattle.sha2.specs.Hashers.{Holds256}
+use Rattle.mg_chain.specs.declared.seals.Seals.{Seals}
+use Rattle.mg_chain.specs.Seals.{after_line, after_lines, seals_of}
+use Rattle.mg_chain.specs.aids.Reading.{Reading, Reads}
+
+-- at the end of a text, nothing is left to count
+at_end : (most : ℕ) (seals : Seals) (number : ℕ) (before : List ℕ) → after_lines most seals number before [] ≡ seals
+unfolding after_lines
+at_end zero seals number before = refl
+at_end (suc most) seals number before = refl
+
+-- what is left after a line is shorter than the text
+shorter : (b : ℕ) (bs : List ℕ) → length (drop_through 10 (b ∷ bs)) ≤ length bs
+shorter b bs = at (eqb b 10) (rest bs)
+  where
+    rest : (bs : List ℕ) → length (drop_through 10 bs) ≤ length bs
+    rest [] = omega arith
+    rest (c ∷ cs) = after (eqb c 10) (rest cs)
+      where
+        after : (is : Bool) → length (drop_through 10 cs) ≤ length cs
+            → length (cond is cs (drop_through 10 cs)) ≤ suc (length cs)
+        after true h = omega arith
+        after false h = omega arith
+
+    at : (is : Bool) → length (drop_through 10 bs) ≤ length bs
+        → length (cond is bs (drop_through 10 bs)) ≤ length bs
+    at true h = omega arith
+    at false h = h
+
+-- the seals at the end of the text
+pub ends : (text rest : Option (List ℕ)) (hasher : Sha256) (seals found : Seals) (number : ℕ)
+    → Reads text rest hasher seals number → IsAtEnd rest → found ≡ seals → IfSome text (λ all. found ≡ seals_of all)
+ends None rest hasher seals found number reads end same = tt
+ends (Some all) rest hasher seals found number reads end same =
+    let none : reads.left ≡ [] = subst (λ r. IsAtEnd r) reads.remaining end in
+    same ∙ (sym (at_end reads.most seals number reads.before)
+    ∙ (ap (λ left. after_lines reads.most seals number reads.before left) (sym none) ∙ reads.is))
+
+step : (all before left line : List ℕ) (most number : ℕ) (new : Option (List ℕ)) (after : Sha256) (seals found : Seals)
+    → length left ≤ most → after_lines most seals number before left ≡ seals_of all
+    → line ≡ take_through 10 left → 0 < length line → new ≡ Some (drop_through 10 left)
+    → Holds256 after (before ++ line) → found ≡ after_line seals number before line
+    → Reading all new after found (number + 1)
+unfolding after_lines
+step all before [] line most number new after seals found enough is taken some dropped holds counted =
+    absurd (omega (arith, ap length taken))
+step all before (b ∷ bs) line zero number new after seals found enough is taken some dropped holds counted =
+    absurd (omega arith)
+step all before (b ∷ bs) line (suc most) number new after seals found enough is taken some dropped holds counted =
+    record {
+      before = before ++ line;
+      left = drop_through 10 (b ∷ bs);
+      most = most;
+      remaining = dropped;
+      holds = holds;
+      enough = omega (arith, shorter b bs);
+      is = ap (λ f. after_lines most f (number + 1) (before ++ line) (drop_through 10 (b ∷ bs))) counted
+          ∙ (ap (λ l. after_lines most (after_line seals number before l) (number + 1) (before ++ l)
+          (drop_through 10 (b ∷ bs))) taken ∙ is);
+    }
+
+-- the seals after one more line
+pub goes_on : (text rest new : Option (List ℕ)) (hasher after : Sha256) (seals found : Seals) (number : ℕ)
+    (old items line : List ℕ)
+    → Reads text rest hasher seals number → IfSome rest (λ xs. items ≡ old ++ take_through 10 xs) → old ≡ []
+    → line ≡ items → 0 < length line → DropsThrough rest new 10
+    → ((before : List ℕ) → Holds256 hasher before
+    → Holds256 after (before ++ line) × (found ≡ after_line seals number before line))
+    → Reads text new after found (number + 1)
+goes_on None rest new hasher after seals found number old items line reads bytes empty same some drops takes = tt
+goes_on (Some all) rest new hasher after seals found number old items line reads bytes empty same some drops takes =
+    let bytes : items ≡ old ++ take_through 10 reads.left =
+    subst (λ r. IfSome r (λ xs. items ≡ old ++ take_through 10 xs)) reads.remaining bytes in
+    let taken : line ≡ take_through 10 reads.left =
+    same ∙ (bytes ∙ ap (λ l. l ++ take_through 10 reads.left) empty) in
+    let dropped : new ≡ Some (drop_through 10 reads.left) =
+    subst (λ r. DropsThrough r new 10) reads.remaining drops in
+    let took = takes reads.before reads.holds in
+    step all reads.before reads.left line reads.most number new after seals found reads.enough reads.is taken some
+    dropped took.0 took.1

@@ -1,0 +1,23 @@
+use Rattle.std.proofs.Common.{rules, arith}
+use Rattle.mg_chain.proofs.ReadLemmas.{ends, goes_on}
+use Rattle.mg_chain.proofs.reading.read_seals.Goals as goal
+
+pub returns-then-branch-eq0 : goal.returns-then-branch-eq0
+returns-then-branch-eq0 g c = record {
+  value = ends (g.R.Read.remaining c.args.reader.now) (g.R.Read.remaining c.loop-number.reader)
+      c.loop-number.check.chain c.loop-number.check.seals c.seals.result c.loop-number.number
+      c.loop-number.invariant.1 (c.in_ok-read_until.ensures.end c.if-branch-eq0.true) c.seals.ensures.value;
+}
+
+pub loop-number-preserved : goal.loop-number-preserved
+loop-number-preserved g c = (
+  omega (arith, c.take_line.ensures.few),
+  goes_on (g.R.Read.remaining c.args.reader.now) (g.R.Read.remaining c.loop-number.reader)
+      (g.R.Read.remaining c.read_until.new.self) c.loop-number.check.chain c.take_line.new.self.chain
+      c.loop-number.check.seals c.take_line.new.self.seals c.loop-number.number c.clear.new.self.items
+      c.read_until.new.buf.items c.as_slice.result.now c.loop-number.invariant.1 c.in_ok-read_until.ensures.bytes
+      c.clear.ensures.items c.as_slice.ensures.value (search rules) c.in_ok-read_until.ensures.rest c.take_line.ensures.value,
+)
+
+pub take_line-requires : goal.take_line-requires
+take_line-requires g c = record { few = c.loop-number.invariant.0 }

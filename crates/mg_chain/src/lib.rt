@@ -1,0 +1,23 @@
+//! Lines in a text that say what stands before them: a chain of hashes.
+//!
+//! A seal is a comment, `# sha256` with the SHA-256 (FIPS 180-4) of everything before its line, in hexadecimal digits.
+//! [`Chain`] makes seals while a text is written. [`read_seals`] reads a text, and finds the first seal that is wrong.
+//!
+//! ```rust
+//! let mut chain = Chain::new();
+//! chain.add(b"tick\n");
+//! text.write_all(MARK)?;
+//! text.write_all(&chain.seal_end())?;
+//! ```
+//!
+//! `specs/Seals.antt` defines seals, and what they say.
+#![tactic(auto)]
+
+mod chain;
+mod check;
+mod reading;
+mod seals;
+
+pub use crate::chain::{Chain, END, MARK};
+pub use crate::reading::read_seals;
+pub use crate::seals::Seals;

@@ -15,7 +15,7 @@ at_end zero seals number before = refl
 at_end (suc most) seals number before = refl
 
 -- what is left after a line is shorter than the text
-shorter : (b : ℕ) (bs : List ℕ) → length (drop_through 10 (b ∷ bs)) ≤ length bs
+pub shorter : (b : ℕ) (bs : List ℕ) → length (drop_through 10 (b ∷ bs)) ≤ length bs
 shorter b bs = at (eqb b 10) (rest bs)
   where
     rest : (bs : List ℕ) → length (drop_through 10 bs) ≤ length bs

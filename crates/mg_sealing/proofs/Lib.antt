@@ -1,0 +1,2 @@
+mod ReportLemmas
+mod SealedLemmas

@@ -1,0 +1,5 @@
+pub mod Report
+pub mod Verify
+pub mod Sealed
+pub mod Seal
+pub mod aids

@@ -1,0 +1,21 @@
+-- How far a recording has been copied.
+use Rattle.std.specs.Prelude.{◌≡◌, ℕ, ◌≤◌, List, length, Option, Some, IfSome}
+use Rattle.std.specs.Io.KnownBytes.{Appends}
+use Rattle.sha2.specs.declared.Sha256.{Sha256}
+use Rattle.sha2.specs.Hashers.{Holds256}
+use Rattle.mg_sealing.specs.Sealed.{sealed, sealed_with}
+
+-- the text that was printed, and the rest of the recording
+pub record Copying (text : List ℕ) (rest start contents : Option (List ℕ)) (hasher : Sha256) (ticks : ℕ) : Type 0 where
+  pub printed : List ℕ
+  pub left : List ℕ
+  pub most : ℕ
+  pub remaining : rest ≡ Some left
+  pub holds : Holds256 hasher printed
+  pub prints : Appends start contents printed
+  pub enough : length left ≤ most
+  pub is : sealed_with most ticks printed left ≡ sealed text
+
+-- the same, if the text is known
+abbrev pub Copies : (text rest start contents : Option (List ℕ)) → Sha256 → ℕ → Type 0
+Copies text rest start contents hasher ticks = IfSome text (λ all. Copying all rest start contents hasher ticks)

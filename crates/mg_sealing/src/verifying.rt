@@ -1,0 +1,104 @@
+ghost use Rattle.std.specs.Prelude.{◌≡◌, ◌⊎◌, IfOk, IfSome, List, Option, ℕ};
+ghost use Rattle.mg_chain.specs.Seals.{seals_of};
+ghost use Rattle.mg_sealing.specs.Report.{answer};
+ghost use Rattle.mg_sealing.specs.Verify.{IsVerified, Verifies};
+
+use crate::report::report;
+use mg_chain::{Seals, read_seals};
+use mg_options::Status;
+use std::alloc::Global;
+use std::fs::{Files, OpenOptions};
+use std::io::{self, BufReader, Error, ErrorKind, Read, Write};
+
+/// The name of standard input in messages.
+const INPUT: &str = "standard input";
+
+/// Returns what the seals in a text say.
+fn seals_in<R: Read>(alloc: Global, reader: &mut R) -> io::Result<Seals>
+    ensures value { IfOk result (λ seals. IfSome (R.remaining reader.old) (λ text. seals ≡ seals_of text)) }
+{
+    let mut buffered = BufReader::new(alloc, reader)?;
+    read_seals(alloc, &mut buffered)
+}
+
+/// Returns the exit status after a read or a write failed.
+pub(crate) fn status_of(error: &Error) -> Status
+    ensures ends { (result ≡ Status.Failed) ⊎ (result ≡ Status.NoMemory) }
+{
+    if error.kind() == ErrorKind::OutOfMemory {
+        Status::NoMemory
+    } else {
+        Status::Failed
+    }
+}
+
+/// Returns the exit status that says whether seals are right.
+fn answer(seals: &Seals) -> Status
+    ensures value { result ≡ answer seals.now.right seals.now.wrong }
+{
+    match (seals.wrong, seals.right) {
+        (Some(_), _) => Status::BadLine,
+        (None, Some(_)) => Status::Done,
+        (None, None) => Status::Unknown,
+    }
+}
+
+/// Prints what the seals in the text with this name say. A fault is reported to `errors`.
+fn verify_text<R: Read, W: Write, E: Write>(
+    alloc: Global,
+    name: &str,
+    reader: &mut R,
+    output: &mut W,
+    errors: &mut E,
+) -> Status
+    ensures value { Verifies (IsVerified (R.remaining reader.old) (W.contents output.old) (W.contents output.new)
+        result) (errors.new ≡ errors.old) result }
+{
+    let seals = match seals_in(alloc, reader) {
+        Ok(seals) => seals,
+        Err(error) => {
+            let _ = writeln!(errors, "{name}: cannot be read: {error}");
+            return status_of(&error);
+        }
+    };
+    match output.write_all(report(&seals).as_slice()) {
+        Ok(()) => answer(&seals),
+        Err(_) => {
+            let _ = writeln!(errors, "the output cannot be written");
+            Status::Failed
+        }
+    }
+}
+
+/// Prints whether the seals in the input are right. Returns the exit status. A fault is reported to `errors`.
+pub fn verify_input<R: Read, W: Write, E: Write>(
+    alloc: Global,
+    input: &mut R,
+    output: &mut W,
+    errors: &mut E,
+) -> Status
+    ensures value { Verifies (IsVerified (R.remaining input.old) (W.contents output.old) (W.contents output.new)
+        result) (errors.new ≡ errors.old) result }
+{
+    verify_text(alloc, INPUT, input, output, errors)
+}
+
+/// Prints whether the seals in a file are right. Returns the exit status. A fault is reported to `errors`.
+pub fn verify_file<F: Files, W: Write, E: Write>(
+    files: &F,
+    alloc: Global,
+    name: &str,
+    output: &mut W,
+    errors: &mut E,
+) -> Status
+    ensures value { Verifies ((text : Option (List ℕ)) × IsVerified text (W.contents output.old)
+        (W.contents output.new) result) (errors.new ≡ errors.old) result }
+{
+    match OpenOptions::new().read(true).open(files, name) {
+        Ok(mut file) => verify_text(alloc, name, &mut file, output, errors),
+        Err(error) => {
+            let _ = writeln!(errors, "{name}: cannot be opened: {error}");
+            Status::BadJournal
+        }
+    }
+}

@@ -1,21 +1,46 @@
--- Lines after a date.
-use Rattle.std.proofs.Common.{◌≡◌, ℕ, List, ◌++◌, codes, Result, refl, ap, ◌∙◌, subst, inr, arith, append_assoc}
+-- Lines after a seal and a date.
+use Rattle.std.proofs.Common.{◌≡◌, ◌≢◌, ◌⊎◌, ℕ, List, [], ◌++◌, codes, Result, refl, ap, ◌∙◌, subst, inl, inr, arith, append_assoc, length-append}
+use Rattle.std.proofs.lemmas.List.Elements.{All-append}
+use Rattle.mg_chain.proofs.SealLemmas.{plain}
+use Rattle.mg_chain.specs.Seals.{IsSeal}
 use Rattle.mg_journal.specs.declared.append_fault.AppendFault.{AppendFault}
 use Rattle.mg_journal.specs.declared.durability.Durability.{Durability}
-use Rattle.mg_journal.specs.Journal.{JournalState, Appends}
+use Rattle.mg_journal.specs.Journal.{JournalState, Appends, text_to_seal}
 use Rattle.mg_ports.specs.Journaled.{AppendsDated}
 use Rattle.mg_dates.specs.aids.Texts.{IsShortLine}
 
-grouped : (mark text feed lines : List ℕ) → ((mark ++ text) ++ feed) ++ lines ≡ (mark ++ (text ++ feed)) ++ lines
-grouped mark text feed lines = ap (λ (l : List ℕ). l ++ lines) (append_assoc mark text feed)
+grouped : (seal mark text feed lines : List ℕ)
+    → (((seal ++ mark) ++ text) ++ feed) ++ lines ≡ seal ++ ((mark ++ (text ++ feed)) ++ lines)
+grouped seal mark text feed lines =
+    ap (λ (l : List ℕ). (l ++ feed) ++ lines) (append_assoc seal mark text)
+    ∙ (ap (λ (l : List ℕ). l ++ lines) (append_assoc seal (mark ++ text) feed)
+    ∙ (append_assoc seal ((mark ++ text) ++ feed) lines
+    ∙ ap (λ (l : List ℕ). seal ++ (l ++ lines)) (append_assoc mark text feed)))
 
--- lines were appended after the line for a date
-pub dates : (text lines written : List ℕ) (durability : Durability) (old new : JournalState)
-    (result : Result (Unit {0}) AppendFault) → IsShortLine text
-    → written ≡ ((codes "# " ++ text) ++ codes "\n") ++ lines → Appends written durability old new result
+-- lines were appended without a comment
+pub undated : (lines : List ℕ) (durability : Durability) (old new : JournalState)
+    (result : Result (Unit {0}) AppendFault) → Appends lines durability old new result
     → AppendsDated lines durability old new result
-dates text lines written durability old new result short is appends = (
-  codes "# " ++ (text ++ codes "\n"),
-  inr (text, refl, omega (arith, short.0), short.1),
-  subst (λ (l : List ℕ). Appends l durability old new result) (is ∙ grouped (codes "# ") text (codes "\n") lines) appends,
+undated lines durability old new result appends = ([], [], inl refl, inl refl, appends)
+
+-- lines were appended after the line for a date, perhaps after a seal
+pub dates : (seal text lines written : List ℕ) (durability : Durability) (old new : JournalState)
+    (result : Result (Unit {0}) AppendFault) → (seal ≡ []) ⊎ IsSeal (text_to_seal old) seal → IsShortLine text
+    → written ≡ (((seal ++ codes "# time ") ++ text) ++ codes "\n") ++ lines
+    → Appends written durability old new result → AppendsDated lines durability old new result
+dates seal text lines written durability old new result sealed short is appends = (
+  seal,
+  codes "# time " ++ (text ++ codes "\n"),
+  sealed,
+  inr (
+    (
+      codes "time " ++ text,
+      refl,
+      omega (arith, short.0, length-append (codes "time ") text),
+      All-append (λ b. b ≢ 10) (codes "time ") text (plain (codes "time ") refl) short.1,
+    ),
+    refl,
+  ),
+  subst (λ (l : List ℕ). Appends l durability old new result) (is ∙ grouped seal (codes "# time ") text (codes "\n") lines)
+      appends,
 )

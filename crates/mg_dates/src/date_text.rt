@@ -9,7 +9,7 @@ use std::marker::Model;
 /// The maximum length of a date's text, in bytes.
 pub(crate) const TEXT_LIMIT: usize = 64;
 
-/// The text of a date, such as `time 2026-11-27T14:03:20.5Z`. It has no line feed.
+/// The text of a date, such as `2026-11-27T14:03:20.5Z`. It has no line feed.
 #[derive(Drop)]
 pub(crate) struct DateText {
     text: ArrayVec<u8, TEXT_LIMIT>,
@@ -31,7 +31,7 @@ impl DateText {
     pub(crate) fn of(date: Date) -> Option<Self> {
         let timestamp = date.timestamp()?;
         let mut text = ArrayVec::new();
-        let _ = write!(text, "time {timestamp}");
+        let _ = write!(text, "{timestamp}");
         if text.as_slice().contains(&b'\n') {
             return None;
         }

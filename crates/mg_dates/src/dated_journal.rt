@@ -1,9 +1,12 @@
-ghost use Rattle.std.specs.Prelude.{◌≡◌, IfOk};
+ghost use Rattle.std.specs.Prelude.{◌≡◌, ◌⊎◌, ◌+◌, ◌≤◌, [], length, IfOk};
+ghost use Rattle.mg_chain.specs.Seals.{IsSeal};
+ghost use Rattle.mg_journal.specs.Journal.{text_to_seal};
 ghost use Rattle.mg_journal.specs.Text.{EndsInLineFeed};
 ghost use Rattle.mg_ports.specs.Journaled.{AppendsDated};
 
 use crate::date::Date;
 use crate::date_text::{DateText, TEXT_LIMIT};
+use mg_chain::{END, MARK};
 use mg_journal::{AppendFault, Durability, Journal};
 use mg_reply::Bytes;
 use std::alloc::{AllocError, Global};
@@ -13,17 +16,26 @@ use std::time::Clock;
 /// The room for the lines after a date, in bytes. Every message's line fits.
 const LINES_ROOM: usize = 140_000;
 
-/// The length of the comment mark and a line feed, in bytes.
-const MARKS: usize = 3;
+/// What stands before the text of a date.
+const DATE: &[u8] = b"# time ";
+
+/// The length of that and a line feed, in bytes.
+const MARKS: usize = 8;
+
+/// The length of a seal's line, in bytes.
+const SEAL: usize = 9 + END;
 
 /// The capacity of the buffer, in bytes.
-const TEXT_ROOM: usize = LINES_ROOM + TEXT_LIMIT + MARKS;
+const TEXT_ROOM: usize = LINES_ROOM + TEXT_LIMIT + MARKS + SEAL;
 
-/// Lines without a message get a new date if the last one is at least this old, in milliseconds.
+/// Lines without a message get a new date if the last one is at least this old, in milliseconds. A date gets a seal if
+/// the last seal is at least this old.
 const MAX_AGE: u64 = 60_000;
 
 /// A journal that adds dates: before the first lines, before the first message of each second, and before ticks if the
 /// last date is a minute old.
+///
+/// A date is preceded by a seal (`mg_chain`): before the first lines, and then once a minute.
 ///
 /// A line that begins with `control` is a message; all others are ticks.
 #[derive(Drop)]
@@ -33,6 +45,8 @@ pub struct DatedJournal<'a, J: Journal, C: Clock> {
     /// The lines being appended, with their date.
     text: Bytes,
     last: Option<Date>,
+    /// The date of the last seal.
+    sealed: Option<Date>,
 }
 
 impl<'a, J: Journal, C: Clock> Model for DatedJournal<'a, J, C> {
@@ -72,6 +86,33 @@ fn needs_date(lines: &[u8], last: Option<Date>, now: Date) -> bool {
     now < last || now.millis - last.millis >= MAX_AGE
 }
 
+/// Returns whether a date needs a seal.
+fn needs_seal(sealed: Option<Date>, date: Date) -> bool {
+    match sealed {
+        Some(last) => date < last || date.millis - last.millis >= MAX_AGE,
+        None => true,
+    }
+}
+
+/// Returns the date of the last seal after an append.
+fn sealed_at(is_due: bool, date: Date, last: Option<Date>) -> Option<Date> {
+    if is_due { Some(date) } else { last }
+}
+
+/// Empties a text and, if a seal is due, starts it with the seal of a journal.
+fn start_text<J: Journal>(is_due: bool, journal: &J, text: &mut Bytes)
+    requires room { SEAL ≤ text.old.room + length text.old.text }
+    ensures seal { (text.new.text ≡ []) ⊎ IsSeal (text_to_seal (J.journal journal.now)) text.new.text }
+    ensures room { text.new.room + length text.new.text ≡ text.old.room + length text.old.text }
+    ensures short { length text.new.text ≤ SEAL }
+{
+    text.clear();
+    if is_due {
+        text.push(MARK);
+        text.push(&journal.seal_end());
+    }
+}
+
 impl<'a, J: Journal, C: Clock> DatedJournal<'a, J, C> {
     /// Creates a journal that adds dates. No other call allocates.
     pub fn new(alloc: Global, journal: J, clock: &'a C) -> Result<Self, AllocError>
@@ -84,6 +125,7 @@ impl<'a, J: Journal, C: Clock> DatedJournal<'a, J, C> {
             clock,
             text: Bytes::new(alloc, TEXT_ROOM)?,
             last: None,
+            sealed: None,
         })
     }
 
@@ -105,28 +147,39 @@ impl<'a, J: Journal, C: Clock> DatedJournal<'a, J, C> {
         None
     }
 
-    /// Appends lines, after a date if they need one.
+    /// Appends lines and nothing else.
+    #[tactic(auto, using(crate::proofs::DateLemmas::undated))]
+    fn append_undated(&mut self, lines: &[u8], durability: Durability) -> Result<(), AppendFault>
+        requires line_feed { EndsInLineFeed lines.now }
+        ensures value { AppendsDated lines.now durability self.old self.new result }
+    {
+        self.journal.append(lines, durability)
+    }
+
+    /// Appends lines, after a date if they need one, and a seal if the date needs one.
     pub fn append(&mut self, lines: &[u8], durability: Durability) -> Result<(), AppendFault>
         requires line_feed { EndsInLineFeed lines.now }
         ensures value { AppendsDated lines.now durability self.old self.new result }
     {
         let Some(date) = self.next_date(lines) else {
-            return self.journal.append(lines, durability);
+            return self.append_undated(lines, durability);
         };
         let Some(text) = DateText::of(date) else {
-            return self.journal.append(lines, durability);
+            return self.append_undated(lines, durability);
         };
         if lines.len() > LINES_ROOM {
-            return self.journal.append(lines, durability);
+            return self.append_undated(lines, durability);
         }
-        self.text.clear();
-        self.text.push(b"# ");
+        let is_due = needs_seal(self.sealed, date);
+        start_text(is_due, &self.journal, &mut self.text);
+        self.text.push(DATE);
         self.text.push(text.as_slice());
         self.text.push(b"\n");
         self.text.push(lines);
         let result = self.journal.append(self.text.as_slice(), durability);
         if result.is_ok() {
             self.last = Some(date);
+            self.sealed = sealed_at(is_due, date, self.sealed);
         }
         result
     }

@@ -112,7 +112,7 @@ cut_synced None len on = refl
 cut_synced (Some bytes) len on = ap (λ l. Some l) (take_all len bytes on)
 
 -- what was written of a text was cut off
-cut_off : (file : FileState) (len : ℕ) (more : List ℕ) → IsJournal file len false → cut_to len (grown file more) ≡ file
+pub cut_off : (file : FileState) (len : ℕ) (more : List ℕ) → IsJournal file len false → cut_to len (grown file more) ≡ file
 cut_off file len more on =
     ap (λ (known : Option (List ℕ)). file_state known (option_map (λ bytes. take len bytes) file.synced)) (cut_bytes file.bytes len more on.0)
     ∙ ap (λ (known : Option (List ℕ)). file_state file.bytes known) (cut_synced file.synced len on.1)

@@ -1,3 +1,4 @@
+mod HashLemmas
 pub mod TextLemmas
 pub mod AppendLemmas
 pub mod OpeningLemmas

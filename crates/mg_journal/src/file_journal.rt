@@ -1,11 +1,12 @@
 ghost use Rattle.std.specs.Prelude.{◌≡◌, false, IfSome};
-ghost use Rattle.mg_journal.specs.aids.Appending.{IsJournal, journal_in};
+ghost use Rattle.mg_journal.specs.aids.Appending.{IsHashed, IsJournal, journal_in};
 
 use crate::append_fault::AppendFault;
 use crate::durability::Durability;
 use crate::journal::Journal;
 use crate::journal_file::JournalFile;
 use crate::writing::put_lines;
+use mg_chain::{Chain, END};
 use std::io;
 use std::marker::Model;
 
@@ -17,23 +18,27 @@ pub struct FileJournal<F: JournalFile> {
     len: u64,
     is_broken: bool,
     last_error: Option<io::Error>,
+    /// The hash of the file, unless the journal is broken.
+    chain: Chain,
 }
 
 impl<F: JournalFile> Model for FileJournal<F> {
     ghost use Rattle.mg_journal.specs.Journal.{JournalState};
-    ghost use Rattle.mg_journal.specs.aids.Appending.{IsJournal, journal_in};
+    ghost use Rattle.mg_journal.specs.aids.Appending.{IsHashed, IsJournal, journal_in};
 
     ghost Value = { JournalState };
 
     ghost view = { λ j. journal_in (F.file j.file) j.is_broken };
 
-    ghost invariant = { λ j. IsJournal (F.file j.file) j.len j.is_broken };
+    ghost invariant = { λ j. IsJournal (F.file j.file) j.len j.is_broken
+        × IsHashed (F.file j.file) j.chain j.is_broken };
 }
 
 impl<F: JournalFile> FileJournal<F> {
-    /// Creates a journal that continues a file of complete lines.
-    pub(crate) fn new(file: F, len: u64) -> Self
+    /// Creates a journal that continues a file of complete lines, with this hash.
+    pub(crate) fn new(file: F, len: u64, chain: Chain) -> Self
         requires whole { IsJournal (F.file file) len false }
+        requires hashed { IsHashed (F.file file) chain false }
         ensures value { result ≡ journal_in (F.file file) false }
     {
         FileJournal {
@@ -41,6 +46,7 @@ impl<F: JournalFile> FileJournal<F> {
             len,
             is_broken: false,
             last_error: None,
+            chain,
         }
     }
 
@@ -70,6 +76,7 @@ impl<F: JournalFile> Journal for FileJournal<F> {
         match put_lines(lines, self.len, durability, &mut self.file) {
             Ok(()) => {
                 self.len = len;
+                self.chain.add(lines);
                 Ok(())
             }
             Err(failed) => {
@@ -79,5 +86,9 @@ impl<F: JournalFile> Journal for FileJournal<F> {
                 Err(failed.fault)
             }
         }
+    }
+
+    fn seal_end(&self) -> [u8; END] {
+        self.chain.seal_end()
     }
 }

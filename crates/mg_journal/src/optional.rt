@@ -4,6 +4,7 @@ ghost use Rattle.mg_journal.specs.Journal.{no_journal};
 use crate::append_fault::AppendFault;
 use crate::durability::Durability;
 use crate::journal::Journal;
+use mg_chain::{Chain, END};
 
 /// A journal that may be absent. If it is absent, each append fails with `Broken`.
 impl<J: Journal> Journal for Option<J> {
@@ -13,6 +14,13 @@ impl<J: Journal> Journal for Option<J> {
         match self {
             Some(journal) => journal.append(lines, durability),
             None => Err(AppendFault::Broken),
+        }
+    }
+
+    fn seal_end(&self) -> [u8; END] {
+        match self {
+            Some(journal) => journal.seal_end(),
+            None => Chain::new().seal_end(),
         }
     }
 }

@@ -1,9 +1,10 @@
 -- What the calls on a gateway's ports do to the journal.
-use Rattle.std.specs.Prelude.{◌≡◌, ◌≢◌, ◌⊎◌, ℕ, ◌≤◌, All, List, [], ◌∷◌, ◌++◌, length, codes}
+use Rattle.std.specs.Prelude.{◌≡◌, ◌≢◌, ◌⊎◌, ℕ, ◌≤◌, false, All, List, [], ◌∷◌, ◌++◌, length, codes}
 use Rattle.std.specs.Prelude.{Option, Result}
 use Rattle.mg_journal.specs.declared.append_fault.AppendFault.{AppendFault}
 use Rattle.mg_journal.specs.declared.durability.Durability.{Durability}
-use Rattle.mg_journal.specs.Journal.{JournalState, Appends}
+use Rattle.mg_chain.specs.Seals.{IsSeal, is_seal}
+use Rattle.mg_journal.specs.Journal.{JournalState, Appends, text_to_seal}
 use Rattle.mg_ports.specs.declared.call.Call.{Call}
 use Rattle.mg_ports.specs.declared.call.Call.TheVariants.{Append}
 
@@ -21,12 +22,14 @@ IsComment line =
     (text : List ℕ) × (line ≡ codes "# " ++ (text ++ codes "\n")) × (length text ≤ 1000)
     × All (λ b. b ≢ 10) text
 
--- Lines were appended, possibly preceded by a comment.
+-- Lines were appended, possibly preceded by the seal of all that the journal holds, and by another
+-- comment.
 abbrev pub AppendsDated : List ℕ → Durability → JournalState → JournalState
     → Result (Unit {0}) AppendFault → Type 0
 AppendsDated lines durability old new result =
-    (comment : List ℕ) × ((comment ≡ []) ⊎ IsComment comment)
-    × Appends (comment ++ lines) durability old new result
+    (seal comment : List ℕ) × ((seal ≡ []) ⊎ IsSeal (text_to_seal old) seal)
+    × ((comment ≡ []) ⊎ (IsComment comment × (is_seal comment ≡ false)))
+    × Appends (seal ++ (comment ++ lines)) durability old new result
 
 -- the journal after some calls: each append changed it as defined, and no other call touched it
 abbrev pub JournalAfter : List Call → JournalState → JournalState → Type 0

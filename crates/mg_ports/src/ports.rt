@@ -51,7 +51,7 @@ pub trait Ports {
         ensures journal { journal self.new ≡ journal self.old };
 
     /// Appends all of the lines to the journal or none, unless the journal breaks. The last line must end in a line
-    /// feed. A comment with the time of day may precede the lines. Fails if there is no journal.
+    /// feed. A seal and a comment with the time of day may precede the lines. Fails if there is no journal.
     fn append(&mut self, lines: &[u8], durability: Durability) -> Result<(), AppendFault>
         requires line_feed { EndsInLineFeed lines.now }
         ensures logged { Logged (calls self.old) (calls self.new) (Append lines.now durability result ∷ []) }

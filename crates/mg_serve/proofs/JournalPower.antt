@@ -99,8 +99,8 @@ append_rests (Some base) part how (Err Broken) old new rests breaks =
 calls_rest : (known : Option (List ℕ)) (calls : List Call) (old new : JournalState) → Rests known old
     → JournalAfter calls old new → Rests known new
 calls_rest known [] old new rests after = subst (λ (j : JournalState). Rests known j) (sym after) rests
-calls_rest known (Append lines how result ∷ calls) old new rests (mid, (comment, dated, appends), after) =
-    calls_rest known calls mid new (append_rests known (comment ++ lines) how result old mid rests appends) after
+calls_rest known (Append lines how result ∷ calls) old new rests (mid, (seal, comment, sealed, dated, appends), after) =
+    calls_rest known calls mid new (append_rests known (seal ++ (comment ++ lines)) how result old mid rests appends) after
 calls_rest known (Receive socket receipt ∷ calls) old new rests after = calls_rest known calls old new rests after
 calls_rest known (Send socket to bytes ∷ calls) old new rests after = calls_rest known calls old new rests after
 calls_rest known (BeginTick timing ∷ calls) old new rests after = calls_rest known calls old new rests after

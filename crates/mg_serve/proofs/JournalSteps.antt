@@ -9,7 +9,7 @@ use Rattle.mg_journal.specs.declared.append_fault.AppendFault.TheVariants.{Refus
 use Rattle.mg_journal.specs.declared.durability.Durability.{Durability}
 use Rattle.mg_journal.specs.declared.durability.Durability.TheVariants.{Synced}
 use Rattle.mg_journal.specs.Text.{whole_lines}
-use Rattle.mg_journal.specs.Journal.{JournalState, Breaks, appended, is_synced}
+use Rattle.mg_journal.specs.Journal.{text_to_seal, JournalState, Breaks, appended, is_synced}
 use Rattle.mg_words.specs.declared.peer.Peer.{Peer}
 use Rattle.mg_core.specs.declared.event.Event.{Event}
 use Rattle.mg_core.specs.declared.event.Event.TheVariants.{Control, Media, Tick}
@@ -196,34 +196,34 @@ append_holds : RecordingsAreRead → CutRecordingsAreRead → (durability how : 
     (lacking : ℕ) (lines : List ℕ) (result : Result (Unit {0}) AppendFault) (next : Progress) (old new : JournalState)
     → Holds durability told happened (Lacks lacking) old → AppendsLines durability lacking lines how result next
     → AppendsDated lines how old new result → Holds durability told happened next new
-append_holds read cut durability how told happened lacking lines (Ok done) next old new (events, tells, stands) (inl (n, left, count, are, weak, is)) (comment, dated, (works, grew)) =
-    let w = written comment lines (ticks n) dated are (fit_ticks n) in
+append_holds read cut durability how told happened lacking lines (Ok done) next old new (events, tells, stands) (inl (n, left, count, are, weak, is)) (seal, comment, sealed, dated, (works, grew)) =
+    let w = written (text_to_seal old) seal comment lines (ticks n) sealed dated are (fit_ticks n) in
     subst (λ (p : Progress). Holds durability told happened p new) (sym is)
-    (ticks_done durability how told happened events lacking left n (comment ++ lines) old new works grew tells stands count
-    (written_script read (comment ++ lines) (ticks n) w))
-append_holds read cut durability how told happened lacking lines (Err Refused) next old new holds (inl (n, left, count, are, weak, is)) (comment, dated, (works, same)) =
+    (ticks_done durability how told happened events lacking left n (seal ++ (comment ++ lines)) old new works grew tells stands count
+    (written_script read (seal ++ (comment ++ lines)) (ticks n) w))
+append_holds read cut durability how told happened lacking lines (Err Refused) next old new holds (inl (n, left, count, are, weak, is)) (seal, comment, sealed, dated, (works, same)) =
     subst (λ (p : Progress). Holds durability told happened p new) (sym is)
     (same_state durability told happened (Lacks lacking) old new same holds)
-append_holds read cut durability how told happened lacking lines (Err Broken) next old new (events, tells, stands) (inl (n, left, count, are, weak, is)) (comment, dated, breaks) =
-    let w = written comment lines (ticks n) dated are (fit_ticks n) in
+append_holds read cut durability how told happened lacking lines (Err Broken) next old new (events, tells, stands) (inl (n, left, count, are, weak, is)) (seal, comment, sealed, dated, breaks) =
+    let w = written (text_to_seal old) seal comment lines (ticks n) sealed dated are (fit_ticks n) in
     subst (λ (p : Progress). Holds durability told happened p new) (sym is)
-    (ticks_broken durability told happened events lacking left n (comment ++ lines) old new cut breaks tells
+    (ticks_broken durability told happened events lacking left n (seal ++ (comment ++ lines)) old new cut breaks tells
     old.is_broken refl stands count w)
-append_holds read cut durability how told happened lacking lines (Ok done) next old new (events, tells, stands) (inr (source, bytes, none, are, strong, is, fits)) (comment, dated, (works, grew)) =
-    let w = written comment lines (Control source bytes ∷ []) dated (are ∙ sym (one_line (Control source bytes))) (fit_message source bytes fits) in
+append_holds read cut durability how told happened lacking lines (Ok done) next old new (events, tells, stands) (inr (source, bytes, none, are, strong, is, fits)) (seal, comment, sealed, dated, (works, grew)) =
+    let w = written (text_to_seal old) seal comment lines (Control source bytes ∷ []) sealed dated (are ∙ sym (one_line (Control source bytes))) (fit_message source bytes fits) in
     subst (λ (p : Progress). Holds durability told happened p new) (sym is)
-    (message_done durability told happened events source bytes (comment ++ lines) old new works
-    (grew ∙ ap (λ (d : Durability). appended (comment ++ lines) d old) strong) tells
+    (message_done durability told happened events source bytes (seal ++ (comment ++ lines)) old new works
+    (grew ∙ ap (λ (d : Durability). appended (seal ++ (comment ++ lines)) d old) strong) tells
     (subst (λ (n : ℕ). Standing old.is_broken n happened events) none stands)
-    (written_script read (comment ++ lines) (Control source bytes ∷ []) w))
-append_holds read cut durability how told happened lacking lines (Err Refused) next old new (events, tells, stands) (inr (source, bytes, none, are, strong, is, fits)) (comment, dated, (works, same)) =
+    (written_script read (seal ++ (comment ++ lines)) (Control source bytes ∷ []) w))
+append_holds read cut durability how told happened lacking lines (Err Refused) next old new (events, tells, stands) (inr (source, bytes, none, are, strong, is, fits)) (seal, comment, sealed, dated, (works, same)) =
     subst (λ (p : Progress). Holds durability told happened p new) (sym is)
     (same_state durability told happened (Lacks 0) old new same
     (events, tells, subst (λ (n : ℕ). Standing old.is_broken n happened events) none stands))
-append_holds read cut durability how told happened lacking lines (Err Broken) next old new (events, tells, stands) (inr (source, bytes, none, are, strong, is, fits)) (comment, dated, breaks) =
-    let w = written comment lines (Control source bytes ∷ []) dated (are ∙ sym (one_line (Control source bytes))) (fit_message source bytes fits) in
+append_holds read cut durability how told happened lacking lines (Err Broken) next old new (events, tells, stands) (inr (source, bytes, none, are, strong, is, fits)) (seal, comment, sealed, dated, breaks) =
+    let w = written (text_to_seal old) seal comment lines (Control source bytes ∷ []) sealed dated (are ∙ sym (one_line (Control source bytes))) (fit_message source bytes fits) in
     subst (λ (p : Progress). Holds durability told happened p new) (sym is)
-    (message_broken durability told happened events source bytes (comment ++ lines) old new cut breaks tells
+    (message_broken durability told happened events source bytes (seal ++ (comment ++ lines)) old new cut breaks tells
     old.is_broken refl (subst (λ (n : ℕ). Standing old.is_broken n happened events) none stands) w)
 
 -- ## Other entries

@@ -1,5 +1,5 @@
 -- Journals are scripts: whole lines, one after another.
-use Rattle.std.proofs.Common.{◌≡◌, ◌⊎◌, inl, inr, ℕ, ◌==◌, Bool, true, false, ◌||◌, List, [], ◌∷◌, ◌++◌, length, map, take, drop, All, Option, Some, None, IfSome, refl, sym, ap, subst, ◌∙◌, append_assoc, append-nil, codes}
+use Rattle.std.proofs.Common.{◌≡◌, ◌≢◌, ◌≤◌, ◌⊎◌, inl, inr, ℕ, ◌==◌, Bool, true, false, ◌||◌, List, [], ◌∷◌, ◌++◌, length, map, take, drop, All, Option, Some, None, IfSome, refl, sym, ap, subst, ◌∙◌, append_assoc, append-nil, codes}
 use Rattle.std.specs.Prelude.{if◌then◌else◌, flat_map}
 use Rattle.std.proofs.lemmas.List.{take-append-drop}
 use Rattle.std.proofs.lemmas.List.Elements.{All-cons}
@@ -15,6 +15,8 @@ use Rattle.mg_core.specs.declared.event.Event.TheVariants.{Control, Media, Tick}
 use Rattle.mg_core.specs.Script.{event_of, events_of, then_all}
 use Rattle.mg_core.specs.Recording.{Entry, Happened, Noted, IsRecorded, RecordingsAreRead, CutRecordingsAreRead, datagram_text, entry_line, event_line, events_in, recording_of}
 use Rattle.mg_core.proofs.RunLemmas.{events_both}
+use Rattle.mg_chain.specs.Seals.{IsSeal, is_seal}
+use Rattle.mg_chain.proofs.SealLemmas.{seal_line, seal_text}
 use Rattle.mg_ports.specs.Journaled.{IsComment}
 use Rattle.mg_serve.specs.JournalLaws.{IsScriptOf}
 
@@ -245,20 +247,41 @@ Fit events = All IsRecorded (entries_of events)
 noted_text : (text : List ℕ) → recording_of (Noted text ∷ []) ≡ codes "# " ++ (text ++ codes "\n")
 noted_text text = append-nil (codes "# " ++ (text ++ codes "\n"))
 
-pub written : (comment lines : List ℕ) (events : List Event) → (comment ≡ []) ⊎ IsComment comment
-    → lines ≡ flat_map event_line events → Fit events → IsWritten (comment ++ lines) events
-written comment lines events (inl none) is fit = record {
+bare : (lines : List ℕ) (events : List Event) → lines ≡ flat_map event_line events → Fit events → IsWritten lines events
+bare lines events is fit = record {
   entries = entries_of events;
-  text = rw none (is ∙ sym (recording_is events));
+  text = is ∙ sym (recording_is events);
   are = events_are events;
   fit = fit;
 }
-written comment lines events (inr (text, line, short, plain)) is fit = record {
-  entries = Noted text ∷ entries_of events;
-  text = ap (λ (l : List ℕ). l ++ lines) line ∙ ap (λ (l : List ℕ). (codes "# " ++ (text ++ codes "\n")) ++ l) (is ∙ sym (recording_is events));
-  are = events_are events;
-  fit = All-cons IsRecorded (Noted text) (entries_of events) (short, plain) fit;
+
+noted : (text comment part : List ℕ) (events : List Event) → comment ≡ codes "# " ++ (text ++ codes "\n")
+    → length text ≤ 1000 → All (λ b. b ≢ 10) text → IsWritten part events → IsWritten (comment ++ part) events
+noted text comment part events line short plain w = record {
+  entries = Noted text ∷ w.entries;
+  text = ap (λ (l : List ℕ). l ++ part) line ∙ ap (λ (l : List ℕ). (codes "# " ++ (text ++ codes "\n")) ++ l) w.text;
+  are = w.are;
+  fit = All-cons IsRecorded (Noted text) w.entries (short, plain) w.fit;
 }
+
+commented : (comment part : List ℕ) (events : List Event)
+    → (comment ≡ []) ⊎ (IsComment comment × (is_seal comment ≡ false)) → IsWritten part events
+    → IsWritten (comment ++ part) events
+commented comment part events (inl none) w = subst (λ (l : List ℕ). IsWritten (l ++ part) events) (sym none) w
+commented comment part events (inr ((text, line, short, plain), other)) w = noted text comment part events line short plain w
+
+sealed : (known : Option (List ℕ)) (seal part : List ℕ) (events : List Event) → (seal ≡ []) ⊎ IsSeal known seal
+    → IsWritten part events → IsWritten (seal ++ part) events
+sealed known seal part events (inl none) w = subst (λ (l : List ℕ). IsWritten (l ++ part) events) (sym none) w
+sealed known seal part events (inr (text, line, is)) w =
+    let comment = seal_line text in
+    noted (seal_text text) seal part events (line ∙ comment.0) comment.1 comment.2 w
+
+pub written : (known : Option (List ℕ)) (seal comment lines : List ℕ) (events : List Event)
+    → (seal ≡ []) ⊎ IsSeal known seal → (comment ≡ []) ⊎ (IsComment comment × (is_seal comment ≡ false))
+    → lines ≡ flat_map event_line events → Fit events → IsWritten (seal ++ (comment ++ lines)) events
+written known seal comment lines events seals dated is fit =
+    sealed known seal (comment ++ lines) events seals (commented comment lines events dated (bare lines events is fit))
 
 -- all of it tells its events
 pub written_script : RecordingsAreRead → (part : List ℕ) (events : List Event) → IsWritten part events → IsScriptOf part events

@@ -2,6 +2,8 @@
 use Rattle.std.specs.Prelude.{◌≡◌, ℕ, ◌≤◌, Bool, true, false, List, length, take, Result, Ok, Err}
 use Rattle.std.specs.Prelude.{IfSome, if◌then◌else◌}
 use Rattle.std.specs.Option.{option_map}
+use Rattle.sha2.specs.declared.Sha256.{Sha256}
+use Rattle.sha2.specs.Hashers.{Holds256}
 use Rattle.mg_journal.specs.declared.append_fault.AppendFault.{AppendFault}
 use Rattle.mg_journal.specs.declared.append_fault.AppendFault.TheVariants.{Refused, Broken}
 use Rattle.mg_journal.specs.declared.durability.Durability.{Durability}
@@ -25,6 +27,11 @@ IsJournal file len true = Unit {0}
 IsJournal file len false =
     IfSome file.bytes (λ bytes. IsWhole bytes × (length bytes ≡ len))
     × IfSome file.synced (λ bytes. length bytes ≤ len)
+
+-- Unless the journal is broken, this hash is that of the bytes in its file.
+abbrev pub IsHashed : FileState → Sha256 → Bool → Type 0
+IsHashed file hasher true = Unit {0}
+IsHashed file hasher false = IfSome file.bytes (λ bytes. Holds256 hasher bytes)
 
 -- a whole text was written, or only a prefix of it
 abbrev pub Writes : {E : Type 0} → List ℕ → FileState → FileState → Result (Unit {0}) E → Type 0

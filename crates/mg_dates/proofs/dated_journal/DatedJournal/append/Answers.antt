@@ -8,9 +8,9 @@ pub returns-then-is_ok : goal.returns-then-is_ok
 returns-then-is_ok g c = record {
   value = subst (λ (j : JournalState). AppendsDated c.args.lines.now c.args.durability j
       (g.J.Journal.journal c.append-result.new.self) c.append-result.result) c.self.view_is
-      (dates c.in-Some-of.text c.args.lines.now c.as_slice-2.result.now c.args.durability
+      (dates c.start_text.new.text.text c.in-Some-of.text c.args.lines.now c.as_slice-2.result.now c.args.durability
       (g.J.Journal.journal c.self.inside.journal) (g.J.Journal.journal c.append-result.new.self) c.append-result.result
-      c.as_slice.ensures.short
+      c.start_text.ensures.seal c.as_slice.ensures.short
       (rw (
         c.as_slice-2.ensures.value,
         c.push-4.ensures.value,
@@ -18,7 +18,6 @@ returns-then-is_ok g c = record {
         c.push-2.ensures.value,
         c.as_slice.ensures.value,
         c.push.ensures.value,
-        c.clear.ensures.value,
       ) refl) c.append-result.ensures.value);
 }
 
@@ -26,9 +25,9 @@ pub returns-else-is_ok : goal.returns-else-is_ok
 returns-else-is_ok g c = record {
   value = subst (λ (j : JournalState). AppendsDated c.args.lines.now c.args.durability j
       (g.J.Journal.journal c.append-result.new.self) c.append-result.result) c.self.view_is
-      (dates c.in-Some-of.text c.args.lines.now c.as_slice-2.result.now c.args.durability
+      (dates c.start_text.new.text.text c.in-Some-of.text c.args.lines.now c.as_slice-2.result.now c.args.durability
       (g.J.Journal.journal c.self.inside.journal) (g.J.Journal.journal c.append-result.new.self) c.append-result.result
-      c.as_slice.ensures.short
+      c.start_text.ensures.seal c.as_slice.ensures.short
       (rw (
         c.as_slice-2.ensures.value,
         c.push-4.ensures.value,
@@ -36,6 +35,5 @@ returns-else-is_ok g c = record {
         c.push-2.ensures.value,
         c.as_slice.ensures.value,
         c.push.ensures.value,
-        c.clear.ensures.value,
       ) refl) c.append-result.ensures.value);
 }

@@ -1,2 +1,3 @@
 mod ReportLemmas
 mod SealedLemmas
+mod LawLemmas

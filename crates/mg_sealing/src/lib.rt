@@ -11,6 +11,7 @@
 
 mod report;
 mod sealing;
+pub mod theorems;
 mod verifying;
 
 pub use crate::sealing::seal;

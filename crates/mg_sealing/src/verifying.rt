@@ -4,6 +4,7 @@ ghost use Rattle.mg_sealing.specs.Report.{answer};
 ghost use Rattle.mg_sealing.specs.Verify.{IsVerified, Verifies};
 
 use crate::report::report;
+use crate::theorems::changes_show;
 use mg_chain::{Seals, read_seals};
 use mg_options::Status;
 use std::alloc::Global;
@@ -54,6 +55,7 @@ fn verify_text<R: Read, W: Write, E: Write>(
     ensures value { Verifies (IsVerified (R.remaining reader.old) (W.contents output.old) (W.contents output.new)
         result) (errors.new ≡ errors.old) result }
 {
+    changes_show();
     let seals = match seals_in(alloc, reader) {
         Ok(seals) => seals,
         Err(error) => {

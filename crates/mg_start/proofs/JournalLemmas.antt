@@ -1,5 +1,5 @@
 -- What a gateway appends to its journal before it starts.
-use Rattle.std.proofs.Common.{◌≡◌, ℕ, ◌+◌, ◌-◌, ◌≤◌, List, [], ◌∷◌, ◌++◌, codes, false, replicate, Option, Some, None, refl, sym, ap, subst, ◌∙◌, append_assoc, append-nil, arith, IsSome, Result, Ok, Err, is_err, is_some, OnOk}
+use Rattle.std.proofs.Common.{◌≡◌, ℕ, ne_eqb, ◌+◌, ◌-◌, ◌<◌, ◌≤◌, decimal, List, [], ◌∷◌, ◌++◌, codes, false, replicate, Option, Some, None, refl, sym, ap, subst, ◌∙◌, append_assoc, append-nil, arith, IsSome, Result, Ok, Err, is_err, is_some, OnOk}
 use Rattle.std.specs.Prelude.{flat_map}
 use Rattle.std.proofs.lemmas.List.{replicate-append-replicate}
 use Rattle.std.proofs.lemmas.List.Concat.{flat_map-append}
@@ -15,7 +15,7 @@ use Rattle.mg_journal.specs.declared.durability.Durability.{Durability}
 use Rattle.mg_journal.specs.Journal.{JournalState, Appends, appended}
 use Rattle.mg_journal.specs.Text.{EndsInLineFeed}
 use Rattle.mg_journal.proofs.TextLemmas.{ends_line}
-use Rattle.mg_start.specs.Journal.{Begins, title_before}
+use Rattle.mg_start.specs.Journal.{Begins, missed_comment, missed_lines, title_before}
 use Rattle.mg_arguments.specs.Title.{title_line}
 use Rattle.mg_arguments.specs.Title.{title_text}
 use Rattle.mg_serve.specs.Journaled.{tick_lines}
@@ -52,15 +52,15 @@ ticks_more all left batch old mid new some few is more =
 -- the journal with its title, and then with the ticks
 begins : (title : List ℕ) (missed : ℕ) (found : Option (List ℕ)) (titled last : JournalState)
     → titled.is_broken ≡ false → titled.text ≡ append_known found title
-    → last ≡ appended (tick_lines missed) Written titled → Begins title missed found last
+    → last ≡ appended (missed_lines missed) Written titled → Begins title missed found last
 begins title missed found titled last works text is = record {
   works = ap (λ (j : JournalState). j.is_broken) is ∙ works;
-  text = ap (λ (j : JournalState). j.text) is ∙ ap (λ (t : Option (List ℕ)). append_known t (tick_lines missed)) text;
+  text = ap (λ (j : JournalState). j.text) is ∙ ap (λ (t : Option (List ℕ)). append_known t (missed_lines missed)) text;
 }
 
 pub new_begins : (timeline : Option Timeline) (config : Config) (missed : ℕ) (found : Option (List ℕ))
     (first titled last : JournalState) → is_some timeline ≡ false → first.is_broken ≡ false → first.text ≡ found
-    → titled ≡ appended (title_line config) Synced first → last ≡ appended (tick_lines missed) Written titled
+    → titled ≡ appended (title_line config) Synced first → last ≡ appended (missed_lines missed) Written titled
     → Begins (title_before timeline config) missed found last
 new_begins None config missed found first titled last none works text is more =
     begins (title_line config) missed found titled last (ap (λ (j : JournalState). j.is_broken) is ∙ works)
@@ -69,7 +69,7 @@ new_begins (Some timeline) config missed found first titled last none works text
 
 pub old_begins : (timeline : Option Timeline) (config : Config) (missed : ℕ) (found : Option (List ℕ))
     (first last : JournalState) → IsSome timeline → first.is_broken ≡ false → first.text ≡ found
-    → last ≡ appended (tick_lines missed) Written first → Begins (title_before timeline config) missed found last
+    → last ≡ appended (missed_lines missed) Written first → Begins (title_before timeline config) missed found last
 old_begins None config missed found first last some works text more = absurd cc
 old_begins (Some timeline) config missed found first last some works text more =
     begins [] missed found first last works (text ∙ sym (known_none found)) more
@@ -82,7 +82,7 @@ pub title_feed : (config : Config) → EndsInLineFeed (title_line config)
 title_feed config = feed_after (codes "# ") (title_text config)
 
 pub ticks_done : (result : Result (Unit {0}) AppendFault) (missed : ℕ) (old new : JournalState) → is_err result ≡ false
-    → OnOk result (new ≡ appended (tick_lines missed) Written old) → new ≡ appended (tick_lines missed) Written old
+    → OnOk result (new ≡ appended (missed_lines missed) Written old) → new ≡ appended (missed_lines missed) Written old
 ticks_done (Ok done) missed old new ok value = value
 ticks_done (Err fault) missed old new ok value = absurd cc
 
@@ -91,3 +91,24 @@ pub append_done : (result : Result (Unit {0}) AppendFault) (lines : List ℕ) (d
     → new ≡ appended lines durability old
 append_done (Ok done) lines durability old new ok value = value.1
 append_done (Err fault) lines durability old new ok value = absurd cc
+
+-- the comment, and then the ticks
+pub marked : (result : Result (Unit {0}) AppendFault) (missed : ℕ) (old mid new : JournalState)
+    → mid ≡ appended (missed_comment missed) Written old → OnOk result (new ≡ appended (tick_lines missed) Written mid)
+    → OnOk result (new ≡ appended (missed_lines missed) Written old)
+marked (Ok done) missed old mid new comment ticks =
+    ticks ∙ (ap (λ (j : JournalState). appended (tick_lines missed) Written j) comment
+    ∙ ap (λ (text : Option (List ℕ)). record old { text = text })
+    (known_both old.text (missed_comment missed) (tick_lines missed)))
+marked (Err fault) missed old mid new comment ticks = tt
+
+-- the comment is a whole line
+pub comment_feed : (missed : ℕ) → 0 < missed → EndsInLineFeed (missed_comment missed)
+comment_feed missed some =
+    rw (ne_eqb missed 0 (λ e. omega (arith, some, e)))
+    (subst EndsInLineFeed (ap (λ (l : List ℕ). codes "# missed " ++ l) (append_assoc (decimal missed) (codes " ticks") (codes "\n")))
+    (feed_after (codes "# missed ") (decimal missed ++ codes " ticks")))
+
+-- no tick was missed
+pub none_missed : (missed : ℕ) (old : JournalState) → missed ≡ 0 → old ≡ appended (missed_lines missed) Written old
+none_missed missed old none = rw none (no_ticks old)

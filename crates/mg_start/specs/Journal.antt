@@ -1,5 +1,6 @@
 -- What a gateway finds in its journal, and what it appends to it before it starts.
-use Rattle.std.specs.Prelude.{◌≡◌, ◌≢◌, ℕ, false, List, [], Option, Some, None, IfSome}
+use Rattle.std.specs.Prelude.{◌≡◌, ◌≢◌, ◌==◌, ℕ, false, List, [], ◌++◌, codes, decimal, Option, Some, None}
+use Rattle.std.specs.Prelude.{IfSome, if◌then◌else◌}
 use Rattle.std.specs.Io.KnownBytes.{append_known}
 use Rattle.mg_dates.specs.declared.timeline.Timeline.{Timeline}
 use Rattle.mg_engine.specs.declared.config.Config.{Config}
@@ -19,14 +20,23 @@ abbrev pub title_before : Option Timeline → Config → List ℕ
 title_before None config = title_line config
 title_before (Some timeline) config = []
 
+-- the comment about ticks that were missed, if there are any
+abbrev pub missed_comment : ℕ → List ℕ
+missed_comment ticks =
+    if ticks == 0 then [] else codes "# missed " ++ (decimal ticks ++ codes " ticks\n")
+
+-- ticks that were missed, after a comment that says how many
+abbrev pub missed_lines : ℕ → List ℕ
+missed_lines ticks = missed_comment ticks ++ tick_lines ticks
+
 -- this many ticks have passed
 abbrev pub PassesTicks : ℕ → CoreState → CoreState → Type 0
 PassesTicks ticks old new =
     (w : World) → StandsFor old w → StandsFor new (world_after_ticks ticks w)
 
 -- A journal that works, and whose text, if it is known, is the text that was found, then the title,
--- then lines for this many ticks.
+-- then lines for this many missed ticks.
 pub record Begins (title : List ℕ) (ticks : ℕ) (found : Option (List ℕ)) (journal : JournalState)
     : Type 0 where
   pub works : journal.is_broken ≡ false
-  pub text : journal.text ≡ append_known (append_known found title) (tick_lines ticks)
+  pub text : journal.text ≡ append_known (append_known found title) (missed_lines ticks)

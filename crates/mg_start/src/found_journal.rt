@@ -1,12 +1,13 @@
 ghost use Rattle.std.specs.Prelude.{◌≡◌, ◌<◌, ◌≤◌, ◌+◌, ◌++◌, ℕ, length, IfOk, OnOk};
 ghost use Rattle.mg_journal.specs.Journal.{Appends, appended};
 ghost use Rattle.mg_journal.specs.Opening.{text_in};
-ghost use Rattle.mg_start.specs.Journal.{Begins, PassesTicks, title_before};
+ghost use Rattle.mg_start.specs.Journal.{Begins, PassesTicks, missed_comment, missed_lines, title_before};
 ghost use Rattle.mg_arguments.specs.Title.{title_line};
 ghost use Rattle.mg_serve.specs.Journaled.{tick_lines};
 
 use crate::journal_fault::JournalFault;
 use arrayvec::ArrayVec;
+use itoa::Buffer;
 use mg_arguments::{TITLE_LIMIT, title_of};
 use mg_core::{Config, Core};
 use mg_dates::{Date, DatedJournal, Timeline};
@@ -89,6 +90,48 @@ fn append_ticks<J: Journal>(ticks: u64, journal: &mut J) -> Result<(), AppendFau
     Ok(())
 }
 
+/// The maximum length of a comment about missed ticks, in bytes.
+const MISSED_ROOM: usize = 36;
+
+/// A comment about missed ticks, with its line feed.
+type MissedLine = ArrayVec<u8, MISSED_ROOM>;
+
+/// Returns the comment about missed ticks.
+fn missed_line(ticks: u64) -> MissedLine
+    requires some { 0 < ticks }
+    ensures value { result.items ≡ missed_comment ticks }
+{
+    let mut buffer = Buffer::new();
+    let mut line = MissedLine::new();
+    let _ = line.try_extend_from_slice(b"# missed ");
+    let _ = line.try_extend_from_slice(buffer.format(ticks).as_bytes());
+    let _ = line.try_extend_from_slice(b" ticks\n");
+    line
+}
+
+/// Appends the comment about missed ticks.
+fn append_comment<J: Journal>(ticks: u64, journal: &mut J) -> Result<(), AppendFault>
+    requires some { 0 < ticks }
+    ensures value { Appends (missed_comment ticks) Durability.Written (J.journal journal.old) (J.journal journal.new)
+        result }
+{
+    journal.append(missed_line(ticks).as_slice(), Durability::Written)
+}
+
+/// Appends ticks that were missed, after a comment that says how many.
+fn append_missed<J: Journal>(ticks: u64, journal: &mut J) -> Result<(), AppendFault>
+    ensures value { OnOk result (J.journal journal.new ≡ appended (missed_lines ticks) Durability.Written
+        (J.journal journal.old)) }
+{
+    if ticks == 0 {
+        return Ok(());
+    }
+    if let Err(fault) = append_comment(ticks, journal) {
+        return Err(fault);
+    }
+    append_ticks(ticks, journal)
+}
+
 /// Returns the fault for a failed append.
 fn write_fault<F: JournalFile>(journal: &FileJournal<F>) -> JournalFault {
     let kind = match journal.last_error() {
@@ -110,7 +153,8 @@ impl<F: JournalFile> FoundJournal<F> {
         }
     }
 
-    /// Starts appending to the journal. Skips the ticks that the gateway missed, and appends them to the journal.
+    /// Starts appending to the journal. Skips the ticks that the gateway missed, and appends them to the journal, after
+    /// a comment that says how many.
     pub fn begin<'a, C: Clock>(
         self,
         alloc: Global,
@@ -134,7 +178,7 @@ impl<F: JournalFile> FoundJournal<F> {
         if is_new && append_title(config, &mut journal).is_err() {
             return Err(write_fault(&journal));
         }
-        if append_ticks(missed, &mut journal).is_err() {
+        if append_missed(missed, &mut journal).is_err() {
             return Err(write_fault(&journal));
         }
         match DatedJournal::new(alloc, journal, clock) {

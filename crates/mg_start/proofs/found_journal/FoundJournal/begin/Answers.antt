@@ -3,7 +3,7 @@ use Rattle.mg_journal.specs.declared.durability.Durability.TheVariants.{Written,
 use Rattle.mg_journal.specs.Journal.{JournalState, appended}
 use Rattle.mg_journal.specs.Opening.{text_in}
 use Rattle.mg_arguments.specs.Title.{title_line}
-use Rattle.mg_serve.specs.Journaled.{tick_lines}
+use Rattle.mg_start.specs.Journal.{missed_lines}
 use Rattle.mg_start.proofs.JournalLemmas.{append_done, ticks_done, new_begins, old_begins}
 use Rattle.mg_start.proofs.found_journal.FoundJournal.begin.Goals.{else-is_new-via-then-is_new+else-is_err, else-is_new-via-else-is_new}
 use Rattle.mg_start.proofs.found_journal.FoundJournal.begin.Goals as goal
@@ -17,9 +17,9 @@ returns-in-Ok-new g c =
     let first = c.in-Ok.journal in
     let titled = c.else-is_new.journal in
     let last = c.in-Ok-new.dated in
-    let ok : is_err c.append_ticks.result ≡ false = sym c.is_err-2.ensures.value ∙ c.if-is_err-2.false in
-    let more : last ≡ appended (tick_lines missed) Written titled =
-    c.in-Ok-new.ensures.value ∙ ticks_done c.append_ticks.result missed titled c.append_ticks.new.journal ok c.append_ticks.ensures.value in
+    let ok : is_err c.append_missed.result ≡ false = sym c.is_err-2.ensures.value ∙ c.if-is_err-2.false in
+    let more : last ≡ appended (missed_lines missed) Written titled =
+    c.in-Ok-new.ensures.value ∙ ticks_done c.append_missed.result missed titled c.append_missed.new.journal ok c.append_missed.ensures.value in
     record {
       passed = (
         missed,
@@ -32,7 +32,7 @@ returns-in-Ok-new g c =
               w.append_title.new.journal done w.append_title.ensures.value) more
           | else-is_new-via-else-is_new w ↦
               old_begins timeline config missed found first last w.if-is_new.ensures c.in-Ok.ensures.works
-              c.in-Ok.ensures.text (more ∙ ap (λ (j : JournalState). appended (tick_lines missed) Written j) w.journal-is)
+              c.in-Ok.ensures.text (more ∙ ap (λ (j : JournalState). appended (missed_lines missed) Written j) w.journal-is)
         ],
       );
     }

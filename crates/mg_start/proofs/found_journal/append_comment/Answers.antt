@@ -1,0 +1,20 @@
+use Rattle.std.proofs.Common.{◌≡◌, ℕ, List, sym, subst, ◌∙◌}
+use Rattle.mg_journal.specs.declared.durability.Durability.TheVariants.{Written}
+use Rattle.mg_journal.specs.Journal.{Appends}
+use Rattle.mg_journal.specs.Text.{EndsInLineFeed}
+use Rattle.mg_start.specs.Journal.{missed_comment}
+use Rattle.mg_start.proofs.JournalLemmas.{comment_feed}
+use Rattle.mg_start.proofs.found_journal.append_comment.Goals as goal
+
+pub append-requires : goal.append-requires
+append-requires g c =
+    let line : c.as_slice.result.now ≡ missed_comment c.args.ticks = c.as_slice.ensures.value ∙ c.missed_line.ensures.value in
+    record { line_feed = subst EndsInLineFeed (sym line) (comment_feed c.args.ticks c.requires.some) }
+
+pub returns : goal.returns
+returns g c =
+    let line : c.as_slice.result.now ≡ missed_comment c.args.ticks = c.as_slice.ensures.value ∙ c.missed_line.ensures.value in
+    record {
+      value = subst (λ (l : List ℕ). Appends l Written (g.J.Journal.journal c.args.journal.now)
+          (g.J.Journal.journal c.append.new.self) c.append.result) line c.append.ensures.value;
+    }

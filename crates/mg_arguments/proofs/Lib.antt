@@ -3,3 +3,4 @@ pub mod InvocationLemmas
 pub mod RequestedRows
 pub mod ControllerLemmas
 pub mod HeardOptionLemmas
+pub mod SealingOptionLemmas

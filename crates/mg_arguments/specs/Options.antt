@@ -31,7 +31,7 @@ use Rattle.mg_arguments.specs.declared.draws.Draws.{Draws}
 use Rattle.mg_arguments.specs.declared.given.Given.{Given}
 use Rattle.mg_arguments.specs.declared.invocation.Invocation.{Invocation}
 use Rattle.mg_arguments.specs.declared.invocation.Invocation.TheVariants.{Replay, Serve, Live, Check}
-use Rattle.mg_arguments.specs.declared.invocation.Invocation.TheVariants.{Heard}
+use Rattle.mg_arguments.specs.declared.invocation.Invocation.TheVariants.{Heard, Verify, Seal}
 use Rattle.mg_arguments.specs.declared.service.Service.{Service}
 use Rattle.mg_arguments.specs.declared.controller_fault.ControllerFault.{ControllerFault}
 use Rattle.mg_arguments.specs.declared.bind_address_fault.BindAddressFault.{BindAddressFault}
@@ -94,6 +94,14 @@ heard_line = fold with_rule (new_app (codes "heard"))
     (script_rule ∷ text_rule (codes "listener") ∷ text_rule (codes "talker") ∷ text_rule (codes "at")
     ∷ text_rule (codes "from") ∷ text_rule (codes "to") ∷ text_rule (codes "format") ∷ [])
 
+-- the subcommand that checks seals
+abbrev pub verify_line : App
+verify_line = with_rule (new_app (codes "verify")) script_rule
+
+-- the subcommand that adds seals to a recording
+abbrev pub seal_line : App
+seal_line = new_app (codes "seal")
+
 -- the subcommand that is driven by a clock
 abbrev pub live_line : App
 live_line =
@@ -104,9 +112,9 @@ live_line =
 unfoldable pub command_line : App
 command_line =
     with_subcommand (with_subcommand (with_subcommand (with_subcommand (with_subcommand
-    (on_top (λ top. record top { subcommand_required = true }) (program_line (codes "mg_bridge")))
+    (with_subcommand (with_subcommand (on_top (λ top. record top { subcommand_required = true }) (program_line (codes "mg_bridge")))
     replay_line.top) (sockets_line (codes "serve")).top) live_line.top) check_line.top)
-    heard_line.top
+    heard_line.top) verify_line.top) seal_line.top
 
 -- ## The values of the options
 
@@ -272,11 +280,19 @@ heard_in found = do
     at = time;
   }))
 
+-- the check of the seals in a file, or in the input
+abbrev pub verify_in : List Row → Result Invocation Kinds
+verify_in found = do
+  file ← valid (file_in (codes "file") found)
+  Ok (Verify file)
+
 -- what a subcommand with these options and arguments asks for
 abbrev pub run_in : Text → List Row → Result Invocation Kinds
 run_in name found =
     if bytes_eq name (codes "check") then check_in found
-    else (if bytes_eq name (codes "heard") then heard_in found else gateway_in name found)
+    else (if bytes_eq name (codes "heard") then heard_in found
+    else (if bytes_eq name (codes "verify") then verify_in found
+    else (if bytes_eq name (codes "seal") then Ok Seal else gateway_in name found)))
 
 -- A run of a subcommand, or none. There is none if the parser reports an error, or if a text isn't
 -- an address of the kind that its option takes.

@@ -39,7 +39,7 @@ fn option<'a>(alloc: Global, name: &'a str, value: &'a str) -> Arg<'a>
 }
 
 /// Creates the argument that names a script.
-fn script_argument<'a>(alloc: Global) -> Arg<'a>
+pub(crate) fn script_argument<'a>(alloc: Global) -> Arg<'a>
     ensures rule { rule_of result ≡ script_rule }
 {
     Arg::new(alloc, "file")

@@ -1,4 +1,5 @@
 use crate::draws::Draws;
+use crate::file_path::FilePath;
 use crate::heard_request::HeardRequest;
 use crate::service::Service;
 use mg_core::{Config, Peer, Shown};
@@ -18,4 +19,8 @@ pub enum Invocation {
     Check(Peer),
     /// Say who could hear whom while a script ran.
     Heard(HeardRequest),
+    /// Say whether the seals in a file are right, or those in the input if there is no file.
+    Verify(Option<FilePath>),
+    /// Copy the input to the output, with seals.
+    Seal,
 }

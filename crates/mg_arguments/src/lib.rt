@@ -32,6 +32,7 @@ mod heard_options;
 mod heard_request;
 mod invocation;
 mod options;
+mod sealing_options;
 mod service;
 mod title;
 mod title_reading;

@@ -18,6 +18,7 @@ use crate::file_path_fault::FilePathFault;
 use crate::given::Given;
 use crate::heard_options::{heard_command, heard_in};
 use crate::invocation::Invocation;
+use crate::sealing_options::{seal_command, verify_command, verify_in};
 use crate::service::Service;
 use clap::error::ErrorKind;
 use clap::{Arg, ArgAction, ArgMatches, Command, Error};
@@ -203,7 +204,9 @@ fn command<'a>(alloc: Global) -> Result<Command<'a>, Error>
         .subcommand(serve)?
         .subcommand(live(alloc)?)?
         .subcommand(check(alloc)?)?
-        .subcommand(heard_command(alloc)?)?;
+        .subcommand(heard_command(alloc)?)?
+        .subcommand(verify_command(alloc)?)?
+        .subcommand(seal_command(alloc))?;
     Ok(command)
 }
 
@@ -468,6 +471,10 @@ fn run_in(name: &str, matches: &ArgMatches<'_>) -> Result<Invocation, &'static s
         check_in(matches)
     } else if name == "heard" {
         heard_in(matches)
+    } else if name == "verify" {
+        verify_in(matches)
+    } else if name == "seal" {
+        Ok(Invocation::Seal)
     } else {
         gateway_in(name, matches)
     }

@@ -5,7 +5,7 @@ ghost use Rattle.mg_options.specs.Status.{code_of};
 #[derive(Clone, Copy, Debug, PartialEq, Eq)]
 pub enum Status {
     Done,
-    /// A script line is invalid.
+    /// A script line is invalid, or a seal is wrong.
     BadLine,
     /// The arguments or a configuration are invalid.
     Usage,
@@ -13,7 +13,7 @@ pub enum Status {
     NoAnswer,
     /// A talker could not be heard at the given time.
     CouldNotHear,
-    /// A script doesn't say who could be heard at the given time.
+    /// A script doesn't say who could be heard at the given time, or has no seals.
     Unknown,
     /// A read, a write or the clock failed.
     Failed,

@@ -3,3 +3,4 @@ pub mod Replay
 pub mod Readiness
 pub mod Serve
 pub mod Program
+pub mod Verify

@@ -4,10 +4,13 @@ use Rattle.mg_options.specs.declared.status.Status.{Status}
 use Rattle.mg_options.specs.declared.status.Status.TheVariants.{Done, Failed, NoAnswer}
 use Rattle.mg_arguments.specs.declared.invocation.Invocation.{Invocation}
 use Rattle.mg_arguments.specs.declared.invocation.Invocation.TheVariants.{Replay, Serve, Live, Check}
-use Rattle.mg_arguments.specs.declared.invocation.Invocation.TheVariants.{Heard}
+use Rattle.mg_arguments.specs.declared.invocation.Invocation.TheVariants.{Heard, Verify, Seal}
 use Rattle.mg_hearing.specs.Heard.{Hears, IsHeardFrom}
+use Rattle.mg_sealing.specs.Seal.{SealsInput}
+use Rattle.mg_sealing.specs.Verify.{Verifies}
 use Rattle.mg_program.specs.Replay.{Replays}
 use Rattle.mg_program.specs.Serve.{Serves, ServesByClock}
+use Rattle.mg_program.specs.Verify.{IsVerifiedFrom}
 
 -- a gateway was asked whether it answers; if it doesn't, nothing is printed
 abbrev pub Checks : {W : Type 0} → W → W → Status → Type 0
@@ -31,3 +34,8 @@ Runs remaining contents silent input rest old new (Check gateway) status =
 Runs remaining contents silent input rest old new (Heard request) status =
     (IsSome request.file → rest ≡ input)
     × Hears (IsHeardFrom request (remaining input) (contents old) (contents new) status) silent status
+Runs remaining contents silent input rest old new (Verify file) status =
+    (IsSome file → rest ≡ input)
+    × Verifies (IsVerifiedFrom file (remaining input) (contents old) (contents new) status) silent status
+Runs remaining contents silent input rest old new Seal status =
+    SealsInput (remaining input) (contents old) (contents new) silent status

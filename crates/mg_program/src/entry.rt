@@ -8,9 +8,11 @@ use crate::live::live;
 use crate::replay::replay;
 use crate::serve::serve;
 use crate::system::System;
+use crate::verify::verify;
 use mg_arguments::{Invocation, requested_run};
 use mg_hearing::heard;
 use mg_options::{Status, report_error};
+use mg_sealing::seal;
 use std::alloc::Global;
 use std::convert::AsStr;
 use std::fs::Files;
@@ -26,8 +28,8 @@ use std::time::Clock;
 /// no random numbers. It is 4 if memory ran out, 5 for a port that can't be bound, and 6 for a journal that can't be
 /// used. If the status is nonzero, an error message goes to `errors`. A gateway's periodic reports go to `reports`.
 ///
-/// For a question about a given time, 1 means that the talker could not be heard, and 2 that the script doesn't say;
-/// there is no message then.
+/// For a question about a given time, 1 means that the talker could not be heard, and 2 that the script doesn't say.
+/// For a check of seals, 1 means that a text was changed, and 2 that it has no seals. There is no message then.
 pub fn program<
     'a,
     N: Net,
@@ -72,6 +74,10 @@ pub fn program<
         Ok(Invocation::Heard(request)) => {
             heard(system.files, alloc, &request, input, output, errors)
         }
+        Ok(Invocation::Verify(file)) => {
+            verify(system.files, alloc, &file, input, output, errors)
+        }
+        Ok(Invocation::Seal) => seal(alloc, input, output, errors),
         Ok(Invocation::Check(gateway)) => check(system.net, system.clock, gateway, output, errors),
         Err(error) => report_error(&error, Status::Failed, output, errors),
     };

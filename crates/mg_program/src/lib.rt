@@ -31,6 +31,7 @@ mod status;
 mod system;
 mod udp_ports;
 mod unsent;
+mod verify;
 
 pub use crate::bind_fault::BindFault;
 pub use crate::entry::program;

@@ -1,7 +1,7 @@
 use Rattle.std.proofs.Common.{◌≡◌, ◌∙◌, true, ap, refl, codes}
 use Rattle.clap.specs.Words.{Shape}
 use Rattle.clap.specs.Simple.{app_of_fields, on_top}
-use Rattle.mg_arguments.specs.Options.{check_line, command_line, heard_line, live_line, options, replay_line, sockets_line}
+use Rattle.mg_arguments.specs.Options.{check_line, command_line, heard_line, live_line, options, replay_line, seal_line, sockets_line, verify_line}
 use Rattle.mg_options.proofs.CommandLemmas.{adds_subcommand}
 use Rattle.mg_arguments.proofs.options.command.Goals as goal
 
@@ -23,6 +23,12 @@ check_is_plain = refl
 heard_is_plain : heard_line.top.is_plain ≡ true
 heard_is_plain = refl
 
+verify_is_plain : verify_line.top.is_plain ≡ true
+verify_is_plain = refl
+
+seal_is_plain : seal_line.top.is_plain ≡ true
+seal_is_plain = refl
+
 pub returns-clause-app : goal.returns-clause-app
 unfolding command_line
 returns-clause-app c =
@@ -35,4 +41,8 @@ returns-clause-app c =
     let live = adds_subcommand _ _ _ _ _ c.in_ok-subcommand-3.ensures serve c.in_ok-live.ensures.app live_is_plain in
     let check = adds_subcommand _ _ _ _ _ c.in_ok-subcommand-4.ensures live c.in_ok-check.ensures.app check_is_plain
     in
-    adds_subcommand _ _ _ _ _ c.in_ok-command.ensures check c.in_ok-heard_command.ensures.app heard_is_plain
+    let heard = adds_subcommand _ _ _ _ _ c.in_ok-subcommand-5.ensures check c.in_ok-heard_command.ensures.app
+    heard_is_plain in
+    let verify = adds_subcommand _ _ _ _ _ c.in_ok-subcommand-6.ensures heard c.in_ok-verify_command.ensures.app
+    verify_is_plain in
+    adds_subcommand _ _ _ _ _ c.in_ok-command.ensures verify c.seal_command.ensures.app seal_is_plain

@@ -52,7 +52,7 @@ class Help:
     def __init__(self, name):
         text = (ROOT / "docs/help" / f"{name}.txt").read_text()
         self.summary = text.partition("\n")[0]
-        self.usage = re.search(r"^Usage: \S+ (.*)$", text, re.M).group(1)
+        self.usage = re.search(r"^Usage: \S+ ?(.*)$", text, re.M).group(1)
         self.commands = sorted(set(re.findall(r"^  (\w+)  +\S", text, re.M)) - {"help"})
         # Each option: its short form, its long form, what its value is, and the text.
         self.options = re.findall(r"^ +(?:(-\w), )?(--[\w-]+)(?: <(\w+)>)?  +(\S.*)$", text, re.M)

@@ -1,5 +1,6 @@
 """The stored scripts, and the output that is stored beside each."""
 from programs import ROOT, Commands
+from seals import sealed
 
 # How a script is run, by the ending of its output's name.
 COMMANDS = {".out": ["replay"], ".flows": ["replay", "--flows"], ".heard": ["heard"]}
@@ -13,3 +14,8 @@ class Examples(Commands):
             self.assertTrue(stored, script)
             for ending, output in stored.items():
                 self.ends(0, output.read_text(), "", *COMMANDS[ending], text=script.read_text())
+
+    def test_seals_change_no_output(self):
+        for output in sorted((ROOT / "examples").rglob("*.out")):
+            script = output.with_suffix(".txt").read_text()
+            self.ends(0, output.read_text(), "", "replay", text=sealed(script, minute=5))

@@ -7,6 +7,7 @@ from pathlib import Path
 
 from media import add, conference, request, spoken
 from programs import FIRST, Commands, Gateway, bound, counted, ports, run, udp, waiting
+from seals import right_seals
 
 
 def line_of(message):
@@ -47,6 +48,20 @@ class Journals(Commands):
             self.assertTrue(errors.endswith(": continues after 1 messages and 2 ticks\n"), errors)
             self.assertEqual(caller.recv(2000), answer)
 
+    def test_seals(self):
+        os.remove(self.path)
+        words = [*ports(0, 2), "--ssrc=7", "--journal", self.path]
+        for lines in ("tick\n" * 50, "tick\n" * 100):
+            self.assertEqual(run("serve", *words, text=lines + "quit\n")[0], 0)
+        text = Path(self.path).read_text()
+        self.assertEqual(right_seals(text), [True, True])
+        lines = text.splitlines()
+        last = max(n for n, line in enumerate(lines, 1) if line.startswith("# sha256 "))
+        wanted = f"seals hold: 2, the last in line {last}; lines after it: {len(lines) - last}\n"
+        self.ends(0, wanted, "", "verify", self.path)
+        Path(self.path).write_text(text.replace("--ssrc=7", "--ssrc=8"))
+        self.ends(1, "changed up to line 2\n", "", "verify", self.path)
+
     def test_missed_ticks_are_passed(self):
         """Ten seconds have passed since the journal's date, but only five ticks were run."""
         start = datetime.now(timezone.utc).replace(microsecond=0) - timedelta(seconds=10)
@@ -65,7 +80,11 @@ class Journals(Commands):
             self.assertEqual(counts, counted(ticks=ticks))
             self.assertEqual(gateway.finish("quit")[:2], (0, ""))
         self.assertTrue(500 <= least <= ticks <= most, (least, ticks, most))
-        self.assertEqual(Path(self.path).read_text(), text + "tick\n" * (ticks - 5))
+        missed = ticks - 5
+        self.assertEqual(Path(self.path).read_text(), f"{text}# missed {missed} ticks\n" + "tick\n" * missed)
+        status, output, errors = run("heard", self.path)
+        self.assertEqual((status, errors), (0, ""))
+        self.assertRegex(output, rf"\Agap from \S+ \(tick 5\) until \S+ \(tick {ticks}\)\n\Z")
 
     def test_goes_on_like_a_replay(self):
         """A gateway that resumes from a script answers and sends what a gateway does that ran the script."""

@@ -52,7 +52,7 @@ def journal_of(folder, socket, control, base):
         if status or not answers or "Error" in answers[0]:
             sys.exit(f"{status} {errors} {answers}")
     with open(path) as file:
-        lines = [line for line in file.read().splitlines() if not line.startswith("# time")]
+        lines = [line for line in file.read().splitlines() if not line.startswith(("# time", "# sha256", "# missed"))]
     with open(path, "w") as file:
         file.write("\n".join(lines[:LINES]) + "\n")
     return path
@@ -80,7 +80,7 @@ def main():
         if status or answers != [wanted[len(lines)]]:
             sys.exit(f"cut after byte {cut}: {status} {errors} {answers} in place of {wanted[len(lines)]}")
         with open(part, "rb") as file:
-            if not file.read().startswith(text[:text.rindex(b"\n") + 1] + b"# time "):
+            if not file.read().startswith(text[:text.rindex(b"\n") + 1] + b"# sha256 "):
                 sys.exit(f"cut after byte {cut}: the file isn't the whole lines and what followed")
     if len(set(wanted.values())) <= len(EDITS):
         sys.exit("gateways of different parts can't be told apart")

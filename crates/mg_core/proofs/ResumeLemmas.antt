@@ -1,11 +1,12 @@
 -- A script that is resumed: its notes, the bytes that they come in, and how far it was read.
 use Rattle.std.proofs.Common.{◌≡◌, ◌≢◌, ℕ, zero, suc, ◌+◌, ◌<◌, ◌≤◌, Bool, true, false, List, [], ◌∷◌, ◌++◌, length, codes, eqb, get_or, replicate, take, drop, Option, Some, None, Result, Ok, Err, refl, sym, ap, subst, ◌∙◌, append_assoc, length-append, length-take, arith}
-use Rattle.std.proofs.lemmas.Bool.{eq-eqb, eqb-true, true≢false}
+use Rattle.std.proofs.lemmas.Bool.{eq-eqb, eqb-true, ne_eqb, true≢false}
 use Rattle.std.proofs.lemmas.List.{append-nil, drop-drop, get_or-take, replicate_more}
 use Rattle.memchr.specs.Find.{IsFirstByte, is_byte}
 use Rattle.std.proofs.KnownBytes.{Consumes-nil, Consumes-trans, Consumes-kept}
 use Rattle.std.specs.Io.KnownBytes.{Keeps, Consumes, IsAtEnd}
 use Rattle.std.specs.Option.{option_map}
+use Rattle.std.specs.Result.{is_err}
 use Rattle.std.specs.Prelude.{IfErr, OnOk}
 use Rattle.mg_engine.specs.declared.config.Config.{Config}
 use Rattle.mg_lines.specs.Lines.{without_return, lines_after, lines_of}
@@ -21,7 +22,7 @@ use Rattle.mg_core.specs.declared.fault.RunFault.TheVariants as runs
 use Rattle.mg_core.specs.declared.fault.ScriptFault.{ScriptFault}
 use Rattle.mg_core.specs.declared.fault.ScriptFault.TheVariants as scripts
 use Rattle.mg_core.specs.declared.state.CoreState.{CoreState}
-use Rattle.mg_core.specs.Follow.{HasRun, IsFollowed, ticks_of}
+use Rattle.mg_core.specs.Follow.{HasRun, IsFollowed, IsFollowedUntil, ticks_of}
 use Rattle.mg_core.specs.Headline.{ExtendsByTicks, ExtendsHistory, HasHistory}
 use Rattle.mg_core.specs.Note.{Note, Comment, Happened, NotesHaveEvents, events_in, noted, notes_of}
 use Rattle.mg_core.specs.Resume.{FindsBadLine, IsResumed}
@@ -560,3 +561,64 @@ pub not_begun : {A : Type 0} (i y : Option (List ℕ)) (r : Result A RunFault) (
     FindsBadLine i y number
 not_begun i y r fault starts.BadConfig failed same number is = absurd (cc (failed, same, is))
 not_begun i y r fault starts.NoMemory failed same number is = absurd (cc (failed, same, is))
+
+-- ## A follower that is done
+
+pub not_err : {A E : Type 0} (r : Result A E) (X : Type 0) → is_err r ≡ false → OnOk r X → X
+not_err (Ok value) X none h = h
+not_err (Err e) X none h = absurd (true≢false none)
+
+pub reaches_after : (Old New : List Note → Type 0) (i x : Option (List ℕ)) (partial : List ℕ) (n : ℕ) →
+    ((notes : List Note) → Old notes → New notes) → Reaches Old i x partial n → Reaches New i x partial n
+reaches_after Old New i x partial n step (notes, p, old) = (notes, p, step notes old)
+
+pub followed_to_end : (config : Config) (i y : Option (List ℕ)) (state : CoreState) (is_done : Bool)
+    (Follows : List Note → Type 0) → IsFollowed config i y state Follows →
+    IsFollowedUntil config i y state is_done Follows
+followed_to_end config i y state is_done Follows h = record {
+  text = h.script;
+  ended = true;
+  read = h.read;
+  until = λ e. refl;
+  notes = h.notes;
+  are = h.are;
+  run = h.run;
+  follows = h.follows;
+}
+
+no_part : (partial : List ℕ) → lines_after false partial [] ≡ []
+unfolding lines_after
+no_part [] = refl
+no_part (b ∷ bs) = rw (ne_eqb (length (b ∷ bs)) 0 (λ e. absurd (omega arith))) refl
+
+pub followed_to_done : (config : Config) (i x : Option (List ℕ)) (partial : List ℕ) (n : ℕ) (state : CoreState)
+    (is_done : Bool) (Follows : List Note → Type 0) → is_done ≡ true →
+    Reaches (KeepsUp config state 0 Follows) i x partial n → IsFollowedUntil config i x state is_done Follows
+followed_to_done config i x partial n state is_done Follows done (notes, p, keeps) =
+    let (run, follows) = caught_up config state Follows notes keeps in
+    record {
+      text = p.text;
+      ended = false;
+      read = record { consumed = p.consumed; at_end = λ e. absurd (cc e) };
+      until = λ e. absurd (true≢false (sym done ∙ e));
+      notes = notes;
+      are = ap notes_of (ap (lines_after false []) (sym (append-nil p.text)) ∙ p.split false []
+          ∙ ap (λ (l : List (List ℕ)). p.lines ++ l) (no_part partial) ∙ append-nil p.lines) ∙ p.are;
+      run = run;
+      follows = follows;
+    }
+
+pub is_followed_until : (config : Config) (i y : Option (List ℕ)) (state : CoreState) (is_done : Bool)
+    (Starts : Type 0) (Follows : List Note → Type 0) → Starts →
+    IsFollowedUntil config i y state is_done (λ notes. Starts → Follows notes) →
+    IsFollowedUntil config i y state is_done Follows
+is_followed_until config i y state is_done Starts Follows start h = record {
+  text = h.text;
+  ended = h.ended;
+  read = h.read;
+  until = h.until;
+  notes = h.notes;
+  are = h.are;
+  run = h.run;
+  follows = h.follows start;
+}

@@ -1,5 +1,5 @@
 -- A follower learns, note by note, what a gateway does while a script is run.
-use Rattle.std.specs.Prelude.{◌≡◌, ℕ, true, List, Option, Some, replicate}
+use Rattle.std.specs.Prelude.{◌≡◌, ℕ, Bool, true, false, List, Option, Some, replicate}
 use Rattle.mg_engine.specs.declared.config.Config.{Config}
 use Rattle.mg_lines.specs.Lines.{lines_of}
 use Rattle.mg_core.specs.declared.event.Event.TheVariants.{Tick}
@@ -28,5 +28,19 @@ pub record IsFollowed (config : Config) (input rest : Option (List ℕ)) (state 
   pub read : HasRead input rest script true
   pub notes : List Note
   pub are : notes_of (lines_of true script) ≡ Some notes
+  pub run : HasRun config notes state
+  pub follows : Follows notes
+
+-- The input was read to its end, or until a follower was done. The lines in its text that have ended
+-- are these notes. The state is that of a gateway at which their events arrived, and a follower has
+-- followed all the notes.
+pub record IsFollowedUntil (config : Config) (input rest : Option (List ℕ)) (state : CoreState)
+    (is_done : Bool) (Follows : List Note → Type 0) : Type 0 where
+  pub text : List ℕ
+  pub ended : Bool
+  pub read : HasRead input rest text ended
+  pub until : is_done ≡ false → ended ≡ true
+  pub notes : List Note
+  pub are : notes_of (lines_of ended text) ≡ Some notes
   pub run : HasRun config notes state
   pub follows : Follows notes

@@ -42,6 +42,8 @@ mod state;
 mod stopped;
 pub mod theorems;
 mod watched;
+mod watcher;
+mod watching;
 
 pub use crate::answer::Answer;
 pub use crate::counts::{Counts, DROP_CAUSES};
@@ -57,6 +59,8 @@ pub use crate::running::run;
 pub use crate::script::DATAGRAM_LIMIT;
 pub use crate::shown::Shown;
 pub use crate::stopped::Stopped;
+pub use crate::watcher::Watcher;
+pub use crate::watching::watch;
 // Contracts in other crates can name a core only if the type of the core's state is exported.
 #[doc(hidden)]
 pub use crate::state::CoreState;

@@ -3,13 +3,14 @@ ghost use Rattle.memchr.specs.Find.{IsFirstByte, is_byte};
 ghost use Rattle.mg_engine.specs.Config.{IsValidConfig};
 ghost use Rattle.mg_core.specs.aids.Resuming.{AllResumed, BytesResumed, EndedResumed, HasFollowed, KeepsUp, LastResumed};
 ghost use Rattle.mg_core.specs.declared.script_runner.TheConstants.{PARTIAL_LIMIT};
-ghost use Rattle.mg_core.specs.Follow.{HasRun};
+ghost use Rattle.mg_core.specs.Follow.{HasRun, IsFollowedUntil};
 ghost use Rattle.mg_engine.specs.declared.config.Config.{Config};
 
 use crate::fault::{LineFault, ScriptFault};
 use crate::follower::Follower;
 use crate::line_resumer::LineResumer;
 use crate::script_runner::PARTIAL_LIMIT;
+use crate::watcher::Watcher;
 use memchr::memchr;
 use mg_engine::{Config, StartFault};
 use mg_lines::{READ_SIZE, read_some, without_return};
@@ -198,6 +199,38 @@ impl Resumer {
                 return Ok(());
             };
             self.take_bytes(alloc, &buffer[..n], follower)?;
+        }
+        Err(ScriptFault::Read)
+    }
+
+    /// Reads a script until it ends or the follower is done, and runs it on a new gateway. All ticks that have arrived
+    /// are run before more of the script is read.
+    pub fn take_until_done<R: Read, F: Watcher>(
+        &mut self,
+        alloc: Global,
+        reader: &mut R,
+        follower: &mut F,
+    ) -> Result<(), ScriptFault>
+        requires lines { self.old.lines ≡ 0 }
+        requires ticks { self.old.runner.ticks ≡ 0 }
+        requires partial { self.old.partial.text ≡ [] }
+        ensures value { (config : Config) → HasRun config [] self.old.runner.core.state → OnOk result
+            (IsFollowedUntil config (R.remaining reader.old) (R.remaining reader.new) self.new.runner.core.state
+            (F.done follower.new) (HasFollowed F.follows follower.old follower.new config)) }
+    {
+        let mut buffer = [0; READ_SIZE];
+        for _ in 0..u32::MAX {
+            let Some(n) = read_some(reader, &mut buffer)? else {
+                self.finish(alloc, follower)?;
+                return Ok(());
+            };
+            self.take_bytes(alloc, &buffer[..n], follower)?;
+            if self.runner.run_ticks(follower).is_err() {
+                return Err(ScriptFault::Write);
+            }
+            if follower.is_done() {
+                return Ok(());
+            }
         }
         Err(ScriptFault::Read)
     }

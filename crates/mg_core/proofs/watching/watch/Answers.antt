@@ -1,0 +1,15 @@
+use Rattle.std.proofs.Common.{[]}
+use Rattle.mg_core.proofs.ResumeLemmas.{is_followed_until}
+use Rattle.mg_core.proofs.watching.watch.Goals as goal
+
+pub returns : goal.returns
+returns g c = record {
+  followed = λ start.
+      let follows = g.F.Follower.follows in
+      let first = c.args.follower.now in
+      let last = c.take_until_done.new.follower in
+      is_followed_until c.args.config (g.R.Read.remaining c.args.reader.now)
+      (g.R.Read.remaining c.take_until_done.new.reader) c.take_until_done.new.self.runner.core.state
+      (g.F.Watcher.done last) (follows first first c.args.config []) (follows first last c.args.config) start
+      (c.in_ok-take_until_done.ensures.value c.args.config c.in_ok-resumer.ensures.start);
+}

@@ -1,0 +1,30 @@
+ghost use Rattle.std.specs.Prelude.{◌≡◌, [], IfOk};
+ghost use Rattle.mg_core.specs.Follow.{IsFollowedUntil};
+
+use crate::fault::RunFault;
+use crate::machine::Core;
+use crate::resumer::Resumer;
+use crate::watcher::Watcher;
+use mg_engine::Config;
+use std::alloc::Global;
+use std::io::Read;
+
+/// Runs a script on a new gateway, as [`resume`](crate::resume) does, until the script ends or the follower is done.
+/// Returns the gateway.
+///
+/// The follower is told of all lines and ticks that have arrived, and then asked whether it is done, before more of the
+/// script is read. So a follower that watches a growing script is never behind.
+pub fn watch<R: Read, F: Watcher>(
+    alloc: Global,
+    config: Config,
+    reader: &mut R,
+    follower: &mut F,
+) -> Result<Core, RunFault>
+    ensures followed { F.follows follower.old follower.old config [] → IfOk result (λ core.
+        IsFollowedUntil config (R.remaining reader.old) (R.remaining reader.new) core.state (F.done follower.new)
+        (F.follows follower.old follower.new config)) }
+{
+    let mut resumer = Resumer::new(alloc, config)?;
+    resumer.take_until_done(alloc, reader, follower)?;
+    Ok(resumer.runner.core)
+}

@@ -59,12 +59,12 @@ continues one a w (e ∷ es) later sent moments others (first, rest, next, step,
     }
 
 -- the same, of moments that come newest first
-record Extends (a w : World) (events later : List Event) (now : List OpenFlow) (past others : List (List OpenFlow))
+pub record Extends (a w : World) (events later : List Event) (now : List OpenFlow) (past others : List (List OpenFlow))
     : Type 0 where
-  is : now ≡ open_flows w.gateway
-  are : AreMoments a (events ++ later) (reverse past ++ others)
+  pub is : now ≡ open_flows w.gateway
+  pub are : AreMoments a (events ++ later) (reverse past ++ others)
 
-extends : OneOutcome → (a w : World) (events later : List Event) (sent : List Sent) (now : List OpenFlow)
+pub extends : OneOutcome → (a w : World) (events later : List Event) (sent : List Sent) (now : List OpenFlow)
     (past others : List (List OpenFlow)) → Run a events sent w → AreMoments a events (reverse (now ∷ past)) →
     AreMoments w later others → Extends a w events later now past others
 extends one a w events later sent now past others run are more =
@@ -80,7 +80,7 @@ extends one a w events later sent now past others run are more =
 
 -- ## The events of notes
 
-events_in_both : (a b : List Note) → events_in (a ++ b) ≡ events_in a ++ events_in b
+pub events_in_both : (a b : List Note) → events_in (a ++ b) ≡ events_in a ++ events_in b
 events_in_both [] b = refl
 events_in_both (Comment line ∷ a) b = events_in_both a b
 events_in_both (Happened event ∷ a) b = ap (λ (l : List Event). event ∷ l) (events_in_both a b)
@@ -89,7 +89,7 @@ events_in_ticks : (n : ℕ) → events_in (ticks_of n) ≡ replicate n Tick
 events_in_ticks zero = refl
 events_in_ticks (suc n) = ap (λ (l : List Event). Tick ∷ l) (events_in_ticks n)
 
-events_with_ticks : (notes : List Note) (n : ℕ) → events_in (notes ++ ticks_of n) ≡ events_in notes ++ replicate n Tick
+pub events_with_ticks : (notes : List Note) (n : ℕ) → events_in (notes ++ ticks_of n) ≡ events_in notes ++ replicate n Tick
 events_with_ticks notes n = events_in_both notes (ticks_of n) ∙ ap (λ (l : List Event). events_in notes ++ l) (events_in_ticks n)
 
 -- ## The intervals among entries
@@ -250,14 +250,14 @@ now_is one config notes tick is_changed stored Told sent w run h =
     (extends one (start_of config) w (events_in notes) [] sent h.now h.past (open_flows w.gateway ∷ []) run h.are refl).is
 
 -- events that end with this one
-record Split (a w : World) (events : List Event) (event : Event) : Type 0 where
-  before : List Sent
-  mid : World
-  run : Run a events before mid
-  sent : List Sent
-  step : Step mid event sent w
+pub record Split (a w : World) (events : List Event) (event : Event) : Type 0 where
+  pub before : List Sent
+  pub mid : World
+  pub run : Run a events before mid
+  pub sent : List Sent
+  pub step : Step mid event sent w
 
-split : (a w : World) (events : List Event) (event : Event) (sent : List Sent) → Run a (events ++ event ∷ []) sent w →
+pub split : (a w : World) (events : List Event) (event : Event) (sent : List Sent) → Run a (events ++ event ∷ []) sent w →
     Split a w events event
 split a w [] event sent (first, rest, next, step, run, is) = record {
   before = [];
@@ -287,7 +287,7 @@ no_tick (Control source bytes) h = refl
 no_tick (Media port source bytes) h = refl
 no_tick Tick h = absurd (h refl)
 
-one_moment : (w next : World) (event : Event) (sent : List Sent) → event ≢ Tick → Step w event sent next →
+pub one_moment : (w next : World) (event : Event) (sent : List Sent) → event ≢ Tick → Step w event sent next →
     AreMoments w (event ∷ []) (open_flows next.gateway ∷ [])
 one_moment w next event sent h step = (
   sent,
@@ -324,7 +324,7 @@ keeps_datagram one only config notes event tick next is_changed will_change stor
 
 -- ## Ticks
 
-tick_moments : OnlyControlChangesFlows → (n : ℕ) (w : World) (flows : List OpenFlow) → flows ≡ open_flows w.gateway →
+pub tick_moments : OnlyControlChangesFlows → (n : ℕ) (w : World) (flows : List OpenFlow) → flows ≡ open_flows w.gateway →
     AreMoments w (replicate n Tick) (replicate n flows ++ flows ∷ [])
 tick_moments only zero w flows e = ap (λ (l : List OpenFlow). l ∷ []) e
 tick_moments only (suc n) w flows e = (
@@ -342,13 +342,13 @@ same_back : (n : ℕ) (flows : List OpenFlow) (past : List (List OpenFlow)) →
 same_back zero flows past = refl
 same_back (suc n) flows past = ap (λ (l : List (List OpenFlow)). flows ∷ l) (same_back n flows past)
 
-same_reversed : (n : ℕ) (flows : List OpenFlow) → reverse (replicate n flows) ≡ replicate n flows
+pub same_reversed : (n : ℕ) (flows : List OpenFlow) → reverse (replicate n flows) ≡ replicate n flows
 same_reversed zero flows = refl
 same_reversed (suc n) flows = reverse-append (flows ∷ []) (replicate n flows)
     ∙ ap (λ (l : List (List OpenFlow)). l ++ flows ∷ []) (same_reversed n flows)
     ∙ sym (same_back n flows []) ∙ append-nil (replicate (suc n) flows)
 
-back_to_front : (n : ℕ) (flows : List OpenFlow) (past : List (List OpenFlow)) →
+pub back_to_front : (n : ℕ) (flows : List OpenFlow) (past : List (List OpenFlow)) →
     reverse past ++ (replicate n flows ++ flows ∷ []) ≡ reverse (flows ∷ (replicate n flows ++ past))
 back_to_front n flows past =
     ap (λ (l : List (List OpenFlow)). reverse past ++ l)

@@ -12,6 +12,7 @@ pub mod PartyLemmas
 pub mod FillLemmas
 pub mod AdvanceLemmas
 pub mod KeepingLemmas
+pub mod WatchLemmas
 pub mod FindingLemmas
 pub mod LineLemmas
 pub mod ReportLemmas

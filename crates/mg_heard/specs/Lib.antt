@@ -9,4 +9,5 @@ pub mod Query
 pub mod Verdict
 pub mod Lines
 pub mod Reported
+pub mod Never
 pub mod aids

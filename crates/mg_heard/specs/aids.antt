@@ -1,4 +1,5 @@
 pub mod Opening
 pub mod Keeping
+pub mod Watching
 pub mod Parties
 pub mod Finding

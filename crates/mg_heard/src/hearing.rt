@@ -67,7 +67,7 @@ where
 }
 
 /// Returns why a script was not run to its end, given why its follower stopped.
-fn fault_of(fault: RunFault, stopped: Option<ClockFault>) -> HeardFault
+pub(crate) fn fault_of(fault: RunFault, stopped: Option<ClockFault>) -> HeardFault
     ensures run { (run : RunFault) → result ≡ HeardFault.Run run → fault ≡ run }
 {
     match (fault, stopped) {

@@ -5,12 +5,15 @@ ghost use Rattle.mg_words.specs.Term.{rtp_name};
 ghost use Rattle.mg_core.specs.Peer.{peer_text};
 ghost use Rattle.mg_reply.specs.Bytes.{appended};
 ghost use Rattle.mg_heard.specs.Lines.{at_text, date_of_end, end_text, extent_columns, extent_members, extent_text, gap_line, head_of, interval_line, line_of, moment_text, not_heard_line, object_of, party_text, peer_column, peer_value, row_of, sentence_of, tick_column, tick_value, time_column, time_value, unknown_line};
+ghost use Rattle.mg_heard.specs.Never.{violation_line};
+ghost use Rattle.mg_heard.specs.declared.format.Format.TheVariants.{Text};
 
 use crate::entry::Entry;
 use crate::format::Format;
 use crate::gap::Gap;
 use crate::interval::Interval;
 use crate::moment::Moment;
+use crate::violation::Violation;
 use itoa::Buffer;
 use mg_core::Peer;
 use mg_dates::Date;
@@ -470,5 +473,52 @@ pub(crate) fn unknown_line(format: Format) -> &'static [u8]
         Format::Text => b"not known\n",
         Format::Csv => b"not known,,,,,,,,,\n",
         Format::Json => b"{\"kind\":\"not known\"}\n",
+    }
+}
+
+// ## Violations
+
+/// Writes the sentence for a violation.
+#[tactic(auto, using(crate::proofs::LineLemmas::steps))]
+fn push_violation_sentence(time: &[u8], violation: &Violation, out: &mut Bytes)
+    requires time { length time.now ≤ TIME_LIMIT }
+    requires room { LINE_LIMIT ≤ out.old.room }
+    ensures value { out.new ≡ appended out.old (violation_line Text time.now violation.now) }
+    ensures short { length (violation_line Text time.now violation.now) ≤ LINE_LIMIT }
+{
+    let flow = &violation.flow;
+    let at = violation.at;
+    push_party(flow.listener, flow.listener_at, out);
+    out.push(b" could hear ");
+    push_party(flow.talker, flow.talker_at, out);
+    out.push(b" in context ");
+    push_context(flow.context, out);
+    out.push(b" from ");
+    push_moment(time, at.tick, at.date, out);
+    out.push(b"\n");
+}
+
+/// Returns the interval that begins with a violation.
+fn interval_from(violation: &Violation) -> Interval
+    ensures value { result ≡ record { flow = violation.now.flow; first = violation.now.at; end = None } }
+{
+    Interval {
+        flow: violation.flow,
+        first: violation.at,
+        end: None,
+    }
+}
+
+/// Writes the line for a violation, given its date as text.
+pub(crate) fn push_violation(format: Format, time: &[u8], violation: &Violation, out: &mut Bytes)
+    requires time { length time.now ≤ TIME_LIMIT }
+    requires room { LINE_LIMIT ≤ out.old.room }
+    ensures value { out.new ≡ appended out.old (violation_line format time.now violation.now) }
+    ensures short { length (violation_line format time.now violation.now) ≤ LINE_LIMIT }
+{
+    match format {
+        Format::Text => push_violation_sentence(time, violation, out),
+        Format::Csv => push_row(time, b"", &interval_from(violation), out),
+        Format::Json => push_object(time, b"", &interval_from(violation), out),
     }
 }

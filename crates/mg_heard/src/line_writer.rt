@@ -1,12 +1,16 @@
 ghost use Rattle.std.specs.Prelude.{◌≡◌, ◌≤◌, ◌+◌, ℕ, length, IfOk, List, OnOk};
 ghost use Rattle.std.specs.Io.KnownBytes.{Appends};
 ghost use Rattle.mg_heard.specs.Lines.{head_of, IsLine, IsVerdictLine};
+ghost use Rattle.mg_heard.specs.Never.{violation_line};
 
 use crate::entry::Entry;
 use crate::format::Format;
 use crate::interval::Interval;
-use crate::line::{LINE_LIMIT, not_heard_line, push_entry, push_head, unknown_line};
+use crate::line::{
+    LINE_LIMIT, not_heard_line, push_entry, push_head, push_violation, unknown_line,
+};
 use crate::verdict::Verdict;
+use crate::violation::Violation;
 use mg_core::Stopped;
 use mg_dates::{Date, TimeText};
 use mg_lines::write_whole;
@@ -142,5 +146,20 @@ impl LineWriter {
             Verdict::CouldNotHear => write_text(not_heard_line(self.format), writer),
             Verdict::Unknown => write_text(unknown_line(self.format), writer),
         }
+    }
+
+    /// Writes a line for a violation.
+    pub(crate) fn write_violation<W: Write>(
+        &mut self,
+        violation: &Violation,
+        writer: &mut W,
+    ) -> Result<(), Stopped>
+        ensures value { OnOk result ((time : List ℕ)
+            × Appends (W.contents writer.old) (W.contents writer.new) (violation_line self.old time violation.now)) }
+    {
+        let time = text_of(violation.at.date);
+        self.line.clear();
+        push_violation(self.format, time.as_slice(), violation, &mut self.line);
+        write_text(self.line.as_slice(), writer)
     }
 }

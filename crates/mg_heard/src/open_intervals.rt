@@ -67,7 +67,7 @@ impl OpenIntervals {
     }
 
     /// Replaces the stored intervals with one for each flow that is open in a core. Each of them begins at this moment.
-    fn fill(&mut self, core: &Core, first: Moment)
+    pub(crate) fn fill(&mut self, core: &Core, first: Moment)
         ensures value { (w : World) → StandsFor core.now.state w →
             self.new ≡ map (beginning_at first) (open_flows w.gateway) }
         ensures consistent { IsConsistent core.now.state.engine.rooms }

@@ -22,7 +22,7 @@ pub struct Query {
 }
 
 /// Returns whether a query asks about this termination.
-fn is_asked(name: Option<PartyName>, number: u32, at: Option<Peer>) -> bool
+pub(crate) fn is_asked(name: Option<PartyName>, number: u32, at: Option<Peer>) -> bool
     ensures value { result ≡ is_asked name number at }
 {
     match name {

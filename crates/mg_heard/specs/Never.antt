@@ -1,0 +1,97 @@
+-- Rules: a talker must never be heard by a listener. And the first flow of a script that breaks one.
+use Rattle.std.specs.Prelude.{◌≡◌, ℕ, ◌+◌, ◌<◌, ◌&&◌, Bool, false, List, [], ◌∷◌, ◌++◌, length, find}
+use Rattle.std.specs.Prelude.{Option, Some, None, IsSomeAnd, codes, decimal, if◌then◌else◌}
+use Rattle.std.specs.Io.KnownBytes.{Appends}
+use Rattle.std.specs.List.{list_any}
+use Rattle.std.specs.Option.{option_map, option_map_or}
+use Rattle.std.specs.Str.{bytes_eq}
+use Rattle.mg_words.specs.Cut.{cut}
+use Rattle.mg_words.specs.OptionSteps.{◌>>=◌}
+use Rattle.mg_engine.specs.declared.config.Config.{Config}
+use Rattle.mg_lines.specs.Lines.{lines_of}
+use Rattle.mg_core.specs.Note.{Note, events_in, notes_of}
+use Rattle.mg_core.specs.Run.{HasRead}
+use Rattle.mg_core.specs.World.{start_of}
+use Rattle.mg_heard.specs.declared.format.Format.{Format}
+use Rattle.mg_heard.specs.declared.format.Format.TheVariants.{Text, Csv, Json}
+use Rattle.mg_heard.specs.declared.open_flow.OpenFlow.{OpenFlow}
+use Rattle.mg_heard.specs.declared.party_name.PartyName.{PartyName}
+use Rattle.mg_heard.specs.declared.rule.Rule.{Rule}
+use Rattle.mg_heard.specs.declared.violation.Violation.{Violation}
+use Rattle.mg_heard.specs.Lines.{moment_text, object_of, party_text, row_of}
+use Rattle.mg_heard.specs.Moments.{AreMoments}
+use Rattle.mg_heard.specs.Query.{is_asked, party_name_of}
+
+-- ## Rules
+
+-- the termination that a rule names; `*` names all of them
+abbrev pub pattern_of : List ℕ → Option (Option PartyName)
+pattern_of text =
+    if bytes_eq text (codes "*") then Some None else option_map Some (party_name_of text)
+
+-- the rule in a text: a talker, an arrow and a listener, with a space on either side of the arrow
+abbrev pub rule_of : List ℕ → Option Rule
+rule_of text = do
+  first ← cut 32 text
+  second ← cut 32 first.1
+  talker ← pattern_of first.0
+  listener ← pattern_of second.1
+  if bytes_eq second.0 (codes "->") then Some (record { talker = talker; listener = listener })
+      else None
+
+abbrev pub forbids : Rule → OpenFlow → Bool
+forbids rule x =
+    is_asked rule.talker x.talker x.talker_at && is_asked rule.listener x.listener x.listener_at
+
+abbrev pub is_forbidden : List Rule → OpenFlow → Bool
+is_forbidden rules x = list_any (λ rule. forbids rule x) rules
+
+-- ## Violations
+
+-- the first forbidden flow that is open in a moment, in order of listeners and then of talkers
+abbrev pub forbidden_in : List Rule → List OpenFlow → Option OpenFlow
+forbidden_in rules flows = find (is_forbidden rules) flows
+
+-- the first forbidden flow in some moments, of which the oldest comes first, with its moment's tick;
+-- the oldest moment is the one before the tick `from`
+abbrev pub first_forbidden : List Rule → (from : ℕ) → List (List OpenFlow) → Option (ℕ × OpenFlow)
+first_forbidden rules from [] = None
+first_forbidden rules from (flows ∷ later) =
+    option_map_or (λ x. Some (from, x)) (forbidden_in rules flows)
+    (first_forbidden rules (from + 1) later)
+
+abbrev pub without_date : Violation → ℕ × OpenFlow
+without_date v = (v.at.tick, v.flow)
+
+-- What was found in a script that was read to its end, or until a rule was broken before one of its
+-- ticks. It is the first violation in the moments of what was read. So if nothing was found, the
+-- script was read to its end, and in none of its moments does a rule forbid an open flow.
+pub record IsWatched (rules : List Rule) (config : Config) (input rest : Option (List ℕ))
+    (found : Option Violation) : Type 0 where
+  pub text : List ℕ
+  pub ended : Bool
+  pub read : HasRead input rest text ended
+  pub notes : List Note
+  pub are : notes_of (lines_of ended text) ≡ Some notes
+  pub moments : List (List OpenFlow)
+  pub are_moments : AreMoments (start_of config) (events_in notes) moments
+  pub first : option_map without_date found ≡ first_forbidden rules 0 moments
+  pub before_tick : ended ≡ false → IsSomeAnd found (λ v. v.at.tick + 1 < length moments)
+
+-- ## The line
+
+-- the line of a violation, with some text for its date: that of an interval whose end is not known
+abbrev pub violation_line : Format → List ℕ → Violation → List ℕ
+violation_line Text time v =
+    party_text v.flow.listener v.flow.listener_at ++ (codes " could hear "
+    ++ (party_text v.flow.talker v.flow.talker_at ++ (codes " in context "
+    ++ (decimal v.flow.context ++ (codes " from "
+    ++ (moment_text time v.at.tick v.at.date ++ codes "\n"))))))
+violation_line Csv time v = row_of time [] (record { flow = v.flow; first = v.at; end = None })
+violation_line Json time v = object_of time [] (record { flow = v.flow; first = v.at; end = None })
+
+-- a writer has received the line of a violation, if there is one
+abbrev pub WritesViolation : Format → Option Violation → (old new : Option (List ℕ)) → Type 0
+WritesViolation format None old new = new ≡ old
+WritesViolation format (Some v) old new =
+    (time : List ℕ) × Appends old new (violation_line format time v)

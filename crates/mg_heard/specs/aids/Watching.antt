@@ -1,0 +1,26 @@
+-- What a watch keeps while a script is run.
+use Rattle.std.specs.Prelude.{◌≡◌, ℕ, Bool, false, List, ◌∷◌, length, reverse, Option, None}
+use Rattle.std.specs.Option.{option_map}
+use Rattle.mg_engine.specs.declared.config.Config.{Config}
+use Rattle.mg_core.specs.Note.{Note, events_in}
+use Rattle.mg_core.specs.World.{start_of}
+use Rattle.mg_heard.specs.declared.open_flow.OpenFlow.{OpenFlow}
+use Rattle.mg_heard.specs.declared.rule.Rule.{Rule}
+use Rattle.mg_heard.specs.declared.violation.Violation.{Violation}
+use Rattle.mg_heard.specs.Moments.{AreMoments}
+use Rattle.mg_heard.specs.Never.{first_forbidden, forbidden_in, without_date}
+
+-- the forbidden flow of the moment before this tick
+abbrev pub forbidden_at : ℕ → List Rule → List OpenFlow → Option (ℕ × OpenFlow)
+forbidden_at tick rules flows = option_map (λ x. (tick, x)) (forbidden_in rules flows)
+
+-- After these notes, a watch has the first violation in the moments that are over. If there is none
+-- and nothing may have changed since then, no rule is broken now.
+pub record KeepsRules (rules : List Rule) (config : Config) (notes : List Note) (tick : ℕ)
+    (is_changed : Bool) (violation : Option Violation) : Type 0 where
+  pub past : List (List OpenFlow)
+  pub now : List OpenFlow
+  pub are : AreMoments (start_of config) (events_in notes) (reverse (now ∷ past))
+  pub first : option_map without_date violation ≡ first_forbidden rules 0 (reverse past)
+  pub count : violation ≡ None → tick ≡ length past
+  pub same : is_changed ≡ false → violation ≡ None → forbidden_in rules now ≡ None

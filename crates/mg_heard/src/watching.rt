@@ -1,0 +1,80 @@
+ghost use Rattle.std.specs.Prelude.{IfOk, Some};
+ghost use Rattle.mg_heard.specs.Never.{IsWatched, WritesViolation};
+
+use crate::format::Format;
+use crate::heard_fault::HeardFault;
+use crate::hearing::fault_of;
+use crate::line_writer::LineWriter;
+use crate::rule::Rule;
+use crate::violation::Violation;
+use crate::watch::Watch;
+use mg_core::Config;
+use std::alloc::Global;
+use std::io::{Read, Write};
+
+/// Runs a script until a rule is broken, or to its end. Returns the first violation, or `None` if no rule was broken.
+///
+/// A rule is broken if a flow that it forbids is open before a tick or at the script's end. All ticks that have arrived
+/// are looked at before more of the script is read.
+pub fn find_violation<R: Read>(
+    alloc: Global,
+    config: Config,
+    reader: &mut R,
+    rules: &[Rule],
+) -> Result<Option<Violation>, HeardFault>
+    ensures watched { IfOk result (λ found.
+        IsWatched rules.now config (R.remaining reader.old) (R.remaining reader.new) found) }
+{
+    let Ok(mut follower) = Watch::new(alloc, rules) else {
+        return Err(HeardFault::NoMemory);
+    };
+    match mg_core::watch(alloc, config, reader, &mut follower) {
+        Ok(core) => {
+            mg_core::theorems::outcomes_are_unique();
+            follower.compare(&core);
+            Ok(follower.violation)
+        }
+        Err(fault) => Err(fault_of(fault, follower.fault)),
+    }
+}
+
+/// Writes one line.
+fn write_line<W: Write>(
+    alloc: Global,
+    format: Format,
+    violation: &Violation,
+    writer: &mut W,
+) -> Result<(), HeardFault>
+    ensures value { IfOk result (λ _.
+        WritesViolation format (Some violation.now) (W.contents writer.old) (W.contents writer.new)) }
+{
+    let Ok(mut lines) = LineWriter::new(alloc, format) else {
+        return Err(HeardFault::NoMemory);
+    };
+    match lines.write_violation(violation, writer) {
+        Ok(_) => Ok(()),
+        Err(_) => Err(HeardFault::Stopped),
+    }
+}
+
+/// Runs a script until a rule is broken, or to its end, and writes a line for the violation, if any. Returns the
+/// violation.
+pub fn write_violation<R: Read, W: Write>(
+    alloc: Global,
+    config: Config,
+    reader: &mut R,
+    format: Format,
+    rules: &[Rule],
+    writer: &mut W,
+) -> Result<Option<Violation>, HeardFault>
+    ensures watched { IfOk result (λ found.
+        IsWatched rules.now config (R.remaining reader.old) (R.remaining reader.new) found) }
+    ensures written { IfOk result (λ found.
+        WritesViolation format found (W.contents writer.old) (W.contents writer.new)) }
+{
+    let Some(violation) = find_violation(alloc, config, reader, rules)? else {
+        return Ok(None);
+    };
+    write_line(alloc, format, &violation, writer)?;
+    Ok(Some(violation))
+}

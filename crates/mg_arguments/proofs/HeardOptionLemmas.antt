@@ -1,5 +1,5 @@
 -- What the options of `mg_bridge heard` ask for.
-use Rattle.std.proofs.Common.{◌≡◌, ◌∙◌, ℕ, List, [], ◌∷◌, Option, Some, None, Result, Ok, Err, ap, codes, refl, sym}
+use Rattle.std.proofs.Common.{◌≡◌, ◌∙◌, List, [], ◌∷◌, Option, Some, None, Result, Ok, Err, ap, codes, sym}
 use Rattle.std.specs.Prelude.{unwrap_or}
 use Rattle.std.specs.Option.{option_map_or}
 use Rattle.clap.specs.Walk.{Row, Text, first_of}
@@ -35,11 +35,11 @@ pub not_named : {A : Type 0} (read : Text → Option A) (name : Text) (rows : Li
 not_named read name rows named = sym (ap (read_by read) named)
 
 -- a step by a value, or by none
-goes_on : {A B : Type 0} (value : A) (read : Result A Kinds) (next : A → Result B Kinds) → read ≡ Ok value →
+pub goes_on : {A B : Type 0} (value : A) (read : Result A Kinds) (next : A → Result B Kinds) → read ≡ Ok value →
     (read >>= next) ≡ next value
 goes_on {A = A} value read next is = ap (λ (r : Result A Kinds). r >>= next) is
 
-ends : {A B : Type 0} (kinds : Kinds) (read : Result A Kinds) (next : A → Result B Kinds) → read ≡ Err kinds →
+pub ends : {A B : Type 0} (kinds : Kinds) (read : Result A Kinds) (next : A → Result B Kinds) → read ≡ Err kinds →
     (read >>= next) ≡ Err kinds
 ends {A = A} kinds read next is = ap (λ (r : Result A Kinds). r >>= next) is
 

@@ -4,3 +4,4 @@ pub mod RequestedRows
 pub mod ControllerLemmas
 pub mod HeardOptionLemmas
 pub mod SealingOptionLemmas
+pub mod RuleLemmas

@@ -1,5 +1,6 @@
 pub mod Address
 pub mod Controllers
+pub mod Rules
 pub mod Options
 pub mod Title
 pub mod Draws

@@ -1,7 +1,7 @@
 -- The command line, as its parser sees it, and what the arguments request.
 use Rattle.std.specs.Prelude.{ℕ, Bool, true, false, if◌then◌else◌, List, [], ◌∷◌, Option, Some}
 use Rattle.std.specs.Prelude.{None, is_none, is_some, unwrap_or, option_and_then, Result, Ok, Err, codes}
-use Rattle.std.specs.Prelude.{fold}
+use Rattle.std.specs.Prelude.{fold, ◌||◌}
 use Rattle.std.specs.Option.{option_map_or}
 use Rattle.std.specs.Str.{bytes_eq}
 use Rattle.clap.specs.Walk.{Row, Rule, Text, all_of, first_of}
@@ -22,6 +22,7 @@ use Rattle.mg_heard.specs.declared.format.Format.{Format}
 use Rattle.mg_heard.specs.declared.format.Format.TheVariants as formats
 use Rattle.mg_heard.specs.declared.query.Query.{Query}
 use Rattle.mg_heard.specs.Query.{party_name_of}
+use Rattle.mg_heard.specs.declared.rule.Rule.{Rule as HeardRule}
 use Rattle.mg_engine.specs.declared.config.Config.{Config}
 use Rattle.mg_engine.specs.Config.{standard}
 use Rattle.mg_arguments.specs.declared.address.AddressFault.{AddressFault}
@@ -31,7 +32,7 @@ use Rattle.mg_arguments.specs.declared.draws.Draws.{Draws}
 use Rattle.mg_arguments.specs.declared.given.Given.{Given}
 use Rattle.mg_arguments.specs.declared.invocation.Invocation.{Invocation}
 use Rattle.mg_arguments.specs.declared.invocation.Invocation.TheVariants.{Replay, Serve, Live, Check}
-use Rattle.mg_arguments.specs.declared.invocation.Invocation.TheVariants.{Heard, Verify, Seal}
+use Rattle.mg_arguments.specs.declared.invocation.Invocation.TheVariants.{Heard, Watch, Verify, Seal}
 use Rattle.mg_arguments.specs.declared.service.Service.{Service}
 use Rattle.mg_arguments.specs.declared.controller_fault.ControllerFault.{ControllerFault}
 use Rattle.mg_arguments.specs.declared.bind_address_fault.BindAddressFault.{BindAddressFault}
@@ -39,6 +40,8 @@ use Rattle.mg_arguments.specs.Address.{bind_address, own_address}
 use Rattle.mg_arguments.specs.Controllers.{controllers_of}
 use Rattle.mg_arguments.specs.FilePath.{file_path}
 use Rattle.mg_arguments.specs.declared.file_path_fault.FilePathFault.{FilePathFault}
+use Rattle.mg_arguments.specs.declared.rule_fault.RuleFault.{RuleFault}
+use Rattle.mg_arguments.specs.Rules.{rules_of}
 
 -- ## The command line
 
@@ -88,11 +91,16 @@ check_line = with_rule (new_app (codes "check")) gateway_rule
 abbrev pub script_rule : Rule
 script_rule = record (new_rule (codes "file")) { value_names = 1 }
 
+-- the option for rules about who must not be heard, which may be given several times
+abbrev pub never_rule : Rule
+never_rule = record (text_rule (codes "never")) { action = Some Append }
+
 -- the subcommand that says who could hear whom
 abbrev pub heard_line : App
 heard_line = fold with_rule (new_app (codes "heard"))
     (script_rule ∷ text_rule (codes "listener") ∷ text_rule (codes "talker") ∷ text_rule (codes "at")
-    ∷ text_rule (codes "from") ∷ text_rule (codes "to") ∷ text_rule (codes "format") ∷ [])
+    ∷ text_rule (codes "from") ∷ text_rule (codes "to") ∷ never_rule
+    ∷ text_rule (codes "format") ∷ [])
 
 -- the subcommand that checks seals
 abbrev pub verify_line : App
@@ -280,6 +288,32 @@ heard_in found = do
     at = time;
   }))
 
+-- whether options select a part of what is heard, which rules don't allow
+abbrev pub selects_part : List Row → Bool
+selects_part found =
+    is_given (codes "listener") found || (is_given (codes "talker") found
+    || (is_given (codes "at") found || (is_given (codes "from") found
+    || is_given (codes "to") found)))
+
+abbrev pub rules_in : List Row → Result (List HeardRule) RuleFault
+rules_in found = rules_of (unwrap_or (all_of (codes "never") found) [])
+
+-- the rules that a script must keep
+abbrev pub watch_in : List Row → Result Invocation Kinds
+watch_in found = do
+  rules ← valid (rules_in found)
+  format ← named_by format_of (codes "format") found
+  file ← valid (file_in (codes "file") found)
+  if selects_part found then Err (ValueValidation ∷ []) else Ok (Watch (record {
+    file = file;
+    format = unwrap_or format formats.Text;
+    rules = rules;
+  }))
+
+-- what is asked about a script, or the rules that it must keep
+abbrev pub script_in : List Row → Result Invocation Kinds
+script_in found = if is_given (codes "never") found then watch_in found else heard_in found
+
 -- the check of the seals in a file, or in the input
 abbrev pub verify_in : List Row → Result Invocation Kinds
 verify_in found = do
@@ -290,7 +324,7 @@ verify_in found = do
 abbrev pub run_in : Text → List Row → Result Invocation Kinds
 run_in name found =
     if bytes_eq name (codes "check") then check_in found
-    else (if bytes_eq name (codes "heard") then heard_in found
+    else (if bytes_eq name (codes "heard") then script_in found
     else (if bytes_eq name (codes "verify") then verify_in found
     else (if bytes_eq name (codes "seal") then Ok Seal else gateway_in name found)))
 

@@ -6,13 +6,16 @@ ghost use Rattle.clap.specs.Words.{app_of, found_of, kind_of, rows_of, rule_of};
 ghost use Rattle.mg_dates.specs.Dates.{date_of_text};
 ghost use Rattle.mg_heard.specs.Query.{party_name_of};
 ghost use Rattle.mg_options.specs.Line.{text_rule};
-ghost use Rattle.mg_arguments.specs.Options.{format_of, heard_in, heard_line, named_by, query_in, script_rule};
+ghost use Rattle.mg_arguments.specs.Options.{format_of, heard_in, heard_line, named_by, never_rule, query_in, rules_in, script_in, script_rule, selects_part, watch_in};
 
 use crate::heard_request::HeardRequest;
 use crate::invocation::Invocation;
-use crate::options::file_of;
+use crate::options::{file_of, is_given};
+use crate::rule_fault::RuleFault;
+use crate::rules::Rules;
+use crate::watch_request::WatchRequest;
 use clap::error::ErrorKind;
-use clap::{Arg, ArgMatches, Command, Error};
+use clap::{Arg, ArgAction, ArgMatches, Command, Error};
 use mg_dates::Date;
 use mg_heard::{Format, PartyName, Query};
 use std::alloc::Global;
@@ -31,11 +34,28 @@ const NO_TO: &str = "invalid value for '--to <TIME>': not a time such as 2026-11
 
 const NO_FORMAT: &str = "invalid value for '--format <FORMAT>': not text, csv or json";
 
+/// The error message if a part is selected of what rules are about.
+const NO_PART: &str =
+    "'--never' can't be used with '--listener', '--talker', '--at', '--from' or '--to'";
+
 /// Creates an option that takes a text.
 fn option<'a>(alloc: Global, name: &'a str, value: &'a str) -> Arg<'a>
     ensures rule { rule_of result ≡ text_rule name.now }
 {
     Arg::new(alloc, name).long(name).value_name(value)
+}
+
+/// Creates the option for rules.
+fn never_option<'a>(alloc: Global) -> Arg<'a>
+    ensures rule { rule_of result ≡ never_rule }
+{
+    Arg::new(alloc, "never")
+        .long("never")
+        .value_name("RULE")
+        .action(ArgAction::Append)
+        .help(
+            "'TALKER -> LISTENER' (* is anyone): exit with 1 as soon as this listener can hear this talker; repeatable",
+        )
 }
 
 /// Creates the argument that names a script.
@@ -64,6 +84,7 @@ pub(crate) fn heard_command<'a>(alloc: Global) -> Result<Command<'a>, Error>
         ))?
         .arg(option(alloc, "from", "TIME").help("Only what ended after this time"))?
         .arg(option(alloc, "to", "TIME").help("Only what began before this time"))?
+        .arg(never_option(alloc))?
         .arg(option(alloc, "format", "FORMAT").help("text, csv or json [default: text]"))?;
     Ok(command)
 }
@@ -155,7 +176,7 @@ fn query_in(matches: &ArgMatches<'_>) -> Result<Query, &'static str>
 }
 
 /// Returns the question that the options ask about a script, or the error message.
-pub(crate) fn heard_in(matches: &ArgMatches<'_>) -> Result<Invocation, &'static str>
+fn heard_in(matches: &ArgMatches<'_>) -> Result<Invocation, &'static str>
     ensures run { IfOk result (λ run. heard_in (rows_of (found_of matches.now)) ≡ Ok run) }
     ensures refused { IfErr result (λ _. heard_in (rows_of (found_of matches.now)) ≡ Err (ValueValidation ∷ [])) }
 {
@@ -172,4 +193,61 @@ pub(crate) fn heard_in(matches: &ArgMatches<'_>) -> Result<Invocation, &'static 
         query,
         at,
     }))
+}
+
+/// Returns whether options select a part of what is heard.
+fn selects_part(matches: &ArgMatches<'_>) -> bool
+    ensures value { result ≡ selects_part (rows_of (found_of matches.now)) }
+{
+    is_given("listener", matches)
+        || is_given("talker", matches)
+        || is_given("at", matches)
+        || is_given("from", matches)
+        || is_given("to", matches)
+}
+
+/// Returns the rules on the command line.
+fn rules_of(matches: &ArgMatches<'_>) -> Result<Rules, RuleFault>
+    ensures value { result ≡ rules_in (rows_of (found_of matches.now)) }
+{
+    match matches.get_strs("never") {
+        Some(texts) => Rules::of(texts),
+        None => Rules::of(&[]),
+    }
+}
+
+/// Returns the rules that a script must keep, or the error message.
+fn watch_in(matches: &ArgMatches<'_>) -> Result<Invocation, &'static str>
+    ensures run { IfOk result (λ run. watch_in (rows_of (found_of matches.now)) ≡ Ok run) }
+    ensures refused { IfErr result (λ _. watch_in (rows_of (found_of matches.now)) ≡ Err (ValueValidation ∷ [])) }
+{
+    let rules = match rules_of(matches) {
+        Ok(rules) => rules,
+        Err(fault) => return Err(fault.message()),
+    };
+    let format = given_format(matches)?;
+    let file = match file_of("file", matches) {
+        Ok(file) => file,
+        Err(fault) => return Err(fault.script_message()),
+    };
+    if selects_part(matches) {
+        return Err(NO_PART);
+    }
+    Ok(Invocation::Watch(WatchRequest {
+        file,
+        format: format.unwrap_or(Format::Text),
+        rules,
+    }))
+}
+
+/// Returns what the options ask about a script, or the error message.
+pub(crate) fn script_in(matches: &ArgMatches<'_>) -> Result<Invocation, &'static str>
+    ensures run { IfOk result (λ run. script_in (rows_of (found_of matches.now)) ≡ Ok run) }
+    ensures refused { IfErr result (λ _. script_in (rows_of (found_of matches.now)) ≡ Err (ValueValidation ∷ [])) }
+{
+    if is_given("never", matches) {
+        watch_in(matches)
+    } else {
+        heard_in(matches)
+    }
 }

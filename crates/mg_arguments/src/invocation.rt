@@ -2,6 +2,7 @@ use crate::draws::Draws;
 use crate::file_path::FilePath;
 use crate::heard_request::HeardRequest;
 use crate::service::Service;
+use crate::watch_request::WatchRequest;
 use mg_core::{Config, Peer, Shown};
 
 /// What the program's arguments ask it to do.
@@ -23,4 +24,6 @@ pub enum Invocation {
     Verify(Option<FilePath>),
     /// Copy the input to the output, with seals.
     Seal,
+    /// Say whether a script breaks a rule about who must not be heard.
+    Watch(WatchRequest),
 }

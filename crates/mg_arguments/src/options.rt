@@ -16,7 +16,7 @@ use crate::draws::Draws;
 use crate::file_path::FilePath;
 use crate::file_path_fault::FilePathFault;
 use crate::given::Given;
-use crate::heard_options::{heard_command, heard_in};
+use crate::heard_options::{heard_command, script_in};
 use crate::invocation::Invocation;
 use crate::sealing_options::{seal_command, verify_command, verify_in};
 use crate::service::Service;
@@ -353,7 +353,7 @@ fn durability_of(
 }
 
 /// Returns whether an option is given.
-fn is_given(name: &str, matches: &ArgMatches<'_>) -> bool
+pub(crate) fn is_given(name: &str, matches: &ArgMatches<'_>) -> bool
     ensures value { result ≡ is_given name.now (rows_of (found_of matches.now)) }
 {
     match matches.get_str(name) {
@@ -470,7 +470,7 @@ fn run_in(name: &str, matches: &ArgMatches<'_>) -> Result<Invocation, &'static s
     if name == "check" {
         check_in(matches)
     } else if name == "heard" {
-        heard_in(matches)
+        script_in(matches)
     } else if name == "verify" {
         verify_in(matches)
     } else if name == "seal" {

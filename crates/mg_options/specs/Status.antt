@@ -3,7 +3,7 @@ use Rattle.std.specs.Prelude.{ℕ}
 use Rattle.mg_options.specs.declared.status.Status.{Status}
 use Rattle.mg_options.specs.declared.status.Status.TheVariants.{Done, BadLine, Usage, Failed}
 use Rattle.mg_options.specs.declared.status.Status.TheVariants.{NoAnswer, NoMemory, NoPort}
-use Rattle.mg_options.specs.declared.status.Status.TheVariants.{BadJournal, CouldNotHear, Unknown}
+use Rattle.mg_options.specs.declared.status.Status.TheVariants.{BadJournal, CouldNotHear, Unknown, RuleBroken}
 
 unfoldable pub code_of : Status → ℕ
 code_of Done = 0
@@ -12,6 +12,7 @@ code_of Usage = 2
 code_of NoAnswer = 2
 code_of CouldNotHear = 1
 code_of Unknown = 2
+code_of RuleBroken = 1
 code_of Failed = 3
 code_of NoMemory = 4
 code_of NoPort = 5

@@ -15,6 +15,8 @@ pub enum Status {
     CouldNotHear,
     /// A script doesn't say who could be heard at the given time, or has no seals.
     Unknown,
+    /// A script breaks a rule about who must not be heard.
+    RuleBroken,
     /// A read, a write or the clock failed.
     Failed,
     NoMemory,
@@ -38,6 +40,7 @@ impl Status {
             Status::NoAnswer => 2,
             Status::CouldNotHear => 1,
             Status::Unknown => 2,
+            Status::RuleBroken => 1,
             Status::Failed => 3,
             Status::NoMemory => 4,
             Status::NoPort => 5,

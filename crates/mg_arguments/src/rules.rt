@@ -1,0 +1,50 @@
+ghost use Rattle.std.specs.Prelude.{◌≡◌, [], map};
+ghost use Rattle.mg_arguments.specs.Rules.{rules_of};
+
+use crate::rule_fault::RuleFault;
+use arrayvec::ArrayVec;
+use mg_heard::Rule;
+use std::marker::Model;
+
+/// The maximum number of rules.
+const MAX_RULES: usize = 64;
+
+/// Rules about who must not be heard, at most 64.
+#[derive(Drop)]
+pub struct Rules {
+    rules: ArrayVec<Rule, MAX_RULES>,
+}
+
+impl Model for Rules {
+    ghost use Rattle.std.specs.Prelude.{List};
+    ghost use Rattle.mg_heard.specs.declared.rule.Rule.{Rule};
+
+    ghost Value = { List Rule };
+
+    ghost view = { λ r. r.rules.items };
+}
+
+impl Rules {
+    /// Parses rules such as `RTP/1 -> RTP/2`.
+    pub fn of(texts: &[&str]) -> Result<Self, RuleFault>
+        ensures value { result ≡ rules_of (map (λ text. text.now) texts.now) }
+    {
+        if texts.len() > MAX_RULES {
+            return Err(RuleFault::TooMany);
+        }
+        let mut rules = ArrayVec::new();
+        for text in texts {
+            let Some(rule) = Rule::of(text.as_bytes()) else {
+                return Err(RuleFault::Unreadable);
+            };
+            rules.push(rule);
+        }
+        Ok(Rules { rules })
+    }
+
+    pub fn as_slice(&self) -> &[Rule]
+        ensures value { result.now ≡ self.now }
+    {
+        self.rules.as_slice()
+    }
+}

@@ -1,14 +1,13 @@
 -- Reading the first line of a script, and then the script; and what an exit status answers.
-use Rattle.std.proofs.Common.{◌≡◌, ◌⊎◌, ◌∙◌, ℕ, true, List, ◌++◌, Option, Some, None, ap, append_assoc, codes, inl, inr, refl, subst, sym}
+use Rattle.std.proofs.Common.{◌≡◌, ◌⊎◌, ◌∙◌, ℕ, Bool, true, List, ◌++◌, Option, Some, None, ap, append_assoc, codes, inl, inr, refl, subst, sym}
 use Rattle.std.proofs.Math.Seq.{take-append_seam}
 use Rattle.std.specs.Prelude.{IfSome}
 use Rattle.std.specs.Io.{StartsWith}
-use Rattle.std.specs.Io.KnownBytes.{Consumes, IsAtEnd}
+use Rattle.std.specs.Io.KnownBytes.{Consumes}
 use Rattle.std.specs.Fmt.{option_append}
 use Rattle.mg_engine.specs.declared.config.Config.{Config}
 use Rattle.mg_core.specs.declared.state.CoreState.{CoreState}
 use Rattle.mg_core.specs.Follow.{IsFollowed}
-use Rattle.mg_core.specs.Note.{Note}
 use Rattle.mg_core.specs.Run.{HasRead}
 use Rattle.mg_dates.specs.declared.date.Date.{Date}
 use Rattle.mg_heard.specs.declared.entry.Entry.{Entry}
@@ -36,9 +35,9 @@ consumed_all (Some xs) None rest front script first all = absurd first
 consumed_all (Some xs) (Some ys) rest front script first all =
     subst (λ (l : List ℕ). Consumes (Some l) rest script) (sym first) all
 
-pub read_all : (old mid rest : Option (List ℕ)) (front script : List ℕ) → Consumes old mid front →
-    HasRead (option_append (Some front) mid) rest script true → HasRead old rest script true
-read_all old mid rest front script first h = record {
+pub read_all : (old mid rest : Option (List ℕ)) (front script : List ℕ) (ended : Bool) → Consumes old mid front →
+    HasRead (option_append (Some front) mid) rest script ended → HasRead old rest script ended
+read_all old mid rest front script ended first h = record {
   consumed = consumed_all old mid rest front script first h.consumed;
   at_end = h.at_end;
 }
@@ -46,7 +45,7 @@ read_all old mid rest front script first h = record {
 starts : (front ys : List ℕ) → StartsWith (front ++ ys) front
 starts front ys = take-append_seam front ys
 
-titled : (old mid : Option (List ℕ)) (front title : List ℕ) → Consumes old mid front → front ≡ title →
+pub titled : (old mid : Option (List ℕ)) (front title : List ℕ) → Consumes old mid front → front ≡ title →
     IfSome old (λ text. StartsWith text title)
 titled None mid front title first is = tt
 titled (Some xs) None front title first is = absurd first
@@ -151,7 +150,7 @@ is_heard request config old mid front held written status first is (rest, state,
   state = state;
   prints = record {
     script = h.script;
-    read = read_all old mid rest front h.script first h.read;
+    read = read_all old mid rest front h.script true first h.read;
     notes = h.notes;
     are = h.are;
     run = h.run;

@@ -14,7 +14,7 @@ use Rattle.mg_heard.specs.Reported.{WritesReport, WritesVerdict}
 use Rattle.mg_heard.specs.Told.{TellsAll}
 use Rattle.mg_heard.specs.Verdict.{verdict_at}
 use Rattle.mg_options.specs.declared.status.Status.{Status}
-use Rattle.mg_options.specs.declared.status.Status.TheVariants.{Done, CouldNotHear, Unknown}
+use Rattle.mg_options.specs.declared.status.Status.TheVariants.{Done, CouldNotHear, Unknown, RuleBroken}
 use Rattle.mg_options.specs.declared.status.Status.TheVariants.{Failed, NoMemory, BadJournal}
 use Rattle.mg_arguments.specs.declared.heard_request.HeardRequest.{HeardRequest}
 use Rattle.mg_arguments.specs.Title.{title_line}
@@ -60,6 +60,7 @@ abbrev pub Hears : (heard silent : Type 0) → Status → Type 0
 Hears heard silent Done = heard × silent
 Hears heard silent CouldNotHear = heard × silent
 Hears heard silent Unknown = heard × silent
+Hears heard silent RuleBroken = heard × silent
 Hears heard silent Failed = ⊤
 Hears heard silent NoMemory = ⊤
 Hears heard silent BadJournal = ⊤

@@ -1,35 +1,18 @@
-ghost use Rattle.std.specs.Prelude.{◌≡◌, ◌⊎◌, IfOk, IfSome, IsSome, Option, List, ℕ};
+ghost use Rattle.std.specs.Prelude.{◌≡◌, IfOk, IsSome, Option, List, ℕ};
 ghost use Rattle.mg_core.specs.Follow.{IsFollowed};
 ghost use Rattle.mg_core.specs.declared.state.CoreState.{CoreState};
 ghost use Rattle.mg_heard.specs.Told.{TellsAll};
 ghost use Rattle.mg_hearing.specs.Heard.{Hears, IsHeard, IsHeardFrom, Prints, status_for};
-ghost use Rattle.mg_arguments.specs.Title.{title_line};
 
-use crate::first_line::first_line;
-use mg_arguments::{HeardRequest, titled};
-use mg_core::{Config, RunFault};
+use crate::faults::{INPUT, report_fault};
+use crate::script_title::read_title;
+use mg_arguments::HeardRequest;
+use mg_core::Config;
 use mg_heard::{HeardFault, Verdict, write_answer, write_report};
 use mg_options::Status;
 use std::alloc::Global;
 use std::fs::{Files, OpenOptions};
 use std::io::{Read, Write};
-
-/// The name of standard input in messages.
-const INPUT: &str = "standard input";
-
-/// Returns the exit status after a fault.
-fn status_of(fault: HeardFault) -> Status
-    ensures ends { (result ≡ Status.Failed) ⊎ (result ≡ Status.NoMemory) ⊎ (result ≡ Status.BadJournal) }
-{
-    match fault {
-        HeardFault::Run(RunFault::Read) => Status::Failed,
-        HeardFault::Run(RunFault::NoMemory) => Status::NoMemory,
-        HeardFault::Run(_) => Status::BadJournal,
-        HeardFault::Clock(_) => Status::BadJournal,
-        HeardFault::Stopped => Status::Failed,
-        HeardFault::NoMemory => Status::NoMemory,
-    }
-}
 
 /// Returns the exit status that answers a question about a given time.
 fn status_for(verdict: &Verdict) -> Status
@@ -68,15 +51,6 @@ fn print_heard<R: Read, W: Write>(
     }
 }
 
-/// Returns the configuration in the title on a script's first line, if the line is one.
-fn config_in(alloc: Global, line: &[u8]) -> Option<Config>
-    ensures value { IfSome result (λ config. line.now ≡ title_line config) }
-{
-    let text = line.strip_suffix(b"\n".as_slice())?;
-    let title = text.strip_prefix(b"# ".as_slice())?;
-    titled(alloc, title)
-}
-
 /// Prints what a request asks about the script with this name. A fault is reported to `errors`.
 fn hear_script<R: Read, W: Write, E: Write>(
     alloc: Global,
@@ -89,27 +63,14 @@ fn hear_script<R: Read, W: Write, E: Write>(
     ensures value { Hears (IsHeard request.now (R.remaining reader.old) (W.contents output.old) (W.contents output.new)
         result) (errors.new ≡ errors.old) result }
 {
-    let line = match first_line(reader) {
-        Ok(line) => line,
-        Err(error) => {
-            let _ = writeln!(errors, "{name}: cannot be read: {error}");
-            return Status::Failed;
-        }
-    };
-    let Some(config) = config_in(alloc, line.as_slice()) else {
-        let _ = writeln!(
-            errors,
-            "{name}: line 1 isn't the title of a journal or a recording"
-        );
-        return Status::BadJournal;
+    let (line, config) = match read_title(alloc, name, reader, errors) {
+        Ok(title) => title,
+        Err(status) => return status,
     };
     let mut script = line.as_slice().chain(reader);
     match print_heard(alloc, config, request, &mut script, output) {
         Ok(status) => status,
-        Err(fault) => {
-            let _ = writeln!(errors, "{name}: {fault}");
-            status_of(fault)
-        }
+        Err(fault) => report_fault(name, fault, errors),
     }
 }
 

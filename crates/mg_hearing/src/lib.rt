@@ -12,6 +12,10 @@
 #![tactic(auto)]
 
 mod answering;
+mod faults;
 mod first_line;
+mod script_title;
+mod watching;
 
 pub use crate::answering::heard;
+pub use crate::watching::watch;

@@ -2,7 +2,7 @@ use Rattle.std.proofs.Common.{◌≡◌, ◌++◌, Some, codes}
 use Rattle.std.proofs.lemmas.Bool.Decides.{Decides-eqb}
 use Rattle.std.proofs.lemmas.Slice.Eq.{strip_prefix_is, strip_suffix_is}
 use Rattle.mg_hearing.proofs.HeardLemmas.{title_is}
-use Rattle.mg_hearing.proofs.answering.config_in.Goals as goal
+use Rattle.mg_hearing.proofs.script_title.config_in.Goals as goal
 
 pub returns : goal.returns
 returns c =

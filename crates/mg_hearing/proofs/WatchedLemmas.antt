@@ -1,0 +1,44 @@
+-- What is printed about rules, and what an exit status answers.
+use Rattle.std.proofs.Common.{◌≡◌, List, ℕ, Option, Some, None, subst, sym}
+use Rattle.std.specs.Fmt.{option_append}
+use Rattle.std.specs.Io.KnownBytes.{Consumes}
+use Rattle.mg_engine.specs.declared.config.Config.{Config}
+use Rattle.mg_heard.specs.declared.violation.Violation.{Violation}
+use Rattle.mg_heard.specs.Never.{IsWatched, WritesViolation}
+use Rattle.mg_options.specs.declared.status.Status.{Status}
+use Rattle.mg_arguments.specs.declared.watch_request.WatchRequest.{WatchRequest}
+use Rattle.mg_arguments.specs.Title.{title_line}
+use Rattle.mg_hearing.specs.Heard.{Hears}
+use Rattle.mg_hearing.specs.Watched.{IsAnswered, status_for}
+use Rattle.mg_hearing.proofs.HeardLemmas.{read_all, titled}
+
+-- a script with its first line in front
+pub is_answered : (request : WatchRequest) (config : Config) (old mid rest : Option (List ℕ)) (front : List ℕ)
+    (held written : Option (List ℕ)) (found : Option Violation) (status : Status) → Consumes old mid front →
+    front ≡ title_line config → IsWatched request.rules config (option_append (Some front) mid) rest found →
+    WritesViolation request.format found held written → status ≡ status_for found →
+    IsAnswered request old held written status
+is_answered request config old mid rest front held written found status first is h line status_is = record {
+  config = config;
+  titled = titled old mid front (title_line config) first is;
+  rest = rest;
+  found = found;
+  watched = record {
+    text = h.text;
+    ended = h.ended;
+    read = read_all old mid rest front h.text h.ended first h.read;
+    notes = h.notes;
+    are = h.are;
+    moments = h.moments;
+    are_moments = h.are_moments;
+    first = h.first;
+    before_tick = h.before_tick;
+  };
+  written = line;
+  status_is = status_is;
+}
+
+pub answers : (answered silent : Type 0) (found : Option Violation) (status : Status) → status ≡ status_for found →
+    answered → silent → Hears answered silent status
+answers answered silent None status is h quiet = subst (λ (s : Status). Hears answered silent s) (sym is) (h, quiet)
+answers answered silent (Some v) status is h quiet = subst (λ (s : Status). Hears answered silent s) (sym is) (h, quiet)

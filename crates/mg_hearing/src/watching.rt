@@ -1,0 +1,74 @@
+ghost use Rattle.std.specs.Prelude.{◌≡◌, IfOk, IsSome, Option, List, ℕ};
+ghost use Rattle.mg_heard.specs.Never.{IsWatched, WritesViolation};
+ghost use Rattle.mg_hearing.specs.Heard.{Hears};
+ghost use Rattle.mg_hearing.specs.Watched.{IsAnswered, IsAnsweredFrom, status_for};
+
+use crate::faults::{INPUT, report_fault};
+use crate::script_title::read_title;
+use mg_arguments::WatchRequest;
+use mg_heard::{Violation, write_violation};
+use mg_options::Status;
+use std::alloc::Global;
+use std::fs::{Files, OpenOptions};
+use std::io::{Read, Write};
+
+/// Returns the exit status that says whether a script breaks a rule.
+fn status_for(found: &Option<Violation>) -> Status
+    ensures value { result ≡ status_for found.now }
+{
+    match found {
+        Some(_) => Status::RuleBroken,
+        None => Status::Done,
+    }
+}
+
+/// Prints the first violation in the script with this name. A fault is reported to `errors`.
+fn watch_script<R: Read, W: Write, E: Write>(
+    alloc: Global,
+    name: &str,
+    request: &WatchRequest,
+    reader: &mut R,
+    output: &mut W,
+    errors: &mut E,
+) -> Status
+    ensures value { Hears (IsAnswered request.now (R.remaining reader.old) (W.contents output.old)
+        (W.contents output.new) result) (errors.new ≡ errors.old) result }
+{
+    let (line, config) = match read_title(alloc, name, reader, errors) {
+        Ok(title) => title,
+        Err(status) => return status,
+    };
+    let mut script = line.as_slice().chain(reader);
+    let rules = request.rules.as_slice();
+    match write_violation(alloc, config, &mut script, request.format, rules, output) {
+        Ok(found) => status_for(&found),
+        Err(fault) => report_fault(name, fault, errors),
+    }
+}
+
+/// Prints the first violation in a script of the rules in `request`, as soon as it arrives. Returns the exit status. A
+/// fault is reported to `errors`.
+pub fn watch<F: Files, R: Read, W: Write, E: Write>(
+    files: &F,
+    alloc: Global,
+    request: &WatchRequest,
+    input: &mut R,
+    output: &mut W,
+    errors: &mut E,
+) -> Status
+    ensures value { Hears (IsAnsweredFrom request.now (R.remaining input.old) (W.contents output.old)
+        (W.contents output.new) result) (errors.new ≡ errors.old) result }
+    ensures unread { IsSome request.now.file → input.new ≡ input.old }
+{
+    let Some(path) = &request.file else {
+        return watch_script(alloc, INPUT, request, input, output, errors);
+    };
+    let name = path.as_str();
+    match OpenOptions::new().read(true).open(files, name) {
+        Ok(mut file) => watch_script(alloc, name, request, &mut file, output, errors),
+        Err(error) => {
+            let _ = writeln!(errors, "{name}: cannot be opened: {error}");
+            Status::BadJournal
+        }
+    }
+}

@@ -1,5 +1,5 @@
 -- A script that is resumed: its notes, the bytes that they come in, and how far it was read.
-use Rattle.std.proofs.Common.{◌≡◌, ◌≢◌, ℕ, zero, suc, ◌+◌, ◌<◌, ◌≤◌, Bool, true, false, List, [], ◌∷◌, ◌++◌, length, codes, eqb, get_or, replicate, take, drop, Option, Some, None, Result, Ok, Err, refl, sym, ap, subst, ◌∙◌, append_assoc, length-append, length-take, arith}
+use Rattle.std.proofs.Common.{◌≡◌, ◌≢◌, ℕ, zero, suc, ◌+◌, ◌<◌, ◌≤◌, Bool, true, false, List, [], ◌∷◌, ◌++◌, length, codes, eqb, get_or, replicate, take, drop, Option, Some, None, Result, Ok, Err, refl, sym, ap, subst, ◌∙◌, append_assoc, length-append, length-take, arith, inl, inr, ◌⊎◌}
 use Rattle.std.proofs.lemmas.Bool.{eq-eqb, eqb-true, ne_eqb, true≢false}
 use Rattle.std.proofs.lemmas.List.{append-nil, drop-drop, get_or-take, replicate_more}
 use Rattle.memchr.specs.Find.{IsFirstByte, is_byte}
@@ -22,7 +22,7 @@ use Rattle.mg_core.specs.declared.fault.RunFault.TheVariants as runs
 use Rattle.mg_core.specs.declared.fault.ScriptFault.{ScriptFault}
 use Rattle.mg_core.specs.declared.fault.ScriptFault.TheVariants as scripts
 use Rattle.mg_core.specs.declared.state.CoreState.{CoreState}
-use Rattle.mg_core.specs.Follow.{HasRun, IsFollowed, IsFollowedUntil, ticks_of}
+use Rattle.mg_core.specs.Follow.{HasRun, GoesOn, IsFollowed, IsFollowedUntil, ticks_of}
 use Rattle.mg_core.specs.Headline.{ExtendsByTicks, ExtendsHistory, HasHistory}
 use Rattle.mg_core.specs.Note.{Note, Comment, Happened, NotesHaveEvents, events_in, noted, notes_of}
 use Rattle.mg_core.specs.Resume.{FindsBadLine, IsResumed}
@@ -568,52 +568,129 @@ pub not_err : {A E : Type 0} (r : Result A E) (X : Type 0) → is_err r ≡ fals
 not_err (Ok value) X none h = h
 not_err (Err e) X none h = absurd (true≢false none)
 
-pub reaches_after : (Old New : List Note → Type 0) (i x : Option (List ℕ)) (partial : List ℕ) (n : ℕ) →
-    ((notes : List Note) → Old notes → New notes) → Reaches Old i x partial n → Reaches New i x partial n
-reaches_after Old New i x partial n step (notes, p, old) = (notes, p, step notes old)
+-- as far as a script was read, a follower was not done
+abbrev pub Waits : {F : Type 0} → (F → Bool) → (F → List Note → Type 0) → (Old : List Note → Type 0)
+    → (input remaining : Option (List ℕ)) → List ℕ → ℕ → Type 0
+Waits done Follows Old input remaining partial count =
+    (r : Reaches Old input remaining partial count) × ((r.1.text ≡ []) ⊎ GoesOn done Follows r.1.text)
 
-pub followed_to_end : (config : Config) (i y : Option (List ℕ)) (state : CoreState) (is_done : Bool)
-    (Follows : List Note → Type 0) → IsFollowed config i y state Follows →
-    IsFollowedUntil config i y state is_done Follows
-followed_to_end config i y state is_done Follows h = record {
-  text = h.script;
-  ended = true;
-  read = h.read;
-  until = λ e. refl;
-  notes = h.notes;
-  are = h.are;
-  run = h.run;
-  follows = h.follows;
-}
+pub waits_start : {F : Type 0} (done : F → Bool) (Follows : F → List Note → Type 0) (Old : List Note → Type 0)
+    (input : Option (List ℕ)) (partial : List ℕ) (count : ℕ) → partial ≡ [] → count ≡ 0 → Old [] →
+    Waits done Follows Old input input partial count
+unfolding reaches_start
+waits_start done Follows Old input partial count none zero_is start =
+    (reaches_start Old input partial count none zero_is start, inl refl)
+
+pub followed_to_end : {F : Type 0} (config : Config) (Old : List Note → Type 0) (i x y : Option (List ℕ))
+    (partial : List ℕ) (n : ℕ) (state : CoreState) (done : F → Bool) (Follows : F → List Note → Type 0) (last : F) →
+    Waits done Follows Old i x partial n → AtEnd x y →
+    LinesResumed Old (KeepsUp config state 0 (Follows last)) (lines_after true partial []) →
+    IsFollowedUntil config i y state done Follows last
+unfolding followed_at_end
+followed_to_end config Old i x y partial n state done Follows last (r, waits) end h =
+    let p = r.1 in
+    let f = followed_at_end config Old (Follows last) i x y partial n state r end h in
+    let same : p.text ++ [] ≡ p.text = append-nil p.text in
+    record {
+      front = p.text;
+      piece = [];
+      size = omega arith;
+      goes_on = waits;
+      ended = true;
+      read = subst (λ (l : List ℕ). HasRead i y l true) (sym same) f.read;
+      until = λ e. refl;
+      notes = f.notes;
+      are = ap (λ (l : List ℕ). notes_of (lines_of true l)) same ∙ f.are;
+      run = f.run;
+      follows = f.follows;
+    }
 
 no_part : (partial : List ℕ) → lines_after false partial [] ≡ []
 unfolding lines_after
 no_part [] = refl
 no_part (b ∷ bs) = rw (ne_eqb (length (b ∷ bs)) 0 (λ e. absurd (omega arith))) refl
 
-pub followed_to_done : (config : Config) (i x : Option (List ℕ)) (partial : List ℕ) (n : ℕ) (state : CoreState)
-    (is_done : Bool) (Follows : List Note → Type 0) → is_done ≡ true →
-    Reaches (KeepsUp config state 0 Follows) i x partial n → IsFollowedUntil config i x state is_done Follows
-followed_to_done config i x partial n state is_done Follows done (notes, p, keeps) =
-    let (run, follows) = caught_up config state Follows notes keeps in
+-- the notes of the lines that have ended
+ended_notes : (i x : Option (List ℕ)) (partial : List ℕ) (n : ℕ) (notes : List Note) (p : Far i x partial n notes) →
+    notes_of (lines_of false p.text) ≡ Some notes
+ended_notes i x partial n notes p =
+    ap notes_of (ap (lines_after false []) (sym (append-nil p.text)) ∙ p.split false []
+    ∙ ap (λ (l : List (List ℕ)). p.lines ++ l) (no_part partial) ∙ append-nil p.lines) ∙ p.are
+
+-- one more piece was read, and its ticks were run
+pub record Advances {F : Type 0} (config : Config) (state : CoreState) (done : F → Bool)
+    (Follows : F → List Note → Type 0) (now : F) (i x y : Option (List ℕ)) (front piece left : List ℕ) (m : ℕ)
+    : Type 0 where
+  pub notes : List Note
+  pub far : Far i y left m notes
+  pub text : far.text ≡ front ++ piece
+  pub keeps : KeepsUp config state 0 (Follows now) notes
+
+pub advances : {F : Type 0} (config : Config) (state : CoreState) (done : F → Bool) (Follows : F → List Note → Type 0)
+    (now : F) (Old Mid : List Note → Type 0) (i x y : Option (List ℕ)) (partial piece left : List ℕ) (n m : ℕ)
+    (r : Reaches Old i x partial n) → Consumes x y piece → BytesRun n m partial piece left [] Old Mid →
+    ((notes : List Note) → Mid notes → KeepsUp config state 0 (Follows now) notes) →
+    Advances config state done Follows now i x y r.1.text piece left m
+unfolding reaches_bytes
+advances config state done Follows now Old Mid i x y partial piece left n m r eaten h step =
+    let next = reaches_bytes Old Mid i x y partial piece left n m r eaten h in
+    record { notes = next.0; far = next.1; text = refl; keeps = step next.0 next.2 }
+
+pub waits_on : {F : Type 0} (config : Config) (state : CoreState) (done : F → Bool) (Follows : F → List Note → Type 0)
+    (now : F) (i x y : Option (List ℕ)) (front piece left : List ℕ) (m ticks : ℕ) → ticks ≡ 0 → done now ≡ false →
+    Advances config state done Follows now i x y front piece left m →
+    Waits done Follows (KeepsUp config state ticks (Follows now)) i y left m
+waits_on config state done Follows now i x y front piece left m ticks none undone a =
+    let (run, follows) = caught_up config state (Follows now) a.notes a.keeps in (
+      (a.notes, a.far, subst (λ (k : ℕ). KeepsUp config state k (Follows now) a.notes) (sym none) a.keeps),
+      inr (record {
+        follower = now;
+        notes = a.notes;
+        are = ended_notes i y left m a.notes a.far;
+        follows = follows;
+        undone = undone;
+      }),
+    )
+
+pub followed_to_done : {F : Type 0} (config : Config) (state : CoreState) (done : F → Bool)
+    (Follows : F → List Note → Type 0) (now : F) (i x y : Option (List ℕ)) (front piece left : List ℕ) (m : ℕ) →
+    length piece ≤ 4096 → ((front ≡ []) ⊎ GoesOn done Follows front) → done now ≡ true →
+    Advances config state done Follows now i x y front piece left m → IsFollowedUntil config i y state done Follows now
+followed_to_done config state done Follows now i x y front piece left m short waits is_done a =
+    let (run, follows) = caught_up config state (Follows now) a.notes a.keeps in
     record {
-      text = p.text;
+      front = front;
+      piece = piece;
+      size = short;
+      goes_on = waits;
       ended = false;
-      read = record { consumed = p.consumed; at_end = λ e. absurd (cc e) };
-      until = λ e. absurd (true≢false (sym done ∙ e));
-      notes = notes;
-      are = ap notes_of (ap (lines_after false []) (sym (append-nil p.text)) ∙ p.split false []
-          ∙ ap (λ (l : List (List ℕ)). p.lines ++ l) (no_part partial) ∙ append-nil p.lines) ∙ p.are;
+      read = subst (λ (l : List ℕ). HasRead i y l false) a.text
+          (record { consumed = a.far.consumed; at_end = λ e. absurd (cc e) });
+      until = λ e. absurd (true≢false (sym is_done ∙ e));
+      notes = a.notes;
+      are = ap (λ (l : List ℕ). notes_of (lines_of false l)) (sym a.text) ∙ ended_notes i y left m a.notes a.far;
       run = run;
       follows = follows;
     }
 
-pub is_followed_until : (config : Config) (i y : Option (List ℕ)) (state : CoreState) (is_done : Bool)
-    (Starts : Type 0) (Follows : List Note → Type 0) → Starts →
-    IsFollowedUntil config i y state is_done (λ notes. Starts → Follows notes) →
-    IsFollowedUntil config i y state is_done Follows
-is_followed_until config i y state is_done Starts Follows start h = record {
-  text = h.text;
+pub is_followed_until : {F : Type 0} (config : Config) (i y : Option (List ℕ)) (state : CoreState) (done : F → Bool)
+    (Starts : Type 0) (Follows : F → List Note → Type 0) (last : F) → Starts →
+    IsFollowedUntil config i y state done (λ f notes. Starts → Follows f notes) last →
+    IsFollowedUntil config i y state done Follows last
+is_followed_until config i y state done Starts Follows last start h = record {
+  front = h.front;
+  piece = h.piece;
+  size = h.size;
+  goes_on = elim h.goes_on [
+    | inl none ↦ inl none
+    | inr on ↦ inr (record {
+      follower = on.follower;
+      notes = on.notes;
+      are = on.are;
+      follows = on.follows start;
+      undone = on.undone;
+    })
+  ];
   ended = h.ended;
   read = h.read;
   until = h.until;

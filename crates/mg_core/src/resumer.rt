@@ -215,8 +215,8 @@ impl Resumer {
         requires ticks { self.old.runner.ticks ≡ 0 }
         requires partial { self.old.partial.text ≡ [] }
         ensures value { (config : Config) → HasRun config [] self.old.runner.core.state → OnOk result
-            (IsFollowedUntil config (R.remaining reader.old) (R.remaining reader.new) self.new.runner.core.state
-            (F.done follower.new) (HasFollowed F.follows follower.old follower.new config)) }
+            (IsFollowedUntil config (R.remaining reader.old) (R.remaining reader.new) self.new.runner.core.state F.done
+            (λ f. HasFollowed F.follows follower.old f config) follower.new) }
     {
         let mut buffer = [0; READ_SIZE];
         for _ in 0..u32::MAX {

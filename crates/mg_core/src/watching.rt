@@ -21,8 +21,8 @@ pub fn watch<R: Read, F: Watcher>(
     follower: &mut F,
 ) -> Result<Core, RunFault>
     ensures followed { F.follows follower.old follower.old config [] → IfOk result (λ core.
-        IsFollowedUntil config (R.remaining reader.old) (R.remaining reader.new) core.state (F.done follower.new)
-        (F.follows follower.old follower.new config)) }
+        IsFollowedUntil config (R.remaining reader.old) (R.remaining reader.new) core.state F.done
+        (λ f. F.follows follower.old f config) follower.new) }
 {
     let mut resumer = Resumer::new(alloc, config)?;
     resumer.take_until_done(alloc, reader, follower)?;

@@ -9,7 +9,7 @@ returns g c = record {
       let first = c.args.follower.now in
       let last = c.take_until_done.new.follower in
       is_followed_until c.args.config (g.R.Read.remaining c.args.reader.now)
-      (g.R.Read.remaining c.take_until_done.new.reader) c.take_until_done.new.self.runner.core.state
-      (g.F.Watcher.done last) (follows first first c.args.config []) (follows first last c.args.config) start
+      (g.R.Read.remaining c.take_until_done.new.reader) c.take_until_done.new.self.runner.core.state g.F.Watcher.done
+      (follows first first c.args.config []) (λ f. follows first f c.args.config) last start
       (c.in_ok-take_until_done.ensures.value c.args.config c.in_ok-resumer.ensures.start);
 }

@@ -1,5 +1,5 @@
 -- What a watch keeps, note by note.
-use Rattle.std.proofs.Common.{◌≡◌, ◌≢◌, ℕ, ◌+◌, suc, zero, Bool, true, false, List, [], ◌∷◌, ◌++◌, ◌<◌, ◌≤◌, cond, drop, get_or, length, map, replicate, Option, Some, None, refl, sym, ap, subst, ◌∙◌, arith, length-append}
+use Rattle.std.proofs.Common.{◌≡◌, ◌≢◌, ℕ, ◌+◌, suc, zero, Bool, true, false, List, [], ◌∷◌, ◌++◌, ◌<◌, ◌≤◌, cond, drop, get_or, length, map, replicate, Option, Some, None, refl, sym, ap, subst, ◌∙◌, arith, length-append, inl, inr}
 use Rattle.std.specs.Prelude.{reverse, is_some, IsSomeAnd}
 use Rattle.std.specs.Option.{option_map, option_map_or, option_or}
 use Rattle.std.proofs.lemmas.Bool.{true≢false}
@@ -9,7 +9,7 @@ use Rattle.mg_core.specs.declared.event.Event.{Event}
 use Rattle.mg_core.specs.declared.event.Event.TheVariants.{Tick}
 use Rattle.mg_core.specs.declared.state.CoreState.{CoreState}
 use Rattle.mg_core.specs.Counting.{is_control}
-use Rattle.mg_core.specs.Follow.{HasRun, IsFollowedUntil, ticks_of}
+use Rattle.mg_core.specs.Follow.{GoesOn, HasRun, IsFollowedUntil, ticks_of}
 use Rattle.mg_core.specs.Note.{Note, Comment, Happened, events_in}
 use Rattle.mg_core.specs.Step.{Run, Sent}
 use Rattle.mg_core.specs.World.{World, StandsFor, start_of}
@@ -18,9 +18,10 @@ use Rattle.mg_heard.specs.declared.open_flow.OpenFlow.{OpenFlow}
 use Rattle.mg_heard.specs.declared.open_interval.OpenInterval.{OpenInterval}
 use Rattle.mg_heard.specs.declared.rule.Rule.{Rule}
 use Rattle.mg_heard.specs.declared.violation.Violation.{Violation}
+use Rattle.mg_heard.specs.declared.watch.Watch.{Watch}
 use Rattle.mg_heard.specs.Laws.{OnlyControlChangesFlows}
 use Rattle.mg_heard.specs.Moments.{AreMoments}
-use Rattle.mg_heard.specs.Never.{IsWatched, first_forbidden, forbidden_in, is_forbidden, without_date}
+use Rattle.mg_heard.specs.Never.{IsKept, IsWatched, first_forbidden, forbidden_in, is_forbidden, without_date}
 use Rattle.mg_heard.specs.OpenFlows.{open_flows}
 use Rattle.mg_heard.specs.aids.Opening.{beginning_at, flows_of}
 use Rattle.mg_heard.specs.aids.Watching.{KeepsRules, forbidden_at}
@@ -253,23 +254,51 @@ was_some : (is_done ended : Bool) → ended ≡ false → (is_done ≡ false →
 was_some true ended left until = refl
 was_some false ended left until = absurd (true≢false (sym (until refl) ∙ left))
 
+-- a watch has followed these notes
+abbrev pub Watches : List Rule → Config → Watch → List Note → Type 0
+Watches rules config w notes =
+    (w.rules.now ≡ rules) × KeepsRules rules config notes w.clock.ticks w.is_changed w.violation
+
+nothing_found : (o : Option Violation) → is_some o ≡ false → None ≡ seen o
+nothing_found None none = refl
+nothing_found (Some v) none = absurd (true≢false none)
+
+is_kept : (rules : List Rule) (config : Config) (text : List ℕ) →
+    GoesOn (λ (w : Watch). is_some w.violation) (Watches rules config) text → IsKept rules config text
+is_kept rules config text g =
+    let k = g.follows.1 in
+    record {
+      notes = g.notes;
+      are = g.are;
+      before = reverse k.past;
+      now = k.now;
+      are_moments = subst (λ (l : List (List OpenFlow)). AreMoments (start_of config) (events_in g.notes) l)
+          (reverse-append (k.now ∷ []) k.past) k.are;
+      none = sym (nothing_found g.follower.violation g.undone ∙ k.first);
+    }
+
 pub is_watched : OneOutcome → (rules : List Rule) (config : Config) (input rest : Option (List ℕ)) (state : CoreState)
-    (tick : ℕ) (is_changed : Bool) (old new : Option Violation) (others : List Rule) →
-    IsFollowedUntil config input rest state (is_some old)
-    (λ notes. (others ≡ rules) × KeepsRules rules config notes tick is_changed old) →
+    (last : Watch) (new : Option Violation) →
+    IsFollowedUntil config input rest state (λ (w : Watch). is_some w.violation) (Watches rules config) last →
     ((w : World) → StandsFor state w →
-    (is_changed ≡ false → old ≡ None → forbidden_in others (open_flows w.gateway) ≡ None) →
-    seen new ≡ option_or (seen old) (forbidden_at tick others (open_flows w.gateway))) →
-    IsWatched rules config input rest new
-is_watched one rules config input rest state tick is_changed old new others h compares =
+    (last.is_changed ≡ false → last.violation ≡ None → forbidden_in last.rules.now (open_flows w.gateway) ≡ None) →
+    seen new ≡ option_or (seen last.violation)
+    (forbidden_at last.clock.ticks last.rules.now (open_flows w.gateway))) → IsWatched rules config input rest new
+is_watched one rules config input rest state last new h compares =
     let (sent, w, (run, stands)) = h.run in
     let (same, k) = h.follows in
-    let now = watched_now one rules config h.notes tick is_changed old sent w run k in
-    let is = compared one rules config h.notes tick is_changed old new sent w others same run k (compares w stands) in
+    let tick = last.clock.ticks in
+    let old = last.violation in
+    let now = watched_now one rules config h.notes tick last.is_changed old sent w run k in
+    let is = compared one rules config h.notes tick last.is_changed old new sent w last.rules.now same run k
+    (compares w stands) in
     let all : reverse (k.now ∷ k.past) ≡ reverse k.past ++ replicate 1 (open_flows w.gateway) =
     reverse-append (k.now ∷ []) k.past ∙ ap (λ (l : List OpenFlow). reverse k.past ++ l ∷ []) now in
     record {
-      text = h.text;
+      front = h.front;
+      piece = h.piece;
+      size = h.size;
+      prompt = elim h.goes_on [ inl none ↦ inl none | inr on ↦ inr (is_kept rules config h.front on) ];
       ended = h.ended;
       read = h.read;
       notes = h.notes;

@@ -1,5 +1,5 @@
 -- Rules: a talker must never be heard by a listener. And the first flow of a script that breaks one.
-use Rattle.std.specs.Prelude.{◌≡◌, ℕ, ◌+◌, ◌<◌, ◌&&◌, Bool, false, List, [], ◌∷◌, ◌++◌, length, find}
+use Rattle.std.specs.Prelude.{◌≡◌, ◌⊎◌, ℕ, ◌+◌, ◌<◌, ◌≤◌, ◌&&◌, Bool, false, List, [], ◌∷◌, ◌++◌, length, find}
 use Rattle.std.specs.Prelude.{Option, Some, None, IsSomeAnd, codes, decimal, if◌then◌else◌}
 use Rattle.std.specs.Io.KnownBytes.{Appends}
 use Rattle.std.specs.List.{list_any}
@@ -63,16 +63,29 @@ first_forbidden rules from (flows ∷ later) =
 abbrev pub without_date : Violation → ℕ × OpenFlow
 without_date v = (v.at.tick, v.flow)
 
+-- No rule is broken before a tick in the lines that end in this text.
+pub record IsKept (rules : List Rule) (config : Config) (text : List ℕ) : Type 0 where
+  pub notes : List Note
+  pub are : notes_of (lines_of false text) ≡ Some notes
+  pub before : List (List OpenFlow)
+  pub now : List OpenFlow
+  pub are_moments : AreMoments (start_of config) (events_in notes) (before ++ now ∷ [])
+  pub none : first_forbidden rules 0 before ≡ None
+
 -- What was found in a script that was read to its end, or until a rule was broken before one of its
 -- ticks. It is the first violation in the moments of what was read. So if nothing was found, the
--- script was read to its end, and in none of its moments does a rule forbid an open flow.
+-- script was read to its end, and in none of its moments does a rule forbid an open flow. At most
+-- 4096 bytes were read in which a rule may have been broken before a tick.
 pub record IsWatched (rules : List Rule) (config : Config) (input rest : Option (List ℕ))
     (found : Option Violation) : Type 0 where
-  pub text : List ℕ
+  pub front : List ℕ
+  pub piece : List ℕ
+  pub size : length piece ≤ 4096
+  pub prompt : (front ≡ []) ⊎ IsKept rules config front
   pub ended : Bool
-  pub read : HasRead input rest text ended
+  pub read : HasRead input rest (front ++ piece) ended
   pub notes : List Note
-  pub are : notes_of (lines_of ended text) ≡ Some notes
+  pub are : notes_of (lines_of ended (front ++ piece)) ≡ Some notes
   pub moments : List (List OpenFlow)
   pub are_moments : AreMoments (start_of config) (events_in notes) moments
   pub first : option_map without_date found ≡ first_forbidden rules 0 moments

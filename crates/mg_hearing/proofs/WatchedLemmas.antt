@@ -1,5 +1,5 @@
 -- What is printed about rules, and what an exit status answers.
-use Rattle.std.proofs.Common.{◌≡◌, List, ℕ, Option, Some, None, subst, sym}
+use Rattle.std.proofs.Common.{◌≡◌, ◌++◌, List, ℕ, Option, Some, None, subst, sym}
 use Rattle.std.specs.Fmt.{option_append}
 use Rattle.std.specs.Io.KnownBytes.{Consumes}
 use Rattle.mg_engine.specs.declared.config.Config.{Config}
@@ -24,9 +24,12 @@ is_answered request config old mid rest front held written found status first is
   rest = rest;
   found = found;
   watched = record {
-    text = h.text;
+    front = h.front;
+    piece = h.piece;
+    size = h.size;
+    prompt = h.prompt;
     ended = h.ended;
-    read = read_all old mid rest front h.text h.ended first h.read;
+    read = read_all old mid rest front (h.front ++ h.piece) h.ended first h.read;
     notes = h.notes;
     are = h.are;
     moments = h.moments;

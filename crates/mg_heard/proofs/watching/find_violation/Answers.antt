@@ -16,8 +16,8 @@ returns-in-Ok-watch g c =
     let same : first.rules.now ≡ c.args.rules.now = c.in-Ok.ensures.rules in
     record {
       watched = subst (λ (l : List Rule). IsWatched l config input rest found) same
-          (is_watched c.outcomes_are_unique.ensures.event first.rules.now config input rest c.in-Ok-watch.core.state
-          last.clock.ticks last.is_changed last.violation found last.rules.now (c.in-Ok-watch.ensures.followed (
+          (is_watched c.outcomes_are_unique.ensures.event first.rules.now config input rest c.in-Ok-watch.core.state last
+          found (c.in-Ok-watch.ensures.followed (
             refl,
             subst (λ (l : List Rule). KeepsRules l config [] first.clock.ticks first.is_changed first.violation) (sym same)
                 (c.in-Ok.ensures.start config),

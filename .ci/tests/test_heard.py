@@ -1,9 +1,10 @@
 """Who could hear whom, and when."""
+import subprocess
 import tempfile
 from pathlib import Path
 
 from media import description
-from programs import Commands, run
+from programs import Commands, program, run
 
 TITLE = (
     "# mg_bridge replay --address=127.0.0.1 --control-address=127.0.0.1 --control-port=2944 --base-port=30000"
@@ -14,6 +15,11 @@ TITLE = (
 def say(number, actions):
     """The line of a message with one request."""
     return f"say 127.0.0.1:2945 MEGACO/1 [127.0.0.1]:2945 Transaction={number}{{{actions}}}\n"
+
+
+def topology(number, word):
+    """The message that connects the first two callers like this."""
+    return say(number, f"Context=1{{Topology{{RTP/1,RTP/2,{word}}}}}")
 
 
 def media(address):
@@ -82,6 +88,48 @@ class Heard(Commands):
         ):
             self.ends(0, wanted, "", "heard", *words, text=self.TITLE + self.CALL)
 
+    def test_never(self):
+        first, second = (it.partition(" until ")[0] + "\n" for it in (self.FIRST, self.SECOND))
+        for rules, status, wanted in (
+            (["RTP/2 -> RTP/1"], 1, first),
+            (["* -> 192.0.2.7"], 1, first),
+            (["* -> *"], 1, first),
+            (["192.0.2.7:40000 -> *"], 1, second),
+            (["RTP/3 -> RTP/1", "RTP/1 -> RTP/2"], 1, second),
+            (["RTP/1 -> RTP/1", "RTP/1 -> 192.0.2.7", "192.0.2.8 -> *"], 0, ""),
+        ):
+            words = [f"--never={rule}" for rule in rules]
+            self.ends(status, wanted, "", "heard", *words, text=self.TITLE + self.CALL)
+        comma = "heard,RTP/1,192.0.2.7:40000,RTP/2,,1,0,,2026-11-27T14:03:20Z,\n"
+        self.ends(1, comma, "", "heard", "--never=* -> *", "--format=csv", text=self.TITLE + self.CALL)
+        status, output, errors = run("heard", "--never=* -> *", "--format=json", text=self.TITLE + self.CALL)
+        self.assertEqual((status, output[:16], output[-15:], errors), (1, '{"kind":"heard",', ',"until":null}\n', ""))
+
+    def test_never_later(self):
+        start = self.TITLE + self.CALL.partition("tick\n")[0] + topology(2, "Isolate") + "tick\ntick\n"
+        undone = start + topology(3, "Bothway") + topology(4, "Isolate") + "tick\n"
+        self.ends(0, "", "", "heard", "--never=* -> *", text=undone)
+        broken = undone + topology(5, "Oneway")
+        line = "RTP/2 could hear RTP/1 (192.0.2.7:40000) in context 1 from 2026-11-27T14:03:20.06Z (tick 3)\n"
+        # The rule is broken at the end, too.
+        for text in (broken, broken + "tick\n", broken + "tick\ntick\n" + topology(6, "Isolate") + "tick\n"):
+            self.ends(1, line, "", "heard", "--never=RTP/1 -> RTP/2", text=text)
+
+    def test_never_in_a_growing_journal(self):
+        words = [program("mg_bridge"), "heard", "--never", "RTP/2 -> RTP/1"]
+        isolated = self.TITLE + self.CALL.partition("tick\n")[0] + topology(2, "Isolate") + "tick\n"
+        with subprocess.Popen(words, stdin=subprocess.PIPE, stdout=subprocess.PIPE) as watch:
+            watch.stdin.write((isolated + topology(3, "Bothway")).encode())
+            watch.stdin.flush()
+            # No tick has followed, and the journal has not ended.
+            with self.assertRaises(subprocess.TimeoutExpired):
+                watch.wait(1)
+            watch.stdin.write(b"tick\n")
+            watch.stdin.flush()
+            self.assertEqual(watch.wait(5), 1)
+            wanted = self.FIRST.partition(" from ")[0] + " from 2026-11-27T14:03:20.02Z (tick 1)\n"
+            self.assertEqual(watch.stdout.read().decode(), wanted)
+
     def test_faulty_scripts(self):
         other = "# mg_bridge replay --slots=4\n"
         no_title = "line 1 isn't the title of a journal or a recording"
@@ -96,7 +144,7 @@ class Heard(Commands):
             (self.CALL, no_title),
             ("#" * 5000, no_title),
         ):
-            for word in ("--format=text", "--at=2026-11-27T14:03:20Z"):
+            for word in ("--format=text", "--at=2026-11-27T14:03:20Z", "--never=RTP/8 -> RTP/9"):
                 with self.subTest(text=text, word=word):
                     status, _, errors = run("heard", word, text=text)
                     self.assertEqual((status, errors), (6, f"standard input: {message}\n"))

@@ -4,8 +4,10 @@ use Rattle.mg_options.specs.declared.status.Status.{Status}
 use Rattle.mg_options.specs.declared.status.Status.TheVariants.{Done, Failed, NoAnswer}
 use Rattle.mg_arguments.specs.declared.invocation.Invocation.{Invocation}
 use Rattle.mg_arguments.specs.declared.invocation.Invocation.TheVariants.{Replay, Serve, Live, Check}
-use Rattle.mg_arguments.specs.declared.invocation.Invocation.TheVariants.{Heard, Verify, Seal}
+use Rattle.mg_arguments.specs.declared.invocation.Invocation.TheVariants.{Heard, Watch, Verify}
+use Rattle.mg_arguments.specs.declared.invocation.Invocation.TheVariants.{Seal}
 use Rattle.mg_hearing.specs.Heard.{Hears, IsHeardFrom}
+use Rattle.mg_hearing.specs.Watched.{IsAnsweredFrom}
 use Rattle.mg_sealing.specs.Seal.{SealsInput}
 use Rattle.mg_sealing.specs.Verify.{Verifies}
 use Rattle.mg_program.specs.Replay.{Replays}
@@ -34,6 +36,9 @@ Runs remaining contents silent input rest old new (Check gateway) status =
 Runs remaining contents silent input rest old new (Heard request) status =
     (IsSome request.file → rest ≡ input)
     × Hears (IsHeardFrom request (remaining input) (contents old) (contents new) status) silent status
+Runs remaining contents silent input rest old new (Watch request) status =
+    (IsSome request.file → rest ≡ input)
+    × Hears (IsAnsweredFrom request (remaining input) (contents old) (contents new) status) silent status
 Runs remaining contents silent input rest old new (Verify file) status =
     (IsSome file → rest ≡ input)
     × Verifies (IsVerifiedFrom file (remaining input) (contents old) (contents new) status) silent status

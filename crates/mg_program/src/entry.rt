@@ -10,7 +10,7 @@ use crate::serve::serve;
 use crate::system::System;
 use crate::verify::verify;
 use mg_arguments::{Invocation, requested_run};
-use mg_hearing::heard;
+use mg_hearing::{heard, watch};
 use mg_options::{Status, report_error};
 use mg_sealing::seal;
 use std::alloc::Global;
@@ -28,8 +28,9 @@ use std::time::Clock;
 /// no random numbers. It is 4 if memory ran out, 5 for a port that can't be bound, and 6 for a journal that can't be
 /// used. If the status is nonzero, an error message goes to `errors`. A gateway's periodic reports go to `reports`.
 ///
-/// For a question about a given time, 1 means that the talker could not be heard, and 2 that the script doesn't say.
-/// For a check of seals, 1 means that a text was changed, and 2 that it has no seals. There is no message then.
+/// For a question about a given time, 1 means that the talker could not be heard, and 2 that the script doesn't say. For
+/// rules, 1 means that the script breaks one. For a check of seals, 1 means that a text was changed, and 2 that it has no
+/// seals. There is no message then.
 pub fn program<
     'a,
     N: Net,
@@ -73,6 +74,9 @@ pub fn program<
         }
         Ok(Invocation::Heard(request)) => {
             heard(system.files, alloc, &request, input, output, errors)
+        }
+        Ok(Invocation::Watch(request)) => {
+            watch(system.files, alloc, &request, input, output, errors)
         }
         Ok(Invocation::Verify(file)) => {
             verify(system.files, alloc, &file, input, output, errors)

@@ -1,6 +1,6 @@
 use Rattle.std.proofs.Common.{refl, inl, inr}
 use Rattle.clap.specs.Words.{kind_of}
-use Rattle.mg_program.proofs.entry.program.Goals.{in-Ok-Replay, in-Ok-Serve, in-Ok-Live, in-Ok-Heard, in-Ok-Verify, in-Ok-Seal, in-Ok-Check, in-Err+in-Some-1, in-Err+in-None-1}
+use Rattle.mg_program.proofs.entry.program.Goals.{in-Ok-Replay, in-Ok-Serve, in-Ok-Live, in-Ok-Heard, in-Ok-Watch, in-Ok-Verify, in-Ok-Seal, in-Ok-Check, in-Err+in-Some-1, in-Err+in-None-1}
 use Rattle.mg_program.proofs.entry.program.Goals as goal
 
 pub returns-clause-ends : goal.returns-clause-ends
@@ -40,6 +40,14 @@ returns-clause-ends g c =
           w.in-Ok-Heard.ensures.run,
           w.in-Ok-Heard.field-0-is,
         ) (inl (w.heard-status.ensures.unread, w.heard-status.ensures.value))
+        | in-Ok-Watch w ↦ rw (
+          w.status-is,
+          w.input-is,
+          w.output-is,
+          w.errors-is,
+          w.in-Ok-Watch.ensures.run,
+          w.in-Ok-Watch.field-0-is,
+        ) (inl (w.watch-status.ensures.unread, w.watch-status.ensures.value))
         | in-Ok-Verify w ↦ rw (
           w.status-is,
           w.input-is,

@@ -21,6 +21,35 @@ use std::net::Net;
 use std::random::RandomSource;
 use std::time::Clock;
 
+/// Does what the arguments ask for. Returns the exit status.
+fn run<N: Net, C: Clock, G: RandomSource, F: Files, R: Read, W: Write, E: Write, T: Write>(
+    system: &System<'_, N, C, G, F>,
+    alloc: Global,
+    invocation: &Invocation,
+    input: &mut R,
+    output: &mut W,
+    errors: &mut E,
+    reports: &mut T,
+) -> Status
+    ensures runs { Runs R.remaining W.contents (errors.new ≡ errors.old) input.old input.new output.old output.new
+        invocation.now result }
+{
+    match invocation {
+        Invocation::Replay(config, shown) => replay(alloc, *config, *shown, input, output, errors),
+        Invocation::Serve(config, service) => serve(
+            system, alloc, *config, service, input, output, errors, reports,
+        ),
+        Invocation::Live(config, service, draws, late) => live(
+            system, alloc, *config, service, *draws, *late, output, errors, reports,
+        ),
+        Invocation::Check(gateway) => check(system.net, system.clock, *gateway, output, errors),
+        Invocation::Heard(request) => heard(system.files, alloc, request, input, output, errors),
+        Invocation::Watch(request) => watch(system.files, alloc, request, input, output, errors),
+        Invocation::Verify(file) => verify(system.files, alloc, file, input, output, errors),
+        Invocation::Seal => seal(alloc, input, output, errors),
+    }
+}
+
 /// Runs the program with these arguments, which don't include the program's name. Returns its exit status.
 ///
 /// The status is 0 on success, 1 for a bad script line, and 2 for invalid arguments, an invalid configuration or a
@@ -59,30 +88,7 @@ pub fn program<
         output.new result }
 {
     let status = match requested_run(alloc, words) {
-        Ok(Invocation::Replay(config, shown)) => {
-            replay(alloc, config, shown, input, output, errors)
-        }
-        Ok(Invocation::Serve(config, service)) => {
-            serve(
-                system, alloc, config, &service, input, output, errors, reports,
-            )
-        }
-        Ok(Invocation::Live(config, service, draws, late)) => {
-            live(
-                system, alloc, config, &service, draws, late, output, errors, reports,
-            )
-        }
-        Ok(Invocation::Heard(request)) => {
-            heard(system.files, alloc, &request, input, output, errors)
-        }
-        Ok(Invocation::Watch(request)) => {
-            watch(system.files, alloc, &request, input, output, errors)
-        }
-        Ok(Invocation::Verify(file)) => {
-            verify(system.files, alloc, &file, input, output, errors)
-        }
-        Ok(Invocation::Seal) => seal(alloc, input, output, errors),
-        Ok(Invocation::Check(gateway)) => check(system.net, system.clock, gateway, output, errors),
+        Ok(invocation) => run(system, alloc, &invocation, input, output, errors, reports),
         Err(error) => report_error(&error, Status::Failed, output, errors),
     };
     status.code()

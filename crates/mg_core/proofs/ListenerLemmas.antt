@@ -28,6 +28,14 @@ in_context : (w : Gateway) (listener : ℕ) (r : Record) → record_at w.rooms r
 in_context w listener r found h =
     subst (λ (o : Option Record). context_in o == context_of w listener ≡ true) found (and_left _ _ h)
 
+-- speech stays in its talker's context
+pub elsewhere : (w : Gateway) (r l : Record) → record_at w.rooms r.number ≡ Some r →
+    record_at w.rooms l.number ≡ Some l → r.context == l.context ≡ false → flow w r.number l.number ≡ false
+elsewhere w r l there listening apart =
+    let from : context_of w r.number ≡ r.context = ap context_in there in
+    let to : context_of w l.number ≡ l.context = ap context_in listening in
+    rw (from, to, apart) refl
+
 one_few : (a b : Bool) (n m : ℕ) (ns : List ℕ) → (a ≡ true → b ≡ true) → length ns ≤ m →
     length (cond a (n ∷ ns) ns) ≤ cond b 1 0 + m
 one_few true true n m ns f h = omega (arith, h)

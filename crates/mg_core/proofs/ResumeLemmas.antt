@@ -1,7 +1,12 @@
 -- A script that is resumed: its notes, the bytes that they come in, and how far it was read.
 use Rattle.std.proofs.Common.{◌≡◌, ◌≢◌, ℕ, zero, suc, ◌+◌, ◌<◌, ◌≤◌, Bool, true, false, List, [], ◌∷◌, ◌++◌, length, codes, eqb, get_or, replicate, take, drop, Option, Some, None, Result, Ok, Err, refl, sym, ap, subst, ◌∙◌, append_assoc, length-append, length-take, arith, inl, inr, ◌⊎◌}
 use Rattle.std.proofs.lemmas.Bool.{eq-eqb, eqb-true, ne_eqb, true≢false}
-use Rattle.std.proofs.lemmas.List.{append-nil, drop-drop, get_or-take, replicate_more}
+use Rattle.std.proofs.lemmas.List.{append-nil, drop-drop, get_or-take, length-replicate, replicate-append-replicate, take-append-drop}
+use Rattle.std.proofs.lemmas.List.Folds.{concat-append}
+use Rattle.std.specs.Cmp.Lexicographic.{pointwise, same_text}
+use Rattle.std.specs.List.{concat}
+use Rattle.std.specs.Prelude.{nat_eq}
+use Rattle.mg_core.specs.declared.resumer.TheConstants.{SIXTEEN_TICKS}
 use Rattle.memchr.specs.Find.{IsFirstByte, is_byte}
 use Rattle.std.proofs.KnownBytes.{Consumes-nil, Consumes-trans, Consumes-kept}
 use Rattle.std.specs.Io.KnownBytes.{Keeps, Consumes, IsAtEnd}
@@ -30,7 +35,7 @@ use Rattle.mg_core.specs.Run.{HasRead}
 use Rattle.mg_core.specs.Script.{event_of, events_of, then_all}
 use Rattle.mg_core.specs.Step.{Sent}
 use Rattle.mg_core.specs.World.{World}
-use Rattle.mg_core.specs.aids.Resuming.{Adds, AllResumed, BytesBad, BytesResumed, BytesRun, EndedResumed, KeepsUp, LastResumed, LineResumed, LinesResumed, Resumes, StartsBad}
+use Rattle.mg_core.specs.aids.Resuming.{Adds, AllResumed, BytesBad, BytesResumed, BytesRun, EndedResumed, IsAfterTicks, KeepsUp, LastResumed, LineResumed, LinesResumed, Resumes, StartsBad}
 use Rattle.mg_core.specs.aids.Steps.{run_fault_at_start, run_fault_of, script_fault_of}
 use Rattle.mg_core.proofs.ReadBackLemmas.{tick_read}
 use Rattle.mg_core.proofs.RunLemmas.{script_result}
@@ -134,13 +139,14 @@ module _ (config : Config) where
       let same = sym (h.parts ∙ append-nil h.past) in
       (subst (λ (l : List Note). HasRun config l state) same h.run, subst Follows same h.follows)
 
-  pub tick_added : (old new : CoreState) (n m : ℕ) (Follows : List Note → Type 0) → new ≡ old → m ≡ n + 1 →
-      Adds (KeepsUp config old n Follows) (KeepsUp config new m Follows) (Happened Tick ∷ [])
-  tick_added old new n m Follows same more notes h = record {
+  pub ticks_added : (old new : CoreState) (n m k : ℕ) (Follows : List Note → Type 0) → new ≡ old → m ≡ n + k →
+      Adds (KeepsUp config old n Follows) (KeepsUp config new m Follows) (ticks_of k)
+  ticks_added old new n m k Follows same more notes h = record {
     past = h.past;
-    parts = ap (λ (l : List Note). l ++ Happened Tick ∷ []) h.parts
-        ∙ append_assoc h.past (ticks_of n) (Happened Tick ∷ [])
-        ∙ ap (λ (l : List Note). h.past ++ l) (replicate_more n (Happened Tick) ∙ ap ticks_of (sym more));
+    parts = ap (λ (l : List Note). l ++ ticks_of k) h.parts
+        ∙ append_assoc h.past (ticks_of n) (ticks_of k)
+        ∙ ap (λ (l : List Note). h.past ++ l) (replicate-append-replicate n k (Happened Tick)
+        ∙ ap ticks_of (sym more));
     run = subst (λ (state : CoreState). HasRun config h.past state) (sym same) h.run;
     follows = h.follows;
   }
@@ -280,6 +286,53 @@ bytes_feed n m partial bytes left rest part next Old Mid New h cut line =
           sym (append_assoc h.lines (text ∷ []) (lines_after ended [] (next ++ more)));
       number = omega (arith, length-append h.lines (text ∷ []), h.number);
       resumed = lines_then Old Mid New h.lines (text ∷ []) h.resumed line;
+    }
+
+ticks_then : (n m : ℕ) (text rest next : List ℕ) → IsAfterTicks n text rest → IsAfterTicks m rest next →
+    IsAfterTicks (n + m) text next
+ticks_then n m text rest next h more =
+    let line = codes "tick\n" in
+    h ∙ ap (λ (l : List ℕ). concat (replicate n line) ++ l) more
+    ∙ sym (append_assoc (concat (replicate n line)) (concat (replicate m line)) next)
+    ∙ ap (λ (l : List ℕ). l ++ next) (sym (concat-append (replicate n line) (replicate m line))
+    ∙ ap concat (replicate-append-replicate n m line))
+
+-- sixteen lines at once
+pub sixteen_more : (n : ℕ) (text rest next : List ℕ) → IsAfterTicks n text rest →
+    pointwise nat_eq (take 80 rest) SIXTEEN_TICKS.now ≡ true → next ≡ drop 80 rest → IsAfterTicks (n + 16) text next
+sixteen_more n text rest next h same after =
+    ticks_then n 16 text rest next h (sym (take-append-drop 80 rest)
+    ∙ ap (λ (l : List ℕ). l ++ drop 80 rest) (same_text (take 80 rest) SIXTEEN_TICKS.now (sym same))
+    ∙ ap (λ (l : List ℕ). SIXTEEN_TICKS.now ++ l) (sym after))
+
+notes_of_ticks : (k : ℕ) → notes_of (replicate k (codes "tick")) ≡ Some (ticks_of k)
+unfolding notes_of
+notes_of_ticks zero = refl
+notes_of_ticks (suc k) = notes_both (codes "tick" ∷ []) (replicate k (codes "tick")) (Happened Tick ∷ []) (ticks_of k)
+    (one_note (codes "tick") (Some Tick) tick_read) (notes_of_ticks k)
+
+lines_of_ticks : (k : ℕ) (ended : Bool) (more : List ℕ) →
+    lines_after ended [] (concat (replicate k (codes "tick\n")) ++ more) ≡
+    replicate k (codes "tick") ++ lines_after ended [] more
+unfolding lines_after
+lines_of_ticks zero ended more = refl
+lines_of_ticks (suc k) ended more = ap (λ (l : List (List ℕ)). codes "tick" ∷ l) (lines_of_ticks k ended more)
+
+pub bytes_ticks : (n m p k : ℕ) (partial bytes rest next : List ℕ) (Old Mid New : List Note → Type 0) →
+    BytesRun n m partial bytes [] rest Old Mid → p ≡ m + k → IsAfterTicks k rest next → Adds Mid New (ticks_of k) →
+    BytesRun n p partial bytes [] next Old New
+bytes_ticks n m p k partial bytes rest next Old Mid New h more are adds =
+    let ticks = replicate k (codes "tick") in
+    record {
+      lines = h.lines ++ ticks;
+      split = λ ended more. h.split ended more ∙
+          ap (λ (l : List (List ℕ)). h.lines ++ l) (ap (λ (l : List ℕ). lines_after ended [] (l ++ more)) are
+          ∙ ap (lines_after ended []) (append_assoc (concat (replicate k (codes "tick\n"))) next more)
+          ∙ lines_of_ticks k ended (next ++ more)) ∙
+          sym (append_assoc h.lines ticks (lines_after ended [] (next ++ more)));
+      number = omega (arith, more, h.number, length-append h.lines ticks, length-replicate k (codes "tick"));
+      resumed = lines_then Old Mid New h.lines ticks h.resumed
+          (record { notes = ticks_of k; are = notes_of_ticks k; adds = adds });
     }
 
 -- a bad line after the lines so far

@@ -51,13 +51,13 @@ impl LineResumer {
         Ok(())
     }
 
-    /// Counts a tick, to be run later.
-    pub fn take_tick(&mut self)
-        requires few { self.old.ticks + 1 < 2 ^ 64 }
+    /// Counts ticks, to be run later.
+    pub fn take_ticks(&mut self, count: u64)
+        requires few { self.old.ticks + count < 2 ^ 64 }
         ensures state { self.new.core.state ≡ self.old.core.state }
-        ensures ticks { self.new.ticks ≡ self.old.ticks + 1 }
+        ensures ticks { self.new.ticks ≡ self.old.ticks + count }
     {
-        self.ticks += 1;
+        self.ticks += count;
     }
 
     /// Runs an event, or counts it if it is a tick. The answer to a control datagram is dropped.
@@ -76,7 +76,7 @@ impl LineResumer {
     {
         match event {
             Event::Tick => {
-                self.take_tick();
+                self.take_ticks(1);
                 Ok(())
             }
             Event::Media(port, source, bytes) => {

@@ -1,4 +1,5 @@
-ghost use Rattle.std.specs.Prelude.{◌≡◌, ◌<◌, [], filter};
+ghost use Rattle.std.specs.Prelude.{◌≡◌, ◌<◌, [], Some, filter};
+ghost use Rattle.mg_rooms.specs.Registry.{record_at};
 ghost use Rattle.mg_engine.specs.Flow.{flow};
 ghost use Rattle.mg_engine.specs.Gateway.{numbers_of};
 ghost use Rattle.mg_core.specs.Flows.{listener_of};
@@ -54,26 +55,31 @@ impl KeptListener {
     /// Stores the current state of a core's termination.
     pub fn set(&mut self, core: &Core, termination: &Record)
         requires slot { termination.now.slot < core.now.state.engine.rooms.limits.slots }
+        requires there { record_at core.now.state.engine.rooms termination.now.number ≡ Some termination.now }
         ensures value { (w : World) → StandsFor core.now.state w → self.new ≡ listener_of w.gateway termination.now }
     {
         self.number = termination.number;
         self.context = termination.context;
         self.port = core.port(termination.slot);
         self.mode = termination.mode;
-        self.talkers = talkers_of(core, termination.number);
+        self.talkers = talkers_of(core, termination);
     }
 }
 
 /// Returns the talkers whose speech flows to a listener. They are members of the listener's context, so there is room
 /// for all of them.
-fn talkers_of(core: &Core, listener: u32) -> ArrayVec<u32, MEMBERS>
+fn talkers_of(core: &Core, listener: &Record) -> ArrayVec<u32, MEMBERS>
+    requires there { record_at core.now.state.engine.rooms listener.now.number ≡ Some listener.now }
     ensures value { (w : World) → StandsFor core.now.state w →
-        result.items ≡ filter (λ n. flow w.gateway n listener) (numbers_of w.gateway) }
+        result.items ≡ filter (λ n. flow w.gateway n listener.now.number) (numbers_of w.gateway) }
 {
     let mut talkers = ArrayVec::new();
     for place in 0..core.terminations() {
         let talker = core.termination(place);
-        if !core.flow(talker.number, listener) {
+        if talker.context != listener.context {
+            continue;
+        }
+        if !core.flow(talker.number, listener.number) {
             continue;
         }
         let _ = talkers.try_push(talker.number);

@@ -1,7 +1,7 @@
-ghost use Rattle.std.specs.Prelude.{◌≡◌, ◌+◌, ◌*◌, ◌≤◌, ◌<◌, ◌^◌, ◌↔◌, ◌++◌, [], true, codes, Err, length, IfErr, IfOk, OnErr, OnOk};
+ghost use Rattle.std.specs.Prelude.{◌≡◌, ℕ, ◌+◌, ◌*◌, ◌≤◌, ◌<◌, ◌^◌, ◌↔◌, ◌++◌, [], true, codes, drop, Err, length, IfErr, IfOk, OnErr, OnOk};
 ghost use Rattle.memchr.specs.Find.{IsFirstByte, is_byte};
 ghost use Rattle.mg_engine.specs.Config.{IsValidConfig};
-ghost use Rattle.mg_core.specs.aids.Resuming.{AllResumed, BytesResumed, EndedResumed, HasFollowed, KeepsUp, LastResumed};
+ghost use Rattle.mg_core.specs.aids.Resuming.{AllResumed, BytesResumed, EndedResumed, HasFollowed, IsAfterTicks, KeepsUp, LastResumed};
 ghost use Rattle.mg_core.specs.declared.script_runner.TheConstants.{PARTIAL_LIMIT};
 ghost use Rattle.mg_core.specs.Follow.{HasRun, IsFollowedUntil};
 ghost use Rattle.mg_engine.specs.declared.config.Config.{Config};
@@ -27,6 +27,24 @@ fn line_end(text: &[u8]) -> Option<usize>
         [b't', b'i', b'c', b'k', b'\n', ..] => Some(4),
         _ => memchr(b'\n', text),
     }
+}
+
+/// Sixteen `tick` lines.
+const SIXTEEN_TICKS: &[u8; 80] =
+    b"tick\ntick\ntick\ntick\ntick\ntick\ntick\ntick\ntick\ntick\ntick\ntick\ntick\ntick\ntick\ntick\n";
+
+/// Counts the `tick` lines that a text begins with, sixteen at a time. At most the last fifteen aren't counted.
+fn leading_ticks(text: &[u8]) -> usize
+    ensures value { IsAfterTicks result text.now (drop (5 * result) text.now) }
+    ensures within { 5 * result ≤ length text.now }
+{
+    let mut rest = text;
+    let mut count = 0;
+    while let Some(next) = rest.strip_prefix(SIXTEEN_TICKS.as_slice()) {
+        rest = next;
+        count += 16;
+    }
+    count
 }
 
 /// Returns whether `part` is a whole `tick` line, with nothing in `partial` before it.
@@ -103,7 +121,7 @@ impl Resumer {
             (HasFollowed F.follows start follower.new config)) result }
     {
         if is_tick(&self.partial, part) {
-            self.runner.take_tick();
+            self.runner.take_ticks(1);
             self.lines += 1;
             return Ok(());
         }
@@ -114,6 +132,23 @@ impl Resumer {
         self.lines = number;
         self.partial.clear();
         Ok(())
+    }
+
+    /// Counts the `tick` lines that a text begins with, or most of them. Returns the rest of the text.
+    fn take_ticks<'a>(&mut self, text: &'a [u8]) -> &'a [u8]
+        requires few { self.old.lines + length text.now < 2 ^ 64 }
+        requires ticks { self.old.runner.ticks ≤ self.old.lines }
+        ensures partial { self.new.partial ≡ self.old.partial }
+        ensures lines { self.new.lines + length result.now ≤ self.old.lines + length text.now }
+        ensures ticks { self.new.runner.ticks ≤ self.new.lines }
+        ensures state { self.new.runner.core.state ≡ self.old.runner.core.state }
+        ensures value { (count : ℕ) × (self.new.lines ≡ self.old.lines + count)
+            × (self.new.runner.ticks ≡ self.old.runner.ticks + count) × IsAfterTicks count text.now result.now }
+    {
+        let count = leading_ticks(text);
+        self.runner.take_ticks(count as u64);
+        self.lines += count as u64;
+        &text[5 * count..]
     }
 
     /// Handles the next bytes of a script.
@@ -139,7 +174,7 @@ impl Resumer {
             let (part, tail) = rest.split_at(end);
             self.end_line(alloc, part, follower)?;
             let (_, next) = tail.split_at(1);
-            rest = next;
+            rest = self.take_ticks(next);
         }
         self.keep(rest)
     }

@@ -1,6 +1,7 @@
 -- The steps of a resumption: one event, one line, and the bytes of one read.
 use Rattle.std.specs.Prelude.{◌≡◌, ℕ, ◌+◌, Bool, true, List, [], ◌∷◌, ◌++◌, length}
-use Rattle.std.specs.Prelude.{Option, Some, None, Result, Ok, Err}
+use Rattle.std.specs.Prelude.{Option, Some, None, Result, Ok, Err, codes, replicate}
+use Rattle.std.specs.List.{concat}
 use Rattle.mg_engine.specs.declared.config.Config.{Config}
 use Rattle.mg_lines.specs.Lines.{lines_after, without_return}
 use Rattle.mg_core.specs.declared.event.Event.{Event}
@@ -72,6 +73,10 @@ abbrev pub EndedResumed : Bool → ℕ → List ℕ → (Old New : List Note →
 EndedResumed may_stop count text Old New result =
     Resumes may_stop (LinesResumed Old New (without_return text ∷ []))
     (λ bad. (more : List ℕ) → StartsBad count (lines_after true text (10 ∷ more)) bad) result
+
+-- these are so many `tick` lines and a rest
+abbrev pub IsAfterTicks : ℕ → (text rest : List ℕ) → Type 0
+IsAfterTicks count text rest = text ≡ concat (replicate count (codes "tick\n")) ++ rest
 
 -- Lines were run, and their bytes are a partial line and all bytes but the rest. The next line has a
 -- part already.

@@ -5,4 +5,4 @@ use Rattle.mg_core.proofs.listener.talkers_of.Given as goal
 
 abbrev pub invariant-loop-place : goal.invariant-loop-place
 invariant-loop-place l = (w : World) → StandsFor l.core.state w → l.talkers.items ≡ filter (λ n. flow w.gateway n
-    l.listener) (map (λ r. r.number) (take l.place l.core.state.engine.rooms.terminations))
+    l.listener.number) (map (λ r. r.number) (take l.place l.core.state.engine.rooms.terminations))

@@ -3,19 +3,19 @@ use Rattle.std.proofs.lemmas.Result.{err_from_is_err_and}
 use Rattle.mg_lines.specs.Lines.{lines_after, without_return}
 use Rattle.mg_core.specs.Script.{event_of}
 use Rattle.mg_core.specs.aids.Resuming.{HasFollowed, KeepsUp, LinesResumed, StartsBad}
-use Rattle.mg_core.proofs.ResumeLemmas.{ended_bad, ended_long, resumes_err, tick_added, tick_ended}
+use Rattle.mg_core.proofs.ResumeLemmas.{ended_bad, ended_long, resumes_err, tick_ended, ticks_added}
 use Rattle.mg_core.proofs.resumer.Resumer.end_line.Goals as goal
 
 pub returns-then-is_tick-clause-value : goal.returns-then-is_tick-clause-value
 returns-then-is_tick-clause-value g c start config =
     let old = c.args.self.now.runner in
-    let new = c.take_tick.new.self in
+    let new = c.take_ticks.new.self in
     let parts = c.is_tick.ensures.value c.if-is_tick.true in
     let Follows = HasFollowed g.F.Follower.follows start c.args.follower.now config in
     tick_ended (KeepsUp config old.core.state old.ticks Follows) (KeepsUp config new.core.state new.ticks Follows)
     c.args.self.now.partial.text c.args.part.now parts.0 parts.1
-    (tick_added config old.core.state new.core.state old.ticks new.ticks Follows c.take_tick.ensures.state
-    c.take_tick.ensures.ticks)
+    (ticks_added config old.core.state new.core.state old.ticks new.ticks 1 Follows c.take_ticks.ensures.state
+    c.take_ticks.ensures.ticks)
 
 pub returns-in_err-keep-clause-value : goal.returns-in_err-keep-clause-value
 returns-in_err-keep-clause-value g c =

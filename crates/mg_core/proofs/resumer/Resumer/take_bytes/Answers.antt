@@ -1,7 +1,7 @@
-use Rattle.std.proofs.Common.{drop, length, ap, refl, arith, length-append, ◌∷◌}
+use Rattle.std.proofs.Common.{ℕ, ◌+◌, ◌∙◌, drop, length, ap, refl, arith, length-append, ◌∷◌}
 use Rattle.std.proofs.lemmas.Result.{err_from_is_err_and}
 use Rattle.mg_core.specs.aids.Resuming.{HasFollowed, KeepsUp}
-use Rattle.mg_core.proofs.ResumeLemmas.{bytes_feed, bytes_last, bytes_start, bytes_stop, cut_at_feed, no_feed}
+use Rattle.mg_core.proofs.ResumeLemmas.{bytes_feed, bytes_last, bytes_start, bytes_stop, bytes_ticks, cut_at_feed, no_feed, ticks_added}
 use Rattle.mg_core.proofs.resumer.Resumer.take_bytes.Goals as goal
 
 pub loop-end-init : goal.loop-end-init
@@ -40,25 +40,38 @@ loop-end-preserved g c =
     let next = c.split_at-in-Some.result.1.now in
     let cut = cut_at_feed rest part c.split_at.result.1.now next c.in-Some.end c.in-Some.ensures.value
     c.split_at.ensures.front c.split_at.ensures.back c.split_at-in-Some.ensures.back in
+    let ticks = c.take_ticks-rest.ensures.value in
     record {
       lines = omega (
         arith,
         c.in_ok-end_line.ensures.lines,
+        c.take_ticks-rest.ensures.lines,
         c.loop-end.invariant.lines,
         ap length cut.parts,
         length-append part (10 ∷ next),
       );
-      ticks = c.in_ok-end_line.ensures.ticks;
-      value = rw (c.in_ok-end_line.ensures.partial, c.in_ok-end_line.ensures.lines) (λ start config. bytes_feed
+      ticks = c.take_ticks-rest.ensures.ticks;
+      value = rw (c.take_ticks-rest.ensures.partial, c.in_ok-end_line.ensures.partial) (λ start config.
+          let Follows = HasFollowed follows start c.end_line.new.follower config in
+          let was = c.end_line.new.self.runner in
+          let is = c.take_ticks-rest.new.self.runner in
+          bytes_ticks c.args.self.now.lines (c.loop-end.self.lines + 1) c.take_ticks-rest.new.self.lines ticks.0
+          c.args.self.now.partial.text c.args.bytes.now next c.take_ticks-rest.result.now
+          (KeepsUp config c.args.self.now.runner.core.state c.args.self.now.runner.ticks
+          (HasFollowed follows start c.args.follower.now config))
+          (KeepsUp config was.core.state was.ticks Follows) (KeepsUp config is.core.state is.ticks Follows)
+          (bytes_feed
           c.args.self.now.lines c.loop-end.self.lines c.args.self.now.partial.text c.args.bytes.now
           c.loop-end.self.partial.text rest part next
           (KeepsUp config c.args.self.now.runner.core.state c.args.self.now.runner.ticks
           (HasFollowed follows start c.args.follower.now config))
           (KeepsUp config c.loop-end.self.runner.core.state c.loop-end.self.runner.ticks
           (HasFollowed follows start c.loop-end.follower config))
-          (KeepsUp config c.end_line.new.self.runner.core.state c.end_line.new.self.runner.ticks
-          (HasFollowed follows start c.end_line.new.follower config)) (c.loop-end.invariant.value start config) cut
-          (c.in_ok-end_line.ensures.value start config));
+          (KeepsUp config was.core.state was.ticks Follows) (c.loop-end.invariant.value start config) cut
+          (c.in_ok-end_line.ensures.value start config))
+          (ticks.1 ∙ ap (λ (n : ℕ). n + ticks.0) c.in_ok-end_line.ensures.lines) ticks.3
+          (ticks_added config was.core.state is.core.state was.ticks is.ticks ticks.0 Follows
+          c.take_ticks-rest.ensures.state ticks.2));
     }
 
 pub returns-clause-value : goal.returns-clause-value

@@ -145,8 +145,8 @@ class Commands(unittest.TestCase):
         with self.subTest(name, words=words):
             self.assertEqual(run(*words, text=text, name=name), (status, output, errors))
 
-    def refuses(self, message, *words, status=2, name="mg_bridge"):
+    def refuses(self, message, *words, status=2, text="quit\n", name="mg_bridge"):
         """The program prints only an error message that starts like this."""
         with self.subTest(name, words=words):
-            found, output, errors = run(*words, text="quit\n", name=name)
+            found, output, errors = run(*words, text=text, name=name)
             self.assertEqual((found, output, errors[: len(message)]), (status, "", message))

@@ -1,5 +1,10 @@
 """Arguments that are refused, and the versions."""
-from programs import ROOT, Commands
+import re
+import subprocess
+
+from programs import LIMIT, ROOT, Commands, program, run
+
+ADD = "MEGACO/1 [127.0.0.1]:2945 Transaction=1{Context=${Add=${Media{LocalControl{Mode=Inactive}}}}}"
 
 
 class Arguments(Commands):
@@ -45,6 +50,32 @@ class Arguments(Commands):
             ["check"],
         ):
             self.refuses("error: ", *words)
+
+    def test_a_number_is_decimal_and_within_its_range(self):
+        for word in ("65536", "-1", "0x10", "1.5", "ten", "", " 1", "1_000", "99999999999999999999"):
+            self.refuses("error: ", "replay", f"--control-port={word}")
+        # What was read shows in the answer: the control port after the address, and the number of the new context.
+        for option, name, number in (("--control-port", "[127.0.0.1]:", 65535), ("--first-context", "Context=", 4294967293)):
+            for words in ([option, f"{number}"], [f"{option}=+{number}"], [f"{option}=0{number}"]):
+                status, output, errors = run("replay", *words, text=f"say 127.0.0.1:2945 {ADD}\n")
+                with self.subTest(words=words):
+                    self.assertEqual((status, errors), (0, ""))
+                    self.assertRegex(output, f"{re.escape(name)}{number}\\D")
+
+    def test_an_argument_is_utf_8(self):
+        for name in ("mg_bridge", "mg_pace"):
+            self.refuses("error: an argument is not valid UTF-8\n", b"\xff", name=name)
+
+    def test_help_that_cannot_be_printed(self):
+        # Whoever reads mg_pace may stop reading at any time.
+        for name, status, message in (("mg_bridge", 3, b"write failed\n"), ("mg_pace", 0, b"")):
+            with open("/dev/full", "wb") as full:
+                ran = subprocess.run([program(name), "--help"], stdout=full, stderr=subprocess.PIPE, timeout=LIMIT)
+            self.assertEqual((ran.returncode, ran.stderr), (status, message), name)
+
+    def test_mg_pace_polls_and_ticks(self):
+        for words, polls, ticks in ((["--ticks", "1"], 4, 1), (["--polls=1", "--ticks=2"], 1, 2), (["--ticks=0"], 4, 0)):
+            self.ends(0, ("poll\n" * polls + "tick\n") * ticks + "quit\n", "", *words, name="mg_pace")
 
     def test_mg_pace_refused(self):
         for words in (["--polls", "0"], ["--polls", "1001"], ["--ticks", "-1"], ["--tick", "1"], ["20"]):

@@ -149,6 +149,19 @@ class Heard(Commands):
                     status, _, errors = run("heard", word, text=text)
                     self.assertEqual((status, errors), (6, f"standard input: {message}\n"))
 
+    def test_output_that_is_lost(self):
+        for word in ("--format=text", "--format=csv", "--format=json", "--at=2026-11-27T14:03:20Z", "--never=* -> *"):
+            with self.subTest(word), open("/dev/full", "wb") as full:
+                words = [program("mg_bridge"), "heard", word]
+                text = (self.TITLE + self.CALL).encode()
+                ran = subprocess.run(words, input=text, stdout=full, stderr=subprocess.PIPE, timeout=60)
+                self.assertEqual(ran.returncode, 3)
+                self.assertTrue(ran.stderr)
+
+    def test_a_configuration_that_no_gateway_has(self):
+        title = self.TITLE.replace("--slots=256", "--slots=0")
+        self.refuses("standard input: bad configuration\n", "heard", status=6, text=title)
+
     def test_joined_scripts(self):
         """A script may have the title of the same gateway several times."""
         self.ends(0, "", "", "heard", text=f"{self.TITLE}tick\n{self.TITLE}")

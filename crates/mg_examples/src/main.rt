@@ -3,7 +3,6 @@
 
 use anyhow::{Result, anyhow};
 use mg_core::{Config, Shown, run};
-use mg_heard::{Format, Query, write_report};
 use std::alloc::Global;
 use std::fs;
 use std::io::Cursor;
@@ -73,9 +72,6 @@ const SCRIPTS: [&str; 57] = [
 /// The scripts that also have a stored output with the changes after each event.
 const WITH_FLOWS: [&str; 3] = ["coaching", "recording", "journal"];
 
-/// The journals that have a stored report of who could hear whom.
-const REPORTED: [&str; 1] = ["coached_call"];
-
 /// Returns the output of a script on a gateway with the standard configuration.
 fn written(alloc: Global, shown: Shown, script: &[u8]) -> Result<Vec<u8>> {
     let mut reader = Cursor::new(script);
@@ -96,24 +92,6 @@ fn is_as_stored<R: Files + AllocGlobal>(
     Ok(written(rt.alloc(), shown, script.as_slice())?.as_slice() == output.as_slice())
 }
 
-/// Returns whether a report of who could hear whom matches the file with the journal's name.
-fn is_heard_as_stored<R: Files + AllocGlobal>(rt: &R, name: &str) -> Result<bool> {
-    let alloc = rt.alloc();
-    let journal = fs::read(rt, format!(in alloc; "{name}.txt")?.as_str())?;
-    let output = fs::read(rt, format!(in alloc; "{name}.heard")?.as_str())?;
-    let mut reader = Cursor::new(journal.as_slice());
-    let mut writer = Vec::new(alloc);
-    write_report(
-        alloc,
-        Config::default(),
-        &mut reader,
-        Format::Text,
-        Query::all(),
-        &mut writer,
-    )?;
-    Ok(writer.as_slice() == output.as_slice())
-}
-
 fn main(rt: HostRuntime) -> Result<()> {
     for name in SCRIPTS {
         if !is_as_stored(&rt, name, Shown::Sent, "out")? {
@@ -126,12 +104,6 @@ fn main(rt: HostRuntime) -> Result<()> {
             return Err(anyhow!("{name} with flows: not as stored"));
         }
         println!(rt; "{name} with flows: as stored")?;
-    }
-    for name in REPORTED {
-        if !is_heard_as_stored(&rt, name)? {
-            return Err(anyhow!("{name} as heard: not as stored"));
-        }
-        println!(rt; "{name} as heard: as stored")?;
     }
     Ok(())
 }

@@ -21,8 +21,6 @@ mod kept;
 #[cfg(test)]
 mod lines;
 #[cfg(test)]
-mod options;
-#[cfg(test)]
 mod outlet;
 #[cfg(test)]
 mod pace;

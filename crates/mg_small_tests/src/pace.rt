@@ -2,7 +2,7 @@
 
 use crate::equality::assert_equal;
 use mg_clock::{ClockFailed, MAX_POLLS, Watch};
-use mg_pacer::{Options, PaceFault, Schedule, pace, program};
+use mg_pacer::{Options, PaceFault, Schedule, pace};
 use std::alloc::Global;
 use std::time::Duration;
 
@@ -48,15 +48,6 @@ fn outcome(
         result = pace(options, &mut watch, &mut output, &mut errors);
     }
     (result, output, errors)
-}
-
-/// Returns the exit status of the program, and what it writes to both outputs.
-fn answer(alloc: Global, words: &[&str], times: &[u64]) -> (u8, Vec<u8>, Vec<u8>) {
-    let mut watch = Script { times, at: 0 };
-    let mut output = Vec::new(alloc);
-    let mut errors = Vec::new(alloc);
-    let status = program(alloc, words, &mut watch, &mut output, &mut errors);
-    (status, output, errors)
 }
 
 const MS: u64 = 1_000_000;
@@ -108,33 +99,4 @@ fn waits_for_the_next_step(rt: HostRuntime) {
     schedule.advance(6_666_667);
     assert_equal(&rt, schedule.wait(7 * MS).as_nanos(), 6_333_334);
     assert_equal(&rt, schedule.wait(30 * MS).as_nanos(), 0);
-}
-
-#[test]
-fn reads_options(rt: HostRuntime) {
-    let four = b"poll\npoll\npoll\npoll\ntick\nquit\n";
-    let (status, output, errors) = answer(rt.alloc(), &["--ticks", "1"], &[20 * MS]);
-    assert_equal(&rt, status, 0);
-    assert_equal(&rt, output.as_slice(), four.as_slice());
-    assert!(rt; errors.is_empty());
-    let words = ["--polls=1", "--ticks=2"];
-    let (status, output, _) = answer(rt.alloc(), &words, &[20 * MS, 40 * MS]);
-    assert_equal(&rt, status, 0);
-    assert_equal(
-        &rt,
-        output.as_slice(),
-        b"poll\ntick\npoll\ntick\nquit\n".as_slice(),
-    );
-}
-
-#[test]
-fn reports_a_failing_clock(rt: HostRuntime) {
-    let (status, output, errors) = answer(rt.alloc(), &["--polls", "1"], &[20 * MS]);
-    assert_equal(&rt, status, 3);
-    assert_equal(&rt, output.as_slice(), b"poll\ntick\n".as_slice());
-    assert_equal(
-        &rt,
-        errors.as_slice(),
-        b"cannot read the clock\n".as_slice(),
-    );
 }

@@ -12,8 +12,6 @@ mod engine;
 #[cfg(test)]
 mod equality;
 #[cfg(test)]
-mod heard;
-#[cfg(test)]
 mod machine;
 #[cfg(test)]
 mod recording;

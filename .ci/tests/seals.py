@@ -1,11 +1,21 @@
-"""Seals: comments with the SHA-256 of all that stands before them."""
+"""Seals: comments with the SHA-256 of the text from the seal before them on."""
 import hashlib
 import re
 
 
-def seal(text):
-    """The seal of a text."""
+def part(text):
+    """The text that its next seal is about: all of it from the line of its last seal on."""
+    return text[text.rfind("\n# sha256 ") + 1 :]
+
+
+def seal_of(text):
+    """The seal of a part."""
     return f"# sha256 {hashlib.sha256(text.encode()).hexdigest()}\n"
+
+
+def seal(text):
+    """The seal after a text."""
+    return seal_of(part(text))
 
 
 def sealed(text, minute=3000):

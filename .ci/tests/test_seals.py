@@ -3,7 +3,7 @@ import tempfile
 from pathlib import Path
 
 from programs import Commands
-from seals import seal, sealed
+from seals import part, seal, seal_of, sealed
 
 
 class Seals(Commands):
@@ -47,11 +47,15 @@ class Seals(Commands):
             (one + "tick\n" + two[len(one) :], "after line 3, up to line 6"),
             (one + "rtp\n" + three[len(one) + 5 :], "after line 3, up to line 5"),
             (two + three[len(two) + 5 :], "after line 5, up to line 6"),
-            # A seal of nothing, one that covers its own mark, and two that leave lines out.
-            (one + seal(""), "after line 3, up to line 4"),
-            (one + seal(one + "# sha256 "), "after line 3, up to line 4"),
-            (one + "tick\n" + seal("tick\n"), "after line 3, up to line 5"),
-            (one + "tick\n" + seal(first + "tick\n"), "after line 3, up to line 5"),
+            # A seal of nothing, one that covers its own mark, three that leave lines out, and one of all lines.
+            (one + seal_of(""), "after line 3, up to line 4"),
+            (one + seal_of(part(one) + "# sha256 "), "after line 3, up to line 4"),
+            (one + "tick\n" + seal_of("tick\n"), "after line 3, up to line 5"),
+            (one + "tick\n" + seal_of(first + "tick\n"), "after line 3, up to line 5"),
+            (one + "tick\n" + seal_of(part(one)), "after line 3, up to line 5"),
+            (one + "tick\n" + seal_of(one + "tick\n"), "after line 3, up to line 5"),
+            # A line that only begins like a seal.
+            (one + "# sha256 \ntick\n" + seal_of("# sha256 \ntick\n"), "after line 3, up to line 4"),
         ):
             self.verifies(1, f"changed {wanted}", text)
 

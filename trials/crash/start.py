@@ -2,12 +2,13 @@
 
 usage: start.py BRIDGE FOLDER
 
-The journals, in FOLDER, are written by this trial: 256 terminations in conferences of eight, and 20,000 messages a day. A
-controller replaces a member, sets the new one to listen and isolates it, in one conference after another. The journal of 30
-days has a gigabyte. Exits with 1 if a gateway doesn't know all messages and terminations, or if the median of three starts
-is more than 0.3 s for a day, or 5 s for 30.
+The journals, in FOLDER, are written by this trial: 256 terminations in conferences of eight, 20,000 messages a day, and a
+seal a minute. A controller replaces a member, sets the new one to listen and isolates it, in one conference after another.
+The journal of 30 days has a gigabyte. Exits with 1 if a gateway doesn't know all messages and terminations, or if the median
+of three starts is more than 0.3 s for a day, or 5 s for 30.
 """
 import datetime
+import hashlib
 import os
 import re
 import statistics
@@ -48,15 +49,22 @@ def write(path, days, control, base):
     messages = days * MESSAGES
     between = days * TICKS // messages
     ticks = b"tick\n" * between
+    per_seal = 60 * 50 // between
     start = datetime.datetime.now(datetime.timezone.utc) - datetime.timedelta(days=days)
     with open(path, "wb") as file:
-        file.write(f"# mg_bridge replay --address=127.0.0.1 --control-address=127.0.0.1 --control-port={control} "
-                   f"--base-port={base} --slots={SLOTS} --first-termination=1 --first-context=1 --ssrc=7 --sequence=0 "
-                   f"--timestamp=0\n".encode())
+        part = (f"# mg_bridge replay --address=127.0.0.1 --control-address=127.0.0.1 --control-port={control} "
+                f"--base-port={base} --slots={SLOTS} --first-termination=1 --first-context=1 --ssrc=7 --sequence=0 "
+                f"--timestamp=0\n".encode())
+        file.write(part)
         for number, (action, newest) in zip(range(1, messages + 1), actions()):
             date = start + datetime.timedelta(milliseconds=20 * between * number)
             text = f"MEGACO/1 [10.0.0.20]:2945 Transaction={number}{{{action}}}".encode().hex()
-            file.write(f"# time {date:%Y-%m-%dT%H:%M:%S.%fZ}\ncontrol 10.0.0.20:2945 {text}\n".encode() + ticks)
+            if number % per_seal == 1:
+                part = f"# sha256 {hashlib.sha256(part).hexdigest()}\n".encode()
+                file.write(part)
+            lines = f"# time {date:%Y-%m-%dT%H:%M:%S.%fZ}\ncontrol 10.0.0.20:2945 {text}\n".encode() + ticks
+            file.write(lines)
+            part += lines
     return newest
 
 

@@ -1,12 +1,14 @@
 -- Reading a text line by line.
 use Rattle.std.proofs.Common.{◌≡◌, ℕ, zero, suc, ◌+◌, ◌<◌, ◌≤◌, Bool, true, false, eqb, List, [], ◌∷◌, ◌++◌, Option, None, Some, IfSome, cond, length, refl, sym, ap, subst, ◌∙◌, arith}
+use Rattle.std.proofs.BufReadLemmas.{take_through_nonempty}
 use Rattle.std.specs.Io.KnownBytes.{IsAtEnd}
 use Rattle.std.specs.Io.BufRead.{take_through, drop_through, DropsThrough}
 use Rattle.sha2.specs.declared.Sha256.{Sha256}
 use Rattle.sha2.specs.Hashers.{Holds256}
 use Rattle.mg_chain.specs.declared.seals.Seals.{Seals}
-use Rattle.mg_chain.specs.Seals.{after_line, after_lines, seals_of}
+use Rattle.mg_chain.specs.Seals.{after_line, after_lines, is_whole, last_part, no_seals, seals_of}
 use Rattle.mg_chain.specs.aids.Reading.{Reading, Reads}
+use Rattle.mg_chain.proofs.PartLemmas.{part_nil}
 
 -- at the end of a text, nothing is left to count
 at_end : (most : ℕ) (seals : Seals) (number : ℕ) (before : List ℕ) → after_lines most seals number before [] ≡ seals
@@ -32,6 +34,56 @@ shorter b bs = at (eqb b 10) (rest bs)
     at true h = omega arith
     at false h = h
 
+-- ## Complete lines
+
+pub whole_cons : (b : ℕ) (bs : List ℕ) → 0 < length bs → is_whole bs ≡ true → is_whole (b ∷ bs) ≡ true
+whole_cons b [] some whole = absurd (omega arith)
+whole_cons b (c ∷ cs) some whole = whole
+
+pub whole_append : (a b : List ℕ) → is_whole a ≡ true → is_whole b ≡ true → is_whole (a ++ b) ≡ true
+whole_append [] b whole more = more
+whole_append (x ∷ []) [] whole more = whole
+whole_append (x ∷ []) (c ∷ cs) whole more = more
+whole_append (x ∷ y ∷ ys) b whole more = whole_append (y ∷ ys) b whole more
+
+some_taken : (b : ℕ) (bs : List ℕ) → 0 < length (take_through 10 (b ∷ bs))
+some_taken b bs = at (eqb b 10)
+  where
+    at : (is : Bool) → 0 < length (cond is (b ∷ []) (b ∷ take_through 10 bs))
+    at true = omega arith
+    at false = omega arith
+
+-- a line is complete if something follows it
+pub line_whole : (text : List ℕ) → 0 < length (drop_through 10 text) → is_whole (take_through 10 text) ≡ true
+line_whole [] more = absurd (omega arith)
+line_whole (b ∷ bs) more = at (eqb b 10) refl more (line_whole bs) (taken bs)
+  where
+    at : (is : Bool) → eqb b 10 ≡ is → 0 < length (cond is bs (drop_through 10 bs))
+        → (0 < length (drop_through 10 bs) → is_whole (take_through 10 bs) ≡ true)
+        → (0 < length (drop_through 10 bs) → 0 < length (take_through 10 bs))
+        → is_whole (cond is (b ∷ []) (b ∷ take_through 10 bs)) ≡ true
+    at true feed more rest some = feed
+    at false feed more rest some = whole_cons b (take_through 10 bs) (some more) (rest more)
+
+    taken : (bs : List ℕ) → 0 < length (drop_through 10 bs) → 0 < length (take_through 10 bs)
+    taken [] more = absurd (omega arith)
+    taken (c ∷ cs) more = some_taken c cs
+
+-- before the first line
+pub starts : (text : Option (List ℕ)) (hasher : Sha256) (seals : Seals) → Holds256 hasher [] → seals ≡ no_seals
+    → Reads text text hasher seals 1
+starts None hasher seals holds none = tt
+starts (Some all) hasher seals holds none = record {
+  before = [];
+  left = all;
+  most = length all;
+  remaining = refl;
+  whole = λ more. refl;
+  holds = subst (λ (l : List ℕ). Holds256 hasher l) (sym part_nil) holds;
+  enough = omega arith;
+  is = ap (λ s. after_lines (length all) s 1 [] all) none;
+}
+
 -- the seals at the end of the text
 pub ends : (text rest : Option (List ℕ)) (hasher : Sha256) (seals found : Seals) (number : ℕ)
     → Reads text rest hasher seals number → IsAtEnd rest → found ≡ seals → IfSome text (λ all. found ≡ seals_of all)
@@ -43,20 +95,22 @@ ends (Some all) rest hasher seals found number reads end same =
 
 step : (all before left line : List ℕ) (most number : ℕ) (new : Option (List ℕ)) (after : Sha256) (seals found : Seals)
     → length left ≤ most → after_lines most seals number before left ≡ seals_of all
-    → line ≡ take_through 10 left → 0 < length line → new ≡ Some (drop_through 10 left)
-    → Holds256 after (before ++ line) → found ≡ after_line seals number before line
-    → Reading all new after found (number + 1)
+    → (0 < length left → is_whole before ≡ true) → line ≡ take_through 10 left → 0 < length line
+    → new ≡ Some (drop_through 10 left) → Holds256 after (last_part (before ++ line))
+    → found ≡ after_line seals number before line → Reading all new after found (number + 1)
 unfolding after_lines
-step all before [] line most number new after seals found enough is taken some dropped holds counted =
+step all before [] line most number new after seals found enough is whole taken some dropped holds counted =
     absurd (omega (arith, ap length taken))
-step all before (b ∷ bs) line zero number new after seals found enough is taken some dropped holds counted =
+step all before (b ∷ bs) line zero number new after seals found enough is whole taken some dropped holds counted =
     absurd (omega arith)
-step all before (b ∷ bs) line (suc most) number new after seals found enough is taken some dropped holds counted =
+step all before (b ∷ bs) line (suc most) number new after seals found enough is whole taken some dropped holds counted =
     record {
       before = before ++ line;
       left = drop_through 10 (b ∷ bs);
       most = most;
       remaining = dropped;
+      whole = λ more. whole_append before line (whole (omega arith))
+          (ap is_whole taken ∙ line_whole (b ∷ bs) more);
       holds = holds;
       enough = omega (arith, shorter b bs);
       is = ap (λ f. after_lines most f (number + 1) (before ++ line) (drop_through 10 (b ∷ bs))) counted
@@ -69,8 +123,8 @@ pub goes_on : (text rest new : Option (List ℕ)) (hasher after : Sha256) (seals
     (old items line : List ℕ)
     → Reads text rest hasher seals number → IfSome rest (λ xs. items ≡ old ++ take_through 10 xs) → old ≡ []
     → line ≡ items → 0 < length line → DropsThrough rest new 10
-    → ((before : List ℕ) → Holds256 hasher before
-    → Holds256 after (before ++ line) × (found ≡ after_line seals number before line))
+    → ((before : List ℕ) → is_whole before ≡ true → Holds256 hasher (last_part before)
+    → Holds256 after (last_part (before ++ line)) × (found ≡ after_line seals number before line))
     → Reads text new after found (number + 1)
 goes_on None rest new hasher after seals found number old items line reads bytes empty same some drops takes = tt
 goes_on (Some all) rest new hasher after seals found number old items line reads bytes empty same some drops takes =
@@ -80,6 +134,7 @@ goes_on (Some all) rest new hasher after seals found number old items line reads
     same ∙ (bytes ∙ ap (λ l. l ++ take_through 10 reads.left) empty) in
     let dropped : new ≡ Some (drop_through 10 reads.left) =
     subst (λ r. DropsThrough r new 10) reads.remaining drops in
-    let took = takes reads.before reads.holds in
-    step all reads.before reads.left line reads.most number new after seals found reads.enough reads.is taken some
-    dropped took.0 took.1
+    let took = takes reads.before
+    (reads.whole (take_through_nonempty 10 reads.left (omega (arith, some, ap length taken)))) reads.holds in
+    step all reads.before reads.left line reads.most number new after seals found reads.enough reads.is reads.whole taken
+    some dropped took.0 took.1

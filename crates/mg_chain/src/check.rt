@@ -1,6 +1,6 @@
-ghost use Rattle.std.specs.Prelude.{◌≡◌, ◌<◌, ◌≤◌, ◌++◌, ◌∷◌, [], List, ℕ, None, IsTrue, bytes_eq, drop};
+ghost use Rattle.std.specs.Prelude.{◌≡◌, ◌<◌, ◌≤◌, ◌++◌, ◌∷◌, [], List, ℕ, None, IsTrue, bytes_eq, drop, true};
 ghost use Rattle.sha2.specs.Hashers.{Holds256};
-ghost use Rattle.mg_chain.specs.Seals.{after_line, is_seal, judged, no_seals};
+ghost use Rattle.mg_chain.specs.Seals.{after_line, is_seal, is_whole, judged, last_part, no_seals};
 
 use crate::chain::{Chain, END, MARK};
 use crate::seals::Seals;
@@ -76,8 +76,8 @@ impl Check {
     pub fn take_line(&mut self, number: u64, line: &[u8])
         requires few { self.old.seals.count < number }
         ensures few { self.new.seals.count ≤ number }
-        ensures value { (before : List ℕ) → Holds256 self.old.chain before →
-            Holds256 self.new.chain (before ++ line.now)
+        ensures value { (before : List ℕ) → is_whole before ≡ true → Holds256 self.old.chain (last_part before) →
+            Holds256 self.new.chain (last_part (before ++ line.now))
             × (self.new.seals ≡ after_line self.old.seals number before line.now) }
     {
         if is_seal(line) {

@@ -1,6 +1,8 @@
-//! Lines in a text that say what stands before them: a chain of hashes.
+//! Lines in a text that say what is before them: a chain of hashes.
 //!
-//! A seal is a comment, `# sha256` with the SHA-256 (FIPS 180-4) of everything before its line, in hexadecimal digits.
+//! A seal is a comment, `# sha256` with the SHA-256 (FIPS 180-4) of the text from the seal before it on, in hexadecimal
+//! digits. Since that text begins with the line of the seal before, a seal depends on everything before it.
+//!
 //! [`Chain`] makes seals while a text is written. [`read_seals`] reads a text, and finds the first seal that is wrong.
 //!
 //! ```rust
@@ -15,9 +17,11 @@
 
 mod chain;
 mod check;
+mod part;
 mod reading;
 mod seals;
 
 pub use crate::chain::{Chain, END, MARK};
+pub use crate::part::mark_start;
 pub use crate::reading::read_seals;
 pub use crate::seals::Seals;

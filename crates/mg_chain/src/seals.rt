@@ -3,7 +3,7 @@
 pub struct Seals {
     /// How many seals are right, up to the first wrong one.
     pub count: u64,
-    /// The last of these, or `None` if there is none.
+    /// The last right seal before that, or `None` if there is none.
     pub right: Option<u64>,
     /// The first wrong seal, or `None` if no seal is wrong.
     pub wrong: Option<u64>,

@@ -1,4 +1,5 @@
 mod HashLemmas
+mod LastPartLemmas
 pub mod TextLemmas
 pub mod AppendLemmas
 pub mod OpeningLemmas

@@ -6,6 +6,7 @@ use Rattle.std.proofs.lemmas.List.{get_or-drop, length-drop, length-take-le, tak
 use Rattle.std.proofs.lemmas.List.Folds.{list_any-append}
 use Rattle.std.specs.Prelude.{◌==◌}
 use Rattle.memchr.specs.Find.{NoneAfter, Nowhere, Passes, is_byte}
+use Rattle.mg_chain.specs.Seals.{is_whole}
 use Rattle.mg_journal.specs.Text.{has_line_feed, whole_lines, EndsInLineFeed, IsWhole}
 
 or_true : (b : Bool) → (b || true) ≡ true
@@ -59,6 +60,25 @@ whole_more a b whole more = whole_after a b whole ∙ ap (λ l. a ++ l) more
 pub whole_line : (line : List ℕ) → IsWhole (line ++ 10 ∷ [])
 unfolding whole_lines
 whole_line line = whole_before line (10 ∷ []) refl
+
+-- lines that are all complete end in a line feed
+fed_of : (b : ℕ) (bytes : List ℕ) (fed : Bool) → has_line_feed (b ∷ bytes) ≡ fed → IsWhole (b ∷ bytes) → fed ≡ true
+unfolding whole_lines
+fed_of b bytes true is whole = refl
+fed_of b bytes false is whole = absurd (cc (whole, whole_none (b ∷ bytes) is))
+
+whole_rest : (b : ℕ) (bytes : List ℕ) → IsWhole (b ∷ bytes) → IsWhole bytes
+unfolding whole_lines
+whole_rest b bytes whole =
+    let fed = fed_of b bytes (has_line_feed (b ∷ bytes)) refl whole in
+    let same : b ∷ whole_lines bytes ≡ b ∷ bytes = sym (rw fed refl) ∙ whole in
+    cc same
+
+pub is_whole_of : (bytes : List ℕ) → IsWhole bytes → is_whole bytes ≡ true
+is_whole_of [] whole = refl
+is_whole_of (b ∷ []) whole =
+    sym (or_false (b == 10)) ∙ fed_of b [] (has_line_feed (b ∷ [])) refl whole
+is_whole_of (b ∷ c ∷ cs) whole = is_whole_of (c ∷ cs) (whole_rest b (c ∷ cs) whole)
 
 -- ## Lengths
 

@@ -20,7 +20,7 @@ pub record JournalState : Type 0 where
 abbrev pub no_journal : JournalState
 no_journal = record { text = None; synced = None; is_broken = true }
 
--- the text that the next seal of a journal is about; a broken journal gets none
+-- the text whose last part the next seal of a journal is about; a broken journal gets none
 abbrev pub text_to_seal : JournalState → Option (List ℕ)
 text_to_seal journal = if journal.is_broken then None else journal.text
 

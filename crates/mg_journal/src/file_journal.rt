@@ -18,7 +18,7 @@ pub struct FileJournal<F: JournalFile> {
     len: u64,
     is_broken: bool,
     last_error: Option<io::Error>,
-    /// The hash of the file, unless the journal is broken.
+    /// The hash of the file's last part, unless the journal is broken.
     chain: Chain,
 }
 
@@ -35,7 +35,7 @@ impl<F: JournalFile> Model for FileJournal<F> {
 }
 
 impl<F: JournalFile> FileJournal<F> {
-    /// Creates a journal that continues a file of complete lines, with this hash.
+    /// Creates a journal that continues a file of complete lines, whose last part has this hash.
     pub(crate) fn new(file: F, len: u64, chain: Chain) -> Self
         requires whole { IsJournal (F.file file) len false }
         requires hashed { IsHashed (F.file file) chain false }

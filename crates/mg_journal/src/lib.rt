@@ -34,6 +34,7 @@ mod file_journal;
 mod injected_fault;
 mod journal;
 mod journal_file;
+mod last_part;
 mod memory_file;
 mod opening;
 mod optional;

@@ -1,15 +1,16 @@
-ghost use Rattle.std.specs.Prelude.{◌≡◌, ◌≢◌, ℕ, ◌+◌, ◌<◌, ◌≤◌, true, false, [], length, take, List, Option, IfOk, IfSome, OnErr, OnOk};
+ghost use Rattle.std.specs.Prelude.{◌≡◌, ◌≢◌, ℕ, ◌+◌, ◌<◌, ◌≤◌, true, false, [], length, take, List, Option, IfOk, IfSome, OnOk};
 ghost use Rattle.std.specs.Io.KnownBytes.{Consumes};
 ghost use Rattle.mg_journal.specs.Text.{whole_lines};
 ghost use Rattle.mg_journal.specs.Opening.{IsSound, left_to_read, text_in};
 ghost use Rattle.mg_journal.specs.aids.Appending.{IsHashed, IsJournal};
-ghost use Rattle.mg_journal.specs.aids.Opening.{HasExtent, HasHash, Measures};
+ghost use Rattle.mg_journal.specs.aids.LastPart.{HasHash};
+ghost use Rattle.mg_journal.specs.aids.Opening.{HasExtent, Measures};
 ghost use Rattle.sha2.specs.declared.Sha256.{Sha256};
 
 use crate::extent::Extent;
 use crate::file_journal::FileJournal;
 use crate::journal_file::JournalFile;
-use mg_chain::Chain;
+use crate::last_part::hash_last_part;
 use std::io::{self, ErrorKind, Read};
 use std::marker::Model;
 
@@ -26,21 +27,18 @@ pub struct Opening<F: JournalFile> {
     extent: Extent,
     /// How many bytes of the complete lines were read.
     read: u64,
-    /// The hash of these bytes.
-    chain: Chain,
 }
 
 impl<F: JournalFile> Model for Opening<F> {
     ghost use Rattle.std.specs.Prelude.{◌≤◌};
     ghost use Rattle.mg_journal.specs.Opening.{OpeningState, IsSound};
-    ghost use Rattle.mg_journal.specs.aids.Opening.{HasExtent, HasHash};
+    ghost use Rattle.mg_journal.specs.aids.Opening.{HasExtent};
 
     ghost Value = { OpeningState };
 
     ghost view = { λ o. record { file = F.file o.file; read = o.read } };
 
-    ghost invariant = { λ o. HasExtent (F.file o.file) o.extent × IsSound (F.file o.file) × (o.read ≤ o.extent.whole)
-        × HasHash (F.file o.file) o.read o.chain };
+    ghost invariant = { λ o. HasExtent (F.file o.file) o.extent × IsSound (F.file o.file) × (o.read ≤ o.extent.whole) };
 }
 
 /// Reads the next bytes of a file, and adds them to the measured extent. Returns `None` at the end of the file.
@@ -82,54 +80,6 @@ fn measure<F: JournalFile>(file: &mut F) -> io::Result<Extent>
     Err(io::Error::from(ErrorKind::TimedOut))
 }
 
-/// Reads bytes at an offset and adds them to the hash of those before. Returns how many were read.
-fn hash_part<F: JournalFile>(
-    at: u64,
-    buffer: &mut [u8],
-    chain: &mut Chain,
-    file: &mut F,
-) -> io::Result<usize>
-    ensures same { F.file file.new ≡ F.file file.old }
-    ensures within { IfOk result (λ n. n ≤ length buffer.old) }
-    ensures hash { HasHash (F.file file.old) at chain.old →
-        IfOk result (λ n. HasHash (F.file file.old) (at + n) chain.new) }
-    ensures kept { OnErr result (chain.new ≡ chain.old) }
-{
-    match file.read(at, buffer) {
-        // The file has become shorter since it was measured.
-        Ok(0) => Err(io::Error::from(ErrorKind::UnexpectedEof)),
-        Ok(n) => {
-            chain.add(&buffer[..n]);
-            Ok(n)
-        }
-        Err(error) if error.kind() == ErrorKind::Interrupted => Ok(0),
-        Err(error) => Err(error),
-    }
-}
-
-/// Returns the hash of a file's first `whole` bytes, given that of its first `read` bytes.
-fn hash_rest<F: JournalFile>(read: u64, whole: u64, chain: Chain, file: &mut F) -> io::Result<Chain>
-    requires read { read ≤ whole }
-    ensures same { F.file file.new ≡ F.file file.old }
-    ensures hash { HasHash (F.file file.old) read chain →
-        IfOk result (λ chain. HasHash (F.file file.old) whole chain) }
-{
-    let mut buffer = [0; CHUNK];
-    let mut chain = chain;
-    let mut at = read;
-    for _ in 0..u64::MAX {
-        if at == whole {
-            return Ok(chain);
-        }
-        let most = (whole - at).min(CHUNK as u64) as usize;
-        match hash_part(at, &mut buffer[..most], &mut chain, file) {
-            Ok(n) => at += n as u64,
-            Err(error) => return Err(error),
-        }
-    }
-    Err(io::Error::from(ErrorKind::TimedOut))
-}
-
 /// Cuts off a partial last line.
 fn cut_partial<F: JournalFile>(extent: Extent, file: &mut F) -> io::Result<()>
     ensures journal { HasExtent (F.file file.old) extent → IsSound (F.file file.old) →
@@ -159,7 +109,6 @@ impl<F: JournalFile> Opening<F> {
                 file,
                 extent,
                 read: 0,
-                chain: Chain::new(),
             }),
             Err(error) => Err(error),
         }
@@ -196,7 +145,8 @@ impl<F: JournalFile> Opening<F> {
         self.file.read(0, &mut buffer[..most])
     }
 
-    /// Cuts off a partial last line. Returns the journal, ready for appends.
+    /// Cuts off a partial last line. Returns the journal, ready for appends. Reads the file's last part again, for the
+    /// next seal.
     pub fn accept(self) -> io::Result<FileJournal<F>>
     where
         F: Drop,
@@ -205,7 +155,7 @@ impl<F: JournalFile> Opening<F> {
     {
         let mut file = self.file;
         let extent = self.extent;
-        let chain = match hash_rest(self.read, extent.whole, self.chain, &mut file) {
+        let chain = match hash_last_part(extent.whole, &mut file) {
             Ok(chain) => chain,
             Err(error) => return Err(error),
         };
@@ -230,7 +180,6 @@ impl<F: JournalFile> Read for Opening<F> {
             Ok(0) => Err(io::Error::from(ErrorKind::UnexpectedEof)),
             Ok(n) => {
                 self.read += n as u64;
-                self.chain.add(&buffer[..n]);
                 Ok(n)
             }
             Err(error) => Err(error),

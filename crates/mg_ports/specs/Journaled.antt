@@ -22,7 +22,7 @@ IsComment line =
     (text : List ℕ) × (line ≡ codes "# " ++ (text ++ codes "\n")) × (length text ≤ 1000)
     × All (λ b. b ≢ 10) text
 
--- Lines were appended, possibly preceded by the seal of all that the journal holds, and by another
+-- Lines were appended, possibly preceded by the seal of the journal's last part, and by another
 -- comment.
 abbrev pub AppendsDated : List ℕ → Durability → JournalState → JournalState
     → Result (Unit {0}) AppendFault → Type 0

@@ -1,3 +1,4 @@
+mod LineLemmas
+mod LawLemmas
 mod ReportLemmas
 mod SealedLemmas
-mod LawLemmas

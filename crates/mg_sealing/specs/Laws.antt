@@ -1,16 +1,28 @@
 -- What right seals show.
-use Rattle.std.specs.Prelude.{◌≡◌, true, Bool, ℕ, List, [], ◌∷◌, ◌++◌, None}
-use Rattle.std.specs.Prelude.{eqb}
-use Rattle.mg_chain.specs.Seals.{seal_of, seals_of}
+use Rattle.std.specs.Prelude.{◌≡◌, ◌≢◌, ◌⊎◌, true, ℕ, List, ◌++◌, None}
+use Rattle.sha2.specs.Sha256.{sha256}
+use Rattle.mg_chain.specs.Seals.{is_whole, last_part, seal_of, seals_of}
 
--- whether the last line, if there is one, is complete
-abbrev pub is_whole : List ℕ → Bool
-is_whole [] = true
-is_whole (b ∷ []) = eqb b 10
-is_whole (b ∷ c ∷ cs) = is_whole (c ∷ cs)
+-- no seal of a text is wrong
+abbrev pub HasNoWrong : List ℕ → Type 0
+HasNoWrong text = (seals_of text).wrong ≡ None
 
--- If no seal of a text is wrong, then what stands before the seal of another text is that text, or
--- has the same SHA-256.
+-- somewhere in a text, this part is followed by its seal
+abbrev pub HasSealed : (text part : List ℕ) → Type 0
+HasSealed text part =
+    (front rest : List ℕ) × (text ≡ front ++ (seal_of part ++ rest)) × (last_part front ≡ part)
+
+-- each text has a sealed part, and the two parts differ but have the same SHA-256
+pub record HaveCollision (one two : List ℕ) : Type 0 where
+  pub first : List ℕ
+  pub second : List ℕ
+  pub sealed : HasSealed one first × HasSealed two second
+  pub differ : first ≢ second
+  pub same : sha256 first ≡ sha256 second
+
+-- If two texts have no wrong seal and contain the same seal, what precedes it is the same in both, or
+-- somebody found a collision of SHA-256.
 abbrev pub ChangesShow : Type 0
-ChangesShow = (sealed found rest : List ℕ) → is_whole found ≡ true
-    → (seals_of (found ++ (seal_of sealed ++ rest))).wrong ≡ None → seal_of found ≡ seal_of sealed
+ChangesShow = (part one two rest more : List ℕ) → is_whole one ≡ true → is_whole two ≡ true
+    → HasNoWrong (one ++ (seal_of part ++ rest)) → HasNoWrong (two ++ (seal_of part ++ more))
+    → (one ≡ two) ⊎ HaveCollision (one ++ (seal_of part ++ rest)) (two ++ (seal_of part ++ more))

@@ -1,7 +1,7 @@
 -- A recording with seals.
 use Rattle.std.specs.Prelude.{ℕ, zero, suc, ◌+◌, ◌==◌, List, [], ◌∷◌, ◌++◌, length, codes, bytes_eq, if◌then◌else◌}
 use Rattle.std.specs.Io.BufRead.{take_through, drop_through}
-use Rattle.mg_chain.specs.Seals.{seal_of}
+use Rattle.mg_chain.specs.Seals.{last_part, seal_of}
 
 -- the ticks since the last seal, with this line
 abbrev pub ticks_with : ℕ → (line : List ℕ) → ℕ
@@ -9,7 +9,7 @@ ticks_with ticks line = if bytes_eq line (codes "tick\n") then ticks + 1 else ti
 
 -- a seal is due after the ticks of a minute
 abbrev pub seal_after : ℕ → (printed : List ℕ) → List ℕ
-seal_after ticks printed = if ticks == 3000 then seal_of printed else []
+seal_after ticks printed = if ticks == 3000 then seal_of (last_part printed) else []
 
 abbrev pub ticks_left : ℕ → ℕ
 ticks_left ticks = if ticks == 3000 then 0 else ticks

@@ -1,12 +1,12 @@
-ghost use Rattle.std.specs.Prelude.{◌≡◌, ◌<◌, ◌++◌, IfOk, IfSome, List, OnOk, Option, ℕ};
+ghost use Rattle.std.specs.Prelude.{◌≡◌, ◌<◌, ◌++◌, codes, IfOk, IfSome, List, OnOk, Option, true, ℕ};
 ghost use Rattle.std.specs.Io.KnownBytes.{Appends};
 ghost use Rattle.sha2.specs.Hashers.{Holds256};
-ghost use Rattle.mg_chain.specs.Seals.{seal_of};
+ghost use Rattle.mg_chain.specs.Seals.{is_whole, last_part, seal_of};
 ghost use Rattle.mg_sealing.specs.Seal.{SealsInput};
 ghost use Rattle.mg_sealing.specs.Sealed.{printed_with, sealed, ticks_left, ticks_with};
 
 use crate::verifying::status_of;
-use mg_chain::{Chain, MARK};
+use mg_chain::{Chain, END, MARK};
 use mg_options::Status;
 use std::alloc::Global;
 use std::io::{self, BufRead, BufReader, Error, ErrorKind, Read, Write};
@@ -14,27 +14,39 @@ use std::io::{self, BufRead, BufReader, Error, ErrorKind, Read, Write};
 /// The number of ticks between seals: a minute.
 const TICKS: u32 = 3000;
 
-/// Prints a text and adds it to the hash of what was printed.
-fn put<W: Write>(text: &[u8], chain: &mut Chain, output: &mut W) -> io::Result<()>
-    ensures prints { OnOk result (Appends (W.contents output.old) (W.contents output.new) text.now) }
-    ensures hash { (printed : List ℕ) → Holds256 chain.old printed →
-        OnOk result (Holds256 chain.new (printed ++ text.now)) }
+/// The length of a seal's line, in bytes.
+const SEAL: usize = 9 + END;
+
+/// Prints a line and adds it to the chain.
+fn put<W: Write>(line: &[u8], chain: &mut Chain, output: &mut W) -> io::Result<()>
+    ensures prints { OnOk result (Appends (W.contents output.old) (W.contents output.new) line.now) }
+    ensures hash { (printed : List ℕ) → is_whole printed ≡ true → Holds256 chain.old (last_part printed) →
+        OnOk result (Holds256 chain.new (last_part (printed ++ line.now))) }
 {
-    output.write_all(text)?;
-    chain.add(text);
+    output.write_all(line)?;
+    chain.add(line);
     Ok(())
+}
+
+/// Returns the line of the seal with this end.
+fn seal_line(end: &[u8; END]) -> [u8; SEAL]
+    ensures value { result ≡ codes "# sha256 " ++ end.now }
+{
+    let mut line = [0; SEAL];
+    line[..MARK.len()].copy_from_slice(MARK);
+    line[MARK.len()..].copy_from_slice(end);
+    line
 }
 
 /// Prints the seal of what was printed.
 fn put_seal<W: Write>(chain: &mut Chain, output: &mut W) -> io::Result<()>
-    ensures prints { (printed : List ℕ) → Holds256 chain.old printed →
-        OnOk result (Appends (W.contents output.old) (W.contents output.new) (seal_of printed)) }
-    ensures hash { (printed : List ℕ) → Holds256 chain.old printed →
-        OnOk result (Holds256 chain.new (printed ++ seal_of printed)) }
+    ensures prints { (part : List ℕ) → Holds256 chain.old part →
+        OnOk result (Appends (W.contents output.old) (W.contents output.new) (seal_of part)) }
+    ensures hash { (printed : List ℕ) → is_whole printed ≡ true → Holds256 chain.old (last_part printed) →
+        OnOk result (Holds256 chain.new (last_part (printed ++ seal_of (last_part printed)))) }
 {
-    let end = chain.seal_end();
-    put(MARK, chain, output)?;
-    put(&end, chain, output)
+    let line = seal_line(&chain.seal_end());
+    put(&line, chain, output)
 }
 
 /// Returns the ticks since the last seal, with this line.
@@ -54,11 +66,11 @@ fn put_line<W: Write>(ticks: u32, line: &[u8], chain: &mut Chain, output: &mut W
     requires few { ticks < TICKS }
     ensures few { IfOk result (λ next. next < TICKS) }
     ensures ticks { IfOk result (λ next. next ≡ ticks_left (ticks_with ticks line.now)) }
-    ensures prints { (printed : List ℕ) (start : Option (List ℕ)) → Holds256 chain.old printed →
-        Appends start (W.contents output.old) printed →
+    ensures prints { (printed : List ℕ) (start : Option (List ℕ)) → is_whole printed ≡ true →
+        Holds256 chain.old (last_part printed) → Appends start (W.contents output.old) printed →
         OnOk result (Appends start (W.contents output.new) (printed_with ticks printed line.now)) }
-    ensures hash { (printed : List ℕ) → Holds256 chain.old printed →
-        OnOk result (Holds256 chain.new (printed_with ticks printed line.now)) }
+    ensures hash { (printed : List ℕ) → is_whole printed ≡ true → Holds256 chain.old (last_part printed) →
+        OnOk result (Holds256 chain.new (last_part (printed_with ticks printed line.now))) }
 {
     put(line, chain, output)?;
     let ticks = ticks_with(ticks, line);

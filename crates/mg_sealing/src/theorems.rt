@@ -2,7 +2,8 @@
 
 ghost use Rattle.mg_sealing.specs.Laws.{ChangesShow};
 
-/// If no seal of a text is wrong, what stands before a seal is what was sealed, or it has the same SHA-256.
+/// If two texts have no wrong seal and contain the same seal, what precedes it is the same in both, or two different
+/// parts of them have the same SHA-256.
 pub fn changes_show()
     ensures theorem { ChangesShow }
 {}

@@ -1,9 +1,9 @@
 -- How far a text has been read.
-use Rattle.std.specs.Prelude.{◌≡◌, ℕ, ◌≤◌, List, length, Option, Some, IfSome}
+use Rattle.std.specs.Prelude.{◌≡◌, ℕ, ◌<◌, ◌≤◌, true, List, length, Option, Some, IfSome}
 use Rattle.sha2.specs.declared.Sha256.{Sha256}
 use Rattle.sha2.specs.Hashers.{Holds256}
 use Rattle.mg_chain.specs.declared.seals.Seals.{Seals}
-use Rattle.mg_chain.specs.Seals.{after_lines, seals_of}
+use Rattle.mg_chain.specs.Seals.{after_lines, is_whole, last_part, seals_of}
 
 -- the text before and after the next line, which has this number, and what the seals say before it
 pub record Reading (text : List ℕ) (rest : Option (List ℕ)) (hasher : Sha256) (seals : Seals)
@@ -12,7 +12,8 @@ pub record Reading (text : List ℕ) (rest : Option (List ℕ)) (hasher : Sha256
   pub left : List ℕ
   pub most : ℕ
   pub remaining : rest ≡ Some left
-  pub holds : Holds256 hasher before
+  pub whole : 0 < length left → is_whole before ≡ true
+  pub holds : Holds256 hasher (last_part before)
   pub enough : length left ≤ most
   pub is : after_lines most seals number before left ≡ seals_of text
 

@@ -4,6 +4,7 @@ use Rattle.std.specs.Prelude.{IfSome, if◌then◌else◌}
 use Rattle.std.specs.Option.{option_map}
 use Rattle.sha2.specs.declared.Sha256.{Sha256}
 use Rattle.sha2.specs.Hashers.{Holds256}
+use Rattle.mg_chain.specs.Seals.{last_part}
 use Rattle.mg_journal.specs.declared.append_fault.AppendFault.{AppendFault}
 use Rattle.mg_journal.specs.declared.append_fault.AppendFault.TheVariants.{Refused, Broken}
 use Rattle.mg_journal.specs.declared.durability.Durability.{Durability}
@@ -28,10 +29,10 @@ IsJournal file len false =
     IfSome file.bytes (λ bytes. IsWhole bytes × (length bytes ≡ len))
     × IfSome file.synced (λ bytes. length bytes ≤ len)
 
--- Unless the journal is broken, this hash is that of the bytes in its file.
+-- Unless the journal is broken, this hash is that of the last part of its file.
 abbrev pub IsHashed : FileState → Sha256 → Bool → Type 0
 IsHashed file hasher true = Unit {0}
-IsHashed file hasher false = IfSome file.bytes (λ bytes. Holds256 hasher bytes)
+IsHashed file hasher false = IfSome file.bytes (λ bytes. Holds256 hasher (last_part bytes))
 
 -- a whole text was written, or only a prefix of it
 abbrev pub Writes : {E : Type 0} → List ℕ → FileState → FileState → Result (Unit {0}) E → Type 0

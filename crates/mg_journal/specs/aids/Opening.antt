@@ -1,7 +1,5 @@
 -- How a file is measured before it is read.
 use Rattle.std.specs.Prelude.{◌≡◌, ℕ, ◌≤◌, List, length, take, Option, Some, None, Result, Ok, Err, IfSome}
-use Rattle.sha2.specs.declared.Sha256.{Sha256}
-use Rattle.sha2.specs.Hashers.{Holds256}
 use Rattle.mg_journal.specs.declared.extent.Extent.{Extent}
 use Rattle.mg_journal.specs.Text.{whole_lines}
 use Rattle.mg_journal.specs.JournalFile.{FileState}
@@ -12,10 +10,6 @@ IsExtent extent bytes = (extent.whole ≡ length (whole_lines bytes)) × (extent
 
 abbrev pub HasExtent : FileState → Extent → Type 0
 HasExtent file extent = IfSome file.bytes (λ bytes. IsExtent extent bytes)
-
--- this hash is that of the file's first bytes
-abbrev pub HasHash : FileState → ℕ → Sha256 → Type 0
-HasHash file at hasher = IfSome file.bytes (λ bytes. Holds256 hasher (take at bytes))
 
 -- this is the extent of a prefix of the file
 abbrev pub HasFront : FileState → Extent → Type 0

@@ -1,8 +1,9 @@
 -- How far a recording has been copied.
-use Rattle.std.specs.Prelude.{◌≡◌, ℕ, ◌≤◌, List, length, Option, Some, IfSome}
+use Rattle.std.specs.Prelude.{◌≡◌, ℕ, ◌<◌, ◌≤◌, true, List, length, Option, Some, IfSome}
 use Rattle.std.specs.Io.KnownBytes.{Appends}
 use Rattle.sha2.specs.declared.Sha256.{Sha256}
 use Rattle.sha2.specs.Hashers.{Holds256}
+use Rattle.mg_chain.specs.Seals.{is_whole, last_part}
 use Rattle.mg_sealing.specs.Sealed.{sealed, sealed_with}
 
 -- the text that was printed, and the rest of the recording
@@ -11,7 +12,8 @@ pub record Copying (text : List ℕ) (rest start contents : Option (List ℕ)) (
   pub left : List ℕ
   pub most : ℕ
   pub remaining : rest ≡ Some left
-  pub holds : Holds256 hasher printed
+  pub whole : 0 < length left → is_whole printed ≡ true
+  pub holds : Holds256 hasher (last_part printed)
   pub prints : Appends start contents printed
   pub enough : length left ≤ most
   pub is : sealed_with most ticks printed left ≡ sealed text

@@ -1,5 +1,6 @@
-use Rattle.std.proofs.Common.{rules, arith}
-use Rattle.mg_chain.proofs.ReadLemmas.{ends, goes_on}
+use Rattle.std.proofs.Common.{rules, ap, arith}
+use Rattle.mg_chain.specs.declared.seals.Seals.{Seals}
+use Rattle.mg_chain.proofs.ReadLemmas.{ends, goes_on, starts}
 use Rattle.mg_chain.proofs.reading.read_seals.Goals as goal
 
 pub returns-then-branch-eq0 : goal.returns-then-branch-eq0
@@ -17,6 +18,13 @@ loop-number-preserved g c = (
       c.loop-number.check.seals c.take_line.new.self.seals c.loop-number.number c.clear.new.self.items
       c.read_until.new.buf.items c.as_slice.result.now c.loop-number.invariant.1 c.in_ok-read_until.ensures.bytes
       c.clear.ensures.items c.as_slice.ensures.value (search rules) c.in_ok-read_until.ensures.rest c.take_line.ensures.value,
+)
+
+pub loop-number-init : goal.loop-number-init
+loop-number-init g c = (
+  omega (arith, ap (λ (s : Seals). s.count) c.new-check.ensures.seals),
+  starts (g.R.Read.remaining c.args.reader.now) c.new-check.result.chain c.new-check.result.seals c.new-check.ensures.text
+      c.new-check.ensures.seals,
 )
 
 pub take_line-requires : goal.take_line-requires

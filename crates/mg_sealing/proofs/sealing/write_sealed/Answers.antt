@@ -1,5 +1,5 @@
-use Rattle.std.proofs.Common.{rules}
-use Rattle.mg_sealing.proofs.SealedLemmas.{copied, goes_on}
+use Rattle.std.proofs.Common.{rules, arith}
+use Rattle.mg_sealing.proofs.SealedLemmas.{copied, goes_on, starts}
 use Rattle.mg_sealing.proofs.sealing.write_sealed.Goals as goal
 
 pub returns-then-branch-eq0 : goal.returns-then-branch-eq0
@@ -8,6 +8,12 @@ returns-then-branch-eq0 g c = record {
       (g.W.Write.contents c.args.output.now) (g.W.Write.contents c.loop.output) c.loop.chain c.loop.ticks
       c.loop.invariant.1 (c.in_ok-read_until.ensures.end c.if-branch-eq0.true);
 }
+
+pub loop-init : goal.loop-init
+loop-init g c = (
+  omega arith,
+  starts (g.R.Read.remaining c.args.reader.now) (g.W.Write.contents c.args.output.now) c.new-chain.result c.new-chain.ensures.value,
+)
 
 pub loop-preserved : goal.loop-preserved
 loop-preserved g c = (

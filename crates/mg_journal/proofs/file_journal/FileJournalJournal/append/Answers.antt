@@ -21,8 +21,8 @@ invariant_of-self g c = (
       (g.F.JournalFile.file c.put_lines.new.file) c.self.inside.len c.args.lines.now c.if-self.false c.self.invariant.0
       (ends_whole c.args.lines.now c.requires.line_feed) c.in-Ok.ensures.value).0,
   hash_put c.self.inside.is_broken c.args.durability (g.F.JournalFile.file c.self.inside.file)
-      (g.F.JournalFile.file c.put_lines.new.file) c.args.lines.now c.self.inside.chain c.add.new.self c.if-self.false
-      c.self.invariant.1 c.add.ensures.value c.in-Ok.ensures.value,
+      (g.F.JournalFile.file c.put_lines.new.file) c.self.inside.len c.args.lines.now c.self.inside.chain c.add.new.self
+      c.if-self.false c.self.invariant.0 c.self.invariant.1 c.add.ensures.value c.in-Ok.ensures.value,
 )
 
 pub returns-in-Ok : goal.returns-in-Ok

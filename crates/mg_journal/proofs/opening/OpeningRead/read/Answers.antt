@@ -1,12 +1,10 @@
-use Rattle.std.proofs.Common.{ℕ, ◌+◌, ◌≤◌, List, ◌++◌, take, drop, subst, sym, arith}
+use Rattle.std.proofs.Common.{ℕ, ◌+◌, ◌≤◌, List, take, drop, subst, sym, arith}
 use Rattle.std.proofs.lemmas.List.{length-take, length-take-le, take-append-le}
 use Rattle.std.specs.Io.KnownBytes.{Consumes}
-use Rattle.sha2.specs.Hashers.{Holds256}
 use Rattle.mg_journal.specs.JournalFile.{FileState}
 use Rattle.mg_journal.specs.Opening.{IsSound, OpeningState, left_to_read}
-use Rattle.mg_journal.specs.aids.Opening.{HasExtent, HasHash}
+use Rattle.mg_journal.specs.aids.Opening.{HasExtent}
 use Rattle.mg_journal.proofs.OpeningLemmas.{consumes}
-use Rattle.mg_journal.proofs.HashLemmas.{hash_more}
 use Rattle.mg_journal.proofs.opening.OpeningRead.read.Goals as goal
 
 pub returns-in-Ok-clause-bytes : goal.returns-in-Ok-clause-bytes
@@ -42,9 +40,6 @@ pub invariant_of-self-in-Ok : goal.invariant_of-self-in-Ok
 invariant_of-self-in-Ok g c =
     let n = c.in-Ok.n in
     let at = c.self.inside.read in
-    let old = g.F.JournalFile.file c.self.inside.file in
-    let part = take n c.read.new.buffer in
-    let front = take-append-le n c.read.new.buffer (drop c.min-most.result c.args.buffer.now) c.in-Ok.ensures.value.0 in
     let within : at + n ≤ c.self.inside.extent.whole =
     omega (
       arith,
@@ -54,14 +49,5 @@ invariant_of-self-in-Ok g c =
       c.in-Ok.ensures.value.0,
       c.self.invariant.2,
     ) in
-    let has = c.in-Ok.ensures.value.1 (omega (arith, c.in-Ok.n-test.1, c.in-Ok.ensures.value.0)) in
-    subst (λ (f : FileState). HasExtent f c.self.inside.extent × IsSound f × (at + n ≤ c.self.inside.extent.whole)
-    × HasHash f (at + n) c.add.new.self) (sym c.in-Ok.ensures.value.2) (
-      c.self.invariant.0,
-      c.self.invariant.1,
-      within,
-      hash_more old at n part c.self.inside.chain c.add.new.self
-          (length-take-le n c.read.new.buffer c.in-Ok.ensures.value.0) has
-          (λ before holds. subst (λ (l : List ℕ). Holds256 c.add.new.self (before ++ l)) front
-          (c.add.ensures.value before holds)) c.self.invariant.3,
-    )
+    subst (λ (f : FileState). HasExtent f c.self.inside.extent × IsSound f × (at + n ≤ c.self.inside.extent.whole))
+    (sym c.in-Ok.ensures.value.2) (c.self.invariant.0, c.self.invariant.1, within)

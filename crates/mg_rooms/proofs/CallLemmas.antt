@@ -1,39 +1,21 @@
 -- What searches in the tables say of the registry that they stand for.
-use Rattle.mg_rooms.proofs.Common.{◌≡◌, ℕ, ◌+◌, ◌<◌, ◌≤◌, ◌&&◌, ◌==◌, Bool, List, [], ◌∷◌, ◌++◌, option_and_then, vec_len, length, Option, Some, None, refl, sym, ◌∙◌, ap, arith, get_or, slice_get, find, option_map, is_none, not, Ok, Err, suc, subst, nat_lt, nat_le, true, false, set, IfSome, list_any, position_from, range_with_len, slice_get_read, Record, Context, NoContextLeft, eqb-true, lt-ltb, le-ltb, le-leb, in_order, has_key, passes_at, change, with_members, without, new_context, CONTEXTS, MEMBERS, LAST_CONTEXT, registry_of, Registry, record_at, context_at, free_slot, free_room, free_seat, members_of}
+use Rattle.mg_rooms.proofs.Common.{◌≡◌, ℕ, ◌+◌, ◌<◌, ◌≤◌, ◌&&◌, ◌==◌, Bool, List, [], ◌∷◌, ◌++◌, option_and_then, vec_len, length, Option, Some, None, refl, sym, ◌∙◌, ap, arith, get_or, slice_get, find, option_map, is_none, not, Ok, Err, suc, subst, true, false, set, IfSome, list_any, position_from, range_with_len, slice_get_read, Record, Context, NoContextLeft, eqb-true, lt-ltb, le-ltb, le-leb, in_order, has_key, passes_at, change, with_members, without, new_context, CONTEXTS, MEMBERS, LAST_CONTEXT, registry_of, Registry, record_at, context_at, free_slot, free_room, free_seat, members_of}
+use Rattle.std.proofs.lemmas.Bool.Decides.{nat_tests}
 use Rattle.std.proofs.lemmas.Option.{get_or_from_slice_get, slice_get_past}
 use Rattle.mg_rooms.specs.declared.tables.Tables.TheInside.{Inside}
 use Rattle.mg_rooms.specs.aids.Entries.{entered_entry, left_entry}
 use Rattle.mg_rooms.specs.aids.Tables.{HasTables, IsTable}
-use Rattle.mg_rooms.proofs.OrderLemmas.{any-in_order, KeepsKey, change_at, change_none, found_key, in_order-push, length-in_order_room, length-in_order_full, find-in_order, first_at_zero}
-use Rattle.mg_rooms.proofs.TableLemmas.{OnlyAt, lookup_some, lookup_none, free-in_order, find_spot, entry_at, empty_place, IsTable-set}
-
-pub record_some : (a : Inside) (n s : ℕ) (o : Option Record) →
-    Some s ≡ position_from (has_key (λ r. r.number) n) 0 a.slots.items → o ≡ get_or a.slots.items s o →
-    o ≡ record_at (registry_of a) n
-record_some a n s o found at = lookup_some (λ r. r.number) (λ r. r.slot) n a.slots.items s o found at
-
-pub record_none : (a : Inside) (n : ℕ) → None ≡ position_from (has_key (λ r. r.number) n) 0 a.slots.items →
-    None ≡ record_at (registry_of a) n
-record_none a n found = lookup_none (λ r. r.number) (λ r. r.slot) n a.slots.items found
-
-pub context_some : (a : Inside) (n s : ℕ) (o : Option Context) →
-    Some s ≡ position_from (has_key (λ x. x.number) n) 0 a.rooms.items → o ≡ get_or a.rooms.items s o →
-    o ≡ context_at (registry_of a) n
-context_some a n s o found at = lookup_some (λ x. x.number) (λ x. x.room) n a.rooms.items s o found at
-
-pub context_none : (a : Inside) (n : ℕ) → None ≡ position_from (has_key (λ x. x.number) n) 0 a.rooms.items →
-    None ≡ context_at (registry_of a) n
-context_none a n found = lookup_none (λ x. x.number) (λ x. x.room) n a.rooms.items found
+use Rattle.mg_rooms.proofs.OrderLemmas.{any-in_order, change_none, in_order-push, length-in_order_room, length-in_order_full, find-in_order, first_at_zero}
+use Rattle.mg_rooms.proofs.ListsLemmas.{keeps-number, keeps-room, keeps_left}
+use Rattle.mg_rooms.proofs.TableLemmas.{lookup_some, lookup_none, table_change, free-in_order, find_spot, entry_at, empty_place, IsTable-set}
 
 -- a context's room is its place
 pub room_some : (a : Inside) (n s : ℕ) → HasTables a →
     Some s ≡ position_from (has_key (λ x. x.number) n) 0 a.rooms.items →
     Some s ≡ option_map (λ x. x.room) (context_at (registry_of a) n)
 room_some a n s kept found =
-    let (x, is, same) = find-in_order (λ x. x.number) n a.rooms.items s
-    (first_at_zero (has_key (λ x. x.number) n) a.rooms.items s (sym found)) in
-    let at : x.room ≡ s = kept.rooms.at_spot s x is in
-    rw (same, at) refl
+    let first = first_at_zero (has_key (λ x. x.number) n) a.rooms.items s (sym found) in
+    grind (arith, find-in_order (λ x. x.number) n a.rooms.items s first)
 
 pub free_slot_is : (a : Inside) (o : Option ℕ) → HasTables a → o ≡ position_from is_none 0 a.slots.items →
     o ≡ free_slot (registry_of a)
@@ -52,9 +34,7 @@ find_free [] test k h = refl
 find_free (true ∷ held) test k h =
     let is : true ≡ test k = h 0 k (omega arith) (omega arith) in
     rw (← is) (find_free held test (k + 1) (λ i j eq lt. h (suc i) j (omega arith) (omega arith)))
-find_free (false ∷ held) test k h =
-    let is : false ≡ test k = h 0 k (omega arith) (omega arith) in
-    rw (← is) refl
+find_free (false ∷ held) test k h = grind (arith, h 0 k)
 
 -- the first seat that is not held is the free one
 pub free_seat_is : (a : Inside) (c : ℕ) (held : List Bool) → length held ≡ MEMBERS
@@ -92,23 +72,13 @@ pub place_some : (a : Inside) (room : ℕ) → HasTables a → Some room ≡ pos
     new_context (registry_of a)
 place_some a room kept found le =
     let free = free_room_is a (Some room) kept found in
-    let empty = empty_place (λ x. x.number) (λ x. x.room) a.next_context CONTEXTS a.rooms.items room kept.rooms
-    (sym free) in
-    let room_left : length (in_order (λ x. x.number) a.rooms.items) < length a.rooms.items =
-    length-in_order_room (λ x. x.number) a.rooms.items room empty.0 in
-    let few : nat_lt (length (in_order (λ x. x.number) a.rooms.items)) CONTEXTS ≡ true =
-    lt-ltb _ _ (omega (arith, kept.rooms.len)) in
-    let left : nat_le a.next_context LAST_CONTEXT ≡ true = le-leb _ _ le in
-    rw (few, left, ← free) refl
+    let empty = empty_place (λ x. x.number) (λ x. x.room) a.next_context CONTEXTS a.rooms.items room kept.rooms in
+    grind (arith, nat_tests, free, empty, length-in_order_room (λ x. x.number) a.rooms.items room)
 
 pub place_none : (a : Inside) → HasTables a → None ≡ position_from is_none 0 a.rooms.items →
     Err NoContextLeft ≡ new_context (registry_of a)
 place_none a kept found =
-    let full : length (in_order (λ x. x.number) a.rooms.items) ≡ length a.rooms.items =
-    length-in_order_full (λ x. x.number) a.rooms.items 0 (sym found) in
-    let many : nat_lt (length (in_order (λ x. x.number) a.rooms.items)) CONTEXTS ≡ false =
-    le-ltb _ _ (omega (arith, kept.rooms.len)) in
-    rw many refl
+    grind (arith, nat_tests, length-in_order_full (λ x. x.number) a.rooms.items 0 (sym found))
 
 -- ## Writes
 
@@ -118,41 +88,6 @@ AreSlots next size t = IsTable (λ r. r.number) (λ r. r.slot) next size t
 
 abbrev pub AreRooms : ℕ → ℕ → List (Option Context) → Type 0
 AreRooms next size t = IsTable (λ x. x.number) (λ x. x.room) next size t
-
-keeps_replaced : (r : Record) → KeepsKey (λ x. x.number) r.number (λ _. Some r)
-keeps_replaced r x e = sym (eqb-true x.number r.number e)
-
-pub replaced_kept : (next size : ℕ) (t : List (Option Record)) (r : Record) (s : ℕ) → AreSlots next size t →
-    Some s ≡ position_from (has_key (λ x. x.number) r.number) 0 t →
-    IfSome (find (λ x. x.number == r.number) (in_order (λ x. x.number) t)) (λ x. x.slot ≡ r.slot) →
-    AreSlots next size (set t s (Some r))
-replaced_kept next size t r s h found same =
-    let (x, at, is, change_is) = change_at (λ x. x.number) r.number (λ _. Some r) t s (keeps_replaced r) found in
-    let slot : x.slot ≡ r.slot = rw is at same in
-    let spot : x.slot ≡ s = h.at_spot s x at in
-    let below : x.number < next = h.below s x at in
-    let key : x.number ≡ r.number = eqb-true x.number r.number
-    (found_key (λ y. y.number == r.number) (in_order (λ y. y.number) t) x is) in
-    IsTable-set (λ x. x.number) (λ x. x.slot) next next size t s (Some r) (omega arith)
-    (sym slot ∙ spot, omega arith, λ i z got same. h.once i s z x got at (same ∙ sym key)) h
-
-pub replaced_is : (t : List (Option Record)) (r : Record) (s : ℕ) →
-    Some s ≡ position_from (has_key (λ x. x.number) r.number) 0 t →
-    in_order (λ x. x.number) (set t s (Some r)) ≡
-    change (λ x. x.number) r.number (λ _. Some r) (in_order (λ x. x.number) t)
-replaced_is t r s found =
-    let (x, at, is, change_is) = change_at (λ x. x.number) r.number (λ _. Some r) t s (keeps_replaced r) found in
-    change_is
-
-pub removed_is : (t : List (Option Record)) (n s : ℕ) → Some s ≡ position_from (has_key (λ x. x.number) n) 0 t →
-    in_order (λ x. x.number) (set t s None) ≡ change (λ x. x.number) n (λ _. None) (in_order (λ x. x.number) t)
-removed_is t n s found =
-    let (x, at, is, change_is) = change_at (λ x. x.number) n (λ _. None) t s (λ x e. tt) found in
-    change_is
-
-pub removed_kept : (next size : ℕ) (t : List (Option Record)) (s : ℕ) → AreSlots next size t →
-    AreSlots next size (set t s None)
-removed_kept next size t s h = IsTable-set (λ x. x.number) (λ x. x.slot) next next size t s None (omega arith) tt h
 
 abbrev pub with_terminations : Registry → List Record → Registry
 with_terminations w rs = record w { terminations = rs }
@@ -172,14 +107,14 @@ pub unchanged_termination : (a : Inside) (n : ℕ) (f : Record → Option Record
     registry_of a ≡ record (registry_of a) { terminations = change (λ r. r.number) n f ((registry_of a).terminations) }
 unchanged_termination a n f found =
     ap (with_terminations (registry_of a)) (sym (change_none (λ r. r.number) n f ((registry_of a).terminations)
-    (record_none a n found)))
+    (lookup_none (λ r. r.number) (λ r. r.slot) n a.slots.items found)))
 
 pub unchanged_context : (a : Inside) (n : ℕ) (f : Context → Option Context) →
     None ≡ position_from (has_key (λ x. x.number) n) 0 a.rooms.items →
     registry_of a ≡ record (registry_of a) { contexts = change (λ x. x.number) n f ((registry_of a).contexts) }
 unchanged_context a n f found =
     ap (with_contexts (registry_of a)) (sym (change_none (λ x. x.number) n f ((registry_of a).contexts)
-    (context_none a n found)))
+    (lookup_none (λ x. x.number) (λ x. x.room) n a.rooms.items found)))
 
 pub slot_is_empty : (a : Inside) (s : ℕ) → HasTables a → free_slot (registry_of a) ≡ Some s →
     (slice_get a.slots.items s ≡ Some None) × (s < length a.slots.items)
@@ -191,15 +126,34 @@ pub room_is_empty : (a : Inside) (s : ℕ) → HasTables a → free_room (regist
 room_is_empty a s kept free = empty_place (λ x. x.number) (λ x. x.room) a.next_context CONTEXTS a.rooms.items s
     kept.rooms free
 
+-- a termination's entry is written anew, or goes
+pub replaced_there : (a : Inside) (r : Record) (s : ℕ) → HasTables a →
+    Some s ≡ position_from (has_key (λ x. x.number) r.number) 0 a.slots.items →
+    IfSome (record_at (registry_of a) r.number) (λ x. x.slot ≡ r.slot)
+    → AreSlots a.next_termination a.limits.slots (set a.slots.items s (Some r)) ×
+    (in_order (λ x. x.number) (set a.slots.items s (Some r)) ≡
+    change (λ x. x.number) r.number (λ _. Some r) ((registry_of a).terminations))
+replaced_there a r s kept found same =
+    let (x, at, table, is) = table_change (λ x. x.number) (λ x. x.slot) a.next_termination a.limits.slots a.slots.items
+    r.number s (λ _. Some r) (λ x e. sym (eqb-true x.number r.number e)) (λ x is. sym (rw is at
+    same)) kept.slots found in
+    (table, is)
+
+pub removed_there : (a : Inside) (n s : ℕ) → HasTables a →
+    Some s ≡ position_from (has_key (λ x. x.number) n) 0 a.slots.items
+    → AreSlots a.next_termination a.limits.slots (set a.slots.items s None) ×
+    (in_order (λ x. x.number) (set a.slots.items s None) ≡
+    change (λ x. x.number) n (λ _. None) ((registry_of a).terminations))
+removed_there a n s kept found =
+    let (x, at, table, is) = table_change (λ x. x.number) (λ x. x.slot) a.next_termination
+    a.limits.slots a.slots.items n
+    s (λ _. None) (λ x e. tt) (λ x is. tt) kept.slots found in
+    (table, is)
+
 pub inserted_kept : (next size : ℕ) (t : List (Option Record)) (r : Record) → AreSlots next size t → r.number ≡ next →
     AreSlots (next + 1) size (set t r.slot (Some r))
-inserted_kept next size t r h number = IsTable-set (λ x. x.number) (λ x. x.slot) next (next + 1) size t r.slot
-    (Some r) (omega arith) (
-      refl,
-      omega arith,
-      λ i z got same. let lt : z.number < next = h.below i z got in
-          absurd (omega arith),
-    ) h
+inserted_kept next size t r h number =
+    grind (arith, nat_tests, IsTable-set (λ x. x.number) (λ x. x.slot) next (next + 1) size t r.slot (Some r))
 
 pub inserted_is : (a : Inside) (r : Record) → HasTables a → free_slot (registry_of a) ≡ Some r.slot →
     r.number ≡ a.next_termination → in_order (λ x. x.number) (set a.slots.items r.slot (Some r)) ≡
@@ -210,13 +164,8 @@ inserted_is a r kept free number =
 
 pub made_kept : (next size : ℕ) (t : List (Option Context)) (x : Context) → AreRooms next size t → x.number ≡ next →
     AreRooms (next + 1) size (set t x.room (Some x))
-made_kept next size t x h number = IsTable-set (λ y. y.number) (λ y. y.room) next (next + 1) size t x.room (Some x)
-    (omega arith) (
-      refl,
-      omega arith,
-      λ i z got same. let lt : z.number < next = h.below i z got in
-          absurd (omega arith),
-    ) h
+made_kept next size t x h number =
+    grind (arith, nat_tests, IsTable-set (λ y. y.number) (λ y. y.room) next (next + 1) size t x.room (Some x))
 
 pub made_is : (a : Inside) (x : Context) → HasTables a → free_room (registry_of a) ≡ Some x.room →
     x.number ≡ a.next_context → in_order (λ y. y.number) (set a.rooms.items x.room (Some x)) ≡
@@ -224,44 +173,6 @@ pub made_is : (a : Inside) (x : Context) → HasTables a → free_room (registry
 made_is a x kept free number =
     in_order-push (λ y. y.number) a.rooms.items x.room x (room_is_empty a x.room kept free).0
     (λ i y at. let lt : y.number < a.next_context = kept.rooms.below i y at in omega arith)
-
-keeps_key : (x : Context) (o : Option Context) → IfSome o (λ y. (y.number ≡ x.number) × (y.room ≡ x.room)) →
-    IfSome o (λ y. y.number ≡ x.number)
-keeps_key x None k = tt
-keeps_key x (Some y) k = k.0
-
-keeps_place : (t : List (Option Context)) (x : Context) (o : Option Context) (s next : ℕ) →
-    IfSome o (λ y. (y.number ≡ x.number) × (y.room ≡ x.room)) → x.room ≡ s → x.number < next →
-    OnlyAt (λ y. y.number) x.number s t → IfSome o
-    (λ y. (y.room ≡ s) × (y.number < next) × OnlyAt (λ z. z.number) y.number s t)
-keeps_place t x None s next k spot lt only = tt
-keeps_place t x (Some y) s next k spot lt only = (k.1 ∙ spot, rw (k.0) lt, λ i z got same. only i z got (same ∙ k.0))
-
--- a room's entry that keeps its number and room, or goes
-pub context_change : (next size : ℕ) (t : List (Option Context)) (n s : ℕ) (f : Context → Option Context)
-    (old new : Option Context) → ((x : Context) → IfSome (f x) (λ y. (y.number ≡ x.number) × (y.room ≡ x.room))) →
-    AreRooms next size t → Some s ≡ position_from (has_key (λ x. x.number) n) 0 t → old ≡ get_or t s old →
-    new ≡ option_and_then f old
-    → AreRooms next size (set t s new) × (in_order (λ x. x.number) (set t s new) ≡
-    change (λ x. x.number) n f (in_order (λ x. x.number) t))
-context_change next size t n s f old new keeps h found was is =
-    let (x, at, same, change_is) = change_at (λ y. y.number) n f t s (λ y e. keeps_key y (f y) (keeps y)) found in
-    let old_is : old ≡ Some x = was ∙ get_or_from_slice_get t s (Some x) old at in
-    let new_is : new ≡ f x = is ∙ ap (option_and_then f) old_is in
-    rw new_is (
-      IsTable-set (λ y. y.number) (λ y. y.room) next next size t s (f x) (omega arith)
-          (keeps_place t x (f x) s next (keeps x) (h.at_spot s x at) (h.below s x at)
-          (λ i z got key. h.once i s z x got at key)) h,
-      change_is,
-    )
-
-keeps_entered : (n : ℕ) (x : Context) → IfSome (entered_entry n (Some x))
-    (λ y. (y.number ≡ x.number) × (y.room ≡ x.room))
-keeps_entered n x = (refl, refl)
-
-keeps_left : (x : Context) (ms : List ℕ) → IfSome (with_members x ms) (λ y. (y.number ≡ x.number) × (y.room ≡ x.room))
-keeps_left x [] = tt
-keeps_left x (m ∷ ms) = (refl, refl)
 
 abbrev pub with_last : ℕ → Context → Option Context
 with_last n x = Some (record x { members = x.members ++ (n ∷ []) })
@@ -275,6 +186,19 @@ left_and_then : (n : ℕ) (o : Option Context) →
 left_and_then n None = refl
 left_and_then n (Some x) = refl
 
+-- a room's entry changes and keeps its number and room, or goes
+context_change : (a : Inside) (n s : ℕ) (f : Context → Option Context) (old new : Option Context) →
+    ((x : Context) → IfSome (f x) (λ y. (y.number ≡ x.number) × (y.room ≡ x.room))) → HasTables a →
+    Some s ≡ position_from (has_key (λ x. x.number) n) 0 a.rooms.items → old ≡ get_or a.rooms.items s old →
+    new ≡ option_and_then f old
+    → AreRooms a.next_context CONTEXTS (set a.rooms.items s new) × (in_order (λ x. x.number) (set a.rooms.items s new)
+    ≡ change (λ x. x.number) n f ((registry_of a).contexts))
+context_change a n s f old new keeps kept found was is =
+    let (x, at, table, change_is) = table_change (λ x. x.number) (λ x. x.room) a.next_context CONTEXTS a.rooms.items n s
+    f (λ x _. keeps-number x (f x) (keeps x)) (λ x _. keeps-room x (f x) (keeps x)) kept.rooms found in
+    let old_is = was ∙ get_or_from_slice_get a.rooms.items s (Some x) old at in
+    rw (is ∙ ap (option_and_then f) old_is) (table, change_is)
+
 -- n enters the context c in its room
 pub entered_there : (a : Inside) (c n s : ℕ) (old new : Option Context) → HasTables a →
     Some s ≡ position_from (has_key (λ x. x.number) c) 0 a.rooms.items → old ≡ get_or a.rooms.items s old →
@@ -283,8 +207,7 @@ pub entered_there : (a : Inside) (c n s : ℕ) (old new : Option Context) → Ha
     (in_order (λ x. x.number) (set a.rooms.items s new) ≡
     change (λ x. x.number) c (with_last n) ((registry_of a).contexts))
 entered_there a c n s old new kept found was is =
-    context_change a.next_context CONTEXTS a.rooms.items c s (with_last n) old new (keeps_entered n) kept.rooms found
-    was (is ∙ entered_and_then n old)
+    context_change a c s (with_last n) old new (λ x. (refl, refl)) kept found was (is ∙ entered_and_then n old)
 
 -- n leaves the context c in its room
 pub left_there : (a : Inside) (c n s : ℕ) (old new : Option Context) → HasTables a →
@@ -294,15 +217,16 @@ pub left_there : (a : Inside) (c n s : ℕ) (old new : Option Context) → HasTa
     (in_order (λ x. x.number) (set a.rooms.items s new) ≡
     change (λ x. x.number) c (λ x. with_members x (without n x.members)) ((registry_of a).contexts))
 left_there a c n s old new kept found was is =
-    context_change a.next_context CONTEXTS a.rooms.items c s (λ x. with_members x (without n x.members)) old new
-    (λ x. keeps_left x (without n x.members)) kept.rooms found was (is ∙ left_and_then n old)
+    context_change a c s (λ x. with_members x (without n x.members)) old new
+    (λ x. keeps_left x (without n x.members)) kept found was (is ∙ left_and_then n old)
 
 -- a context that may be entered is there, and not full
 pub may_enter : (a : Inside) (c s : ℕ) (o : Option Context) →
     Some s ≡ position_from (has_key (λ x. x.number) c) 0 a.rooms.items → o ≡ get_or a.rooms.items s o →
     length (members_of (context_at (registry_of a) c)) < MEMBERS → IfSome o (λ x. length x.members < MEMBERS)
 may_enter a c s o found was few =
-    let is : o ≡ context_at (registry_of a) c = context_some a c s o found was in
+    let is : o ≡ context_at (registry_of a) c =
+    lookup_some (λ x. x.number) (λ x. x.room) c a.rooms.items s o found was in
     not_full o (rw is few)
   where
     not_full : (p : Option Context) → length (members_of p) < MEMBERS → IfSome p (λ x. length x.members < MEMBERS)
@@ -317,7 +241,4 @@ pub made_context_is : (a : Inside) (c room n : ℕ) (v : List ℕ) → HasTables
     c ≡ a.next_context → v ≡ n ∷ [] → in_order (λ y. y.number)
     (set a.rooms.items room (Some (record { number = c; room = room; members = v }))) ≡
     in_order (λ y. y.number) a.rooms.items ++ (record { number = c; room = room; members = n ∷ [] } ∷ [])
-made_context_is a c room n v kept free number is =
-    made_is a (record { number = c; room = room; members = v }) kept free number
-    ∙ ap (λ (ms : List ℕ). in_order (λ y. y.number) a.rooms.items ++
-    (record { number = c; room = room; members = ms } ∷ [])) is
+made_context_is a c room n v kept free number is = grind (arith, made_is a)

@@ -4,7 +4,6 @@ pub mod TableLemmas
 pub mod HintLemmas
 pub mod MemberLemmas
 pub mod CallLemmas
-pub mod RegistryLemmas
 pub mod SeatLemmas
 pub mod SettingsLemmas
 pub mod CountLemmas
@@ -13,6 +12,7 @@ pub mod RisingLemmas
 pub mod ListsLemmas
 pub mod LastLemmas
 pub mod StateLemmas
+pub mod OutcomeLemmas
 pub mod SoundLemmas
 pub mod RoomsLemmas
 pub mod Rows

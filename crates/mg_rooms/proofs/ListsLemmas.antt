@@ -1,23 +1,16 @@
 -- How the terminations and the contexts of a gateway stay sound when one is made, changes or ends.
-use Rattle.mg_rooms.proofs.Common.{◌≡◌, ℕ, ◌+◌, ◌<◌, ◌≤◌, ◌&&◌, true, false, cond, List, [], ◌∷◌, ◌++◌, Option, Some, None, refl, sym, ◌∙◌, ap, subst, arith, inl, inr, ◌==◌, find, option_to_list, option_and_then, IfSome, count_by, cases_Bool, eqb-true, ne_eqb, Record, Context, Limits, change, members_of, IsTermination, IsContext, AreContexts}
+use Rattle.mg_rooms.proofs.Common.{◌≡◌, ℕ, ◌+◌, ◌<◌, ◌≤◌, ◌&&◌, true, cond, List, [], ◌∷◌, ◌++◌, Option, Some, None, refl, sym, ap, arith, inl, inr, ◌==◌, find, option_to_list, option_and_then, IfSome, count_by, cases_Bool, eqb-true, ne_eqb, Record, Context, Limits, change, members_of, IsTermination, IsContext, AreContexts, with_members}
+use Rattle.std.proofs.lemmas.Bool.Decides.{nat_tests}
 use Rattle.mg_rooms.specs.Consistent.{AreTerminations}
-use Rattle.mg_rooms.proofs.OrderLemmas.{found_key, KeepsKey, change_none}
+use Rattle.mg_rooms.proofs.OrderLemmas.{found_key, KeepsKey}
 use Rattle.mg_rooms.proofs.RisingLemmas.{rising-push, rising-change}
-use Rattle.mg_rooms.proofs.CountLemmas.{one, one-false, one-le, count-cons, count-push, count-zero, count-change, count-change_some, count-change_none, all-push, all-map, all-change, all-found, find-push_some, find-push_none, find-change_other, find-change_same}
+use Rattle.mg_rooms.proofs.CountLemmas.{one, one-false, one-le, count-push, count-zero, count-change_le, count-change_some, count-change_none, all-push, all-map, all-change, all-found, find-push_some, find-push_none, find-change_other, find-change_same}
 
 -- ## Terminations
 
 later_termination : (limits : Limits) (next : ℕ) (r : Record) → IsTermination limits next r →
     IsTermination limits (next + 1) r
-later_termination limits next r h = let below = h.below in
-    record {
-      from = h.from;
-      below = omega arith;
-      slot = h.slot;
-      seat = h.seat;
-      min_depth = h.min_depth;
-      max_depth = h.max_depth;
-    }
+later_termination limits next r h = grind arith
 
 pub terminations-push : (limits : Limits) (next : ℕ) (rs : List Record) (r : Record) →
     AreTerminations limits next rs → IsTermination limits (next + 1) r → r.number ≡ next
@@ -30,59 +23,13 @@ terminations-push limits next rs r h is number slot seat = record {
       h.each) is;
   rising = rising-push (λ x. x.number) next rs r
       (all-map (IsTermination limits next) (λ x. x.number < next) rs (λ x t. t.below) h.each) number h.rising;
-  one_number = λ n.
-      let parts = count-push (λ x. x.number == n) rs r in
-      elim (cases_Bool (r.number == n)) [
-        | inl e ↦
-            let same : r.number ≡ n = eqb-true r.number n e in
-            let none : count_by (λ x. x.number == n) rs ≡ 0 =
-            count-zero (IsTermination limits next) (λ x. x.number == n) rs h.each
-            (λ x t. let below = t.below in ne_eqb x.number n (λ q. omega arith)) in
-            let bit = one-le (r.number == n) in
-            omega arith
-        | inr e ↦ let bit = one-false (r.number == n) e in let was = h.one_number n in omega arith
-      ];
-  one_slot = λ slot.
-      let parts = count-push (λ x. x.slot == slot) rs r in
-      elim (cases_Bool (r.slot == slot)) [
-        | inl e ↦
-            let same : r.slot ≡ slot = eqb-true r.slot slot e in
-            let none : count_by (λ x. x.slot == slot) rs ≡ 0 =
-            subst (λ (k : ℕ). count_by (λ x. x.slot == k) rs ≡ 0) same slot_free in
-            let bit = one-le (r.slot == slot) in
-            omega arith
-        | inr e ↦ let bit = one-false (r.slot == slot) e in let was = h.one_slot slot in omega arith
-      ];
-  one_seat = λ c seat. seat_push c seat;
+  one_number = λ n. let parts = count-push (λ x. x.number == n) rs r in let bit = one-le (r.number == n) in
+      let none = count-zero (IsTermination limits next) (λ x. x.number == n) rs h.each in
+      grind (arith, nat_tests, eqb-true r.number n, none, ne_eqb, one-false (r.number == n), h.one_number n);
+  one_slot = λ k. grind (arith, nat_tests, count-push (λ x. x.slot == k) rs r, eqb-true r.slot k, slot, h.one_slot k);
+  one_seat = λ c s. let parts = count-push (λ x. (x.context == c) && (x.seat == s)) rs r in
+      grind (arith, nat_tests, eqb-true r.context c, eqb-true r.seat s, seat, h.one_seat c s);
 }
-  where
-    slot_free : count_by (λ x. x.slot == r.slot) rs ≡ 0
-    slot_free = slot
-
-    seat_push : (c s : ℕ) → count_by (λ x. (x.context == c) && (x.seat == s)) (rs ++ (r ∷ [])) ≤ 1
-    seat_push c s =
-        let parts = count-push (λ x. (x.context == c) && (x.seat == s)) rs r in
-        elim (cases_Bool (r.context == c)) [
-          | inl e ↦ elim (cases_Bool (r.seat == s)) [
-            | inl f ↦
-                let same_c : r.context ≡ c = eqb-true r.context c e in
-                let same_s : r.seat ≡ s = eqb-true r.seat s f in
-                let at_c : count_by (λ x. (x.context == c) && (x.seat == r.seat)) rs ≡ 0 =
-                subst (λ (k : ℕ). count_by (λ x. (x.context == k) && (x.seat == r.seat)) rs ≡ 0) same_c seat in
-                let none : count_by (λ x. (x.context == c) && (x.seat == s)) rs ≡ 0 =
-                subst (λ (k : ℕ). count_by (λ x. (x.context == c) && (x.seat == k)) rs ≡ 0) same_s at_c in
-                let bit = one-le ((r.context == c) && (r.seat == s)) in
-                omega arith
-            | inr f ↦
-                let bit : one ((r.context == c) && (r.seat == s)) ≡ 0 = rw (e, f) refl in
-                let was = h.one_seat c s in
-                omega arith
-          ]
-          | inr e ↦
-              let bit : one ((r.context == c) && (r.seat == s)) ≡ 0 = rw e refl in
-              let was = h.one_seat c s in
-              omega arith
-        ]
 
 -- a termination changes, and takes no seat that another holds
 pub terminations-changed : (limits : Limits) (next : ℕ) (rs : List Record) (old r : Record) →
@@ -95,32 +42,23 @@ terminations-changed limits next rs old r h found is slot seats =
     let number : old.number ≡ r.number = eqb-true old.number r.number
     (found_key (λ x. x.number == r.number) rs old found) in
     record {
-      each = all-change (λ x. x.number) (IsTermination limits next) r.number (λ _. Some r) rs old found (λ t. is)
-          h.each;
+      each = all-change (λ x. x.number) (IsTermination limits next) r.number (λ _. Some r) rs (λ x _ t. is) h.each;
       rising = rising-change (λ x. x.number) r.number (λ _. Some r) rs (λ x e. sym (eqb-true x.number r.number e))
           h.rising;
-      one_number = λ n.
-          let parts = count-change_some (λ x. x.number) (λ x. x.number == n) r.number r rs old found in
-          let bits : one (old.number == n) ≡ one (r.number == n) = ap (λ (k : ℕ). one (k == n)) number in
-          let was = h.one_number n in
-          omega arith;
-      one_slot = λ s.
-          let parts = count-change_some (λ x. x.number) (λ x. x.slot == s) r.number r rs old found in
-          let bits : one (old.slot == s) ≡ one (r.slot == s) = ap (λ (k : ℕ). one (k == s)) (sym slot) in
-          let was = h.one_slot s in
-          omega arith;
+      one_number = λ n. let parts = count-change_some (λ x. x.number) (λ x. x.number == n) r.number r rs old found in
+          let was = h.one_number n in let bits = ap (λ (k : ℕ). one (k == n)) number in omega arith;
+      one_slot = λ s. let parts = count-change_some (λ x. x.number) (λ x. x.slot == s) r.number r rs old found in
+          let was = h.one_slot s in let bits = ap (λ (k : ℕ). one (k == s)) (sym slot) in omega arith;
       one_seat = λ c s.
-          let parts = count-change_some (λ x. x.number) (λ x. (x.context == c) && (x.seat == s)) r.number r rs old
-          found in
-          let more = seats c s in
-          omega arith;
+          let parts = count-change_some (λ x. x.number) (λ x. (x.context == c) && (x.seat == s)) r.number r rs old found in
+          let was = seats c s in omega arith;
     }
 
 pub terminations-removed : (limits : Limits) (next n : ℕ) (rs : List Record) (old : Record) →
     AreTerminations limits next rs → find (λ x. x.number == n) rs ≡ Some old →
     AreTerminations limits next (change (λ x. x.number) n (λ _. None) rs)
 terminations-removed limits next n rs old h found = record {
-  each = all-change (λ x. x.number) (IsTermination limits next) n (λ _. None) rs old found (λ t. tt) h.each;
+  each = all-change (λ x. x.number) (IsTermination limits next) n (λ _. None) rs (λ x _ t. tt) h.each;
   rising = rising-change (λ x. x.number) n (λ _. None) rs (λ x e. tt) h.rising;
   one_number = λ k. let parts = count-change_none (λ x. x.number) (λ x. x.number == k) n rs old found in let was =
       h.one_number k in omega arith;
@@ -150,75 +88,58 @@ contexts-push limits next xs x h is number room = record {
       (all-map (IsContext limits next) (IsContext limits (next + 1)) xs (later_context limits next) h.each) is;
   rising = rising-push (λ y. y.number) next xs x
       (all-map (IsContext limits next) (λ y. y.number < next) xs (λ y t. t.below) h.each) number h.rising;
-  one_number = λ c.
-      let parts = count-push (λ y. y.number == c) xs x in
-      elim (cases_Bool (x.number == c)) [
-        | inl e ↦
-            let same : next ≡ c = sym number ∙ eqb-true x.number c e in
-            let none : count_by (λ y. y.number == c) xs ≡ 0 =
-            subst (λ (k : ℕ). count_by (λ y. y.number == k) xs ≡ 0) same (no_next_context limits next xs h) in
-            let bit = one-le (x.number == c) in
-            omega arith
-        | inr e ↦ let bit = one-false (x.number == c) e in let was = h.one_number c in omega arith
-      ];
-  one_room = λ k.
-      let parts = count-push (λ y. y.room == k) xs x in
-      elim (cases_Bool (x.room == k)) [
-        | inl e ↦
-            let same : x.room ≡ k = eqb-true x.room k e in
-            let none : count_by (λ y. y.room == k) xs ≡ 0 =
-            subst (λ (j : ℕ). count_by (λ y. y.room == j) xs ≡ 0) same room in
-            let bit = one-le (x.room == k) in
-            omega arith
-        | inr e ↦ let bit = one-false (x.room == k) e in let was = h.one_room k in omega arith
-      ];
+  one_number = λ c. let parts = count-push (λ y. y.number == c) xs x in let bit = one-le (x.number == c) in
+      let none = no_next_context limits next xs h in
+      grind (arith, nat_tests, eqb-true x.number c, none, one-false (x.number == c), h.one_number c);
+  one_room = λ k. let parts = count-push (λ y. y.room == k) xs x in let bit = one-le (x.room == k) in
+      grind (arith, nat_tests, eqb-true x.room k, one-false (x.room == k), h.one_room k);
 }
 
 -- what becomes of a context keeps its number and room
 abbrev pub Keeps : Context → Option Context → Type 0
 Keeps x o = IfSome o (λ y. (y.number ≡ x.number) × (y.room ≡ x.room))
 
-keeps-number : (x : Context) (o : Option Context) → Keeps x o → IfSome o (λ y. y.number ≡ x.number)
+pub keeps-number : (x : Context) (o : Option Context) → Keeps x o → IfSome o (λ y. y.number ≡ x.number)
 keeps-number x None k = tt
 keeps-number x (Some y) k = k.0
+
+pub keeps-room : (x : Context) (o : Option Context) → Keeps x o → IfSome o (λ y. y.room ≡ x.room)
+keeps-room x None k = tt
+keeps-room x (Some y) k = k.1
+
+pub keeps_left : (x : Context) (ms : List ℕ) → Keeps x (with_members x ms)
+keeps_left x [] = tt
+keeps_left x (m ∷ ms) = (refl, refl)
 
 fewer_number : (c : ℕ) (x : Context) (o : Option Context) → Keeps x o →
     count_by (λ y. y.number == c) (option_to_list o) ≤ one (x.number == c)
 fewer_number c x None k = omega arith
-fewer_number c x (Some y) k =
-    let parts = count-cons (λ z. z.number == c) y [] in
-    let bits : one (y.number == c) ≡ one (x.number == c) = ap (λ (j : ℕ). one (j == c)) k.0 in
-    omega arith
+fewer_number c x (Some y) k = grind arith
 
 fewer_room : (room : ℕ) (x : Context) (o : Option Context) → Keeps x o →
     count_by (λ y. y.room == room) (option_to_list o) ≤ one (x.room == room)
 fewer_room room x None k = omega arith
-fewer_room room x (Some y) k =
-    let parts = count-cons (λ z. z.room == room) y [] in
-    let bits : one (y.room == room) ≡ one (x.room == room) = ap (λ (j : ℕ). one (j == room)) k.1 in
-    omega arith
-
-contexts-changed_at : (limits : Limits) (next c : ℕ) (f : Context → Option Context) (xs : List Context)
-    (o : Option Context) → ((x : Context) → Keeps x (f x)) →
-    ((x : Context) → find (λ y. y.number == c) xs ≡ Some x → IsContext limits next x →
-    IfSome (f x) (IsContext limits next)) → AreContexts limits next xs → find (λ x. x.number == c) xs ≡ o →
-    AreContexts limits next (change (λ x. x.number) c f xs)
-contexts-changed_at limits next c f xs None keeps is h found = rw (change_none (λ x. x.number) c f xs (sym found)) h
-contexts-changed_at limits next c f xs (Some old) keeps is h found = record {
-  each = all-change (λ x. x.number) (IsContext limits next) c f xs old found (is old found) h.each;
-  rising = rising-change (λ x. x.number) c f xs (λ x e. keeps-number x (f x) (keeps x)) h.rising;
-  one_number = λ d. let parts = count-change (λ x. x.number) (λ x. x.number == d) c f xs old found in let fewer =
-      fewer_number d old (f old) (keeps old) in let was = h.one_number d in omega arith;
-  one_room = λ k. let parts = count-change (λ x. x.number) (λ x. x.room == k) c f xs old found in let fewer =
-      fewer_room k old (f old) (keeps old) in let was = h.one_room k in omega arith;
-}
+fewer_room room x (Some y) k = grind arith
 
 pub contexts-changed : (limits : Limits) (next c : ℕ) (f : Context → Option Context) (xs : List Context) →
     ((x : Context) → Keeps x (f x)) → ((x : Context) → find (λ y. y.number == c) xs ≡ Some x →
     IsContext limits next x → IfSome (f x) (IsContext limits next)) → AreContexts limits next xs →
     AreContexts limits next (change (λ x. x.number) c f xs)
-contexts-changed limits next c f xs keeps is h =
-    contexts-changed_at limits next c f xs (find (λ x. x.number == c) xs) keeps is h refl
+contexts-changed limits next c f xs keeps is h = record {
+  each = all-change (λ x. x.number) (IsContext limits next) c f xs is h.each;
+  rising = rising-change (λ x. x.number) c f xs (λ x e. keeps-number x (f x) (keeps x)) h.rising;
+  one_number = λ d. let was = h.one_number d in omega (
+    arith,
+    count-change_le (λ x. x.number) (λ x.
+        x.number == d) c f xs
+        (λ x. fewer_number d x (f x) (keeps x)),
+  );
+  one_room = λ k. let was = h.one_room k in omega (
+    arith,
+    count-change_le (λ x. x.number) (λ x. x.room == k) c f xs
+        (λ x. fewer_room k x (f x) (keeps x)),
+  );
+}
 
 -- ## Members
 
@@ -234,18 +155,11 @@ members-made limits next xs x n h number members d = at (find (λ y. y.number ==
   where
     at : (o : Option Context) → find (λ y. y.number == d) xs ≡ o →
         members_in (xs ++ (x ∷ [])) d ≡ cond (x.number == d) (members_in xs d ++ (n ∷ [])) (members_in xs d)
-    at None found =
-        let after = find-push_none (λ y. y.number == d) xs x found in
-        elim (cases_Bool (x.number == d)) [
-          | inl e ↦ rw (after, found, e) members
-          | inr e ↦ rw (after, found, e) refl
-        ]
+    at None found = grind (arith, find-push_none (λ y. y.number == d) xs x found)
     at (Some y) found =
-        let after = find-push_some (λ z. z.number == d) xs x y found in
-        let is : y.number ≡ d = eqb-true y.number d (found_key (λ z. z.number == d) xs y found) in
-        let below = (all-found (IsContext limits next) (λ z. z.number == d) xs y h.each found).below in
-        let other : (x.number == d) ≡ false = ne_eqb x.number d (λ q. omega arith) in
-        rw (after, found, other) refl
+        let key = eqb-true y.number d (found_key (λ z. z.number == d) xs y found) in
+        let within = all-found (IsContext limits next) (λ z. z.number == d) xs y h.each found in
+        grind (arith, key, within, find-push_some (λ z. z.number == d) xs x y found)
 
 other_than : (c d : ℕ) → (c == d) ≡ true → d ≡ c
 other_than c d e = sym (eqb-true c d e)
@@ -260,11 +174,9 @@ members-changed limits next c f g xs h keeps is d =
     let keeps_key : KeepsKey (λ x. x.number) c f = λ x e. keeps-number x (f x) (keeps x) in
     elim (cases_Bool (c == d)) [
       | inl e ↦
-          let same : c ≡ d = eqb-true c d e in
-          let after = find-change_same (λ x. x.number) c f xs keeps_key (h.one_number c) in
-          let there : members_in (change (λ x. x.number) c f xs) c ≡ g (members_in xs c) = ap members_of after ∙
-          is (find (λ x. x.number == c) xs) (number_of (find (λ x. x.number == c) xs) refl) refl in
-          rw e (subst (λ (k : ℕ). members_in (change (λ x. x.number) c f xs) k ≡ g (members_in xs k)) same there)
+          let same = find-change_same (λ x. x.number) c f xs keeps_key (h.one_number c) in
+          let there = number_of (find (λ x. x.number == c) xs) refl in
+          grind (arith, nat_tests, eqb-true c d e, same, is (find (λ x. x.number == c) xs) there)
       | inr e ↦ rw e (ap members_of (find-change_other (λ x. x.number) c d f xs keeps_key e))
     ]
   where

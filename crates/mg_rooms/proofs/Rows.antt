@@ -1,6 +1,6 @@
 -- Small runs, computed.
 use Rattle.mg_rooms.proofs.Common.{Target, ErrorNumber, NoContextLeft, Settings, Limits, Record, Registry, record_at, context_at, members_at}
-use Rattle.std.specs.Prelude.{◌≡◌, ℕ, ◌+◌, ◌-◌, List, [], ◌∷◌, ◌++◌, Option, Some, None, Result, Ok, Err, refl, replicate}
+use Rattle.std.specs.Prelude.{option_map, ◌≡◌, ℕ, ◌+◌, ◌-◌, List, [], ◌∷◌, ◌++◌, Option, Some, None, Result, Ok, Err, refl, replicate}
 use Rattle.mg_rooms.specs.declared.target.Target.TheVariants.{Null, New, Number}
 use Rattle.mg_words.specs.Limits.{member_limit, context_limit, termination_limit}
 use Rattle.mg_words.specs.declared.error_number.ErrorNumber.TheVariants.{UnknownContext, UnknownTermination, NoTerminationLeft, AlreadyInContext, ContextFull, NotInContext, NoMedia}
@@ -80,11 +80,7 @@ pub slot_used_again : answers (full 1 1 ++ subtracts (Number 1) 2 ∷ adds (Numb
 unfolding add subtract
 slot_used_again = refl
 
-abbrev slot_of : Option Record → Option ℕ
-slot_of None = None
-slot_of (Some r) = Some r.slot
-
-pub least_slot : slot_of (record_at (run (full 1 3 ++ subtracts (Number 1) 3 ∷ subtracts (Number 1) 2 ∷
+pub least_slot : option_map (λ r. r.slot) (record_at (run (full 1 3 ++ subtracts (Number 1) 3 ∷ subtracts (Number 1) 2 ∷
     adds (Number 1) ∷ []) (with_slots termination_limit)) 5) ≡ Some 1
 unfolding add subtract
 least_slot = refl
@@ -123,7 +119,7 @@ pub no_slot_before_full : answers (adds (Number 1) ∷ subtracts (Number 2) (mem
 unfolding add subtract
 no_slot_before_full = refl
 
-pub slot_of_the_last : slot_of (record_at (run
+pub slot_of_the_last : option_map (λ r. r.slot) (record_at (run
     (filled ++ (full 2 1 ++ subtracts (Number 2) (member_limit + 1) ∷ adds (Number 2) ∷ []))
     (with_slots (member_limit + 2))) (member_limit + 3)) ≡ Some member_limit
 unfolding add subtract

@@ -1,15 +1,17 @@
 -- What is consistent is sound, and what a command that was done leaves.
-use Rattle.mg_rooms.proofs.Common.{◌≡◌, ℕ, Some, Ok, Err, sym, IsSome, option_map, ◌<◌, ◌==◌, ◌∷◌, List, [], get_or, refl, AllByRecursion, eq-eqb, eqb-true, Record, Settings, Target, Registry, record_at, context_at, IsTermination, IsConsistent, ErrorNumber, named, member, removed, left}
+use Rattle.mg_rooms.proofs.Common.{◌≡◌, ℕ, Some, Ok, Err, sym, IsSome, option_map, ◌<◌, ◌==◌, ◌∷◌, List, [], get_or, refl, ◌∙◌, AllByRecursion, eq-eqb, eqb-true, Record, Settings, Target, Registry, record_at, context_at, IsTermination, IsConsistent, ErrorNumber, named, member, removed, left}
 use Rattle.mg_rooms.specs.aids.Sound.{IsSound}
 use Rattle.mg_rooms.specs.declared.member.Member.{Member}
 use Rattle.mg_rooms.specs.Member.{ExistsAs}
-use Rattle.mg_words.specs.declared.error_number.ErrorNumber.TheVariants as refusals
 use Rattle.mg_rooms.specs.Lasting.{Lasts, LeavesOthers}
+use Rattle.mg_rooms.specs.Changes.{inserted, replaced}
 use Rattle.mg_rooms.specs.Outcome.{add, modify, move_to, subtract}
-use Rattle.mg_rooms.proofs.ConsistentLemmas.{ok_or_ok, found_number, add_sound, modify_sound, move_sound, subtract_sound, member_found}
-use Rattle.mg_rooms.proofs.LastLemmas.{add_own, modify_own, move_own, add_lasts, modify_lasts, move_lasts, subtract_lasts, ended}
+use Rattle.mg_rooms.proofs.OutcomeLemmas.{found_number, named_is, add_done, modify_done, move_done, subtract_done}
+use Rattle.mg_rooms.proofs.ConsistentLemmas.{add_sound, modify_sound, move_sound, subtract_sound}
+use Rattle.mg_rooms.proofs.LastLemmas.{record_entered, own_inserted, own_replaced, add_lasts, modify_lasts, move_lasts, subtract_lasts}
 use Rattle.mg_rooms.proofs.CountLemmas.{find-at, find-found}
 use Rattle.mg_rooms.proofs.OrderLemmas.{found_key}
+use Rattle.std.proofs.lemmas.Option.{same_Some}
 use Rattle.mg_rooms.proofs.SeatLemmas.{no_more}
 use Rattle.mg_rooms.proofs.StateLemmas.{same_slot, same_seat, same_room, termination_within, context_within, members_in, members_once, is_in_a_context}
 
@@ -67,21 +69,28 @@ leaves w after n c d r sound own rest = record {
 pub add_leaves : (w after : Registry) (target : Target) (settings : Settings) (d : Record) → IsConsistent w →
     add w target settings ≡ Ok (after, d) → Leaves w after d.number d.context d.context d
 add_leaves w after target settings d h outcome =
-    leaves w after d.number d.context d.context d (add_sound w after target settings d h outcome)
-    (add_own w after target settings d h outcome) (add_lasts w after target settings d h outcome)
+    let a = add_done w after target settings d outcome in
+    leaves w after d.number d.context d.context d (add_sound w after target d h a)
+    (rw a.is (record_entered (inserted w d) a.place d.number a.place.made d.number ∙
+    own_inserted w d h a.has.number)) (add_lasts w after target d h a)
 
 pub modify_leaves : (w after : Registry) (target : Target) (n : ℕ) (settings : Settings) (d : Record) →
     IsConsistent w → modify w target n settings ≡ Ok (after, d) → Leaves w after n d.context d.context d
 modify_leaves w after target n settings d h outcome =
-    leaves w after n d.context d.context d (modify_sound w after target n settings d h outcome)
-    (modify_own w after target n settings d h outcome) (modify_lasts w after target n settings d h outcome)
+    let a = modify_done w after target n settings d outcome in
+    leaves w after n d.context d.context d (modify_sound w after n d h a)
+    (rw a.is (own_replaced w n d a.old h a.at a.number)) (modify_lasts w after n d h a)
 
+-- `old` is the record of the termination n, which moves
 pub move_leaves : (w after : Registry) (target : Target) (n : ℕ) (settings : Settings) (d old : Record) →
     IsConsistent w → record_at w n ≡ Some old → move_to w target n settings ≡ Ok (after, d) →
     Leaves w after n old.context d.context d
 move_leaves w after target n settings d old h found outcome =
-    leaves w after n old.context d.context d (move_sound w after target n settings d h outcome)
-    (move_own w after target n settings d h outcome) (move_lasts w after target n settings d old h found outcome)
+    let a = move_done w after target n settings d outcome in
+    let same : a.old ≡ old = same_Some a.old old (sym a.was ∙ found) in
+    rw (← same) (leaves w after n a.old.context d.context d (move_sound w after target n d h a)
+    (rw a.is (record_entered (replaced w d) a.place d.number a.place.made n ∙
+    own_replaced w n d a.old h a.at a.number)) (move_lasts w after target n d h a))
 
 -- what is left where a member of the action's context is ended
 pub record Ends (w after : Registry) (n : ℕ) (r : Record) : Type 0 where
@@ -93,14 +102,15 @@ pub record Ends (w after : Registry) (n : ℕ) (r : Record) : Type 0 where
 
 pub subtract_ends : (w after : Registry) (target : Target) (n : ℕ) (r : Record) → IsConsistent w →
     member w target n ≡ Ok r → after ≡ left (removed w r.number) r.context r.number → Ends w after n r
+unfolding subtract
 subtract_ends w after target n r h found is =
-    let outcome : subtract w target n ≡ Ok (after, r) = rw is (ended w target n r found) in
-    let was = member_found w target n r found in
-    let (lasts, others) = subtract_lasts w after target n r h outcome in
+    let outcome : subtract w target n ≡ Ok (after, r) = rw (is, found) refl in
+    let a = subtract_done w after target n r outcome in
+    let (lasts, others) = subtract_lasts w after n r h a in
     record {
-      sound = sound_if after (subtract_sound w after target n r h outcome);
-      was = was;
-      there = is_in_a_context w n r h was;
+      sound = sound_if after (subtract_sound w after n r h a);
+      was = a.was;
+      there = is_in_a_context w n r h a.was;
       lasts = lasts;
       others = others;
     }
@@ -111,16 +121,18 @@ pub there_as : (w : Registry) (n : ℕ) (r : Record) (m : Member) → record_at 
     option_map (λ x. x.room) (context_at w r.context) ≡ Some m.room → ExistsAs w n m
 there_as w n r m found is room = record { found = rw is found; room = rw is room }
 
-pub made_as : (w : Registry) (r : Record) (m : Member) → record_at w r.number ≡ Some r → m.record ≡ r →
-    option_map (λ x. x.room) (context_at w r.context) ≡ Some m.room → ExistsAs w m.record.number m
-made_as w r m found is room = record { found = rw is found; room = rw is room }
-
 -- ## Moves
 
-pub named_is : (w : Registry) (n : ℕ) (r : Record) → Ok r ≡ named w n → (record_at w n ≡ Some r) × (r.number ≡ n)
-named_is w n r h =
-    let at = ok_or_ok (record_at w n) refusals.UnknownTermination r (sym h) in
-    (at, found_number w n r at)
+-- a termination that moves is the one that was found by its number
+pub moving : (w after : Registry) (target : Target) (n : ℕ) (settings : Settings) (d old : Record) (from : Member) →
+    IsConsistent w → Ok old ≡ named w n → from.record ≡ old →
+    move_to w target from.record.number settings ≡ Ok (after, d) →
+    (record_at w n ≡ Some old) × (move_to w target n settings ≡ Ok (after, d)) ×
+    Leaves w after n from.record.context d.context d
+moving w after target n settings d old from h found is outcome =
+    let at = named_is w n old (sym found) in
+    let here = rw (is, found_number w n old at) at outcome in
+    (at, here, rw is (move_leaves w after target n settings d old h at here))
 
 pub unnamed : (w : Registry) (target : Target) (n : ℕ) (settings : Settings) (e : ErrorNumber) → Err e ≡ named w n →
     move_to w target n settings ≡ Err e

@@ -17,22 +17,17 @@ pub invariant_of-self-2 : goal.invariant_of-self-2
 invariant_of-self-2 c = (modify_leaves c.self.inside.tables c.modify.new.self c.args.target c.args.number
     c.args.settings.now c.in_ok-changed.changed c.self.invariant c.in_ok-changed.ensures.outcome).sound.consistent
 
-pub returns-clause-consistent : goal.returns-clause-consistent
-returns-clause-consistent c = (modify_leaves c.self.inside.tables c.modify.new.self c.args.target c.args.number
-    c.args.settings.now c.in_ok-changed.changed c.self.invariant c.in_ok-changed.ensures.outcome).sound.consistent
-
-pub returns-clause-member : goal.returns-clause-member
-returns-clause-member c = there_as c.modify.new.self c.args.number c.in_ok-changed.changed c.member_of.result
-    (modify_leaves c.self.inside.tables c.modify.new.self c.args.target c.args.number c.args.settings.now
-    c.in_ok-changed.changed c.self.invariant c.in_ok-changed.ensures.outcome).own c.member_of.ensures.termination
-    c.member_of.ensures.room
-
-pub returns-clause-lasts : goal.returns-clause-lasts
-returns-clause-lasts c = rw (← c.self.view_is)
-    (modify_leaves c.self.inside.tables c.modify.new.self c.args.target c.args.number c.args.settings.now
-    c.in_ok-changed.changed c.self.invariant c.in_ok-changed.ensures.outcome).lasts
-
-pub returns-clause-others : goal.returns-clause-others
-returns-clause-others c = rw (← c.self.view_is, c.member_of.ensures.termination)
-    (modify_leaves c.self.inside.tables c.modify.new.self c.args.target c.args.number c.args.settings.now
-    c.in_ok-changed.changed c.self.invariant c.in_ok-changed.ensures.outcome).others
+pub returns : goal.returns
+returns c =
+    let a = modify_leaves c.self.inside.tables c.modify.new.self c.args.target c.args.number c.args.settings.now
+    c.in_ok-changed.changed c.self.invariant c.in_ok-changed.ensures.outcome in
+    let is = c.member_of.ensures.termination in
+    record {
+      outcome = rw (← c.self.view_is, is) c.in_ok-changed.ensures.outcome;
+      refused = tt;
+      consistent = a.sound.consistent;
+      member = there_as c.modify.new.self c.args.number c.in_ok-changed.changed c.member_of.result a.own is
+          c.member_of.ensures.room;
+      lasts = rw (← c.self.view_is) a.lasts;
+      others = rw (← c.self.view_is, is) a.others;
+    }

@@ -1,9 +1,10 @@
-use Rattle.mg_rooms.proofs.Common.{rules, ◌≡◌, ℕ, Ok, Err, sym, subst, refl, ap, ◌∙◌, IsConsistent, Record}
+use Rattle.mg_rooms.proofs.Common.{rules, Err, sym, subst, refl, ap, ◌≡◌, ℕ, ◌∙◌, IsConsistent, Record}
 use Rattle.mg_rooms.specs.Outcome as commands
 use Rattle.mg_rooms.specs.declared.moved.Moved.{Moved}
 use Rattle.mg_rooms.proofs.RoomsLemmas.{gives_refusal}
 use Rattle.mg_rooms.proofs.StateLemmas.{is_in_a_context}
-use Rattle.mg_rooms.proofs.SoundLemmas.{named_is, unnamed, move_leaves, there_as}
+use Rattle.mg_rooms.proofs.OutcomeLemmas.{found_number, named_is}
+use Rattle.mg_rooms.proofs.SoundLemmas.{unnamed, moving, there_as}
 use Rattle.mg_rooms.proofs.rooms.Rooms.move_to.Goals as goal
 
 pub returns-in_err-old-clause-outcome : goal.returns-in_err-old-clause-outcome
@@ -18,16 +19,15 @@ returns-in_err-old-clause-consistent c = rw (← c.self.view_is) c.self.invarian
 
 pub member_of-from-requires : goal.member_of-from-requires
 member_of-from-requires c =
-    let w = c.self.inside.tables in
-    let old = c.in_ok-old.old in
-    let (at, is) = named_is w c.args.number old c.in_ok-old.ensures.value in
-    record { there = is_in_a_context w c.args.number old c.self.invariant at }
+    let at = named_is c.self.inside.tables c.args.number c.in_ok-old.old (sym c.in_ok-old.ensures.value) in
+    record { there = is_in_a_context c.self.inside.tables c.args.number c.in_ok-old.old c.self.invariant at }
 
 pub returns-in_err-moved-clause-outcome : goal.returns-in_err-moved-clause-outcome
 returns-in_err-moved-clause-outcome c =
     let w = c.self.inside.tables in
-    let (at, is) = named_is w c.args.number c.in_ok-old.old c.in_ok-old.ensures.value in
-    let from = ap (λ (r : Record). r.number) c.member_of-from.ensures.termination ∙ is in
+    let at = named_is w c.args.number c.in_ok-old.old (sym c.in_ok-old.ensures.value) in
+    let from = ap (λ (r : Record). r.number) c.member_of-from.ensures.termination ∙
+    found_number w c.args.number c.in_ok-old.old at in
     let refused = subst (λ (n : ℕ). commands.move_to w c.args.target n c.args.settings.now ≡
     Err c.in_err-moved.field-0.0) from c.in_err-moved.ensures.outcome.0 in
     gives_refusal (λ (m : Moved). m.to.record) c.args.self.now c.move_to.new.self c.from_residual-in_err-moved.result
@@ -39,83 +39,31 @@ returns-in_err-moved-clause-consistent c = subst IsConsistent (sym c.in_err-move
     c.self.invariant
 
 pub member_of-to-requires : goal.member_of-to-requires
-member_of-to-requires c =
-    let w = c.self.inside.tables in
-    let old = c.in_ok-old.old in
-    let (at, is) = named_is w c.args.number old c.in_ok-old.ensures.value in
-    let from = ap (λ (r : Record). r.number) c.member_of-from.ensures.termination ∙ is in
-    let outcome = subst (λ (n : ℕ). commands.move_to w c.args.target n c.args.settings.now ≡
-    Ok (c.move_to.new.self, c.in_ok-moved.moved)) from c.in_ok-moved.ensures.outcome in
-    let leaves = move_leaves w c.move_to.new.self c.args.target c.args.number c.args.settings.now c.in_ok-moved.moved
-    old c.self.invariant at outcome in
-    record { there = leaves.there }
+member_of-to-requires c = record {
+  there = (moving c.self.inside.tables c.move_to.new.self c.args.target c.args.number c.args.settings.now
+      c.in_ok-moved.moved c.in_ok-old.old c.member_of-from.result c.self.invariant c.in_ok-old.ensures.value
+      c.member_of-from.ensures.termination c.in_ok-moved.ensures.outcome).2.there;
+}
 
 pub invariant_of-self-2 : goal.invariant_of-self-2
-invariant_of-self-2 c =
-    let w = c.self.inside.tables in
-    let old = c.in_ok-old.old in
-    let (at, is) = named_is w c.args.number old c.in_ok-old.ensures.value in
-    let from = ap (λ (r : Record). r.number) c.member_of-from.ensures.termination ∙ is in
-    let outcome = subst (λ (n : ℕ). commands.move_to w c.args.target n c.args.settings.now ≡
-    Ok (c.move_to.new.self, c.in_ok-moved.moved)) from c.in_ok-moved.ensures.outcome in
-    let leaves = move_leaves w c.move_to.new.self c.args.target c.args.number c.args.settings.now c.in_ok-moved.moved
-    old c.self.invariant at outcome in
-    leaves.sound.consistent
+invariant_of-self-2 c = (moving c.self.inside.tables c.move_to.new.self c.args.target c.args.number
+    c.args.settings.now c.in_ok-moved.moved c.in_ok-old.old c.member_of-from.result c.self.invariant
+    c.in_ok-old.ensures.value c.member_of-from.ensures.termination c.in_ok-moved.ensures.outcome).2.sound.consistent
 
-pub returns-clause-outcome : goal.returns-clause-outcome
-returns-clause-outcome c =
-    let w = c.self.inside.tables in
-    let (at, is) = named_is w c.args.number c.in_ok-old.old c.in_ok-old.ensures.value in
-    let from = ap (λ (r : Record). r.number) c.member_of-from.ensures.termination ∙ is in
-    let outcome = subst (λ (n : ℕ). commands.move_to w c.args.target n c.args.settings.now ≡
-    Ok (c.move_to.new.self, c.in_ok-moved.moved)) from c.in_ok-moved.ensures.outcome in
-    rw (← c.self.view_is, c.member_of-to.ensures.termination) outcome
-
-pub returns-clause-consistent : goal.returns-clause-consistent
-returns-clause-consistent c =
-    let w = c.self.inside.tables in
-    let old = c.in_ok-old.old in
-    let (at, is) = named_is w c.args.number old c.in_ok-old.ensures.value in
-    let from = ap (λ (r : Record). r.number) c.member_of-from.ensures.termination ∙ is in
-    let outcome = subst (λ (n : ℕ). commands.move_to w c.args.target n c.args.settings.now ≡
-    Ok (c.move_to.new.self, c.in_ok-moved.moved)) from c.in_ok-moved.ensures.outcome in
-    let leaves = move_leaves w c.move_to.new.self c.args.target c.args.number c.args.settings.now c.in_ok-moved.moved
-    old c.self.invariant at outcome in
-    leaves.sound.consistent
-
-pub returns-clause-to : goal.returns-clause-to
-returns-clause-to c =
-    let w = c.self.inside.tables in
-    let old = c.in_ok-old.old in
-    let (at, is) = named_is w c.args.number old c.in_ok-old.ensures.value in
-    let from = ap (λ (r : Record). r.number) c.member_of-from.ensures.termination ∙ is in
-    let outcome = subst (λ (n : ℕ). commands.move_to w c.args.target n c.args.settings.now ≡
-    Ok (c.move_to.new.self, c.in_ok-moved.moved)) from c.in_ok-moved.ensures.outcome in
-    let leaves = move_leaves w c.move_to.new.self c.args.target c.args.number c.args.settings.now c.in_ok-moved.moved
-    old c.self.invariant at outcome in
-    there_as c.move_to.new.self c.args.number c.in_ok-moved.moved c.member_of-to.result leaves.own
-    c.member_of-to.ensures.termination c.member_of-to.ensures.room
-
-pub returns-clause-lasts : goal.returns-clause-lasts
-returns-clause-lasts c =
-    let w = c.self.inside.tables in
-    let old = c.in_ok-old.old in
-    let (at, is) = named_is w c.args.number old c.in_ok-old.ensures.value in
-    let from = ap (λ (r : Record). r.number) c.member_of-from.ensures.termination ∙ is in
-    let outcome = subst (λ (n : ℕ). commands.move_to w c.args.target n c.args.settings.now ≡
-    Ok (c.move_to.new.self, c.in_ok-moved.moved)) from c.in_ok-moved.ensures.outcome in
-    let leaves = move_leaves w c.move_to.new.self c.args.target c.args.number c.args.settings.now c.in_ok-moved.moved
-    old c.self.invariant at outcome in
-    rw (← c.self.view_is) leaves.lasts
-
-pub returns-clause-others : goal.returns-clause-others
-returns-clause-others c =
-    let w = c.self.inside.tables in
-    let old = c.in_ok-old.old in
-    let (at, is) = named_is w c.args.number old c.in_ok-old.ensures.value in
-    let from = ap (λ (r : Record). r.number) c.member_of-from.ensures.termination ∙ is in
-    let outcome = subst (λ (n : ℕ). commands.move_to w c.args.target n c.args.settings.now ≡
-    Ok (c.move_to.new.self, c.in_ok-moved.moved)) from c.in_ok-moved.ensures.outcome in
-    let leaves = move_leaves w c.move_to.new.self c.args.target c.args.number c.args.settings.now c.in_ok-moved.moved
-    old c.self.invariant at outcome in
-    rw (← c.self.view_is, c.member_of-from.ensures.termination, c.member_of-to.ensures.termination) leaves.others
+pub returns : goal.returns
+returns c =
+    let (at, outcome, a) = moving c.self.inside.tables c.move_to.new.self c.args.target c.args.number c.args.settings.now
+    c.in_ok-moved.moved c.in_ok-old.old c.member_of-from.result c.self.invariant c.in_ok-old.ensures.value
+    c.member_of-from.ensures.termination c.in_ok-moved.ensures.outcome in
+    let is = c.member_of-to.ensures.termination in
+    record {
+      outcome = rw (← c.self.view_is, is) outcome;
+      refused = tt;
+      consistent = a.sound.consistent;
+      from = rw (← c.self.view_is) (there_as c.self.inside.tables c.args.number c.in_ok-old.old c.member_of-from.result
+          at c.member_of-from.ensures.termination c.member_of-from.ensures.room);
+      to = there_as c.move_to.new.self c.args.number c.in_ok-moved.moved c.member_of-to.result a.own is
+          c.member_of-to.ensures.room;
+      lasts = rw (← c.self.view_is) a.lasts;
+      others = rw (← c.self.view_is, is) a.others;
+    }

@@ -12,7 +12,8 @@ use Rattle.mg_engine.specs.aids.MediaSteps as media_steps
 use Rattle.mg_engine.specs.aids.Sending.{PlacedAt}
 use Rattle.mg_engine.proofs.JoinedLemmas.{Slots}
 use Rattle.mg_engine.proofs.EditLemmas.{others_kept, apart_from}
-use Rattle.mg_engine.proofs.KeyLemmas.{found_changed, found_other, mapped_kept}
+use Rattle.mg_rooms.proofs.CountLemmas.{find-change_other}
+use Rattle.mg_engine.proofs.KeyLemmas.{found_changed, mapped_kept}
 use Rattle.mg_engine.proofs.TickLemmas.{with_media}
 use Rattle.mg_engine.proofs.GatewayLemmas.{has_media, media_is}
 
@@ -55,9 +56,8 @@ module _ (k : EngineState) (w : Gateway) (r : Record) (f : TerminationMedia → 
       (subst (λ (x : TerminationMedia). IsMediaOf k.config m (get_or k.sums.frames r.slot []) x) stream_is is)
   media_placed n q t at now false e =
       let apart = apart_from n r.number e in
-      let stream = sym (found_other (λ x. x.number) (λ x. Some (f x)) r.number n w.media
-      (λ x ys same. let no : eqb x.number n ≡ false = ap (λ (i : ℕ). eqb i n) (eqb-true x.number r.number same) ∙
-      e in rw (keeps x, no) refl)) ∙ now in
+      let stream = sym (find-change_other (λ x. x.number) r.number n (λ x. Some (f x)) w.media (λ x same. keeps x) e) ∙
+      now in
       let kept : media_at (set k.media r.slot m) q.slot ≡ media_at k.media q.slot =
       others_kept k.rooms k.media m n r.number r q slots found at apart in
       subst (λ (x : media.SlotMedia). IsMediaOf k.config x (get_or k.sums.frames q.slot []) t) (sym kept)

@@ -14,7 +14,8 @@ use Rattle.mg_sums.specs.Sums as sums
 use Rattle.mg_engine.specs.aids.Whole.{IsWholeEngine}
 use Rattle.mg_engine.proofs.MemberLemmas.{Others, Hears, no_record, unequal}
 use Rattle.mg_engine.proofs.JoinedLemmas.{Slots}
-use Rattle.mg_engine.proofs.KeyLemmas.{none_before_last, found_push, found_push_other, found_changed, found_other, found_replaced, none_left, mapped_kept, keys_left, spots_left}
+use Rattle.mg_rooms.proofs.CountLemmas.{find-change_other, find-push_other}
+use Rattle.mg_engine.proofs.KeyLemmas.{none_before_last, found_push, found_changed, found_replaced, none_left, mapped_kept, keys_left, spots_left}
 use Rattle.mg_engine.proofs.OutcomeLemmas.{Adds, Changes, Removes}
 use Rattle.mg_engine.proofs.GatewayLemmas.{found_too, found_key, has_media, media_is}
 
@@ -156,7 +157,7 @@ added_media k new after frames w settings d r a sound slots others made lt in_ro
     false e =
     let apart = apart_from m d.number e in
     let old = sym (others m apart) ∙ found in
-    let stream = sym (found_push_other (λ s. s.number) m w.media (newcomer settings d) e) ∙ there in
+    let stream = sym (find-push_other (λ s. eqb s.number m) w.media (newcomer settings d) e) ∙ there in
     let kept : media_at after q.slot ≡ media_at k.media q.slot =
     ap (λ (ms : List media.SlotMedia). media_at ms q.slot) set_to ∙
     others_kept new k.media (media_steps.slot_tuned settings.depth (media_steps.initial_media k.config)) m d.number r q slots
@@ -249,9 +250,8 @@ tuned_media k new after frames w settings n d a slots others lt set_to rows h m 
 tuned_media k new after frames w settings n d a slots others lt set_to rows h m q s found there false e =
     let apart = apart_from m n e in
     let old = sym (others m apart) ∙ found in
-    let stream = sym (found_other (λ s. s.number) (λ s. Some (tuned settings s)) n m w.media
-    (λ x ys same. let no : eqb x.number m ≡ false = ap (λ (i : ℕ). eqb i m) (eqb-true x.number n same) ∙ e in
-    rw no refl)) ∙ there in
+    let stream = sym (find-change_other (λ s. s.number) n m (λ s. Some (tuned settings s)) w.media (λ x same. refl) e) ∙
+    there in
     let kept : media_at after q.slot ≡ media_at k.media q.slot =
     ap (λ (ms : List media.SlotMedia). media_at ms q.slot) set_to ∙
     others_kept new k.media (media_steps.slot_tuned settings.depth (media_at k.media d.slot)) m n d q slots
@@ -321,9 +321,7 @@ left_media k new w n d a sound others h m q s found there true e =
     absurd (no_record q (sym (ap (record_at new) (eqb-true n m e) ∙ found) ∙ gone))
 left_media k new w n d a sound others h m q s found there false e =
     let apart = apart_from m n e in
-    let stream = sym (found_other (λ s. s.number) (λ _. None) n m w.media
-    (λ x ys same. let no : eqb x.number m ≡ false = ap (λ (i : ℕ). eqb i m) (eqb-true x.number n same) ∙ e in
-    rw no refl)) ∙ there in
+    let stream = sym (find-change_other (λ s. s.number) n m (λ _. None) w.media (λ x same. tt) e) ∙ there in
     h.media m q s (sym (others m apart) ∙ found) stream
 
 -- who was subtracted is there no longer

@@ -1,6 +1,9 @@
 -- What is looked up in a world that an engine stands for.
-use Rattle.mg_engine.proofs.Common.{◌≡◌, ℕ, suc, ◌<◌, eqb, Bool, true, false, cond, ℤ, length, get_or, subst, arith, List, [], ◌∷◌, map, Option, Some, None, refl, sym, ap, ◌∙◌, option_map, eqb-true, same_Some, Record, record_at, Gateway, TerminationMedia, media_of, Config, EngineState, StandsFor, IsMediaOf, media_at}
+use Rattle.mg_engine.proofs.Common.{inl, inr, ◌≡◌, ℕ, suc, ◌<◌, eqb, Bool, true, false, cond, ℤ, length, get_or, subst, arith, List, [], ◌∷◌, map, Option, Some, None, refl, sym, ap, ◌∙◌, option_map, eqb-true, same_Some, Record, record_at, Gateway, TerminationMedia, media_of, Config, EngineState, StandsFor, IsMediaOf, media_at}
 use Rattle.std.specs.Prelude.{find}
+use Rattle.std.proofs.lemmas.Bool.{cases_Bool}
+use Rattle.std.proofs.lemmas.Bool.Decides.{nat_tests}
+use Rattle.mg_rooms.proofs.OrderLemmas as orders
 use Rattle.mg_sums.specs.Sums as sums
 use Rattle.mg_engine.specs.Media as media
 
@@ -10,71 +13,39 @@ some x = Some x
 -- ## What is found by a key
 
 module _ {A : Type 0} (key : A → ℕ) where
-  found_at : (f : A → A) (n : ℕ) (x : A) (rest all : Option A) (b c : Bool) → c ≡ b → all ≡ option_map f rest →
-      cond c (Some (f x)) all ≡ option_map f (cond b (Some x) rest)
-  found_at f n x rest all true c e h = rw e refl
-  found_at f n x rest all false c e h = rw e h
-
   -- f keeps the key
   pub found_in_map : (f : A → A) (n : ℕ) (xs : List A) → ((x : A) → key (f x) ≡ key x) →
       find (λ x. eqb (key x) n) (map f xs) ≡ option_map f (find (λ x. eqb (key x) n) xs)
   found_in_map f n [] same = refl
-  found_in_map f n (x ∷ xs) same =
-      found_at f n x (find (λ x. eqb (key x) n) xs) (find (λ x. eqb (key x) n) (map f xs)) (eqb (key x) n)
-      (eqb (key (f x)) n) (ap (λ (k : ℕ). eqb k n) (same x)) (found_in_map f n xs same)
-
-  key_at : (n : ℕ) (x y : A) (xs : List A) (b : Bool) → eqb (key x) n ≡ b →
-      cond b (some x) (find (λ x. eqb (key x) n) xs) ≡ Some y → (find (λ x. eqb (key x) n) xs ≡ Some y → key y ≡ n) →
-      key y ≡ n
-  key_at n x y xs true e h rest = ap key (sym (same_Some x y h)) ∙ eqb-true (key x) n e
-  key_at n x y xs false e h rest = rest h
+  found_in_map f n (x ∷ xs) same = grind (arith, nat_tests, same x, found_in_map f n xs same)
 
   pub found_key : (n : ℕ) (xs : List A) (y : A) → find (λ x. eqb (key x) n) xs ≡ Some y → key y ≡ n
-  found_key n [] y h = absurd (cc h)
-  found_key n (x ∷ xs) y h = key_at n x y xs (eqb (key x) n) refl h (found_key n xs y)
+  found_key n xs y h = eqb-true (key y) n (orders.found_key (λ x. eqb (key x) n) xs y h)
 
 abbrev pub Placed : {A : Type 0} → List A → A → A → Type 0
 Placed xs y d = (i : ℕ) × (i < length xs) × (get_or xs i d ≡ y)
 
-place_at : {A : Type 0} (p : A → Bool) (x y d : A) (xs : List A) (b : Bool) → p x ≡ b →
-    cond (p x) (some x) (find p xs) ≡ Some y → (find p xs ≡ Some y → Placed xs y d) → Placed (x ∷ xs) y d
-place_at p x y d xs true e h rest = (
-  0,
-  omega arith,
-  same_Some x y (ap (λ (b : Bool). cond b (some x) (find p xs)) (sym e) ∙ h),
-)
-place_at p x y d xs false e h rest =
-    let (i, lt, is) = rest (ap (λ (b : Bool). cond b (some x) (find p xs)) (sym e) ∙ h) in
-    (suc i, omega (arith, lt), is)
-
 -- what is found stands at a place
 pub found_place : {A : Type 0} (p : A → Bool) (xs : List A) (y d : A) → find p xs ≡ Some y → Placed xs y d
 found_place p [] y d h = absurd (cc h)
-found_place p (x ∷ xs) y d h = place_at p x y d xs (p x) refl h (found_place p xs y d)
+found_place p (x ∷ xs) y d h = elim (cases_Bool (p x)) [
+  | inl e ↦ (0, omega arith, same_Some x y (rw e at h))
+  | inr e ↦ let (i, lt, is) = found_place p xs y d (rw e at h) in (suc i, omega arith, is)
+]
 
 -- two lists with the same keys: what is found in the one has its like in the other
-module _ {A B : Type 0} (key : A → ℕ) (name : B → ℕ) (n : ℕ) where
-  abbrev Found : List B → Type 0
-  Found ys = (y : B) × (find (λ y. eqb (name y) n) ys ≡ Some y)
-
-  too_at : (x a : A) (b : B) (xs : List A) (ys : List B) (t : Bool) → eqb (key a) n ≡ t → eqb (name b) n ≡ t →
-      cond (eqb (key a) n) (Some a) (find (λ x. eqb (key x) n) xs) ≡ Some x →
-      (find (λ x. eqb (key x) n) xs ≡ Some x → Found ys) → Found (b ∷ ys)
-  too_at x a b xs ys true is too e rest = (b, rw too refl)
-  too_at x a b xs ys false is too e rest =
-      let later : find (λ x. eqb (key x) n) xs ≡ Some x = rw is at e in
-      let (y, found) = rest later in
-      (y, rw too found)
-
-  pub found_too : (xs : List A) (ys : List B) → map key xs ≡ map name ys → (x : A) →
-      find (λ x. eqb (key x) n) xs ≡ Some x → Found ys
-  found_too [] ys h x e = absurd (cc e)
-  found_too (a ∷ xs) [] h x e = absurd (cc h)
-  found_too (a ∷ xs) (b ∷ ys) h x e =
-      let heads : key a ≡ name b = cc h in
-      let tails : map key xs ≡ map name ys = cc h in
-      too_at x a b xs ys (eqb (key a) n) refl (ap (λ (k : ℕ). eqb k n) (sym heads)) e
-      (λ later. found_too xs ys tails x later)
+pub found_too : {A B : Type 0} (key : A → ℕ) (name : B → ℕ) (n : ℕ) (xs : List A) (ys : List B) →
+    map key xs ≡ map name ys → (x : A) → find (λ x. eqb (key x) n) xs ≡ Some x →
+    (y : B) × (find (λ y. eqb (name y) n) ys ≡ Some y)
+found_too key name n [] ys h x e = absurd (cc e)
+found_too key name n (a ∷ xs) [] h x e = absurd (cc h)
+found_too key name n (a ∷ xs) (b ∷ ys) h x e =
+    let heads : key a ≡ name b = cc h in
+    let tails : map key xs ≡ map name ys = cc h in
+    elim (cases_Bool (eqb (name b) n)) [
+      | inl is ↦ (b, rw is refl)
+      | inr is ↦ let (y, found) = found_too key name n xs ys tails x (rw (heads, is) at e) in (y, rw is found)
+    ]
 
 -- each termination has its stream
 pub has_media : (k : EngineState) (w : Gateway) (n : ℕ) (r : Record) → StandsFor k w → record_at k.rooms n ≡ Some r →

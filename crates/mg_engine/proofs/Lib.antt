@@ -26,7 +26,6 @@ pub mod ConcealLemmas
 pub mod TotalLemmas
 pub mod EditLemmas
 pub mod ArrivalLemmas
-pub mod PortLemmas
 pub mod OutcomeLemmas
 pub mod IsolationLemmas
 pub mod OrderLemmas

@@ -9,7 +9,7 @@ use Rattle.mg_rooms.specs.Registry.{IsMember}
 use Rattle.mg_sums.specs.Samples.{sum_of}
 use Rattle.mg_engine.specs.Mix.{part_of_total, total, total_at}
 use Rattle.mg_engine.proofs.FlowLemmas.{mode_found}
-use Rattle.mg_engine.proofs.KeyLemmas.{none_counted}
+use Rattle.mg_rooms.proofs.CountLemmas.{find-none}
 use Rattle.mg_engine.proofs.MemberLemmas.{unequal}
 use Rattle.mg_engine.proofs.PlaceLemmas.{ByNumber, HaveContexts, OneRoom, at, on_place}
 use Rattle.mg_engine.proofs.RowSums.{Spots, joined_is, joined_part, total_by_terminations}
@@ -91,7 +91,7 @@ module _ (w : rooms.Registry) (c : ℕ) (f : ℕ → ℤ) (sound : IsSound w) (b
       (sym (by_number j nobody lt)))
       (λ n. sound.consistent.terminations.one_number n)
       (λ n none. ap (λ (o : Option Record). cond (in_context c o) (f n) (pos 0))
-      (none_counted (λ r. eqb r.number n) w.terminations none))
+      (find-none (λ r. eqb r.number n) w.terminations none))
 
   by_members : sum_of part (range_with_len 0 numbers) ≡ sum_of f (members_at w c)
   by_members = seat_sums (members_at w c) (λ m. true) (λ m. m) numbers part f 0

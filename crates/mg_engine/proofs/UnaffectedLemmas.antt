@@ -22,11 +22,11 @@ use Rattle.mg_engine.specs.Unaffected.{IsUnaffected, IsEditElsewhere, IsPortElse
 use Rattle.mg_engine.specs.Mix.{total, part_of_total}
 use Rattle.mg_engine.specs.Outcome.{add, modify, move_to, subtract, apply_triples, done_as, outcome}
 use Rattle.mg_engine.specs.Triples.{check_triple, is_barred, matched, names_others}
-use Rattle.mg_engine.proofs.ElsewhereLemmas.{Spares, keys_apart, add_spares, modify_spares, move_spares, subtract_spares}
-use Rattle.mg_engine.proofs.KeyLemmas.{found_push_other, found_other}
+use Rattle.mg_engine.proofs.ElsewhereLemmas.{Spares, add_spares, modify_spares, move_spares, subtract_spares}
+use Rattle.mg_rooms.proofs.CountLemmas.{find-change_other, find-push_other}
+use Rattle.mg_rooms.proofs.OutcomeLemmas.{bind_ok}
 use Rattle.mg_engine.proofs.MemberLemmas.{neither, not_so}
 use Rattle.mg_engine.proofs.OrderLemmas.{done_is, other_media}
-use Rattle.mg_engine.proofs.OutcomeLemmas.{after_ok, after_ok_is}
 
 -- ## A context of which each record and each stream is as it was
 
@@ -117,14 +117,13 @@ module _ (w : Gateway) (z : rooms.Registry) (d : Record) (c : ℕ) (s : Spares w
   tuned_elsewhere : (settings : Settings) (n : ℕ) → is_member w c n ≡ true →
       media_of (modified w settings z d) n ≡ media_of w n
   tuned_elsewhere settings n there =
-      found_other (λ s. s.number) (λ s. Some (tuned settings s)) d.number n w.media
-      (λ x ys at. let out = keys_apart x.number d.number n at (apart_from w c d.number n s.apart there) in
-      rw out refl)
+      find-change_other (λ s. s.number) d.number n (λ s. Some (tuned settings s)) w.media (λ x at. refl)
+      (apart_from w c d.number n s.apart there)
 
   added_alone : (settings : Settings) → IsUnaffected w (added w settings z d) c
   added_alone settings =
       alone w (added w settings z d) c s.context kept
-      (λ n there. found_push_other (λ s. s.number) n w.media (tuned settings (new_media d.number))
+      (λ n there. find-push_other (λ s. eqb s.number n) w.media (tuned settings (new_media d.number))
       (apart_from w c d.number n s.apart there))
       (entry_elsewhere w c d.number w.edits s.apart)
 
@@ -139,9 +138,8 @@ module _ (w : Gateway) (z : rooms.Registry) (d : Record) (c : ℕ) (s : Spares w
   subtracted_alone : IsUnaffected w (subtracted w z d) c
   subtracted_alone =
       alone w (subtracted w z d) c s.context kept
-      (λ n there. found_other (λ s. s.number) (λ _. None) d.number n w.media
-      (λ x ys at. let out = keys_apart x.number d.number n at (apart_from w c d.number n s.apart there) in
-      rw out refl))
+      (λ n there. find-change_other (λ s. s.number) d.number n (λ _. None) w.media (λ x at. tt)
+      (apart_from w c d.number n s.apart there))
       (λ a b one two. refl)
 
 -- a command leaves what its outcome leaves
@@ -174,12 +172,11 @@ first_names false b e u h = refl
 named_members : (members : List ℕ) (x : TopologyTriple) (u : Unit {0}) → check_triple members x ≡ Ok u →
     names_others members x.first ≡ false
 named_members members x u e =
-    after_ok (names_others members x.first ≡ false)
-    (passes (not (is_barred x.first || is_barred x.second)) IdentifierNotAllowed) _ u e (λ _ one.
-    after_ok_is (names_others members x.first ≡ false)
-    (passes (not (names_others members x.first || names_others members x.second)) NotInContext) _ u one
-    (λ v passed _.
-    first_names (names_others members x.first) (names_others members x.second) NotInContext v passed))
+    let barred = passes (not (is_barred x.first || is_barred x.second)) IdentifierNotAllowed in
+    let others = passes (not (names_others members x.first || names_others members x.second)) NotInContext in
+    let (_, _, one) = bind_ok barred _ u e in
+    let (v, passed, _) = bind_ok others _ u one in
+    first_names (names_others members x.first) (names_others members x.second) NotInContext v passed
 
 unsaid : (first second : List ℕ) (association : _) (es : List ContextEdit) (a b : ℕ) → has first a ≡ false →
     has first b ≡ false → may_hear (Apply first second association ∷ es) a b ≡ may_hear es a b
@@ -191,13 +188,12 @@ words_elsewhere : (members : List ℕ) (xs : List TopologyTriple) (es : List Con
     may_hear (with_triples members xs es) a b ≡ may_hear es a b
 words_elsewhere members [] es a b u e one two = refl
 words_elsewhere members (x ∷ xs) es a b u e one two =
-    after_ok_is (may_hear (with_triples members (x ∷ xs) es) a b ≡ may_hear es a b) (check_triple members x) _ u e
-    (λ v here rest.
+    let (v, here, rest) = bind_ok (check_triple members x) _ u e in
     let names = named_members members x v here in
     words_elsewhere members xs (Apply (matched members x.first) (matched members x.second) x.association ∷ es) a b u
     rest one two
     ∙ unsaid (matched members x.first) (matched members x.second) x.association es a b
-    (unmatched members x.first a names one) (unmatched members x.first b names two))
+    (unmatched members x.first a names one) (unmatched members x.first b names two)
 
 -- a member of one context is none of another
 one_context : (w : Gateway) (c t n : ℕ) → IsSound w.rooms → eqb t c ≡ false → is_member w c n ≡ true →
@@ -213,15 +209,15 @@ another_target : (w : rooms.Registry) (target : Target) (t c : ℕ) → existing
 another_target w Null t c e apart = absurd (cc e)
 another_target w New t c e apart = absurd (cc e)
 another_target w (Number k) t c e apart =
-    after_ok (eqb t c ≡ false) (commands.there w k) _ t e
-    (λ _ one. let is : k ≡ t = cc one in ap (λ (i : ℕ). eqb i c) (sym is) ∙ apart)
+    let (_, _, one) = bind_ok (commands.there w k) _ t e in
+    let is : k ≡ t = cc in ap (λ (i : ℕ). eqb i c) (sym is) ∙ apart
 
 pub triples_alone : (w next : Gateway) (target : Target) (xs : List TopologyTriple) (t c : ℕ) → IsSound w.rooms →
     apply_triples w target xs ≡ Ok (next, t) → is_number target c ≡ false → IsUnaffected w next c
 unfolding apply_triples
 triples_alone w next target xs t c h done apart =
-    after_ok_is (IsUnaffected w next c) (existing_context w.rooms target) _ (next, t) done (λ k at one.
-    after_ok_is (IsUnaffected w next c) (check_triples (members_at w.rooms k) xs) _ (next, t) one (λ u checked two.
+    let (k, at, one) = bind_ok (existing_context w.rooms target) _ (next, t) done in
+    let (u, checked, two) = bind_ok (check_triples (members_at w.rooms k) xs) _ (next, t) one in
     let after : Gateway = record w { edits = with_triples (members_at w.rooms k) xs w.edits } in
     let both : (after, k) ≡ (next, t) = cc two in
     let other = another_target w.rooms target k c at apart in
@@ -229,7 +225,7 @@ triples_alone w next target xs t c h done apart =
     subst (λ (g : Gateway). IsUnaffected w g c) (ap (λ (p : Gateway × ℕ). p.0) both)
     (alone w after c refl (λ n there. refl) (λ n there. refl)
     (λ a b first second. words_elsewhere (members_at w.rooms k) xs w.edits a b u checked (strangers a first)
-    (strangers b second)))))
+    (strangers b second)))
 
 -- ## Edits
 

@@ -3,7 +3,6 @@ pub mod Joined
 pub mod MediaSteps
 pub mod Members
 pub mod Playing
-pub mod Ports
 pub mod Seating
 pub mod Sending
 pub mod Shares

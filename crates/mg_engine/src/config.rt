@@ -1,4 +1,5 @@
 ghost use Rattle.std.specs.Prelude.{◌≡◌, ◌↔◌, IsTrue};
+ghost use Rattle.mg_rooms.specs.Limits.{AreValidLimits};
 
 use mg_rooms::{Limits, TERMINATIONS};
 
@@ -77,19 +78,11 @@ impl Config {
         }
     }
 
+    /// Returns whether the control port is not 0 and not a media port.
     fn has_control_port(&self) -> bool
+        requires limits { AreValidLimits (limits_of self.now) }
         ensures value { IsTrue result ↔ HasControlPort self.now }
     {
-        if self.control_port == 0 {
-            return false;
-        }
-        if self.control_port < self.base_port {
-            return true;
-        }
-        let distance = self.control_port - self.base_port;
-        if distance % 2 == 1 {
-            return true;
-        }
-        distance / 2 >= self.slots
+        self.control_port != 0 && self.limits().slot_at(self.control_port).is_none()
     }
 }

@@ -46,7 +46,6 @@ use crate::joining::part;
 use crate::media::HeldMedia;
 use crate::membership::{enter, member_place, place_of, take_mode, vacate};
 use crate::mixing::{own_row, rows_on};
-use crate::ports::PortPool;
 use crate::seated_member::{SeatedMember, seated_members};
 use crate::seating::Seating;
 use crate::sending::{is_loopback, payload_type, sends_in, sent_to};
@@ -73,7 +72,6 @@ use std::marker::Model;
 pub struct Engine {
     config: Config,
     rooms: Rooms,
-    ports: PortPool,
     /// The media of each slot.
     media: Vec<HeldMedia>,
     /// The slots that terminations hold, in order of termination number.
@@ -149,13 +147,11 @@ impl Engine {
             return Err(StartFault::BadConfig);
         }
         let rooms = Rooms::new(alloc, config.limits())?;
-        let ports = PortPool::new(alloc, config.limits())?;
         let media = idle_media(alloc, config.slots)?;
         let (flows, seating, sums, shares) = empty_tables(alloc)?;
         Ok(Engine {
             config,
             rooms,
-            ports,
             media,
             held: ArrayVec::new(),
             flows,
@@ -388,7 +384,7 @@ impl Engine {
         ensures slot { IfSome result (λ r. r.slot < length self.now.media) }
         ensures found { IfSome result (λ r. record_at self.now.rooms r.number ≡ Some r) }
     {
-        match self.ports.slot(port) {
+        match self.config.limits().slot_at(port) {
             Some(slot) => self.rooms.held(slot),
             None => None,
         }

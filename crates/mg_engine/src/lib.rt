@@ -38,7 +38,6 @@ mod joining;
 mod media;
 mod membership;
 mod mixing;
-mod ports;
 mod room_shares;
 mod seated_member;
 mod seating;

@@ -15,7 +15,6 @@ use Rattle.mg_engine.specs.aids.Seating.{AreSeated, place_count}
 pub record IsWholeEngine (e : Inside) : Type 0 where
   pub sound : IsSound e.rooms
   pub limits : e.rooms.limits ≡ limits_of e.config
-  pub ports : e.ports ≡ limits_of e.config
   pub media : length e.media.items ≡ e.config.slots
   pub held : e.held.items ≡ map (λ r. r.slot) e.rooms.terminations
   pub members : HasMembers e.rooms e.flows

@@ -95,7 +95,6 @@ invariant_of-self-2 c =
     record {
       sound = sound;
       limits = a.limits ∙ c.self.invariant.limits;
-      ports = c.self.invariant.ports;
       media = long ∙ c.self.invariant.media;
       held = held_added old new d c.self.inside.held.items c.push.new.self.items a c.self.invariant.held
           c.push.ensures.items;

@@ -24,7 +24,6 @@ pub invariant_of-self : goal.invariant_of-self
 invariant_of-self g c = record {
   sound = c.self.invariant.sound;
   limits = c.self.invariant.limits;
-  ports = c.self.invariant.ports;
   media = c.self.invariant.media;
   held = c.self.invariant.held;
   members = has_still c.self.inside.rooms c.self.inside.flows c.on_triples.new.self c.on_triples.ensures.places

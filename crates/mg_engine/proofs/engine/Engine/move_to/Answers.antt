@@ -101,7 +101,6 @@ invariant_of-self-2 c =
     record {
       sound = sound;
       limits = a.limits ∙ c.self.invariant.limits;
-      ports = c.self.invariant.ports;
       media = long ∙ c.self.invariant.media;
       held = held_changed k new n d c.self.inside.held.items a c.self.invariant.held;
       members = members;

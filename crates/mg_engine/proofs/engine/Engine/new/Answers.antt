@@ -10,9 +10,8 @@ pub invariant_of-result : goal.invariant_of-result
 invariant_of-result c = record {
   sound = sound_if _ c.in_ok-rooms.ensures.consistent;
   limits = ap (λ (w : rooms.Registry). w.limits) c.in_ok-rooms.ensures.start ∙ c.limits.ensures.value;
-  ports = c.in_ok-ports.ensures.value ∙ c.limits-2.ensures.value;
   media = ap length c.in_ok-media.ensures.value ∙ length-replicate _ _;
-  held = c.new-3.ensures ∙ ap (λ (w : rooms.Registry). map (λ r. r.slot) w.terminations)
+  held = c.new-2.ensures ∙ ap (λ (w : rooms.Registry). map (λ r. r.slot) w.terminations)
       (sym c.in_ok-rooms.ensures.start);
   members = has_nobody c.in_ok-rooms.rooms c.limits.result c.in_ok-flows.flows c.in_ok-rooms.ensures.start
       c.in_ok-flows.ensures.flows;

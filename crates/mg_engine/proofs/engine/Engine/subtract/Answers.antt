@@ -49,7 +49,6 @@ invariant_of-self-2 c =
     record {
       sound = sound;
       limits = a.limits ∙ c.self.invariant.limits;
-      ports = c.self.invariant.ports;
       media = c.self.invariant.media;
       held = held_removed k new n d c.self.inside.held.items c.without.new.held.items a before c.self.invariant.held
           c.without.ensures.value;

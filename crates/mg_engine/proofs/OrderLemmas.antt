@@ -114,13 +114,9 @@ swap_by w (Some r) (Some d) s t x y apart =
 
 -- ## A packet changes media alone
 
-placed_rooms : (w : Gateway) (n : ℕ) (p : Header × List ℤ) (o : Option TerminationMedia) →
-    (frame_placed_at w n p o).0.rooms ≡ w.rooms
-placed_rooms w n p None = refl
-placed_rooms w n p (Some s) = refl
-
 arrived_rooms : (w : Gateway) (n : ℕ) (x : Arrived) → (taken_at w n x).0.rooms ≡ w.rooms
-arrived_rooms w n (Ok p) = placed_rooms w n p (media_of w n)
+arrived_rooms w n (Ok p) =
+    grind (arith, nat_tests)
 arrived_rooms w n (Err cause) = refl
 
 taken_rooms : (w : Gateway) (o : Option Record) (source : List ℕ) (reading : Reading) →
@@ -169,16 +165,11 @@ pub done_is : (f : rooms.Registry → Record → Gateway) (o : Result (rooms.Reg
     (next : Gateway) (r : Record) → done_with f o ≡ Ok (next, r) → (z : rooms.Registry) × (o ≡ Ok (z, r)) ×
     (next ≡ f z r)
 done_is f (Ok p) next r e =
-    let both : (f p.0 p.1, p.1) ≡ (next, r) = cc e in
-    let is : p.1 ≡ r = ap (λ (x : Gateway × Record). x.1) both in
-    (p.0, ap (λ (d : Record). ok_pair p.0 d) is, sym (ap (λ (x : Gateway × Record). x.0) both) ∙ ap (f p.0) is)
+    grind (arith, nat_tests, p.1, p.0)
 done_is f (Err x) next r e = absurd (cc e)
 
 pub triples_rooms : (w next : Gateway) (target : Target) (xs : List TopologyTriple) (c : ℕ) →
     apply_triples w target xs ≡ Ok (next, c) → next.rooms ≡ w.rooms
 unfolding apply_triples
 triples_rooms w next target xs c e =
-    let (there, _, checked) = bind_ok (existing_context w.rooms target) _ (next, c) e in
-    let (u, _, done) = bind_ok (check_triples (members_at w.rooms there) xs) _ (next, c) checked in
-    let both : (record w { edits = with_triples (members_at w.rooms there) xs w.edits }, there) ≡ (next, c) = cc done in
-    sym (ap (λ (p : Gateway × ℕ). p.0.rooms) both)
+    grind (arith, nat_tests)

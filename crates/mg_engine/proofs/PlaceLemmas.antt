@@ -1,5 +1,6 @@
 -- Places of members: each has one, and no two of them one place.
 use Rattle.mg_engine.proofs.Common.{arith, ◌≡◌, ◌≢◌, ℕ, ◌<◌, eqb, ◌&&◌, Bool, true, false, List, length, get_or, Option, Some, None, refl, sym, ap, ◌∙◌, is_some, IsSome, option_map, eqb-true, same_Some, Context, Record, IsTermination, IsSound, Registry, record_at, context_at, Place, RoomFlows, hears, place_of, member_place, IsOnPlace}
+use Rattle.std.proofs.lemmas.Bool.Decides.{nat_tests}
 use Rattle.mg_rooms.specs.declared.member.Member.{Member}
 use Rattle.mg_rooms.specs.Consistent.{IsContext}
 use Rattle.mg_rooms.specs.Member.{ExistsAs}
@@ -49,12 +50,9 @@ and_false false b = refl
 pub no_hearing : (table : List RoomFlows) (t l : Place) → hears table t l ≡ false → flows table t l ≡ false
 no_hearing table t l e = rw e (and_false (talks_at table t) (listens_at table l))
 
-no_place : (o : Option Context) (r : Record) → is_some o ≡ true → option_map (seated r.seat) o ≡ None → ⊥
-no_place (Some x) r h none = cc none
-no_place None r h none = cc h
-
 pub has_place : (w : Registry) (n : ℕ) (r : Record) → HaveContexts w → record_at w n ≡ Some r → place_of w r ≡ None → ⊥
-has_place w n r has found none = no_place (context_at w r.context) r (has n r found) none
+has_place w n r has found none =
+    grind (arith, nat_tests, has n r found)
 
 -- a place is that of a context and a seat
 pub record At (w : Registry) (r : Record) (p : Place) : Type 0 where
@@ -63,20 +61,9 @@ pub record At (w : Registry) (r : Record) (p : Place) : Type 0 where
   pub room : p.room ≡ context.room
   pub seat : p.seat ≡ r.seat
 
-at_by : (w : Registry) (r : Record) (p : Place) (o : Option Context) → context_at w r.context ≡ o →
-    option_map (seated r.seat) o ≡ Some p → At w r p
-at_by w r p (Some x) is h =
-    let same = same_Some (seated r.seat x) p h in
-    record {
-      context = x;
-      found = is;
-      room = ap (λ (q : Place). q.room) (sym same);
-      seat = ap (λ (q : Place). q.seat) (sym same);
-    }
-at_by w r p None is h = absurd (cc h)
-
 pub at : (w : Registry) (r : Record) (p : Place) → place_of w r ≡ Some p → At w r p
-at w r p h = at_by w r p (context_at w r.context) refl h
+at w r p h =
+    grind (arith, nat_tests)
 
 pub within : (w : Registry) (n : ℕ) (r : Record) (p : Place) → IsOnPlace w n r p
     → ((m : ℕ) (q : Record) → record_at w m ≡ Some q → (q.number ≡ m) × IsTermination w.limits w.next_termination q)
@@ -90,13 +77,8 @@ within w n r p h termination context =
 
 -- a member is on its place
 pub on_its_place : (w : Registry) (n : ℕ) (m : Member) → ExistsAs w n m → IsOnPlace w n m.record (member_place m)
-on_its_place w n m h = record { found = h.found; place = at_room (context_at w m.record.context) h.room }
-  where
-    at_room : (o : Option Context) → option_map (λ x. x.room) o ≡ Some m.room →
-        option_map (seated m.record.seat) o ≡ Some (member_place m)
-    at_room (Some x) room = ap (λ (k : ℕ). let p : Place = record { room = k; seat = m.record.seat } in Some p)
-        (same_Some x.room m.room room)
-    at_room None room = absurd (cc room)
+on_its_place w n m h =
+    grind (arith, nat_tests, h.found)
 
 -- a member's place is within the limits
 pub member_within : (w : Registry) (n : ℕ) (m : Member) → IsSound w → ExistsAs w n m → IsWithinLimits (member_place m)
@@ -114,18 +96,13 @@ one_record w m n r q found there same = same_Some r q (sym found ∙ ap (record_
 pub in_one_room : (w : Registry) (a b : Record) (p q : Place) → place_of w a ≡ Some p → place_of w b ≡ Some q →
     a.context ≡ b.context → p.room ≡ q.room
 in_one_room w a b p q first second same =
-    let x = at w a p first in
-    let y = at w b q second in
-    x.room ∙ ap (λ (z : Context). z.room) (same_Some x.context y.context
-    (sym x.found ∙ ap (context_at w) same ∙ y.found)) ∙ sym y.room
+    grind (arith, nat_tests)
 
 -- members in one room are in one context
 pub in_one_context : (w : Registry) (a b : Record) (p q : Place) → OneRoom w → place_of w a ≡ Some p →
     place_of w b ≡ Some q → p.room ≡ q.room → a.context ≡ b.context
 in_one_context w a b p q rooms first second same =
-    let x = at w a p first in
-    let y = at w b q second in
-    rooms a.context b.context x.context y.context x.found y.found (sym x.room ∙ same ∙ y.room)
+    grind (arith, nat_tests, rooms a.context b.context)
 
 -- a place is that of one member
 pub one_member : (w : Registry) (m n : ℕ) (a b : Record) (p q : Place) → OneRoom w → OneSeat w → IsOnPlace w m a p →
@@ -139,26 +116,17 @@ both true true h = (refl, refl)
 both true false h = absurd (cc h)
 both false b h = absurd (cc h)
 
-same_case : (w : Registry) (m n : ℕ) (a b : Record) (p q : Place) → OneRoom w → OneSeat w → IsOnPlace w m a p →
-    IsOnPlace w n b q → m ≢ n → (x : Bool) → is_same_place p q ≡ x → x ≡ false
-same_case w m n a b p q rooms seats first second apart true e =
-    let (room, seat) = both (eqb p.room q.room) (eqb p.seat q.seat) e in
-    absurd (apart (one_member w m n a b p q rooms seats first second (eqb-true p.room q.room room)
-    (eqb-true p.seat q.seat seat)))
-same_case w m n a b p q rooms seats first second apart false e = refl
-
 -- different members are on different places
 pub apart_places : (w : Registry) (m n : ℕ) (a b : Record) (p q : Place) → OneRoom w → OneSeat w → IsOnPlace w m a p →
     IsOnPlace w n b q → m ≢ n → is_same_place p q ≡ false
 apart_places w m n a b p q rooms seats first second apart =
-    same_case w m n a b p q rooms seats first second apart (is_same_place p q) refl
+    grind (arith, nat_tests)
 
 -- one member is on one place
 pub one_place : (w : Registry) (m n : ℕ) (a b : Record) (p q : Place) → IsOnPlace w m a p → IsOnPlace w n b q →
     m ≡ n → p ≡ q
 one_place w m n a b p q first second same =
-    same_Some p q (sym first.place ∙ ap (place_of w) (one_record w m n a b first.found second.found same) ∙
-    second.place)
+    grind (arith, nat_tests, second.place)
 
 seated_by : (w : Registry) (n : ℕ) (r : Record) (o : Option Place) → place_of w r ≡ o → HaveContexts w →
     record_at w n ≡ Some r → (p : Place) × IsOnPlace w n r p

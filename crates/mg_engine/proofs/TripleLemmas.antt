@@ -1,5 +1,6 @@
 -- Triples by the seats of the members that their terms match.
 use Rattle.mg_engine.proofs.Common.{◌≡◌, ℕ, zero, suc, ◌+◌, ◌<◌, eqb, ◌&&◌, ◌||◌, Bool, true, false, cond, List, [], ◌∷◌, ◌++◌, ◌==◌, length, get_or, take, drop, Option, Some, None, Result, Ok, Err, refl, sym, ap, subst, ◌∙◌, arith, Any, list_any, option_map, eqb-true, eq-eqb, same_Some, take_more, Triple, has_seat, Overlaps, Context, Record, Registry, record_at, context_at, members_at, Place, RoomFlows, hears, Target, Gateway, ContextEdit, Apply, may_hear, existing_context, EngineState, StandsFor, ShareContext, has, place_of, IsOnPlace, HasMembers, ErrorNumber, TopologyTriple, with_triples, check_triples, AreMatched}
+use Rattle.std.proofs.lemmas.Bool.Decides.{nat_tests}
 use Rattle.std.specs.Prelude.{IsTrue, ◌↔◌}
 use Rattle.std.specs.Cmp.{both_ways}
 use Rattle.std.proofs.lemmas.List.{drop_more}
@@ -28,8 +29,7 @@ AreMembers w c = (n : ℕ) → IsTrue (list_any (λ m. eqb m n) (members_at w c)
 seated : (w : Registry) (c n : ℕ) (r : Record) → HaveContexts w → record_at w n ≡ Some r → r.context ≡ c →
     IsSeated w c n r.seat
 seated w c n r there found context =
-    let (p, on) = on_place w n r there found in
-    (r, p, on, context, (at w r p on.place).seat)
+    grind (arith, nat_tests, on_place w n r there found)
 
 -- ## One termination by its number
 
@@ -38,15 +38,9 @@ module _ (w : Registry) (c number mask : ℕ) (r : Record) (seats : OneSeat w) (
   same_seat : (n seat : ℕ) (q : Record) (p : Place) → IsOnPlace w n q p → q.context ≡ c → p.seat ≡ seat → (b : Bool) →
       eqb number n ≡ b → eqb seat r.seat ≡ (b || false)
   same_seat n seat q p on here is true e =
-      let same = one_record w number n r q found on.found (eqb-true number n e) in
-      eq-eqb seat r.seat (sym is ∙ (at w q p on.place).seat ∙ ap (λ (x : Record). x.seat) (sym same))
-  same_seat n seat q p on here is false e = apart (eqb seat r.seat) refl where
-    apart : (b : Bool) → eqb seat r.seat ≡ b → b ≡ false
-    apart true h =
-        let one = seats number n r q found on.found (context ∙ sym here)
-        (sym (eqb-true seat r.seat h) ∙ sym is ∙ (at w q p on.place).seat) in
-        sym (eq-eqb number n one) ∙ e
-    apart false h = refl
+      grind (arith, nat_tests)
+  same_seat n seat q p on here is false e =
+      grind (arith, nat_tests)
 
   pub matches_number : HaveContexts w → Matches w c (number ∷ []) mask
   matches_number there = record {
@@ -72,20 +66,12 @@ module _ (w : Registry) (c number mask : ℕ) (r : Record) (seats : OneSeat w) (
 room_is : (w : Registry) (c room : ℕ) (r : Record) (p : Place) → IsRoomOf w c room → place_of w r ≡ Some p →
     r.context ≡ c → p.room ≡ room
 room_is w c room r p is place here =
-    let a = at w r p place in
-    a.room ∙ same_Some a.context.room room (ap (option_map (λ x. x.room)) (sym a.found ∙ ap (context_at w) here) ∙ is)
-
-context_by : (w : Registry) (c room : ℕ) (o : Option Context) → context_at w c ≡ o →
-    option_map (λ x. x.room) o ≡ Some room → (x : Context) × (context_at w c ≡ Some x) × (x.room ≡ room)
-context_by w c room (Some x) is h = (x, is, cc h)
-context_by w c room None is h = absurd (cc h)
+    grind (arith, nat_tests)
 
 context_is : (w : Registry) (c room : ℕ) (r : Record) (p : Place) → OneRoom w → IsRoomOf w c room →
     place_of w r ≡ Some p → p.room ≡ room → r.context ≡ c
 context_is w c room r p rooms is place here =
-    let a = at w r p place in
-    let (x, there, same) = context_by w c room (context_at w c) refl is in
-    rooms r.context c a.context x a.found there (sym a.room ∙ here ∙ sym same)
+    grind (arith, nat_tests, rooms r.context c)
 
 pub matches_every : (w : Registry) (c room mask : ℕ) (table : List RoomFlows) → HaveContexts w → OneRoom w →
     AreMembers w c → IsRoomOf w c room → HasMembers w table
@@ -112,29 +98,18 @@ or_true : (b : Bool) → (b || true) ≡ true
 or_true true = refl
 or_true false = refl
 
-named_first : (x n : ℕ) (xs ys : List ℕ) → has ys n ≡ true → (has xs n ≡ true → list_any (has ys) xs ≡ true) →
-    (b : Bool) → eqb x n ≡ b → (b || has xs n) ≡ true → (has ys x || list_any (has ys) xs) ≡ true
-named_first x n xs ys two rest true e h = ap (λ (b : Bool). b || list_any (has ys) xs)
-    (ap (has ys) (eqb-true x n e) ∙ two)
-named_first x n xs ys two rest false e h = ap (λ (b : Bool). has ys x || b) (rest h) ∙ or_true (has ys x)
-
 any_named : (xs ys : List ℕ) (n : ℕ) → has xs n ≡ true → has ys n ≡ true → list_any (has ys) xs ≡ true
 any_named [] ys n one two = absurd (cc one)
-any_named (x ∷ xs) ys n one two = named_first x n xs ys two (λ h. any_named xs ys n h two) (eqb x n) refl one
+any_named (x ∷ xs) ys n one two =
+    grind (arith, nat_tests, any_named xs ys n)
 
 abbrev AreNamed : List ℕ → List ℕ → Type 0
 AreNamed xs ys = (n : ℕ) × (has xs n ≡ true) × (has ys n ≡ true)
 
-some_first : (x : ℕ) (xs ys : List ℕ) → (list_any (has ys) xs ≡ true → AreNamed xs ys) → (b : Bool) → has ys x ≡ b →
-    (b || list_any (has ys) xs) ≡ true → AreNamed (x ∷ xs) ys
-some_first x xs ys rest true e h = (x, ap (λ (b : Bool). b || has xs x) (eq-eqb x x refl), e)
-some_first x xs ys rest false e h =
-    let (n, one, two) = rest h in
-    (n, ap (λ (b : Bool). eqb x n || b) one ∙ or_true (eqb x n), two)
-
 some_named : (xs ys : List ℕ) → list_any (has ys) xs ≡ true → AreNamed xs ys
 some_named [] ys h = absurd (cc h)
-some_named (x ∷ xs) ys h = some_first x xs ys (some_named xs ys) (has ys x) refl h
+some_named (x ∷ xs) ys h =
+    grind (arith, nat_tests, some_named xs ys)
 
 oneway_is : (a : Association) → is_oneway a ≡ true → a ≡ Oneway
 oneway_is Isolate h = absurd (cc h)
@@ -183,16 +158,11 @@ not_barred members x one two three four false five = rw (one, two, three, four, 
 
 -- ## Lists of triples
 
-checked_more : (members : List ℕ) (xs : List TopologyTriple) (i : ℕ) (d : TopologyTriple) → i < length xs →
-    check_triple members (get_or xs i d) ≡ Ok tt →
-    check_triples members (drop i xs) ≡ check_triples members (drop (i + 1) xs)
-checked_more members xs i d lt e = rw (drop_more xs i d lt, e) refl
-
 pub checked_to : (members : List ℕ) (xs : List TopologyTriple) (i : ℕ) (x d : TopologyTriple) → i < length xs →
     x ≡ get_or xs i d → check_triples members xs ≡ check_triples members (drop i xs) →
     check_triple members x ≡ Ok tt → check_triples members xs ≡ check_triples members (drop (i + 1) xs)
-checked_to members xs i x d lt is before e = before ∙
-    checked_more members xs i d lt (ap (check_triple members) (sym is) ∙ e)
+checked_to members xs i x d lt is before e =
+    grind (arith, nat_tests, ap (check_triple members) (sym is), drop_more xs i d lt)
 
 pub matched_push : (w : Registry) (c : ℕ) (members : List ℕ) (xs : List TopologyTriple) (ys : List Triple)
     (x : TopologyTriple) (y : Triple) → AreMatched w c members xs ys → IsMatched w c members x y →
@@ -222,11 +192,8 @@ none_overlaps (a ∷ ys) y none apart (suc i, x, lt, is, overlap) =
 
 pub has_still : (w : Registry) (old new : List RoomFlows) → KeepsPlaces old new → HasMembers w old → HasMembers w new
 has_still w old new keeps h = record {
-  each = λ n r p on. let says = h.each n r p on in record {
-    held = keeps.held p ∙ says.held;
-    talks = keeps.talkers p ∙ says.talks;
-    listens = keeps.listeners p ∙ says.listens;
-  };
+  each = λ n r p on.
+      grind (arith, nat_tests, h.each n r p on, keeps.held p, keeps.talkers p, keeps.listeners p);
   nobody = λ p held. h.nobody p (sym (keeps.held p) ∙ held);
 }
 
@@ -267,9 +234,7 @@ module _ (w : Registry) (c : ℕ) (members : List ℕ) (talker listener : ℕ) (
 not_named : (w : Registry) (c : ℕ) (names : List ℕ) (mask n : ℕ) (r : Record) → Matches w c names mask →
     record_at w n ≡ Some r → (r.context ≡ c → ⊥) → (b : Bool) → has names n ≡ b → b ≡ false
 not_named w c names mask n r m found elsewhere true e =
-    let (seat, is_seated) = m.named n e in
-    let (q, p, on, here, is) = is_seated in
-    absurd (elsewhere (ap (λ (x : Record). x.context) (one_record w n n r q found on.found refl) ∙ here))
+    grind (arith, nat_tests, m.named n e)
 not_named w c names mask n r m found elsewhere false e = refl
 
 nowhere : (a b c d : Bool) → a ≡ false → d ≡ false → ((a && b) || (c && d)) ≡ false
@@ -370,10 +335,5 @@ with_words w es = record w { edits = es }
 
 pub words_stand : (k : EngineState) (flows : List RoomFlows) (w : Gateway) (es : List ContextEdit) → StandsFor k w →
     Hears k.rooms flows es → StandsFor (record k { flows = flows }) (with_words w es)
-words_stand k flows w es h hears = record {
-  config = h.config;
-  rooms = h.rooms;
-  numbers = h.numbers;
-  media = h.media;
-  hears = hears;
-}
+words_stand k flows w es h hears =
+    grind (arith, nat_tests, h.config, h.rooms, h.numbers, h.media)

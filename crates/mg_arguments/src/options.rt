@@ -1,4 +1,4 @@
-ghost use Rattle.std.specs.Prelude.{◌≡◌, ◌∷◌, [], Err, IfErr, IfOk, Ok, codes, fold, if◌then◌else◌, map, take};
+ghost use Rattle.std.specs.Prelude.{◌≡◌, ◌∷◌, [], Err, IfErr, IfOk, Ok, codes, fold, if◌then◌else◌, map};
 ghost use Rattle.clap.specs.declared.error.kind.ErrorKind.TheVariants.{ValueValidation};
 ghost use Rattle.clap.specs.Words.{app_of, found_of, kind_of, rows_of, rule_of, with_rule};
 ghost use Rattle.mg_options.specs.Requested.{IsRefused};
@@ -49,9 +49,9 @@ fn file_option<'a>(alloc: Global, name: &'a str) -> Arg<'a>
     Arg::new(alloc, name).long(name).value_name("FILE")
 }
 
-/// Adds the options for a gateway's addresses and ports.
-fn with_ports<'a>(alloc: Global, command: Command<'a>) -> Result<Command<'a>, Error>
-    ensures app { IfOk result (λ with. app_of with ≡ fold with_rule (app_of command.entry) (take 5 options)) }
+/// Adds the options of a gateway, which every subcommand except `check` has.
+fn with_options<'a>(alloc: Global, command: Command<'a>) -> Result<Command<'a>, Error>
+    ensures app { IfOk result (λ with. app_of with ≡ fold with_rule (app_of command.entry) options) }
     ensures memory { IfErr result (λ error. kind_of error ≡ ErrorKind.OutOfMemory) }
 {
     let command = command
@@ -67,16 +67,7 @@ fn with_ports<'a>(alloc: Global, command: Command<'a>) -> Result<Command<'a>, Er
         ))?
         .arg(short_number(alloc, "slots").help(
             "Number of media ports, one per termination, 1–256 [default: 256]",
-        ))?;
-    Ok(command)
-}
-
-/// Adds the options of a gateway, which every subcommand except `check` has.
-fn with_options<'a>(alloc: Global, command: Command<'a>) -> Result<Command<'a>, Error>
-    ensures app { IfOk result (λ with. app_of with ≡ fold with_rule (app_of command.entry) options) }
-    ensures memory { IfErr result (λ error. kind_of error ≡ ErrorKind.OutOfMemory) }
-{
-    let command = with_ports(alloc, command)?
+        ))?
         .arg(long_number(alloc, "first-termination").help(
             "Number of the first termination, 1–4294967295 [default: 1]",
         ))?

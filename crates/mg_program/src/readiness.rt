@@ -41,16 +41,11 @@ impl Readiness {
     /// system's reports, so this call allocates nothing.
     pub fn new<N: Net>(net: &N, events: Events) -> io::Result<Self> {
         let poll = Poll::new(net)?;
-        Ok(Readiness::with(poll, events, ALL_READY))
-    }
-
-    /// Creates a state in which these sockets count as ready.
-    fn with(poll: Poll, events: Events, ready: [bool; SOCKETS]) -> Self {
-        Readiness {
+        Ok(Readiness {
             poll,
             events,
-            ready,
-        }
+            ready: ALL_READY,
+        })
     }
 
     /// Registers a slot's socket, so that the system reports when a datagram arrives.

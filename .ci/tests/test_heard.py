@@ -1,6 +1,7 @@
 """Who could hear whom, and when."""
 import subprocess
 import tempfile
+import unittest
 from pathlib import Path
 
 from media import description
@@ -269,6 +270,47 @@ class Formats(Commands):
         ):
             words = [f"--format={form}", "--listener=RTP/1", f"--at=2026-11-27T14:03:{time}"]
             self.ends(status, wanted, "", "heard", *words, text=TITLE + DATED)
+
+
+class Zones(Commands):
+    """The first caller stops hearing the second when summer time ends in Berlin, after one tick."""
+
+    CALL = TITLE + "# time 2026-10-25T00:59:59.98Z\n" + PAIR + "tick\n" + PART + "tick\n"
+    # The same at the beginning of summer time.
+    SPRING = CALL.replace("10-25", "03-29")
+
+    def heard(self, words, text, first, end):
+        """The first interval begins and ends at these times."""
+        row = f"heard,RTP/1,,RTP/2,,1,0,1,{first},{end}\n"
+        status, output, errors = run("heard", "--format=csv", *words, text=text)
+        self.assertEqual((status, output.splitlines(keepends=True)[1], errors), (0, row, ""))
+
+    def test_offsets(self):
+        for zone, first, end in (
+            ("UTC", "2026-10-25T00:59:59.98Z", "2026-10-25T01:00:00Z"),
+            ("+00:00", "2026-10-25T00:59:59.98+00:00", "2026-10-25T01:00:00+00:00"),
+            ("+01:00", "2026-10-25T01:59:59.98+01:00", "2026-10-25T02:00:00+01:00"),
+            ("-03:30", "2026-10-24T21:29:59.98-03:30", "2026-10-24T21:30:00-03:30"),
+            ("+23:59", "2026-10-26T00:58:59.98+23:59", "2026-10-26T00:59:00+23:59"),
+        ):
+            self.heard([f"--zone={zone}"], self.CALL, first, end)
+
+    @unittest.skipUnless(Path("/usr/share/zoneinfo/Europe/Berlin").exists(), "no time zones")
+    def test_summer_and_winter(self):
+        words = ["--zone=Europe/Berlin"]
+        self.heard(words, self.CALL, "2026-10-25T02:59:59.98+02:00", "2026-10-25T02:00:00+01:00")
+        self.heard(words, self.SPRING, "2026-03-29T01:59:59.98+01:00", "2026-03-29T03:00:00+02:00")
+        begins = "RTP/1 could hear RTP/2 in context 1 from 2026-10-25T02:59:59.98+02:00 (tick 0)"
+        ends = " until 2026-10-25T02:00:00+01:00 (tick 1)\n"
+        self.ends(0, begins + ends, "", "heard", *words, "--at=2026-10-25T02:59:59.98+02:00", text=self.CALL)
+        self.ends(1, begins + "\n", "", "heard", *words, "--never=RTP/2 -> RTP/1", text=self.CALL)
+
+    def test_bad_zones(self):
+        for zone in ("Europe/Atlantis", "../zoneinfo/UTC", "/usr/share/zoneinfo/UTC", "Europe", "zone.tab", "+1", "+24:00", "+01:60"):
+            for word in ("--format=text", "--at=2026-10-25T01:00:00Z", "--never=RTP/2 -> RTP/1"):
+                self.ends(6, "", f"{zone}: no such time zone\n", "heard", f"--zone={zone}", word, text=self.CALL)
+        for zone in ("", "x" * 65):
+            self.refuses("error: ", "heard", f"--zone={zone}")
 
 
 class Answers(Commands):

@@ -16,7 +16,9 @@ use Rattle.mg_heard.specs.declared.query.Query.{Query}
 use Rattle.mg_arguments.specs.declared.file_path_fault.FilePathFault.{FilePathFault}
 use Rattle.mg_arguments.specs.declared.invocation.Invocation.{Invocation}
 use Rattle.mg_arguments.specs.declared.invocation.Invocation.TheVariants.{Heard}
-use Rattle.mg_arguments.specs.Options.{file_in, format_of, heard_in, named_by, query_in, valid, valid_value}
+use Rattle.mg_arguments.specs.declared.printing.Printing.{Printing}
+use Rattle.mg_arguments.specs.Options.{file_in, format_of, heard_in, named_by, printing_in, query_in, valid, valid_value}
+use Rattle.mg_arguments.specs.ZoneName.{zone_name}
 
 abbrev read_by : {A : Type 0} → (Text → Option A) → Option Text → Result (Option A) Kinds
 read_by read text = option_map_or (λ t. valid_value (read t)) text (Ok None)
@@ -123,21 +125,50 @@ refuses_until rows listener talker from is heard begins none =
     at_from rows listener talker from is heard begins ∙
     ends (ValueValidation ∷ []) (named_by date_of_text (codes "to") rows) (with_until listener talker from) none
 
+-- ## How answers are printed
+
+abbrev with_zone : Option Format → Option Text → Result Printing Kinds
+with_zone format zone = Ok (record { format = unwrap_or format formats.Text; zone = zone })
+
+abbrev with_format : List Row → Option Format → Result Printing Kinds
+with_format rows format = named_by zone_name (codes "zone") rows >>= with_zone format
+
+at_format : (rows : List Row) (format : Option Format) → named_by format_of (codes "format") rows ≡ Ok format →
+    printing_in rows ≡ with_format rows format
+at_format rows format is = goes_on format (named_by format_of (codes "format") rows) (with_format rows) is
+
+pub printing_is : (rows : List Row) (format : Option Format) (zone : Option Text) →
+    named_by format_of (codes "format") rows ≡ Ok format → named_by zone_name (codes "zone") rows ≡ Ok zone →
+    printing_in rows ≡ with_zone format zone
+printing_is rows format zone is placed =
+    at_format rows format is ∙ goes_on zone (named_by zone_name (codes "zone") rows) (with_zone format) placed
+
+pub refuses_format : (rows : List Row) → named_by format_of (codes "format") rows ≡ Err (ValueValidation ∷ []) →
+    printing_in rows ≡ Err (ValueValidation ∷ [])
+refuses_format rows none =
+    ends (ValueValidation ∷ []) (named_by format_of (codes "format") rows) (with_format rows) none
+
+pub refuses_zone : (rows : List Row) (format : Option Format) → named_by format_of (codes "format") rows ≡ Ok format →
+    named_by zone_name (codes "zone") rows ≡ Err (ValueValidation ∷ []) → printing_in rows ≡ Err (ValueValidation ∷ [])
+refuses_zone rows format is none =
+    at_format rows format is ∙
+    ends (ValueValidation ∷ []) (named_by zone_name (codes "zone") rows) (with_zone format) none
+
 -- ## What is asked
 
-abbrev with_file : Query → Option Date → Option Format → Option Text → Result Invocation Kinds
-with_file query time format file = Ok (Heard (record {
+abbrev with_file : Query → Option Date → Printing → Option Text → Result Invocation Kinds
+with_file query time printing file = Ok (Heard (record {
   file = file;
-  format = unwrap_or format formats.Text;
+  printing = printing;
   query = query;
   at = time;
 }))
 
-abbrev with_format : List Row → Query → Option Date → Option Format → Result Invocation Kinds
-with_format rows query time format = valid (file_in (codes "file") rows) >>= with_file query time format
+abbrev with_printing : List Row → Query → Option Date → Printing → Result Invocation Kinds
+with_printing rows query time printing = valid (file_in (codes "file") rows) >>= with_file query time printing
 
 abbrev with_time : List Row → Query → Option Date → Result Invocation Kinds
-with_time rows query time = named_by format_of (codes "format") rows >>= with_format rows query time
+with_time rows query time = printing_in rows >>= with_printing rows query time
 
 abbrev with_query : List Row → Query → Result Invocation Kinds
 with_query rows query = named_by date_of_text (codes "at") rows >>= with_time rows query
@@ -151,20 +182,20 @@ at_time rows query time is timed =
     at_query rows query is ∙
     goes_on time (named_by date_of_text (codes "at") rows) (with_time rows query) timed
 
-at_format : (rows : List Row) (query : Query) (time : Option Date) (format : Option Format) →
+at_printing : (rows : List Row) (query : Query) (time : Option Date) (printing : Printing) →
     query_in rows ≡ Ok query → named_by date_of_text (codes "at") rows ≡ Ok time →
-    named_by format_of (codes "format") rows ≡ Ok format → heard_in rows ≡ with_format rows query time format
-at_format rows query time format is timed formed =
+    printing_in rows ≡ Ok printing → heard_in rows ≡ with_printing rows query time printing
+at_printing rows query time printing is timed formed =
     at_time rows query time is timed ∙
-    goes_on format (named_by format_of (codes "format") rows) (with_format rows query time) formed
+    goes_on printing (printing_in rows) (with_printing rows query time) formed
 
-pub heard_is : (rows : List Row) (query : Query) (time : Option Date) (format : Option Format) (file : Option Text) →
+pub heard_is : (rows : List Row) (query : Query) (time : Option Date) (printing : Printing) (file : Option Text) →
     query_in rows ≡ Ok query → named_by date_of_text (codes "at") rows ≡ Ok time →
-    named_by format_of (codes "format") rows ≡ Ok format → Ok file ≡ file_in (codes "file") rows →
-    heard_in rows ≡ with_file query time format file
-heard_is rows query time format file is timed formed named =
-    at_format rows query time format is timed formed ∙
-    goes_on file (valid (file_in (codes "file") rows)) (with_file query time format)
+    printing_in rows ≡ Ok printing → Ok file ≡ file_in (codes "file") rows →
+    heard_in rows ≡ with_file query time printing file
+heard_is rows query time printing file is timed formed named =
+    at_printing rows query time printing is timed formed ∙
+    goes_on file (valid (file_in (codes "file") rows)) (with_file query time printing)
     (ap (λ (r : Result (Option Text) FilePathFault). valid r) (sym named))
 
 pub refuses_query : (rows : List Row) → query_in rows ≡ Err (ValueValidation ∷ []) →
@@ -178,19 +209,19 @@ refuses_time rows query is none =
     at_query rows query is ∙
     ends (ValueValidation ∷ []) (named_by date_of_text (codes "at") rows) (with_time rows query) none
 
-pub refuses_format : (rows : List Row) (query : Query) (time : Option Date) → query_in rows ≡ Ok query →
+pub refuses_printing : (rows : List Row) (query : Query) (time : Option Date) → query_in rows ≡ Ok query →
     named_by date_of_text (codes "at") rows ≡ Ok time →
-    named_by format_of (codes "format") rows ≡ Err (ValueValidation ∷ []) →
+    printing_in rows ≡ Err (ValueValidation ∷ []) →
     heard_in rows ≡ Err (ValueValidation ∷ [])
-refuses_format rows query time is timed none =
+refuses_printing rows query time is timed none =
     at_time rows query time is timed ∙
-    ends (ValueValidation ∷ []) (named_by format_of (codes "format") rows) (with_format rows query time) none
+    ends (ValueValidation ∷ []) (printing_in rows) (with_printing rows query time) none
 
-pub refuses_file : (rows : List Row) (query : Query) (time : Option Date) (format : Option Format)
+pub refuses_file : (rows : List Row) (query : Query) (time : Option Date) (printing : Printing)
     (fault : FilePathFault) → query_in rows ≡ Ok query → named_by date_of_text (codes "at") rows ≡ Ok time →
-    named_by format_of (codes "format") rows ≡ Ok format → Err fault ≡ file_in (codes "file") rows →
+    printing_in rows ≡ Ok printing → Err fault ≡ file_in (codes "file") rows →
     heard_in rows ≡ Err (ValueValidation ∷ [])
-refuses_file rows query time format fault is timed formed none =
-    at_format rows query time format is timed formed ∙
-    ends (ValueValidation ∷ []) (valid (file_in (codes "file") rows)) (with_file query time format)
+refuses_file rows query time printing fault is timed formed none =
+    at_printing rows query time printing is timed formed ∙
+    ends (ValueValidation ∷ []) (valid (file_in (codes "file") rows)) (with_file query time printing)
     (ap (λ (r : Result (Option Text) FilePathFault). valid r) (sym none))

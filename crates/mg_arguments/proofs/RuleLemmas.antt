@@ -1,20 +1,19 @@
 -- The rules that were read so far, and those that are left; and what the options say about rules.
 use Rattle.std.proofs.Common.{◌≡◌, ◌∙◌, ◌+◌, ◌<◌, ℕ, Bool, true, false, List, [], ◌∷◌, ◌++◌, Option, Some, Result, Ok, Err, ap, append_assoc, codes, drop, get_or, length, map, refl, sym}
-use Rattle.std.specs.Prelude.{unwrap_or, if◌then◌else◌}
+use Rattle.std.specs.Prelude.{if◌then◌else◌}
 use Rattle.std.proofs.lemmas.List.{at_drop_more}
 use Rattle.clap.specs.Walk.{Row, Text}
 use Rattle.clap.specs.Kinds.{Kinds}
 use Rattle.clap.specs.declared.error.kind.ErrorKind.TheVariants.{ValueValidation}
 use Rattle.mg_words.specs.ResultSteps.{◌>>=◌}
 use Rattle.mg_heard.specs.Never.{rule_of}
-use Rattle.mg_heard.specs.declared.format.Format.{Format}
-use Rattle.mg_heard.specs.declared.format.Format.TheVariants as formats
 use Rattle.mg_heard.specs.declared.rule.Rule.{Rule}
 use Rattle.mg_arguments.specs.declared.file_path_fault.FilePathFault.{FilePathFault}
 use Rattle.mg_arguments.specs.declared.invocation.Invocation.{Invocation}
 use Rattle.mg_arguments.specs.declared.invocation.Invocation.TheVariants.{Watch}
+use Rattle.mg_arguments.specs.declared.printing.Printing.{Printing}
 use Rattle.mg_arguments.specs.declared.rule_fault.RuleFault.{RuleFault}
-use Rattle.mg_arguments.specs.Options.{file_in, format_of, named_by, rules_in, selects_part, valid, watch_in}
+use Rattle.mg_arguments.specs.Options.{file_in, printing_in, rules_in, selects_part, valid, watch_in}
 use Rattle.mg_arguments.specs.Rules.{all_stated}
 use Rattle.mg_arguments.proofs.HeardOptionLemmas.{ends, goes_on}
 
@@ -47,63 +46,63 @@ next_read now texts i d rule read lt is =
 
 -- ## What the options say
 
-abbrev answer : Bool → List Rule → Option Format → Option Text → Result Invocation Kinds
-answer part rules format file = if part then Err (ValueValidation ∷ []) else Ok (Watch (record {
+abbrev answer : Bool → List Rule → Printing → Option Text → Result Invocation Kinds
+answer part rules printing file = if part then Err (ValueValidation ∷ []) else Ok (Watch (record {
   file = file;
-  format = unwrap_or format formats.Text;
+  printing = printing;
   rules = rules;
 }))
 
-abbrev with_format : List Row → List Rule → Option Format → Result Invocation Kinds
-with_format rows rules format = valid (file_in (codes "file") rows) >>= answer (selects_part rows) rules format
+abbrev with_printing : List Row → List Rule → Printing → Result Invocation Kinds
+with_printing rows rules printing = valid (file_in (codes "file") rows) >>= answer (selects_part rows) rules printing
 
 abbrev with_rules : List Row → List Rule → Result Invocation Kinds
-with_rules rows rules = named_by format_of (codes "format") rows >>= with_format rows rules
+with_rules rows rules = printing_in rows >>= with_printing rows rules
 
 at_rules : (rows : List Row) (rules : List Rule) → Ok rules ≡ rules_in rows → watch_in rows ≡ with_rules rows rules
 at_rules rows rules is =
     goes_on rules (valid (rules_in rows)) (with_rules rows) (ap (λ (r : Result (List Rule) RuleFault). valid r) (sym is))
 
-at_format : (rows : List Row) (rules : List Rule) (format : Option Format) → Ok rules ≡ rules_in rows →
-    named_by format_of (codes "format") rows ≡ Ok format → watch_in rows ≡ with_format rows rules format
-at_format rows rules format is formed =
-    at_rules rows rules is ∙ goes_on format (named_by format_of (codes "format") rows) (with_format rows rules) formed
+at_printing : (rows : List Row) (rules : List Rule) (printing : Printing) → Ok rules ≡ rules_in rows →
+    printing_in rows ≡ Ok printing → watch_in rows ≡ with_printing rows rules printing
+at_printing rows rules printing is formed =
+    at_rules rows rules is ∙ goes_on printing (printing_in rows) (with_printing rows rules) formed
 
-at_file : (rows : List Row) (rules : List Rule) (format : Option Format) (file : Option Text) →
-    Ok rules ≡ rules_in rows → named_by format_of (codes "format") rows ≡ Ok format →
-    Ok file ≡ file_in (codes "file") rows → watch_in rows ≡ answer (selects_part rows) rules format file
-at_file rows rules format file is formed named =
-    at_format rows rules format is formed ∙ goes_on file (valid (file_in (codes "file") rows))
-    (answer (selects_part rows) rules format) (ap (λ (r : Result (Option Text) FilePathFault). valid r) (sym named))
+at_file : (rows : List Row) (rules : List Rule) (printing : Printing) (file : Option Text) →
+    Ok rules ≡ rules_in rows → printing_in rows ≡ Ok printing →
+    Ok file ≡ file_in (codes "file") rows → watch_in rows ≡ answer (selects_part rows) rules printing file
+at_file rows rules printing file is formed named =
+    at_printing rows rules printing is formed ∙ goes_on file (valid (file_in (codes "file") rows))
+    (answer (selects_part rows) rules printing) (ap (λ (r : Result (Option Text) FilePathFault). valid r) (sym named))
 
-pub watch_is : (rows : List Row) (rules : List Rule) (format : Option Format) (file : Option Text) →
-    Ok rules ≡ rules_in rows → named_by format_of (codes "format") rows ≡ Ok format →
+pub watch_is : (rows : List Row) (rules : List Rule) (printing : Printing) (file : Option Text) →
+    Ok rules ≡ rules_in rows → printing_in rows ≡ Ok printing →
     Ok file ≡ file_in (codes "file") rows → selects_part rows ≡ false →
-    watch_in rows ≡ Ok (Watch (record { file = file; format = unwrap_or format formats.Text; rules = rules }))
-watch_is rows rules format file is formed named whole =
-    at_file rows rules format file is formed named ∙ ap (λ (b : Bool). answer b rules format file) whole
+    watch_in rows ≡ Ok (Watch (record { file = file; printing = printing; rules = rules }))
+watch_is rows rules printing file is formed named whole =
+    at_file rows rules printing file is formed named ∙ ap (λ (b : Bool). answer b rules printing file) whole
 
-pub refuses_part : (rows : List Row) (rules : List Rule) (format : Option Format) (file : Option Text) →
-    Ok rules ≡ rules_in rows → named_by format_of (codes "format") rows ≡ Ok format →
+pub refuses_part : (rows : List Row) (rules : List Rule) (printing : Printing) (file : Option Text) →
+    Ok rules ≡ rules_in rows → printing_in rows ≡ Ok printing →
     Ok file ≡ file_in (codes "file") rows → selects_part rows ≡ true → watch_in rows ≡ Err (ValueValidation ∷ [])
-refuses_part rows rules format file is formed named part =
-    at_file rows rules format file is formed named ∙ ap (λ (b : Bool). answer b rules format file) part
+refuses_part rows rules printing file is formed named part =
+    at_file rows rules printing file is formed named ∙ ap (λ (b : Bool). answer b rules printing file) part
 
 pub refuses_rules : (rows : List Row) (fault : RuleFault) → Err fault ≡ rules_in rows →
     watch_in rows ≡ Err (ValueValidation ∷ [])
 refuses_rules rows fault none = ends (ValueValidation ∷ []) (valid (rules_in rows)) (with_rules rows)
     (ap (λ (r : Result (List Rule) RuleFault). valid r) (sym none))
 
-pub refuses_format_of : (rows : List Row) (rules : List Rule) → Ok rules ≡ rules_in rows →
-    named_by format_of (codes "format") rows ≡ Err (ValueValidation ∷ []) → watch_in rows ≡ Err (ValueValidation ∷ [])
-refuses_format_of rows rules is none =
+pub refuses_printing_of : (rows : List Row) (rules : List Rule) → Ok rules ≡ rules_in rows →
+    printing_in rows ≡ Err (ValueValidation ∷ []) → watch_in rows ≡ Err (ValueValidation ∷ [])
+refuses_printing_of rows rules is none =
     at_rules rows rules is ∙
-    ends (ValueValidation ∷ []) (named_by format_of (codes "format") rows) (with_format rows rules) none
+    ends (ValueValidation ∷ []) (printing_in rows) (with_printing rows rules) none
 
-pub refuses_file_of : (rows : List Row) (rules : List Rule) (format : Option Format) (fault : FilePathFault) →
-    Ok rules ≡ rules_in rows → named_by format_of (codes "format") rows ≡ Ok format →
+pub refuses_file_of : (rows : List Row) (rules : List Rule) (printing : Printing) (fault : FilePathFault) →
+    Ok rules ≡ rules_in rows → printing_in rows ≡ Ok printing →
     Err fault ≡ file_in (codes "file") rows → watch_in rows ≡ Err (ValueValidation ∷ [])
-refuses_file_of rows rules format fault is formed none =
-    at_format rows rules format is formed ∙
-    ends (ValueValidation ∷ []) (valid (file_in (codes "file") rows)) (answer (selects_part rows) rules format)
+refuses_file_of rows rules printing fault is formed none =
+    at_printing rows rules printing is formed ∙
+    ends (ValueValidation ∷ []) (valid (file_in (codes "file") rows)) (answer (selects_part rows) rules printing)
     (ap (λ (r : Result (Option Text) FilePathFault). valid r) (sym none))

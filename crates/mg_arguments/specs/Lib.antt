@@ -1,6 +1,7 @@
 pub mod Address
 pub mod Controllers
 pub mod Rules
+pub mod ZoneName
 pub mod Options
 pub mod Title
 pub mod Draws

@@ -28,6 +28,7 @@ use Rattle.mg_engine.specs.Config.{standard}
 use Rattle.mg_arguments.specs.declared.address.AddressFault.{AddressFault}
 use Rattle.mg_journal.specs.declared.durability.Durability.{Durability}
 use Rattle.mg_journal.specs.declared.durability.Durability.TheVariants.{Written, Synced}
+use Rattle.mg_arguments.specs.declared.printing.Printing.{Printing}
 use Rattle.mg_arguments.specs.declared.draws.Draws.{Draws}
 use Rattle.mg_arguments.specs.declared.given.Given.{Given}
 use Rattle.mg_arguments.specs.declared.invocation.Invocation.{Invocation}
@@ -42,6 +43,7 @@ use Rattle.mg_arguments.specs.FilePath.{file_path}
 use Rattle.mg_arguments.specs.declared.file_path_fault.FilePathFault.{FilePathFault}
 use Rattle.mg_arguments.specs.declared.rule_fault.RuleFault.{RuleFault}
 use Rattle.mg_arguments.specs.Rules.{rules_of}
+use Rattle.mg_arguments.specs.ZoneName.{zone_name}
 
 -- ## The command line
 
@@ -100,7 +102,7 @@ abbrev pub heard_line : App
 heard_line = fold with_rule (new_app (codes "heard"))
     (script_rule ∷ text_rule (codes "listener") ∷ text_rule (codes "talker") ∷ text_rule (codes "at")
     ∷ text_rule (codes "from") ∷ text_rule (codes "to") ∷ never_rule
-    ∷ text_rule (codes "format") ∷ [])
+    ∷ text_rule (codes "zone") ∷ text_rule (codes "format") ∷ [])
 
 -- the subcommand that checks seals
 abbrev pub verify_line : App
@@ -274,16 +276,23 @@ query_in found = do
   until ← named_by date_of_text (codes "to") found
   Ok (record { listener = listener; talker = talker; from = from; until = until })
 
+-- how answers about a script are printed
+abbrev pub printing_in : List Row → Result Printing Kinds
+printing_in found = do
+  format ← named_by format_of (codes "format") found
+  zone ← named_by zone_name (codes "zone") found
+  Ok (record { format = unwrap_or format formats.Text; zone = zone })
+
 -- what is asked about a script
 abbrev pub heard_in : List Row → Result Invocation Kinds
 heard_in found = do
   query ← query_in found
   time ← named_by date_of_text (codes "at") found
-  format ← named_by format_of (codes "format") found
+  printing ← printing_in found
   file ← valid (file_in (codes "file") found)
   Ok (Heard (record {
     file = file;
-    format = unwrap_or format formats.Text;
+    printing = printing;
     query = query;
     at = time;
   }))
@@ -302,11 +311,11 @@ rules_in found = rules_of (unwrap_or (all_of (codes "never") found) [])
 abbrev pub watch_in : List Row → Result Invocation Kinds
 watch_in found = do
   rules ← valid (rules_in found)
-  format ← named_by format_of (codes "format") found
+  printing ← printing_in found
   file ← valid (file_in (codes "file") found)
   if selects_part found then Err (ValueValidation ∷ []) else Ok (Watch (record {
     file = file;
-    format = unwrap_or format formats.Text;
+    printing = printing;
     rules = rules;
   }))
 

@@ -6,14 +6,17 @@ ghost use Rattle.clap.specs.Words.{app_of, found_of, kind_of, rows_of, rule_of};
 ghost use Rattle.mg_dates.specs.Dates.{date_of_text};
 ghost use Rattle.mg_heard.specs.Query.{party_name_of};
 ghost use Rattle.mg_options.specs.Line.{text_rule};
-ghost use Rattle.mg_arguments.specs.Options.{format_of, heard_in, heard_line, named_by, never_rule, query_in, rules_in, script_in, script_rule, selects_part, watch_in};
+ghost use Rattle.mg_arguments.specs.ZoneName.{zone_name};
+ghost use Rattle.mg_arguments.specs.Options.{format_of, heard_in, heard_line, named_by, never_rule, printing_in, query_in, rules_in, script_in, script_rule, selects_part, watch_in};
 
 use crate::heard_request::HeardRequest;
 use crate::invocation::Invocation;
 use crate::options::{file_of, is_given};
+use crate::printing::Printing;
 use crate::rule_fault::RuleFault;
 use crate::rules::Rules;
 use crate::watch_request::WatchRequest;
+use crate::zone_name::ZoneName;
 use clap::error::ErrorKind;
 use clap::{Arg, ArgAction, ArgMatches, Command, Error};
 use mg_dates::Date;
@@ -31,6 +34,8 @@ const NO_TIME: &str = "invalid value for '--at <TIME>': not a time such as 2026-
 const NO_FROM: &str = "invalid value for '--from <TIME>': not a time such as 2026-11-27T14:03:20Z";
 
 const NO_TO: &str = "invalid value for '--to <TIME>': not a time such as 2026-11-27T14:03:20Z";
+
+const NO_ZONE: &str = "invalid value for '--zone <ZONE>': empty, or longer than 64 bytes";
 
 const NO_FORMAT: &str = "invalid value for '--format <FORMAT>': not text, csv or json";
 
@@ -85,6 +90,9 @@ pub(crate) fn heard_command<'a>(alloc: Global) -> Result<Command<'a>, Error>
         .arg(option(alloc, "from", "TIME").help("Only what ended after this time"))?
         .arg(option(alloc, "to", "TIME").help("Only what began before this time"))?
         .arg(never_option(alloc))?
+        .arg(option(alloc, "zone", "ZONE").help(
+            "Print times in this time zone: an offset such as +01:00, or a name such as Europe/Berlin [default: UTC]",
+        ))?
         .arg(option(alloc, "format", "FORMAT").help("text, csv or json [default: text]"))?;
     Ok(command)
 }
@@ -158,6 +166,34 @@ fn given_format(matches: &ArgMatches<'_>) -> Result<Option<Format>, &'static str
     }
 }
 
+/// Returns the time zone that an option names, if it is given, or the error message.
+fn given_zone(matches: &ArgMatches<'_>) -> Result<Option<ZoneName>, &'static str>
+    ensures value { IfOk result (λ zone. named_by zone_name (codes "zone") (rows_of (found_of matches.now)) ≡ Ok zone) }
+    ensures refused { IfErr result (λ _. named_by zone_name (codes "zone") (rows_of (found_of matches.now)) ≡
+        Err (ValueValidation ∷ [])) }
+{
+    let Some(text) = matches.get_str("zone") else {
+        return Ok(None);
+    };
+    match ZoneName::of(text) {
+        Some(zone) => Ok(Some(zone)),
+        None => Err(NO_ZONE),
+    }
+}
+
+/// Returns how answers about a script are printed, or the error message.
+fn printing_in(matches: &ArgMatches<'_>) -> Result<Printing, &'static str>
+    ensures value { IfOk result (λ printing. printing_in (rows_of (found_of matches.now)) ≡ Ok printing) }
+    ensures refused { IfErr result (λ _. printing_in (rows_of (found_of matches.now)) ≡ Err (ValueValidation ∷ [])) }
+{
+    let format = given_format(matches)?;
+    let zone = given_zone(matches)?;
+    Ok(Printing {
+        format: format.unwrap_or(Format::Text),
+        zone,
+    })
+}
+
 /// Returns which intervals the options ask for, or the error message.
 fn query_in(matches: &ArgMatches<'_>) -> Result<Query, &'static str>
     ensures query { IfOk result (λ query. query_in (rows_of (found_of matches.now)) ≡ Ok query) }
@@ -182,14 +218,14 @@ fn heard_in(matches: &ArgMatches<'_>) -> Result<Invocation, &'static str>
 {
     let query = query_in(matches)?;
     let at = time_of("at", NO_TIME, matches)?;
-    let format = given_format(matches)?;
+    let printing = printing_in(matches)?;
     let file = match file_of("file", matches) {
         Ok(file) => file,
         Err(fault) => return Err(fault.script_message()),
     };
     Ok(Invocation::Heard(HeardRequest {
         file,
-        format: format.unwrap_or(Format::Text),
+        printing,
         query,
         at,
     }))
@@ -225,7 +261,7 @@ fn watch_in(matches: &ArgMatches<'_>) -> Result<Invocation, &'static str>
         Ok(rules) => rules,
         Err(fault) => return Err(fault.message()),
     };
-    let format = given_format(matches)?;
+    let printing = printing_in(matches)?;
     let file = match file_of("file", matches) {
         Ok(file) => file,
         Err(fault) => return Err(fault.script_message()),
@@ -235,7 +271,7 @@ fn watch_in(matches: &ArgMatches<'_>) -> Result<Invocation, &'static str>
     }
     Ok(Invocation::Watch(WatchRequest {
         file,
-        format: format.unwrap_or(Format::Text),
+        printing,
         rules,
     }))
 }

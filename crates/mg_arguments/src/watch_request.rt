@@ -1,12 +1,12 @@
 use crate::file_path::FilePath;
+use crate::printing::Printing;
 use crate::rules::Rules;
-use mg_heard::Format;
 
 /// Which rules a script must keep.
 #[derive(Drop)]
 pub struct WatchRequest {
     /// The script's file, or `None` for standard input.
     pub file: Option<FilePath>,
-    pub format: Format,
+    pub printing: Printing,
     pub rules: Rules,
 }

@@ -10,7 +10,7 @@
 //! ```
 //!
 //! A date is a comment with the time of day, such as `# time 2026-11-27T14:03:20.5Z` (RFC 3339). It says when the
-//! message or the ticks in the following lines happened.
+//! message or the ticks in the following lines happened. A [`Zone`] writes dates as text in a time zone.
 #![tactic(auto)]
 
 mod agreement;
@@ -18,9 +18,11 @@ mod date;
 mod date_text;
 mod dated_journal;
 mod timeline;
+mod zone;
 
 pub use crate::agreement::Agreement;
 pub use crate::date::{Date, TimeText};
 pub use crate::date_text::date_in;
 pub use crate::dated_journal::DatedJournal;
 pub use crate::timeline::Timeline;
+pub use crate::zone::Zone;

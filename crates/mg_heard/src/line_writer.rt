@@ -4,25 +4,25 @@ ghost use Rattle.mg_heard.specs.Lines.{head_of, IsLine, IsVerdictLine};
 ghost use Rattle.mg_heard.specs.Never.{violation_line};
 
 use crate::entry::Entry;
-use crate::format::Format;
 use crate::interval::Interval;
 use crate::line::{
     LINE_LIMIT, not_heard_line, push_entry, push_head, push_violation, unknown_line,
 };
+use crate::style::Style;
 use crate::verdict::Verdict;
 use crate::violation::Violation;
 use mg_core::Stopped;
-use mg_dates::{Date, TimeText};
+use mg_dates::{Date, TimeText, Zone};
 use mg_lines::write_whole;
 use mg_reply::Bytes;
 use std::alloc::{AllocError, Global};
 use std::io::Write;
 use std::marker::Model;
 
-/// Writes lines in a format, each as a whole. In contracts, it appears as the format.
+/// Writes lines in a style, each as a whole. In contracts, it appears as the format.
 #[derive(Drop)]
 pub(crate) struct LineWriter {
-    format: Format,
+    style: Style,
     line: Bytes,
 }
 
@@ -33,7 +33,7 @@ impl Model for LineWriter {
 
     ghost Value = { Format };
 
-    ghost view = { λ w. w.format };
+    ghost view = { λ w. w.style.format };
 
     ghost invariant = { λ w. w.line.room + length w.line.text ≡ LINE_LIMIT };
 }
@@ -46,10 +46,10 @@ fn dates_of(entry: &Entry) -> (Option<Date>, Option<Date>) {
     }
 }
 
-/// Returns the text of a date, or an empty text if there is none.
-fn text_of(date: Option<Date>) -> TimeText {
+/// Returns the text of a date in a time zone, or an empty text if there is none.
+fn text_of(date: Option<Date>, zone: &Zone) -> TimeText {
     match date {
-        Some(date) => date.text(),
+        Some(date) => zone.text(date),
         None => TimeText::new(),
     }
 }
@@ -66,33 +66,31 @@ fn write_text<W: Write>(text: &[u8], writer: &mut W) -> Result<(), Stopped>
 
 /// Writes a line for an entry.
 fn write_entry<W: Write>(
-    format: Format,
+    style: &Style,
     entry: &Entry,
     line: &mut Bytes,
     writer: &mut W,
 ) -> Result<(), Stopped>
     requires room { LINE_LIMIT ≤ line.old.room + length line.old.text }
     ensures room { line.new.room + length line.new.text ≡ line.old.room + length line.old.text }
-    ensures value { OnOk result ((text : List ℕ) × IsLine format entry.now text
+    ensures value { OnOk result ((text : List ℕ) × IsLine style.now.format entry.now text
         × Appends (W.contents writer.old) (W.contents writer.new) text) }
 {
     let (from, until) = dates_of(entry);
-    let from = text_of(from);
-    let until = text_of(until);
+    let from = text_of(from, &style.zone);
+    let until = text_of(until, &style.zone);
     line.clear();
-    push_entry(format, from.as_slice(), until.as_slice(), entry, line);
+    push_entry(style.format, from.as_slice(), until.as_slice(), entry, line);
     write_text(line.as_slice(), writer)
 }
 
 impl LineWriter {
     /// Creates a writer. No other call allocates.
-    pub(crate) fn new(alloc: Global, format: Format) -> Result<Self, AllocError>
-        ensures value { IfOk result (λ lines. lines ≡ format) }
+    pub(crate) fn new(alloc: Global, style: Style) -> Result<Self, AllocError>
+        ensures value { IfOk result (λ lines. lines ≡ style.format) }
     {
-        Ok(LineWriter {
-            format,
-            line: Bytes::new(alloc, LINE_LIMIT)?,
-        })
+        let line = Bytes::new(alloc, LINE_LIMIT)?;
+        Ok(LineWriter { style, line })
     }
 
     /// Writes what precedes all lines: the names of the columns in CSV, and nothing in the other formats.
@@ -101,7 +99,7 @@ impl LineWriter {
         ensures value { OnOk result (Appends (W.contents writer.old) (W.contents writer.new) (head_of self.old)) }
     {
         self.line.clear();
-        push_head(self.format, &mut self.line);
+        push_head(self.style.format, &mut self.line);
         write_text(self.line.as_slice(), writer)
     }
 
@@ -115,7 +113,7 @@ impl LineWriter {
         ensures value { OnOk result ((text : List ℕ) × IsLine self.old entry.now text
             × Appends (W.contents writer.old) (W.contents writer.new) text) }
     {
-        write_entry(self.format, entry, &mut self.line, writer)
+        write_entry(&self.style, entry, &mut self.line, writer)
     }
 
     /// Writes a line for the interval that is the answer to a question about a given time.
@@ -143,8 +141,8 @@ impl LineWriter {
     {
         match verdict {
             Verdict::CouldHear(interval) => self.write_interval(interval, writer),
-            Verdict::CouldNotHear => write_text(not_heard_line(self.format), writer),
-            Verdict::Unknown => write_text(unknown_line(self.format), writer),
+            Verdict::CouldNotHear => write_text(not_heard_line(self.style.format), writer),
+            Verdict::Unknown => write_text(unknown_line(self.style.format), writer),
         }
     }
 
@@ -157,9 +155,10 @@ impl LineWriter {
         ensures value { OnOk result ((time : List ℕ)
             × Appends (W.contents writer.old) (W.contents writer.new) (violation_line self.old time violation.now)) }
     {
-        let time = text_of(violation.at.date);
+        let time = text_of(violation.at.date, &self.style.zone);
         self.line.clear();
-        push_violation(self.format, time.as_slice(), violation, &mut self.line);
+        let format = self.style.format;
+        push_violation(format, time.as_slice(), violation, &mut self.line);
         write_text(self.line.as_slice(), writer)
     }
 }

@@ -7,12 +7,12 @@ ghost use Rattle.mg_heard.specs.Verdict.{verdict_at};
 ghost use Rattle.mg_heard.specs.declared.extent.Extent.{Extent};
 
 use crate::answering::hear_at;
-use crate::format::Format;
 use crate::heard_fault::HeardFault;
 use crate::hearing::hear;
 use crate::line_writer::LineWriter;
 use crate::query::Query;
 use crate::report::Report;
+use crate::style::Style;
 use crate::verdict::Verdict;
 use mg_core::Config;
 use mg_dates::Date;
@@ -43,16 +43,16 @@ pub fn write_report<R: Read, W: Write>(
     alloc: Global,
     config: Config,
     reader: &mut R,
-    format: Format,
+    style: Style,
     query: Query,
     writer: &mut W,
 ) -> Result<(), HeardFault>
     ensures report { IfOk result (λ _. (state : CoreState) ×
         IsFollowed config (R.remaining reader.old) (R.remaining reader.new) state
         (λ notes. TellsAll config notes
-        (WritesReport format query (W.contents writer.old) (W.contents writer.new)))) }
+        (WritesReport style.format query (W.contents writer.old) (W.contents writer.new)))) }
 {
-    let Ok(mut lines) = LineWriter::new(alloc, format) else {
+    let Ok(mut lines) = LineWriter::new(alloc, style) else {
         return Err(HeardFault::NoMemory);
     };
     if lines.write_head(writer).is_err() {
@@ -73,13 +73,13 @@ pub fn write_report<R: Read, W: Write>(
 /// Writes one line.
 fn write_verdict<W: Write>(
     alloc: Global,
-    format: Format,
+    style: Style,
     verdict: &Verdict,
     writer: &mut W,
 ) -> Result<(), HeardFault>
-    ensures value { IfOk result (λ _. WritesVerdict format verdict.now (W.contents writer.old) (W.contents writer.new)) }
+    ensures value { IfOk result (λ _. WritesVerdict style.format verdict.now (W.contents writer.old) (W.contents writer.new)) }
 {
-    let Ok(mut lines) = LineWriter::new(alloc, format) else {
+    let Ok(mut lines) = LineWriter::new(alloc, style) else {
         return Err(HeardFault::NoMemory);
     };
     match lines.write_verdict(verdict, writer) {
@@ -96,7 +96,7 @@ pub fn write_answer<R: Read, W: Write>(
     alloc: Global,
     config: Config,
     reader: &mut R,
-    format: Format,
+    style: Style,
     query: Query,
     time: Date,
     writer: &mut W,
@@ -105,9 +105,9 @@ pub fn write_answer<R: Read, W: Write>(
         IsFollowed config (R.remaining reader.old) (R.remaining reader.new) state
         (λ notes. TellsAll config notes (λ xs. verdict ≡ verdict_at query time extent xs))) }
     ensures written { IfOk result (λ verdict.
-        WritesVerdict format verdict (W.contents writer.old) (W.contents writer.new)) }
+        WritesVerdict style.format verdict (W.contents writer.old) (W.contents writer.new)) }
 {
     let verdict = hear_at(alloc, config, reader, query, time)?;
-    write_verdict(alloc, format, &verdict, writer)?;
+    write_verdict(alloc, style, &verdict, writer)?;
     Ok(verdict)
 }

@@ -1,11 +1,11 @@
 ghost use Rattle.std.specs.Prelude.{IfOk, Some};
 ghost use Rattle.mg_heard.specs.Never.{IsWatched, WritesViolation};
 
-use crate::format::Format;
 use crate::heard_fault::HeardFault;
 use crate::hearing::fault_of;
 use crate::line_writer::LineWriter;
 use crate::rule::Rule;
+use crate::style::Style;
 use crate::violation::Violation;
 use crate::watch::Watch;
 use mg_core::Config;
@@ -41,14 +41,14 @@ pub fn find_violation<R: Read>(
 /// Writes one line.
 fn write_line<W: Write>(
     alloc: Global,
-    format: Format,
+    style: Style,
     violation: &Violation,
     writer: &mut W,
 ) -> Result<(), HeardFault>
     ensures value { IfOk result (λ _.
-        WritesViolation format (Some violation.now) (W.contents writer.old) (W.contents writer.new)) }
+        WritesViolation style.format (Some violation.now) (W.contents writer.old) (W.contents writer.new)) }
 {
-    let Ok(mut lines) = LineWriter::new(alloc, format) else {
+    let Ok(mut lines) = LineWriter::new(alloc, style) else {
         return Err(HeardFault::NoMemory);
     };
     match lines.write_violation(violation, writer) {
@@ -63,18 +63,18 @@ pub fn write_violation<R: Read, W: Write>(
     alloc: Global,
     config: Config,
     reader: &mut R,
-    format: Format,
+    style: Style,
     rules: &[Rule],
     writer: &mut W,
 ) -> Result<Option<Violation>, HeardFault>
     ensures watched { IfOk result (λ found.
         IsWatched rules.now config (R.remaining reader.old) (R.remaining reader.new) found) }
     ensures written { IfOk result (λ found.
-        WritesViolation format found (W.contents writer.old) (W.contents writer.new)) }
+        WritesViolation style.format found (W.contents writer.old) (W.contents writer.new)) }
 {
     let Some(violation) = find_violation(alloc, config, reader, rules)? else {
         return Ok(None);
     };
-    write_line(alloc, format, &violation, writer)?;
+    write_line(alloc, style, &violation, writer)?;
     Ok(Some(violation))
 }

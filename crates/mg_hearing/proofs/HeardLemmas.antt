@@ -21,7 +21,8 @@ use Rattle.mg_heard.specs.Verdict.{verdict_at}
 use Rattle.mg_options.specs.declared.status.Status.{Status}
 use Rattle.mg_options.specs.declared.status.Status.TheVariants.{Done, CouldNotHear, Unknown}
 use Rattle.mg_options.specs.declared.status.Status.TheVariants.{Failed, NoMemory, BadJournal}
-use Rattle.mg_arguments.specs.declared.heard_request.HeardRequest.{HeardRequest}
+use Rattle.mg_options.specs.declared.status.Status.TheVariants as statuses
+use Rattle.mg_hearing.specs.declared.question.Question.{Question}
 use Rattle.mg_hearing.specs.Heard.{Hears, IsHeard, Prints, status_for}
 use Rattle.mg_arguments.specs.Title.{title_line}
 use Rattle.mg_arguments.specs.Title.{title_text}
@@ -72,11 +73,11 @@ answers_by (CouldHear x) = inl refl
 answers_by verdicts.CouldNotHear = inr (inl refl)
 answers_by verdicts.Unknown = inr (inr refl)
 
-answers : (request : HeardRequest) (time : Option Date) (old new : Option (List ℕ)) (status : Status)
-    (xs : List Entry) → Prints request time old new status xs → IsAnswer status
-answers request None old new status xs h = inl h.1
-answers request (Some time) old new status xs (extent, line, is) =
-    subst IsAnswer (sym is) (answers_by (verdict_at request.query time extent xs))
+answers : (asked : Question) (time : Option Date) (old new : Option (List ℕ)) (status : Status)
+    (xs : List Entry) → Prints asked time old new status xs → IsAnswer status
+answers asked None old new status xs h = inl h.1
+answers asked (Some time) old new status xs (extent, line, is) =
+    subst IsAnswer (sym is) (answers_by (verdict_at asked.query time extent xs))
 
 hears_of : (heard silent : Type 0) (status : Status) → IsAnswer status → heard × silent → Hears heard silent status
 hears_of heard silent status (inl is) h = subst (λ (s : Status). Hears heard silent s) (sym is) h
@@ -103,47 +104,47 @@ prints_more config input rest state P Q more h = record {
 }
 
 -- the line of the answer about a given time
-pub prints_answer : (request : HeardRequest) (at : Option Date) (time : Date) (config : Config)
+pub prints_answer : (asked : Question) (at : Option Date) (time : Date) (config : Config)
     (input rest old new : Option (List ℕ)) (verdict : Verdict) (status : Status) → at ≡ Some time →
-    WritesVerdict request.format verdict old new → status ≡ status_for verdict →
+    WritesVerdict asked.style.format verdict old new → status ≡ status_for verdict →
     ((state : CoreState) × (extent : Extent) × IsFollowed config input rest state
-    (λ notes. TellsAll config notes (λ xs. verdict ≡ verdict_at request.query time extent xs))) →
+    (λ notes. TellsAll config notes (λ xs. verdict ≡ verdict_at asked.query time extent xs))) →
     (state : CoreState) × IsFollowed config input rest state
-    (λ notes. TellsAll config notes (Prints request at old new status))
-prints_answer request at time config input rest old new verdict status asked written is (state, extent, h) = (
+    (λ notes. TellsAll config notes (Prints asked at old new status))
+prints_answer asked at time config input rest old new verdict status timed written is (state, extent, h) = (
   state,
-  prints_more config input rest state (λ xs. verdict ≡ verdict_at request.query time extent xs)
-      (Prints request at old new status)
-      (λ (xs : List Entry) (e : verdict ≡ verdict_at request.query time extent xs).
-      subst (λ (t : Option Date). Prints request t old new status xs) (sym asked) (
+  prints_more config input rest state (λ xs. verdict ≡ verdict_at asked.query time extent xs)
+      (Prints asked at old new status)
+      (λ (xs : List Entry) (e : verdict ≡ verdict_at asked.query time extent xs).
+      subst (λ (t : Option Date). Prints asked t old new status xs) (sym timed) (
         extent,
-        subst (λ (v : Verdict). WritesVerdict request.format v old new) e written,
+        subst (λ (v : Verdict). WritesVerdict asked.style.format v old new) e written,
         is ∙ ap (λ (v : Verdict). status_for v) e,
       )) h,
 )
 
 -- a line for each interval and each gap
-pub prints_report : (request : HeardRequest) (at : Option Date) (config : Config)
+pub prints_report : (asked : Question) (at : Option Date) (config : Config)
     (input rest old new : Option (List ℕ)) (status : Status) → at ≡ None → status ≡ Done →
     ((state : CoreState) × IsFollowed config input rest state
-    (λ notes. TellsAll config notes (WritesReport request.format request.query old new))) →
+    (λ notes. TellsAll config notes (WritesReport asked.style.format asked.query old new))) →
     (state : CoreState) × IsFollowed config input rest state
-    (λ notes. TellsAll config notes (Prints request at old new status))
-prints_report request at config input rest old new status asked is (state, h) = (
+    (λ notes. TellsAll config notes (Prints asked at old new status))
+prints_report asked at config input rest old new status timed is (state, h) = (
   state,
-  prints_more config input rest state (WritesReport request.format request.query old new)
-      (Prints request at old new status)
-      (λ (xs : List Entry) (written : WritesReport request.format request.query old new xs).
-      subst (λ (t : Option Date). Prints request t old new status xs) (sym asked) (written, is)) h,
+  prints_more config input rest state (WritesReport asked.style.format asked.query old new)
+      (Prints asked at old new status)
+      (λ (xs : List Entry) (written : WritesReport asked.style.format asked.query old new xs).
+      subst (λ (t : Option Date). Prints asked t old new status xs) (sym timed) (written, is)) h,
 )
 
 -- a script with its first line in front
-pub is_heard : (request : HeardRequest) (config : Config) (old mid : Option (List ℕ)) (front : List ℕ)
+pub is_heard : (asked : Question) (config : Config) (old mid : Option (List ℕ)) (front : List ℕ)
     (held written : Option (List ℕ)) (status : Status) → Consumes old mid front → front ≡ title_line config →
     ((rest : Option (List ℕ)) × (state : CoreState) × IsFollowed config (option_append (Some front) mid) rest state
-    (λ notes. TellsAll config notes (Prints request request.at held written status))) →
-    IsHeard request old held written status
-is_heard request config old mid front held written status first is (rest, state, h) = record {
+    (λ notes. TellsAll config notes (Prints asked asked.at held written status))) →
+    IsHeard asked old held written status
+is_heard asked config old mid front held written status first is (rest, state, h) = record {
   config = config;
   titled = titled old mid front (title_line config) first is;
   rest = rest;
@@ -158,11 +159,26 @@ is_heard request config old mid front held written status first is (rest, state,
   };
 }
 
-pub hears : (request : HeardRequest) (script old new : Option (List ℕ)) (silent : Type 0) (status : Status) →
-    IsHeard request script old new status → silent → Hears (IsHeard request script old new status) silent status
-hears request script old new silent status h quiet =
-    hears_of (IsHeard request script old new status) silent status
-    (answers request request.at old new status h.prints.follows.xs h.prints.follows.told) (h, quiet)
+pub hears : (asked : Question) (script old new : Option (List ℕ)) (silent : Type 0) (status : Status) →
+    IsHeard asked script old new status → silent → Hears (IsHeard asked script old new status) silent status
+hears asked script old new silent status h quiet =
+    hears_of (IsHeard asked script old new status) silent status
+    (answers asked asked.at old new status h.prints.follows.xs h.prints.follows.told) (h, quiet)
+
+-- what follows from what a run did, is true after it
+pub hears_more : (heard more silent quiet : Type 0) (status : Status) → (heard → more) → (silent → quiet) →
+    Hears heard silent status → Hears more quiet status
+hears_more heard more silent quiet Done f g (h, s) = (f h, g s)
+hears_more heard more silent quiet CouldNotHear f g (h, s) = (f h, g s)
+hears_more heard more silent quiet Unknown f g (h, s) = (f h, g s)
+hears_more heard more silent quiet statuses.RuleBroken f g (h, s) = (f h, g s)
+hears_more heard more silent quiet Failed f g h = h
+hears_more heard more silent quiet NoMemory f g h = h
+hears_more heard more silent quiet BadJournal f g h = h
+hears_more heard more silent quiet statuses.BadLine f g h = h
+hears_more heard more silent quiet statuses.Usage f g h = h
+hears_more heard more silent quiet statuses.NoAnswer f g h = h
+hears_more heard more silent quiet statuses.NoPort f g h = h
 
 -- a fault is no answer, and nothing is promised
 pub hears_fault : (heard silent : Type 0) (status : Status) →

@@ -7,18 +7,19 @@ use Rattle.mg_heard.specs.declared.violation.Violation.{Violation}
 use Rattle.mg_heard.specs.Never.{IsWatched, WritesViolation}
 use Rattle.mg_options.specs.declared.status.Status.{Status}
 use Rattle.mg_arguments.specs.declared.watch_request.WatchRequest.{WatchRequest}
+use Rattle.mg_hearing.specs.declared.alarm.Alarm.{Alarm}
 use Rattle.mg_arguments.specs.Title.{title_line}
 use Rattle.mg_hearing.specs.Heard.{Hears}
-use Rattle.mg_hearing.specs.Watched.{IsAnswered, status_for}
-use Rattle.mg_hearing.proofs.HeardLemmas.{read_all, titled}
+use Rattle.mg_hearing.specs.Watched.{IsAnswered, IsAnsweredFrom, IsSet, status_for}
+use Rattle.mg_hearing.proofs.HeardLemmas.{hears_more, read_all, titled}
 
 -- a script with its first line in front
-pub is_answered : (request : WatchRequest) (config : Config) (old mid rest : Option (List ℕ)) (front : List ℕ)
+pub is_answered : (alarm : Alarm) (config : Config) (old mid rest : Option (List ℕ)) (front : List ℕ)
     (held written : Option (List ℕ)) (found : Option Violation) (status : Status) → Consumes old mid front →
-    front ≡ title_line config → IsWatched request.rules config (option_append (Some front) mid) rest found →
-    WritesViolation request.format found held written → status ≡ status_for found →
-    IsAnswered request old held written status
-is_answered request config old mid rest front held written found status first is h line status_is = record {
+    front ≡ title_line config → IsWatched alarm.rules.items config (option_append (Some front) mid) rest found →
+    WritesViolation alarm.style.format found held written → status ≡ status_for found →
+    IsAnswered alarm old held written status
+is_answered alarm config old mid rest front held written found status first is h line status_is = record {
   config = config;
   titled = titled old mid front (title_line config) first is;
   rest = rest;
@@ -45,3 +46,12 @@ pub answers : (answered silent : Type 0) (found : Option Violation) (status : St
     answered → silent → Hears answered silent status
 answers answered silent None status is h quiet = subst (λ (s : Status). Hears answered silent s) (sym is) (h, quiet)
 answers answered silent (Some v) status is h quiet = subst (λ (s : Status). Hears answered silent s) (sym is) (h, quiet)
+
+-- what a request asks for, of what its alarm did
+pub answered_from : (request : WatchRequest) (alarm : Alarm) (script input old new : Option (List ℕ))
+    (silent quiet : Type 0) (status : Status) → IsSet request alarm → (request.file ≡ None → script ≡ input) →
+    (silent → quiet) → Hears (IsAnswered alarm script old new status) silent status →
+    Hears (IsAnsweredFrom request input old new status) quiet status
+answered_from request alarm script input old new silent quiet status set from more h =
+    hears_more (IsAnswered alarm script old new status) (IsAnsweredFrom request input old new status) silent quiet status
+    (λ a. (script, alarm, from, set, a)) more h

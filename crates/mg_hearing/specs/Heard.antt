@@ -18,6 +18,7 @@ use Rattle.mg_options.specs.declared.status.Status.TheVariants.{Done, CouldNotHe
 use Rattle.mg_options.specs.declared.status.Status.TheVariants.{Failed, NoMemory, BadJournal}
 use Rattle.mg_arguments.specs.declared.heard_request.HeardRequest.{HeardRequest}
 use Rattle.mg_arguments.specs.Title.{title_line}
+use Rattle.mg_hearing.specs.declared.question.Question.{Question}
 
 -- the exit status that answers a question about a given time
 abbrev pub status_for : Verdict → Status
@@ -28,31 +29,37 @@ status_for verdicts.Unknown = Unknown
 -- What is printed about the intervals and gaps of a script. Without a time, it is a line for each
 -- that is asked for. With one, it is the line of the answer that follows from them, and the status
 -- answers too. (No contract says that gaps, dates and the extent are those of the script.)
-abbrev pub Prints : HeardRequest → Option Date → (old new : Option (List ℕ)) → Status → List Entry
+abbrev pub Prints : Question → Option Date → (old new : Option (List ℕ)) → Status → List Entry
     → Type 0
-Prints request None old new status xs =
-    WritesReport request.format request.query old new xs × (status ≡ Done)
-Prints request (Some time) old new status xs =
+Prints asked None old new status xs =
+    WritesReport asked.style.format asked.query old new xs × (status ≡ Done)
+Prints asked (Some time) old new status xs =
     (extent : Extent)
-    × WritesVerdict request.format (verdict_at request.query time extent xs) old new
-    × (status ≡ status_for (verdict_at request.query time extent xs))
+    × WritesVerdict asked.style.format (verdict_at asked.query time extent xs) old new
+    × (status ≡ status_for (verdict_at asked.query time extent xs))
 
 -- A script was read to its end. It begins with the title of the configuration with which it is run,
 -- and what is printed is about all its intervals.
-pub record IsHeard (request : HeardRequest) (script old new : Option (List ℕ)) (status : Status)
+pub record IsHeard (asked : Question) (script old new : Option (List ℕ)) (status : Status)
     : Type 0 where
   pub config : Config
   pub titled : IfSome script (λ text. StartsWith text (title_line config))
   pub rest : Option (List ℕ)
   pub state : CoreState
   pub prints : IsFollowed config script rest state
-      (λ notes. TellsAll config notes (Prints request request.at old new status))
+      (λ notes. TellsAll config notes (Prints asked asked.at old new status))
+
+-- the question that a request asks, and the format that it names
+pub record IsAsked (request : HeardRequest) (asked : Question) : Type 0 where
+  pub format : asked.style.format ≡ request.printing.format
+  pub query : asked.query ≡ request.query
+  pub at : asked.at ≡ request.at
 
 -- Without a file, the script is the input. (No contract says what a file contains.)
 abbrev pub IsHeardFrom : HeardRequest → (input old new : Option (List ℕ)) → Status → Type 0
 IsHeardFrom request input old new status =
-    (script : Option (List ℕ)) × (request.file ≡ None → script ≡ input)
-    × IsHeard request script old new status
+    (script : Option (List ℕ)) × (asked : Question) × (request.file ≡ None → script ≡ input)
+    × IsAsked request asked × IsHeard asked script old new status
 
 -- What is true after a run, given its status. The statuses of answers aren't those of faults: a
 -- read or a write failed, memory ran out, or the script can't be used.

@@ -8,6 +8,7 @@ use Rattle.mg_options.specs.declared.status.Status.{Status}
 use Rattle.mg_options.specs.declared.status.Status.TheVariants.{Done, RuleBroken}
 use Rattle.mg_arguments.specs.declared.watch_request.WatchRequest.{WatchRequest}
 use Rattle.mg_arguments.specs.Title.{title_line}
+use Rattle.mg_hearing.specs.declared.alarm.Alarm.{Alarm}
 
 abbrev pub status_for : Option Violation → Status
 status_for None = Done
@@ -16,18 +17,23 @@ status_for (Some v) = RuleBroken
 -- A script begins with the title of the configuration with which it is run. It was read to its end,
 -- or until one of the rules was broken. Only the first violation is printed, and the status says
 -- whether there is one.
-pub record IsAnswered (request : WatchRequest) (script old new : Option (List ℕ)) (status : Status)
+pub record IsAnswered (alarm : Alarm) (script old new : Option (List ℕ)) (status : Status)
     : Type 0 where
   pub config : Config
   pub titled : IfSome script (λ text. StartsWith text (title_line config))
   pub rest : Option (List ℕ)
   pub found : Option Violation
-  pub watched : IsWatched request.rules config script rest found
-  pub written : WritesViolation request.format found old new
+  pub watched : IsWatched alarm.rules.items config script rest found
+  pub written : WritesViolation alarm.style.format found old new
   pub status_is : status ≡ status_for found
+
+-- the rules that a request states, and the format that it names
+pub record IsSet (request : WatchRequest) (alarm : Alarm) : Type 0 where
+  pub format : alarm.style.format ≡ request.printing.format
+  pub rules : alarm.rules.items ≡ request.rules
 
 -- Without a file, the script is the input. (No contract says what a file contains.)
 abbrev pub IsAnsweredFrom : WatchRequest → (input old new : Option (List ℕ)) → Status → Type 0
 IsAnsweredFrom request input old new status =
-    (script : Option (List ℕ)) × (request.file ≡ None → script ≡ input)
-    × IsAnswered request script old new status
+    (script : Option (List ℕ)) × (alarm : Alarm) × (request.file ≡ None → script ≡ input)
+    × IsSet request alarm × IsAnswered alarm script old new status

@@ -1,11 +1,13 @@
-ghost use Rattle.std.specs.Prelude.{◌≡◌, IfOk, IsSome, Option, List, ℕ};
+ghost use Rattle.std.specs.Prelude.{◌≡◌, ◌⊎◌, IfErr, IfOk, IsSome, OnOk, Option, List, ℕ};
 ghost use Rattle.mg_core.specs.Follow.{IsFollowed};
 ghost use Rattle.mg_core.specs.declared.state.CoreState.{CoreState};
 ghost use Rattle.mg_heard.specs.Told.{TellsAll};
-ghost use Rattle.mg_hearing.specs.Heard.{Hears, IsHeard, IsHeardFrom, Prints, status_for};
+ghost use Rattle.mg_hearing.specs.Heard.{Hears, IsAsked, IsHeard, IsHeardFrom, Prints, status_for};
 
 use crate::faults::{INPUT, report_fault};
+use crate::question::Question;
 use crate::script_title::read_title;
+use crate::styling::style_of;
 use mg_arguments::HeardRequest;
 use mg_core::Config;
 use mg_heard::{HeardFault, Verdict, write_answer, write_report};
@@ -25,42 +27,42 @@ fn status_for(verdict: &Verdict) -> Status
     }
 }
 
-/// Prints what a request asks about a script with this configuration. Returns the exit status.
+/// Prints the answer to a question about a script with this configuration. Returns the exit status.
 fn print_heard<R: Read, W: Write>(
     alloc: Global,
     config: Config,
-    request: &HeardRequest,
+    question: Question,
     reader: &mut R,
     output: &mut W,
 ) -> Result<Status, HeardFault>
     ensures value { IfOk result (λ status. (state : CoreState) ×
         IsFollowed config (R.remaining reader.old) (R.remaining reader.new) state
         (λ notes. TellsAll config notes
-        (Prints request.now request.now.at (W.contents output.old) (W.contents output.new) status))) }
+        (Prints question question.at (W.contents output.old) (W.contents output.new) status))) }
 {
-    let (format, query) = (request.format, request.query);
-    match request.at {
+    let Question { style, query, at } = question;
+    match at {
         Some(time) => {
-            let verdict = write_answer(alloc, config, reader, format, query, time, output)?;
+            let verdict = write_answer(alloc, config, reader, style, query, time, output)?;
             Ok(status_for(&verdict))
         }
         None => {
-            write_report(alloc, config, reader, format, query, output)?;
+            write_report(alloc, config, reader, style, query, output)?;
             Ok(Status::Done)
         }
     }
 }
 
-/// Prints what a request asks about the script with this name. A fault is reported to `errors`.
+/// Prints the answer to a question about the script with this name. A fault is reported to `errors`.
 fn hear_script<R: Read, W: Write, E: Write>(
     alloc: Global,
     name: &str,
-    request: &HeardRequest,
+    question: Question,
     reader: &mut R,
     output: &mut W,
     errors: &mut E,
 ) -> Status
-    ensures value { Hears (IsHeard request.now (R.remaining reader.old) (W.contents output.old) (W.contents output.new)
+    ensures value { Hears (IsHeard question (R.remaining reader.old) (W.contents output.old) (W.contents output.new)
         result) (errors.new ≡ errors.old) result }
 {
     let (line, config) = match read_title(alloc, name, reader, errors) {
@@ -68,9 +70,31 @@ fn hear_script<R: Read, W: Write, E: Write>(
         Err(status) => return status,
     };
     let mut script = line.as_slice().chain(reader);
-    match print_heard(alloc, config, request, &mut script, output) {
+    match print_heard(alloc, config, question, &mut script, output) {
         Ok(status) => status,
         Err(fault) => report_fault(name, fault, errors),
+    }
+}
+
+/// Returns the question that a request asks. If its answer can't be written, reports why to `errors`, and returns the
+/// exit status.
+fn question_of<F: Files, E: Write>(
+    files: &F,
+    alloc: Global,
+    request: &HeardRequest,
+    errors: &mut E,
+) -> Result<Question, Status>
+    ensures asked { IfOk result (IsAsked request.now) }
+    ensures silent { OnOk result (errors.new ≡ errors.old) }
+    ensures ends { IfErr result (λ status. status ≡ Status.BadJournal) }
+{
+    match style_of(files, alloc, &request.printing, errors) {
+        Ok(style) => Ok(Question {
+            style,
+            query: request.query,
+            at: request.at,
+        }),
+        Err(status) => Err(status),
     }
 }
 
@@ -88,12 +112,16 @@ pub fn heard<F: Files, R: Read, W: Write, E: Write>(
         (W.contents output.new) result) (errors.new ≡ errors.old) result }
     ensures unread { IsSome request.now.file → input.new ≡ input.old }
 {
+    let question = match question_of(files, alloc, request, errors) {
+        Ok(question) => question,
+        Err(status) => return status,
+    };
     let Some(path) = &request.file else {
-        return hear_script(alloc, INPUT, request, input, output, errors);
+        return hear_script(alloc, INPUT, question, input, output, errors);
     };
     let name = path.as_str();
     match OpenOptions::new().read(true).open(files, name) {
-        Ok(mut file) => hear_script(alloc, name, request, &mut file, output, errors),
+        Ok(mut file) => hear_script(alloc, name, question, &mut file, output, errors),
         Err(error) => {
             let _ = writeln!(errors, "{name}: cannot be opened: {error}");
             Status::BadJournal

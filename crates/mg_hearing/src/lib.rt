@@ -11,10 +11,13 @@
 //! `specs/Heard.antt` defines what is printed, and what the status answers.
 #![tactic(auto)]
 
+mod alarm;
 mod answering;
 mod faults;
 mod first_line;
+mod question;
 mod script_title;
+mod styling;
 mod watching;
 
 pub use crate::answering::heard;

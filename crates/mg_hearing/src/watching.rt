@@ -1,10 +1,12 @@
-ghost use Rattle.std.specs.Prelude.{◌≡◌, IfOk, IsSome, Option, List, ℕ};
+ghost use Rattle.std.specs.Prelude.{◌≡◌, ◌⊎◌, IfErr, IfOk, IsSome, OnOk, Option, List, ℕ};
 ghost use Rattle.mg_heard.specs.Never.{IsWatched, WritesViolation};
 ghost use Rattle.mg_hearing.specs.Heard.{Hears};
-ghost use Rattle.mg_hearing.specs.Watched.{IsAnswered, IsAnsweredFrom, status_for};
+ghost use Rattle.mg_hearing.specs.Watched.{IsAnswered, IsAnsweredFrom, IsSet, status_for};
 
+use crate::alarm::Alarm;
 use crate::faults::{INPUT, report_fault};
 use crate::script_title::read_title;
+use crate::styling::style_of;
 use mg_arguments::WatchRequest;
 use mg_heard::{Violation, write_violation};
 use mg_options::Status;
@@ -26,12 +28,12 @@ fn status_for(found: &Option<Violation>) -> Status
 fn watch_script<R: Read, W: Write, E: Write>(
     alloc: Global,
     name: &str,
-    request: &WatchRequest,
+    alarm: Alarm,
     reader: &mut R,
     output: &mut W,
     errors: &mut E,
 ) -> Status
-    ensures value { Hears (IsAnswered request.now (R.remaining reader.old) (W.contents output.old)
+    ensures value { Hears (IsAnswered alarm (R.remaining reader.old) (W.contents output.old)
         (W.contents output.new) result) (errors.new ≡ errors.old) result }
 {
     let (line, config) = match read_title(alloc, name, reader, errors) {
@@ -39,10 +41,31 @@ fn watch_script<R: Read, W: Write, E: Write>(
         Err(status) => return status,
     };
     let mut script = line.as_slice().chain(reader);
-    let rules = request.rules.as_slice();
-    match write_violation(alloc, config, &mut script, request.format, rules, output) {
+    let Alarm { style, rules } = alarm;
+    match write_violation(alloc, config, &mut script, style, rules.as_slice(), output) {
         Ok(found) => status_for(&found),
         Err(fault) => report_fault(name, fault, errors),
+    }
+}
+
+/// Returns the alarm that a request sets. If it can't be set, reports why to `errors`, and returns the exit status.
+fn alarm_of<F: Files, E: Write>(
+    files: &F,
+    alloc: Global,
+    request: &WatchRequest,
+    errors: &mut E,
+) -> Result<Alarm, Status>
+    ensures set { IfOk result (IsSet request.now) }
+    ensures silent { OnOk result (errors.new ≡ errors.old) }
+    ensures ends { IfErr result (λ status. (status ≡ Status.NoMemory) ⊎ (status ≡ Status.BadJournal)) }
+{
+    let Ok(rules) = Vec::from_slice(alloc, request.rules.as_slice()) else {
+        let _ = writeln!(errors, "out of memory");
+        return Err(Status::NoMemory);
+    };
+    match style_of(files, alloc, &request.printing, errors) {
+        Ok(style) => Ok(Alarm { style, rules }),
+        Err(status) => Err(status),
     }
 }
 
@@ -60,12 +83,16 @@ pub fn watch<F: Files, R: Read, W: Write, E: Write>(
         (W.contents output.new) result) (errors.new ≡ errors.old) result }
     ensures unread { IsSome request.now.file → input.new ≡ input.old }
 {
+    let alarm = match alarm_of(files, alloc, request, errors) {
+        Ok(alarm) => alarm,
+        Err(status) => return status,
+    };
     let Some(path) = &request.file else {
-        return watch_script(alloc, INPUT, request, input, output, errors);
+        return watch_script(alloc, INPUT, alarm, input, output, errors);
     };
     let name = path.as_str();
     match OpenOptions::new().read(true).open(files, name) {
-        Ok(mut file) => watch_script(alloc, name, request, &mut file, output, errors),
+        Ok(mut file) => watch_script(alloc, name, alarm, &mut file, output, errors),
         Err(error) => {
             let _ = writeln!(errors, "{name}: cannot be opened: {error}");
             Status::BadJournal

@@ -1,5 +1,5 @@
 use Rattle.clap.specs.Words.{found_of, rows_of}
-use Rattle.mg_arguments.proofs.HeardOptionLemmas.{heard_is, refuses_file, refuses_format, refuses_query, refuses_time}
+use Rattle.mg_arguments.proofs.HeardOptionLemmas.{heard_is, refuses_file, refuses_printing, refuses_query, refuses_time}
 use Rattle.mg_arguments.proofs.InvocationLemmas.{at_error}
 use Rattle.mg_arguments.proofs.heard_options.heard_in.Goals as goal
 
@@ -14,20 +14,20 @@ returns-in_err-at-clause-refused c =
     (refuses_time (rows_of (found_of c.args.matches.now)) c.in_ok-query.query c.in_ok-query.ensures.query
     c.in_err-at.ensures.refused)
 
-pub returns-in_err-format-clause-refused : goal.returns-in_err-format-clause-refused
-returns-in_err-format-clause-refused c =
-    at_error c.from_residual-in_err-format.result
-    (refuses_format (rows_of (found_of c.args.matches.now)) c.in_ok-query.query c.in_ok-at.at
-    c.in_ok-query.ensures.query c.in_ok-at.ensures.value c.in_err-format.ensures.refused)
+pub returns-in_err-printing-clause-refused : goal.returns-in_err-printing-clause-refused
+returns-in_err-printing-clause-refused c =
+    at_error c.from_residual-in_err-printing.result
+    (refuses_printing (rows_of (found_of c.args.matches.now)) c.in_ok-query.query c.in_ok-at.at
+    c.in_ok-query.ensures.query c.in_ok-at.ensures.value c.in_err-printing.ensures.refused)
 
 pub returns-in-Err-clause-refused : goal.returns-in-Err-clause-refused
 returns-in-Err-clause-refused c =
-    refuses_file (rows_of (found_of c.args.matches.now)) c.in_ok-query.query c.in_ok-at.at c.in_ok-format.format
-    c.in-Err.fault c.in_ok-query.ensures.query c.in_ok-at.ensures.value c.in_ok-format.ensures.value
+    refuses_file (rows_of (found_of c.args.matches.now)) c.in_ok-query.query c.in_ok-at.at c.in_ok-printing.printing
+    c.in-Err.fault c.in_ok-query.ensures.query c.in_ok-at.ensures.value c.in_ok-printing.ensures.value
     c.in-Err.ensures.value
 
 pub returns-clause-run : goal.returns-clause-run
 returns-clause-run c =
-    rw c.unwrap_or.ensures (heard_is (rows_of (found_of c.args.matches.now)) c.in_ok-query.query c.in_ok-at.at
-    c.in_ok-format.format c.in-Ok.file c.in_ok-query.ensures.query c.in_ok-at.ensures.value
-    c.in_ok-format.ensures.value c.in-Ok.ensures.value)
+    heard_is (rows_of (found_of c.args.matches.now)) c.in_ok-query.query c.in_ok-at.at c.in_ok-printing.printing
+    c.in-Ok.file c.in_ok-query.ensures.query c.in_ok-at.ensures.value c.in_ok-printing.ensures.value
+    c.in-Ok.ensures.value

@@ -1,31 +1,31 @@
 use Rattle.std.proofs.Common.{◌∙◌, sym}
 use Rattle.clap.specs.Words.{found_of, rows_of}
 use Rattle.mg_arguments.proofs.InvocationLemmas.{at_error}
-use Rattle.mg_arguments.proofs.RuleLemmas.{refuses_file_of, refuses_format_of, refuses_part, refuses_rules, watch_is}
+use Rattle.mg_arguments.proofs.RuleLemmas.{refuses_file_of, refuses_part, refuses_printing_of, refuses_rules, watch_is}
 use Rattle.mg_arguments.proofs.heard_options.watch_in.Goals as goal
 
 pub returns-in-Err-clause-refused : goal.returns-in-Err-clause-refused
 returns-in-Err-clause-refused c = refuses_rules (rows_of (found_of c.args.matches.now)) c.in-Err.fault c.in-Err.ensures.value
 
-pub returns-in_err-format-clause-refused : goal.returns-in_err-format-clause-refused
-returns-in_err-format-clause-refused c =
+pub returns-in_err-printing-clause-refused : goal.returns-in_err-printing-clause-refused
+returns-in_err-printing-clause-refused c =
     at_error c.from_residual.result
-    (refuses_format_of (rows_of (found_of c.args.matches.now)) c.in-Ok.rules c.in-Ok.ensures.value
-    c.in_err-format.ensures.refused)
+    (refuses_printing_of (rows_of (found_of c.args.matches.now)) c.in-Ok.rules c.in-Ok.ensures.value
+    c.in_err-printing.ensures.refused)
 
 pub returns-in-Err-file_of-clause-refused : goal.returns-in-Err-file_of-clause-refused
 returns-in-Err-file_of-clause-refused c =
-    refuses_file_of (rows_of (found_of c.args.matches.now)) c.in-Ok.rules c.in_ok-format.format c.in-Err-file_of.fault
-    c.in-Ok.ensures.value c.in_ok-format.ensures.value c.in-Err-file_of.ensures.value
+    refuses_file_of (rows_of (found_of c.args.matches.now)) c.in-Ok.rules c.in_ok-printing.printing
+    c.in-Err-file_of.fault c.in-Ok.ensures.value c.in_ok-printing.ensures.value c.in-Err-file_of.ensures.value
 
 pub returns-then-selects_part-clause-refused : goal.returns-then-selects_part-clause-refused
 returns-then-selects_part-clause-refused c =
-    refuses_part (rows_of (found_of c.args.matches.now)) c.in-Ok.rules c.in_ok-format.format c.in-Ok-file_of.file
-    c.in-Ok.ensures.value c.in_ok-format.ensures.value c.in-Ok-file_of.ensures.value
+    refuses_part (rows_of (found_of c.args.matches.now)) c.in-Ok.rules c.in_ok-printing.printing c.in-Ok-file_of.file
+    c.in-Ok.ensures.value c.in_ok-printing.ensures.value c.in-Ok-file_of.ensures.value
     (sym c.selects_part.ensures.value ∙ c.if-selects_part.true)
 
 pub returns-clause-run : goal.returns-clause-run
 returns-clause-run c =
-    rw c.unwrap_or.ensures (watch_is (rows_of (found_of c.args.matches.now)) c.in-Ok.rules c.in_ok-format.format
-    c.in-Ok-file_of.file c.in-Ok.ensures.value c.in_ok-format.ensures.value c.in-Ok-file_of.ensures.value
-    (sym c.selects_part.ensures.value ∙ c.if-selects_part.false))
+    watch_is (rows_of (found_of c.args.matches.now)) c.in-Ok.rules c.in_ok-printing.printing
+    c.in-Ok-file_of.file c.in-Ok.ensures.value c.in_ok-printing.ensures.value c.in-Ok-file_of.ensures.value
+    (sym c.selects_part.ensures.value ∙ c.if-selects_part.false)

@@ -20,17 +20,17 @@ returns g c =
     let now : Reported = record { format = last.lines.now; query = last.query; written = held last.writer.now } in
     let told = c.in_ok-report.ensures.reported in
     let name = c.in_ok-report.ensures.same_reference in
-    let formed : c.write_head.new.self ≡ c.args.format = c.write_head.ensures.same ∙ c.in-Ok.ensures.value in
-    let begins : Appends (held first.now) begun (head_of c.args.format) =
+    let formed : c.write_head.new.self ≡ c.args.style.format = c.write_head.ensures.same ∙ c.in-Ok.ensures.value in
+    let begins : Appends (held first.now) begun (head_of c.args.style.format) =
     subst (λ (f : Format). Appends (held first.now) begun (head_of f)) c.in-Ok.ensures.value
     (if_done c.write_head.result (sym c.is_err.ensures.value ∙ c.if-is_err.false) c.write_head.ensures.value) in
     let written : (state : CoreState) × IsFollowed c.args.config (g.R.Read.remaining c.args.reader.now)
     (g.R.Read.remaining c.hear_report.new.reader) state (λ notes. TellsAll c.args.config notes
-    (WritesReport c.args.format c.args.query (held first.now) (held last.writer.now))) =
+    (WritesReport c.args.style.format c.args.query (held first.now) (held last.writer.now))) =
     reported_all c.args.config (g.R.Read.remaining c.args.reader.now) (g.R.Read.remaining c.hear_report.new.reader)
     (HasReported start now)
-    (WritesReport c.args.format c.args.query (held first.now) (held last.writer.now))
-    (λ xs h. reported_whole c.args.format c.args.query (held first.now) start now xs formed refl begins h) told in
+    (WritesReport c.args.style.format c.args.query (held first.now) (held last.writer.now))
+    (λ xs h. reported_whole c.args.style.format c.args.query (held first.now) start now xs formed refl begins h) told in
     let (state, h) = written in
     let (text, are, bytes) = h.follows.told in
     record {

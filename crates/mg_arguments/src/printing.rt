@@ -1,0 +1,10 @@
+use crate::zone_name::ZoneName;
+use mg_heard::Format;
+
+/// How answers about a script are printed.
+#[derive(Drop)]
+pub struct Printing {
+    pub format: Format,
+    /// The time zone of the times, or `None` for UTC.
+    pub zone: Option<ZoneName>,
+}

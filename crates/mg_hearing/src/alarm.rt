@@ -1,0 +1,8 @@
+use mg_heard::{Rule, Style};
+
+/// Rules that a script must keep, and how a violation is written.
+#[derive(Drop)]
+pub(crate) struct Alarm {
+    pub(crate) style: Style,
+    pub(crate) rules: Vec<Rule>,
+}

@@ -1,4 +1,5 @@
 """Who could hear whom, and when."""
+import json
 import subprocess
 import tempfile
 import unittest
@@ -12,6 +13,10 @@ TITLE = (
     " --slots=256 --first-termination=1 --first-context=1 --ssrc=0 --sequence=0 --timestamp=0\n"
 )
 
+# The names of the columns.
+HEAD = (
+    "kind,listener,listener_at,talker,talker_at,context,first_tick,end_tick,from,until,listener_name,talker_name"
+)
 
 def say(number, actions):
     """The line of a message with one request."""
@@ -101,10 +106,11 @@ class Heard(Commands):
         ):
             words = [f"--never={rule}" for rule in rules]
             self.ends(status, wanted, "", "heard", *words, text=self.TITLE + self.CALL)
-        comma = "heard,RTP/1,192.0.2.7:40000,RTP/2,,1,0,,2026-11-27T14:03:20Z,\n"
+        comma = "heard,RTP/1,192.0.2.7:40000,RTP/2,,1,0,,2026-11-27T14:03:20Z,,,\n"
         self.ends(1, comma, "", "heard", "--never=* -> *", "--format=csv", text=self.TITLE + self.CALL)
         status, output, errors = run("heard", "--never=* -> *", "--format=json", text=self.TITLE + self.CALL)
-        self.assertEqual((status, output[:16], output[-15:], errors), (1, '{"kind":"heard",', ',"until":null}\n', ""))
+        end = ',"until":null,"listener_name":null,"talker_name":null}\n'
+        self.assertEqual((status, output[:16], output[-len(end) :], errors), (1, '{"kind":"heard",', end, ""))
 
     def test_never_later(self):
         start = self.TITLE + self.CALL.partition("tick\n")[0] + topology(2, "Isolate") + "tick\ntick\n"
@@ -200,16 +206,16 @@ class Intervals(Commands):
 
     def table(self, rows):
         """The report with these intervals, without times and Remotes: listener, talker, nothing, context and ticks."""
-        lines = ["kind,listener,listener_at,talker,talker_at,context,first_tick,end_tick,from,until"]
+        lines = [HEAD]
         for listener, talker, rest in (row.split(",", 2) for row in rows):
-            lines.append(f"heard,RTP/{listener},,RTP/{talker},{rest},,")
+            lines.append(f"heard,RTP/{listener},,RTP/{talker},{rest},,,,")
         return "".join(f"{line}\n" for line in lines)
 
     def test_remotes_are_named(self):
         at = "192.0.2.7:40000"
         wanted = self.table([]) + (
-            f"heard,RTP/1,,RTP/2,,1,0,1,,\nheard,RTP/2,,RTP/1,,1,0,1,,\n"
-            f"heard,RTP/1,{at},RTP/2,,1,1,,,\nheard,RTP/2,,RTP/1,{at},1,1,,,\n"
+            f"heard,RTP/1,,RTP/2,,1,0,1,,,,\nheard,RTP/2,,RTP/1,,1,0,1,,,,\n"
+            f"heard,RTP/1,{at},RTP/2,,1,1,,,,,\nheard,RTP/2,,RTP/1,{at},1,1,,,,,\n"
         )
         text = TITLE + PAIR + "tick\n" + REMOTE + "tick\n"
         self.ends(0, wanted, "", "heard", "--format=csv", text=text)
@@ -219,10 +225,10 @@ class Intervals(Commands):
         text += "tick\n# missed 3 ticks\ntick\ntick\ntick\n" + date(80) + "tick\n"
         hour = "2026-11-27T14:"
         wanted = (
-            f"heard,RTP/1,,RTP/2,,1,0,2,{hour}03:20Z,{hour}03:20.04Z\n"
-            f"gap,,,,,,3,6,{hour}03:20.06Z,{hour}03:20.12Z\n"
-            f"gap,,,,,,6,6,{hour}03:20.12Z,{hour}04:20Z\n"
-            f"heard,RTP/2,,RTP/1,,1,0,,{hour}03:20Z,\n"
+            f"heard,RTP/1,,RTP/2,,1,0,2,{hour}03:20Z,{hour}03:20.04Z,,\n"
+            f"gap,,,,,,3,6,{hour}03:20.06Z,{hour}03:20.12Z,,\n"
+            f"gap,,,,,,6,6,{hour}03:20.12Z,{hour}04:20Z,,\n"
+            f"heard,RTP/2,,RTP/1,,1,0,,{hour}03:20Z,,,\n"
         )
         self.ends(0, self.table([]) + wanted, "", "heard", "--format=csv", text=text)
         # The script covers the time until the end of its last tick.
@@ -239,15 +245,15 @@ class Formats(Commands):
             "RTP/2 could hear RTP/1 in context 1 from 2026-11-27T14:03:20Z (tick 0) until the end\n"
         )
         table = (
-            "kind,listener,listener_at,talker,talker_at,context,first_tick,end_tick,from,until\n"
-            "heard,RTP/1,,RTP/2,,1,0,2,2026-11-27T14:03:20Z,2026-11-27T14:03:20.04Z\n"
-            "gap,,,,,,3,5,2026-11-27T14:03:20.06Z,2026-11-27T14:03:20.1Z\n"
-            "heard,RTP/2,,RTP/1,,1,0,,2026-11-27T14:03:20Z,\n"
+            f"{HEAD}\n"
+            "heard,RTP/1,,RTP/2,,1,0,2,2026-11-27T14:03:20Z,2026-11-27T14:03:20.04Z,,\n"
+            "gap,,,,,,3,5,2026-11-27T14:03:20.06Z,2026-11-27T14:03:20.1Z,,\n"
+            "heard,RTP/2,,RTP/1,,1,0,,2026-11-27T14:03:20Z,,,\n"
         )
         second = (
             '{"kind":"gap","first_tick":3,"end_tick":5,"from":"2026-11-27T14:03:20.06Z","until":"2026-11-27T14:03:20.1Z"}\n'
             '{"kind":"heard","listener":"RTP/2","listener_at":null,"talker":"RTP/1","talker_at":null,"context":1,'
-            '"first_tick":0,"end_tick":null,"from":"2026-11-27T14:03:20Z","until":null}\n'
+            '"first_tick":0,"end_tick":null,"from":"2026-11-27T14:03:20Z","until":null,"listener_name":null,"talker_name":null}\n'
         )
         for words, wanted in (
             (["--format=text"], both),
@@ -262,9 +268,9 @@ class Formats(Commands):
             ("text", "20Z", 0, yes),
             ("text", "20.04Z", 1, "could not hear\n"),
             ("text", "20.06Z", 2, "not known\n"),
-            ("csv", "20.02Z", 0, "heard,RTP/1,,RTP/2,,1,0,2,2026-11-27T14:03:20Z,2026-11-27T14:03:20.04Z\n"),
-            ("csv", "20.04Z", 1, "not heard,,,,,,,,,\n"),
-            ("csv", "20.06Z", 2, "not known,,,,,,,,,\n"),
+            ("csv", "20.02Z", 0, "heard,RTP/1,,RTP/2,,1,0,2,2026-11-27T14:03:20Z,2026-11-27T14:03:20.04Z,,\n"),
+            ("csv", "20.04Z", 1, "not heard,,,,,,,,,,,\n"),
+            ("csv", "20.06Z", 2, "not known,,,,,,,,,,,\n"),
             ("json", "20.04Z", 1, '{"kind":"not heard"}\n'),
             ("json", "20.06Z", 2, '{"kind":"not known"}\n'),
         ):
@@ -281,7 +287,7 @@ class Zones(Commands):
 
     def heard(self, words, text, first, end):
         """The first interval begins and ends at these times."""
-        row = f"heard,RTP/1,,RTP/2,,1,0,1,{first},{end}\n"
+        row = f"heard,RTP/1,,RTP/2,,1,0,1,{first},{end},,\n"
         status, output, errors = run("heard", "--format=csv", *words, text=text)
         self.assertEqual((status, output.splitlines(keepends=True)[1], errors), (0, row, ""))
 
@@ -306,11 +312,140 @@ class Zones(Commands):
         self.ends(1, begins + "\n", "", "heard", *words, "--never=RTP/2 -> RTP/1", text=self.CALL)
 
     def test_bad_zones(self):
-        for zone in ("Europe/Atlantis", "../zoneinfo/UTC", "/usr/share/zoneinfo/UTC", "Europe", "zone.tab", "+1", "+24:00", "+01:60"):
+        paths = "../zoneinfo/UTC", "/usr/share/zoneinfo/UTC", "Europe", "zone.tab"
+        for zone in ("Europe/Atlantis", *paths, "+1", "+24:00", "+01:60"):
             for word in ("--format=text", "--at=2026-10-25T01:00:00Z", "--never=RTP/2 -> RTP/1"):
                 self.ends(6, "", f"{zone}: no such time zone\n", "heard", f"--zone={zone}", word, text=self.CALL)
         for zone in ("", "x" * 65):
             self.refuses("error: ", "heard", f"--zone={zone}")
+
+
+class Names(Commands):
+    """The two callers of `Heard.CALL`, with a file of names."""
+
+    TEXT = TITLE + Heard.CALL
+    # What is printed about the first caller and the second one.
+    FIRST, SECOND = Heard.FIRST, Heard.SECOND
+
+    def setUp(self):
+        folder = tempfile.TemporaryDirectory()
+        self.addCleanup(folder.cleanup)
+        self.path = f"{folder.name}/names.csv"
+        self.words = ["heard", f"--names={self.path}"]
+
+    def named(self, lines):
+        """Writes the file of names."""
+        Path(self.path).write_bytes(lines if isinstance(lines, bytes) else lines.encode())
+
+    def called(self, line, first, second):
+        """The line of text with these names of the callers."""
+        for number, name, at in ((1, first, " (192.0.2.7:40000)"), (2, second, "")):
+            if name:
+                inner = at.replace(" (", ", ").rstrip(")")
+                line = line.replace(f"RTP/{number}{at}", f"{name} (RTP/{number}{inner})")
+        return line
+
+    def test_text(self):
+        for lines, first, second in (
+            ("", "", ""),
+            ("RTP/2,Coach\n", "", "Coach"),
+            ("192.0.2.7,Customer\n", "Customer", ""),
+            ("192.0.2.7:40000,Customer\nRTP/2,Coach", "Customer", "Coach"),
+            # The first line that applies.
+            ("192.0.2.7:40001,a\n192.0.2.8,b\nRTP/1,c\n192.0.2.7,d\n", "c", ""),
+            ("192.0.2.7,d\nRTP/1,c\n", "d", ""),
+            # Quotes, other ends of lines, a byte order mark, and long names.
+            ('"RTP/1","Front, left"\r\nRTP/2,Zoë\r\n', "Front, left", "Zoë"),
+            ("\ufeffRTP/1,a -> b\n", "a -> b", ""),
+            (f"RTP/1,{'ö' * 32}\n", "ö" * 32, ""),
+        ):
+            self.named(lines)
+            both = self.called(self.FIRST, first, second) + self.called(self.SECOND, first, second)
+            self.ends(0, both, "", *self.words, text=self.TEXT)
+
+    def test_columns_and_members(self):
+        self.named("RTP/1,Customer\nRTP/2,Zoë O'Neill\n")
+        status, output, errors = run(*self.words, "--format=csv", text=self.TEXT)
+        rows = [row.split(",")[-2:] for row in output.splitlines()]
+        names = ['"Customer"', '"Zoë O\'Neill"']
+        self.assertEqual((status, rows, errors), (0, [["listener_name", "talker_name"], names, names[::-1]], ""))
+        status, output, errors = run(*self.words, "--format=json", text=self.TEXT)
+        found = [json.loads(line) for line in output.splitlines()]
+        names = [(it["listener_name"], it["talker_name"]) for it in found]
+        self.assertEqual((status, errors), (0, ""))
+        self.assertEqual(names, [("Customer", "Zoë O'Neill"), ("Zoë O'Neill", "Customer")])
+        self.named("RTP/2,Coach\n")
+        row = "heard,RTP/1,192.0.2.7:40000,RTP/2,,1,0,,2026-11-27T14:03:20Z,,,\"Coach\"\n"
+        self.ends(1, row, "", *self.words, "--never=* -> RTP/1", "--format=csv", text=self.TEXT)
+
+    def test_questions(self):
+        self.named("192.0.2.7,Customer\nRTP/2,Coach\nRTP/9,Customer\n192.0.2.9,Coach\nRTP/1,Other\n")
+        first, second = (self.called(it, "Customer", "Coach") for it in (self.FIRST, self.SECOND))
+        for words, wanted in (
+            (["--listener=Customer"], first),
+            (["--talker=Customer"], second),
+            (["--listener=Coach", "--talker=Customer"], second),
+            (["--listener=Coach", "--talker=RTP/2"], ""),
+            # A line that doesn't name a termination may still apply to it.
+            (["--listener=Other"], first),
+            (["--listener=192.0.2.7"], first),
+        ):
+            self.ends(0, wanted, "", *self.words, *words, text=self.TEXT)
+        self.ends(0, first, "", *self.words, "--at=2026-11-27T14:03:20Z", "--listener=Customer", text=self.TEXT)
+        # A name with two keys, of which the second one applies.
+        self.named("RTP/9,Staff\nRTP/2,Staff\nRTP/8,Staff\n")
+        self.ends(0, self.called(self.FIRST, "", "Staff"), "", *self.words, "--talker=Staff", text=self.TEXT)
+
+    def test_rules(self):
+        self.named("RTP/9,Front desk\nRTP/2,Front desk\n192.0.2.7,Customer > 1\n")
+        first, second = (
+            self.called(it, "Customer > 1", "Front desk").partition(" until ")[0] + "\n" for it in (self.FIRST, self.SECOND)
+        )
+        for rules, status, wanted in (
+            (["Front desk -> Customer > 1"], 1, first),
+            (["Front desk -> *"], 1, first),
+            (["RTP/1 -> Front desk"], 1, second),
+            (["Front desk -> Front desk", "* -> RTP/9"], 0, ""),
+        ):
+            self.ends(status, wanted, "", *self.words, *(f"--never={it}" for it in rules), text=self.TEXT)
+        # The first `>` belongs to the arrow.
+        self.refuses("error: ", *self.words, "--never=Customer > 1 -> *")
+
+    def test_unknown_names(self):
+        self.named("RTP/1,Customer\n")
+        for word in ("--listener=Coach", "--talker=Coach", "--never=* -> Coach", "--never=Coach -> *"):
+            message = f"{self.path}: no line has the name 'Coach'\n"
+            self.ends(6, "", message, *self.words, word, text=self.TEXT)
+        # Without a file, there are no names.
+        self.refuses("error: ", "heard", "--listener=Customer")
+        self.refuses("error: ", "heard", "--never=* -> Customer")
+
+    def test_bad_lines(self):
+        good = "RTP/1,Customer\n"
+        for lines, number in (
+            ("RTP/1\n", 1),
+            ("RTP/1,a,b\n", 1),
+            ("RTP/1,\n", 1),
+            ("RTP/x,a\n", 1),
+            ("192.0.2,a\n", 1),
+            ("\n" + good, 1),
+            (good + "\n" + good, 2),
+            (good + 'RTP/1,"a\nb"\n', 2),
+            (good + 'RTP/1,"a""b"\n', 2),
+            (good + "RTP/1,a\\b\n", 2),
+            (good + "RTP/1,a\tb\n", 2),
+            (good * 3 + "RTP/1,a\x7f", 4),
+            (good + f"RTP/1,{'a' * 65}\n", 2),
+            (b"RTP/1,\xe9\n", 1),
+        ):
+            self.named(lines)
+            self.refuses(f"{self.path}: line {number}: ", *self.words, status=6)
+        self.named(good * 1024)
+        self.ends(0, self.called(self.FIRST, "Customer", ""), "", *self.words, "--talker=RTP/2", text=self.TEXT)
+        self.named(good * 1025)
+        self.refuses(f"{self.path}: more than 1024 lines", *self.words, status=6)
+        self.refuses("none.csv: cannot be opened: ", "heard", "--names=none.csv", status=6)
+        self.refuses("error: ", "heard", "--names=")
 
 
 class Answers(Commands):

@@ -8,16 +8,15 @@ use Rattle.clap.specs.declared.error.kind.ErrorKind.TheVariants.{ValueValidation
 use Rattle.mg_words.specs.ResultSteps.{◌>>=◌}
 use Rattle.mg_dates.specs.Dates.{date_of_text}
 use Rattle.mg_dates.specs.declared.date.Date.{Date}
-use Rattle.mg_heard.specs.Query.{party_name_of}
 use Rattle.mg_heard.specs.declared.format.Format.{Format}
 use Rattle.mg_heard.specs.declared.format.Format.TheVariants as formats
-use Rattle.mg_heard.specs.declared.party_name.PartyName.{PartyName}
-use Rattle.mg_heard.specs.declared.query.Query.{Query}
+use Rattle.mg_heard.specs.declared.asked.Asked.{Asked}
+use Rattle.mg_heard.specs.declared.asked_query.AskedQuery.{AskedQuery}
 use Rattle.mg_arguments.specs.declared.file_path_fault.FilePathFault.{FilePathFault}
 use Rattle.mg_arguments.specs.declared.invocation.Invocation.{Invocation}
 use Rattle.mg_arguments.specs.declared.invocation.Invocation.TheVariants.{Heard}
 use Rattle.mg_arguments.specs.declared.printing.Printing.{Printing}
-use Rattle.mg_arguments.specs.Options.{file_in, format_of, heard_in, named_by, printing_in, query_in, valid, valid_value}
+use Rattle.mg_arguments.specs.Options.{asked_in, file_in, format_of, heard_in, named_by, printing_in, query_in, valid, valid_value}
 use Rattle.mg_arguments.specs.ZoneName.{zone_name}
 
 abbrev read_by : {A : Type 0} → (Text → Option A) → Option Text → Result (Option A) Kinds
@@ -47,45 +46,45 @@ ends {A = A} kinds read next is = ap (λ (r : Result A Kinds). r >>= next) is
 
 -- ## Which intervals
 
-abbrev with_until : (listener talker : Option PartyName) → (from until : Option Date) → Result Query Kinds
+abbrev with_until : (listener talker : Option Asked) → (from until : Option Date) → Result AskedQuery Kinds
 with_until listener talker from until =
     Ok (record { listener = listener; talker = talker; from = from; until = until })
 
-abbrev with_from : List Row → (listener talker : Option PartyName) → Option Date → Result Query Kinds
+abbrev with_from : List Row → (listener talker : Option Asked) → Option Date → Result AskedQuery Kinds
 with_from rows listener talker from =
     named_by date_of_text (codes "to") rows >>= with_until listener talker from
 
-abbrev with_talker : List Row → (listener talker : Option PartyName) → Result Query Kinds
+abbrev with_talker : List Row → (listener talker : Option Asked) → Result AskedQuery Kinds
 with_talker rows listener talker =
     named_by date_of_text (codes "from") rows >>= with_from rows listener talker
 
-abbrev with_listener : List Row → Option PartyName → Result Query Kinds
+abbrev with_listener : List Row → Option Asked → Result AskedQuery Kinds
 with_listener rows listener =
-    named_by party_name_of (codes "talker") rows >>= with_talker rows listener
+    named_by (asked_in rows) (codes "talker") rows >>= with_talker rows listener
 
-at_listener : (rows : List Row) (listener : Option PartyName) →
-    named_by party_name_of (codes "listener") rows ≡ Ok listener → query_in rows ≡ with_listener rows listener
+at_listener : (rows : List Row) (listener : Option Asked) →
+    named_by (asked_in rows) (codes "listener") rows ≡ Ok listener → query_in rows ≡ with_listener rows listener
 at_listener rows listener is =
-    goes_on listener (named_by party_name_of (codes "listener") rows) (with_listener rows) is
+    goes_on listener (named_by (asked_in rows) (codes "listener") rows) (with_listener rows) is
 
-at_talker : (rows : List Row) (listener talker : Option PartyName) →
-    named_by party_name_of (codes "listener") rows ≡ Ok listener →
-    named_by party_name_of (codes "talker") rows ≡ Ok talker → query_in rows ≡ with_talker rows listener talker
+at_talker : (rows : List Row) (listener talker : Option Asked) →
+    named_by (asked_in rows) (codes "listener") rows ≡ Ok listener →
+    named_by (asked_in rows) (codes "talker") rows ≡ Ok talker → query_in rows ≡ with_talker rows listener talker
 at_talker rows listener talker is heard =
     at_listener rows listener is ∙
-    goes_on talker (named_by party_name_of (codes "talker") rows) (with_talker rows listener) heard
+    goes_on talker (named_by (asked_in rows) (codes "talker") rows) (with_talker rows listener) heard
 
-at_from : (rows : List Row) (listener talker : Option PartyName) (from : Option Date) →
-    named_by party_name_of (codes "listener") rows ≡ Ok listener →
-    named_by party_name_of (codes "talker") rows ≡ Ok talker →
+at_from : (rows : List Row) (listener talker : Option Asked) (from : Option Date) →
+    named_by (asked_in rows) (codes "listener") rows ≡ Ok listener →
+    named_by (asked_in rows) (codes "talker") rows ≡ Ok talker →
     named_by date_of_text (codes "from") rows ≡ Ok from → query_in rows ≡ with_from rows listener talker from
 at_from rows listener talker from is heard begins =
     at_talker rows listener talker is heard ∙
     goes_on from (named_by date_of_text (codes "from") rows) (with_from rows listener talker) begins
 
-pub query_is : (rows : List Row) (listener talker : Option PartyName) (from until : Option Date) →
-    named_by party_name_of (codes "listener") rows ≡ Ok listener →
-    named_by party_name_of (codes "talker") rows ≡ Ok talker →
+pub query_is : (rows : List Row) (listener talker : Option Asked) (from until : Option Date) →
+    named_by (asked_in rows) (codes "listener") rows ≡ Ok listener →
+    named_by (asked_in rows) (codes "talker") rows ≡ Ok talker →
     named_by date_of_text (codes "from") rows ≡ Ok from → named_by date_of_text (codes "to") rows ≡ Ok until →
     query_in rows ≡ with_until listener talker from until
 query_is rows listener talker from until is heard begins lasts =
@@ -93,31 +92,31 @@ query_is rows listener talker from until is heard begins lasts =
     goes_on until (named_by date_of_text (codes "to") rows) (with_until listener talker from) lasts
 
 pub refuses_listener : (rows : List Row) →
-    named_by party_name_of (codes "listener") rows ≡ Err (ValueValidation ∷ []) →
+    named_by (asked_in rows) (codes "listener") rows ≡ Err (ValueValidation ∷ []) →
     query_in rows ≡ Err (ValueValidation ∷ [])
 refuses_listener rows none =
-    ends (ValueValidation ∷ []) (named_by party_name_of (codes "listener") rows) (with_listener rows) none
+    ends (ValueValidation ∷ []) (named_by (asked_in rows) (codes "listener") rows) (with_listener rows) none
 
-pub refuses_talker : (rows : List Row) (listener : Option PartyName) →
-    named_by party_name_of (codes "listener") rows ≡ Ok listener →
-    named_by party_name_of (codes "talker") rows ≡ Err (ValueValidation ∷ []) →
+pub refuses_talker : (rows : List Row) (listener : Option Asked) →
+    named_by (asked_in rows) (codes "listener") rows ≡ Ok listener →
+    named_by (asked_in rows) (codes "talker") rows ≡ Err (ValueValidation ∷ []) →
     query_in rows ≡ Err (ValueValidation ∷ [])
 refuses_talker rows listener is none =
     at_listener rows listener is ∙
-    ends (ValueValidation ∷ []) (named_by party_name_of (codes "talker") rows) (with_talker rows listener) none
+    ends (ValueValidation ∷ []) (named_by (asked_in rows) (codes "talker") rows) (with_talker rows listener) none
 
-pub refuses_from : (rows : List Row) (listener talker : Option PartyName) →
-    named_by party_name_of (codes "listener") rows ≡ Ok listener →
-    named_by party_name_of (codes "talker") rows ≡ Ok talker →
+pub refuses_from : (rows : List Row) (listener talker : Option Asked) →
+    named_by (asked_in rows) (codes "listener") rows ≡ Ok listener →
+    named_by (asked_in rows) (codes "talker") rows ≡ Ok talker →
     named_by date_of_text (codes "from") rows ≡ Err (ValueValidation ∷ []) →
     query_in rows ≡ Err (ValueValidation ∷ [])
 refuses_from rows listener talker is heard none =
     at_talker rows listener talker is heard ∙
     ends (ValueValidation ∷ []) (named_by date_of_text (codes "from") rows) (with_from rows listener talker) none
 
-pub refuses_until : (rows : List Row) (listener talker : Option PartyName) (from : Option Date) →
-    named_by party_name_of (codes "listener") rows ≡ Ok listener →
-    named_by party_name_of (codes "talker") rows ≡ Ok talker →
+pub refuses_until : (rows : List Row) (listener talker : Option Asked) (from : Option Date) →
+    named_by (asked_in rows) (codes "listener") rows ≡ Ok listener →
+    named_by (asked_in rows) (codes "talker") rows ≡ Ok talker →
     named_by date_of_text (codes "from") rows ≡ Ok from →
     named_by date_of_text (codes "to") rows ≡ Err (ValueValidation ∷ []) →
     query_in rows ≡ Err (ValueValidation ∷ [])
@@ -127,21 +126,32 @@ refuses_until rows listener talker from is heard begins none =
 
 -- ## How answers are printed
 
-abbrev with_zone : Option Format → Option Text → Result Printing Kinds
-with_zone format zone = Ok (record { format = unwrap_or format formats.Text; zone = zone })
+abbrev with_names : Option Format → (zone names : Option Text) → Result Printing Kinds
+with_names format zone names =
+    Ok (record { format = unwrap_or format formats.Text; zone = zone; names = names })
+
+abbrev with_zone : List Row → Option Format → Option Text → Result Printing Kinds
+with_zone rows format zone = valid (file_in (codes "names") rows) >>= with_names format zone
 
 abbrev with_format : List Row → Option Format → Result Printing Kinds
-with_format rows format = named_by zone_name (codes "zone") rows >>= with_zone format
+with_format rows format = named_by zone_name (codes "zone") rows >>= with_zone rows format
 
 at_format : (rows : List Row) (format : Option Format) → named_by format_of (codes "format") rows ≡ Ok format →
     printing_in rows ≡ with_format rows format
 at_format rows format is = goes_on format (named_by format_of (codes "format") rows) (with_format rows) is
 
-pub printing_is : (rows : List Row) (format : Option Format) (zone : Option Text) →
+at_zone : (rows : List Row) (format : Option Format) (zone : Option Text) →
     named_by format_of (codes "format") rows ≡ Ok format → named_by zone_name (codes "zone") rows ≡ Ok zone →
-    printing_in rows ≡ with_zone format zone
-printing_is rows format zone is placed =
-    at_format rows format is ∙ goes_on zone (named_by zone_name (codes "zone") rows) (with_zone format) placed
+    printing_in rows ≡ with_zone rows format zone
+at_zone rows format zone is placed =
+    at_format rows format is ∙ goes_on zone (named_by zone_name (codes "zone") rows) (with_zone rows format) placed
+
+pub printing_is : (rows : List Row) (format : Option Format) (zone names : Option Text) →
+    named_by format_of (codes "format") rows ≡ Ok format → named_by zone_name (codes "zone") rows ≡ Ok zone →
+    Ok names ≡ file_in (codes "names") rows → printing_in rows ≡ with_names format zone names
+printing_is rows format zone names is placed called =
+    at_zone rows format zone is placed ∙ goes_on names (valid (file_in (codes "names") rows)) (with_names format zone)
+    (ap (λ (r : Result (Option Text) FilePathFault). valid r) (sym called))
 
 pub refuses_format : (rows : List Row) → named_by format_of (codes "format") rows ≡ Err (ValueValidation ∷ []) →
     printing_in rows ≡ Err (ValueValidation ∷ [])
@@ -152,11 +162,19 @@ pub refuses_zone : (rows : List Row) (format : Option Format) → named_by forma
     named_by zone_name (codes "zone") rows ≡ Err (ValueValidation ∷ []) → printing_in rows ≡ Err (ValueValidation ∷ [])
 refuses_zone rows format is none =
     at_format rows format is ∙
-    ends (ValueValidation ∷ []) (named_by zone_name (codes "zone") rows) (with_zone format) none
+    ends (ValueValidation ∷ []) (named_by zone_name (codes "zone") rows) (with_zone rows format) none
+
+pub refuses_names : (rows : List Row) (format : Option Format) (zone : Option Text) (fault : FilePathFault) →
+    named_by format_of (codes "format") rows ≡ Ok format → named_by zone_name (codes "zone") rows ≡ Ok zone →
+    Err fault ≡ file_in (codes "names") rows → printing_in rows ≡ Err (ValueValidation ∷ [])
+refuses_names rows format zone fault is placed none =
+    at_zone rows format zone is placed ∙
+    ends (ValueValidation ∷ []) (valid (file_in (codes "names") rows)) (with_names format zone)
+    (ap (λ (r : Result (Option Text) FilePathFault). valid r) (sym none))
 
 -- ## What is asked
 
-abbrev with_file : Query → Option Date → Printing → Option Text → Result Invocation Kinds
+abbrev with_file : AskedQuery → Option Date → Printing → Option Text → Result Invocation Kinds
 with_file query time printing file = Ok (Heard (record {
   file = file;
   printing = printing;
@@ -164,32 +182,32 @@ with_file query time printing file = Ok (Heard (record {
   at = time;
 }))
 
-abbrev with_printing : List Row → Query → Option Date → Printing → Result Invocation Kinds
+abbrev with_printing : List Row → AskedQuery → Option Date → Printing → Result Invocation Kinds
 with_printing rows query time printing = valid (file_in (codes "file") rows) >>= with_file query time printing
 
-abbrev with_time : List Row → Query → Option Date → Result Invocation Kinds
+abbrev with_time : List Row → AskedQuery → Option Date → Result Invocation Kinds
 with_time rows query time = printing_in rows >>= with_printing rows query time
 
-abbrev with_query : List Row → Query → Result Invocation Kinds
+abbrev with_query : List Row → AskedQuery → Result Invocation Kinds
 with_query rows query = named_by date_of_text (codes "at") rows >>= with_time rows query
 
-at_query : (rows : List Row) (query : Query) → query_in rows ≡ Ok query → heard_in rows ≡ with_query rows query
+at_query : (rows : List Row) (query : AskedQuery) → query_in rows ≡ Ok query → heard_in rows ≡ with_query rows query
 at_query rows query is = goes_on query (query_in rows) (with_query rows) is
 
-at_time : (rows : List Row) (query : Query) (time : Option Date) → query_in rows ≡ Ok query →
+at_time : (rows : List Row) (query : AskedQuery) (time : Option Date) → query_in rows ≡ Ok query →
     named_by date_of_text (codes "at") rows ≡ Ok time → heard_in rows ≡ with_time rows query time
 at_time rows query time is timed =
     at_query rows query is ∙
     goes_on time (named_by date_of_text (codes "at") rows) (with_time rows query) timed
 
-at_printing : (rows : List Row) (query : Query) (time : Option Date) (printing : Printing) →
+at_printing : (rows : List Row) (query : AskedQuery) (time : Option Date) (printing : Printing) →
     query_in rows ≡ Ok query → named_by date_of_text (codes "at") rows ≡ Ok time →
     printing_in rows ≡ Ok printing → heard_in rows ≡ with_printing rows query time printing
 at_printing rows query time printing is timed formed =
     at_time rows query time is timed ∙
     goes_on printing (printing_in rows) (with_printing rows query time) formed
 
-pub heard_is : (rows : List Row) (query : Query) (time : Option Date) (printing : Printing) (file : Option Text) →
+pub heard_is : (rows : List Row) (query : AskedQuery) (time : Option Date) (printing : Printing) (file : Option Text) →
     query_in rows ≡ Ok query → named_by date_of_text (codes "at") rows ≡ Ok time →
     printing_in rows ≡ Ok printing → Ok file ≡ file_in (codes "file") rows →
     heard_in rows ≡ with_file query time printing file
@@ -202,14 +220,14 @@ pub refuses_query : (rows : List Row) → query_in rows ≡ Err (ValueValidation
     heard_in rows ≡ Err (ValueValidation ∷ [])
 refuses_query rows none = ends (ValueValidation ∷ []) (query_in rows) (with_query rows) none
 
-pub refuses_time : (rows : List Row) (query : Query) → query_in rows ≡ Ok query →
+pub refuses_time : (rows : List Row) (query : AskedQuery) → query_in rows ≡ Ok query →
     named_by date_of_text (codes "at") rows ≡ Err (ValueValidation ∷ []) →
     heard_in rows ≡ Err (ValueValidation ∷ [])
 refuses_time rows query is none =
     at_query rows query is ∙
     ends (ValueValidation ∷ []) (named_by date_of_text (codes "at") rows) (with_time rows query) none
 
-pub refuses_printing : (rows : List Row) (query : Query) (time : Option Date) → query_in rows ≡ Ok query →
+pub refuses_printing : (rows : List Row) (query : AskedQuery) (time : Option Date) → query_in rows ≡ Ok query →
     named_by date_of_text (codes "at") rows ≡ Ok time →
     printing_in rows ≡ Err (ValueValidation ∷ []) →
     heard_in rows ≡ Err (ValueValidation ∷ [])
@@ -217,7 +235,7 @@ refuses_printing rows query time is timed none =
     at_time rows query time is timed ∙
     ends (ValueValidation ∷ []) (printing_in rows) (with_printing rows query time) none
 
-pub refuses_file : (rows : List Row) (query : Query) (time : Option Date) (printing : Printing)
+pub refuses_file : (rows : List Row) (query : AskedQuery) (time : Option Date) (printing : Printing)
     (fault : FilePathFault) → query_in rows ≡ Ok query → named_by date_of_text (codes "at") rows ≡ Ok time →
     printing_in rows ≡ Ok printing → Err fault ≡ file_in (codes "file") rows →
     heard_in rows ≡ Err (ValueValidation ∷ [])

@@ -6,8 +6,8 @@ use Rattle.clap.specs.Walk.{Row, Text}
 use Rattle.clap.specs.Kinds.{Kinds}
 use Rattle.clap.specs.declared.error.kind.ErrorKind.TheVariants.{ValueValidation}
 use Rattle.mg_words.specs.ResultSteps.{◌>>=◌}
-use Rattle.mg_heard.specs.Never.{rule_of}
-use Rattle.mg_heard.specs.declared.rule.Rule.{Rule}
+use Rattle.mg_heard.specs.Asked.{rule_by}
+use Rattle.mg_heard.specs.declared.asked_rule.AskedRule.{AskedRule}
 use Rattle.mg_arguments.specs.declared.file_path_fault.FilePathFault.{FilePathFault}
 use Rattle.mg_arguments.specs.declared.invocation.Invocation.{Invocation}
 use Rattle.mg_arguments.specs.declared.invocation.Invocation.TheVariants.{Watch}
@@ -18,71 +18,71 @@ use Rattle.mg_arguments.specs.Rules.{all_stated}
 use Rattle.mg_arguments.proofs.HeardOptionLemmas.{ends, goes_on}
 
 -- rules that were read, and then those that are stated
-abbrev pub then_stated : List Rule → Result (List Rule) RuleFault → Result (List Rule) RuleFault
+abbrev pub then_stated : List AskedRule → Result (List AskedRule) RuleFault → Result (List AskedRule) RuleFault
 then_stated read (Ok stated) = Ok (read ++ stated)
 then_stated read (Err fault) = Err fault
 
-pub none_read : (stated : Result (List Rule) RuleFault) → then_stated [] stated ≡ stated
+pub none_read : (stated : Result (List AskedRule) RuleFault) → then_stated [] stated ≡ stated
 none_read (Ok stated) = refl
 none_read (Err fault) = refl
 
-with_one : (read : List Rule) (rule : Rule) (stated : Result (List Rule) RuleFault) →
+with_one : (read : List AskedRule) (rule : AskedRule) (stated : Result (List AskedRule) RuleFault) →
     then_stated read (stated >>= λ rules. Ok (rule ∷ rules)) ≡ then_stated (read ++ rule ∷ []) stated
 with_one read rule (Ok stated) = ap Ok (sym (append_assoc read (rule ∷ []) stated))
 with_one read rule (Err fault) = refl
 
-one_read : (read : List Rule) (text : List ℕ) (texts : List (List ℕ)) (rule : Rule) → rule_of text ≡ Some rule →
-    then_stated read (all_stated (text ∷ texts)) ≡ then_stated (read ++ rule ∷ []) (all_stated texts)
-one_read read text texts rule is = rw is (with_one read rule (all_stated texts))
+one_read : (has_names : Bool) (read : List AskedRule) (text : List ℕ) (texts : List (List ℕ)) (rule : AskedRule) → rule_by has_names text ≡ Some rule →
+    then_stated read (all_stated has_names (text ∷ texts)) ≡ then_stated (read ++ rule ∷ []) (all_stated has_names texts)
+one_read has_names read text texts rule is = rw is (with_one read rule (all_stated has_names texts))
 
 -- the next of some texts was read
-pub next_read : {X : Type 0} (now : X → List ℕ) (texts : List X) (i : ℕ) (d : X) (rule : Rule) (read : List Rule) →
-    i < length texts → rule_of (now (get_or texts i d)) ≡ Some rule →
-    then_stated read (all_stated (map now (drop i texts))) ≡
-    then_stated (read ++ rule ∷ []) (all_stated (map now (drop (i + 1) texts)))
-next_read now texts i d rule read lt is =
-    at_drop_more (λ rest. then_stated read (all_stated (map now rest))) texts i d lt ∙
-    one_read read (now (get_or texts i d)) (map now (drop (i + 1) texts)) rule is
+pub next_read : {X : Type 0} (has_names : Bool) (now : X → List ℕ) (texts : List X) (i : ℕ) (d : X) (rule : AskedRule) (read : List AskedRule) →
+    i < length texts → rule_by has_names (now (get_or texts i d)) ≡ Some rule →
+    then_stated read (all_stated has_names (map now (drop i texts))) ≡
+    then_stated (read ++ rule ∷ []) (all_stated has_names (map now (drop (i + 1) texts)))
+next_read has_names now texts i d rule read lt is =
+    at_drop_more (λ rest. then_stated read (all_stated has_names (map now rest))) texts i d lt ∙
+    one_read has_names read (now (get_or texts i d)) (map now (drop (i + 1) texts)) rule is
 
 -- ## What the options say
 
-abbrev answer : Bool → List Rule → Printing → Option Text → Result Invocation Kinds
+abbrev answer : Bool → List AskedRule → Printing → Option Text → Result Invocation Kinds
 answer part rules printing file = if part then Err (ValueValidation ∷ []) else Ok (Watch (record {
   file = file;
   printing = printing;
   rules = rules;
 }))
 
-abbrev with_printing : List Row → List Rule → Printing → Result Invocation Kinds
+abbrev with_printing : List Row → List AskedRule → Printing → Result Invocation Kinds
 with_printing rows rules printing = valid (file_in (codes "file") rows) >>= answer (selects_part rows) rules printing
 
-abbrev with_rules : List Row → List Rule → Result Invocation Kinds
+abbrev with_rules : List Row → List AskedRule → Result Invocation Kinds
 with_rules rows rules = printing_in rows >>= with_printing rows rules
 
-at_rules : (rows : List Row) (rules : List Rule) → Ok rules ≡ rules_in rows → watch_in rows ≡ with_rules rows rules
+at_rules : (rows : List Row) (rules : List AskedRule) → Ok rules ≡ rules_in rows → watch_in rows ≡ with_rules rows rules
 at_rules rows rules is =
-    goes_on rules (valid (rules_in rows)) (with_rules rows) (ap (λ (r : Result (List Rule) RuleFault). valid r) (sym is))
+    goes_on rules (valid (rules_in rows)) (with_rules rows) (ap (λ (r : Result (List AskedRule) RuleFault). valid r) (sym is))
 
-at_printing : (rows : List Row) (rules : List Rule) (printing : Printing) → Ok rules ≡ rules_in rows →
+at_printing : (rows : List Row) (rules : List AskedRule) (printing : Printing) → Ok rules ≡ rules_in rows →
     printing_in rows ≡ Ok printing → watch_in rows ≡ with_printing rows rules printing
 at_printing rows rules printing is formed =
     at_rules rows rules is ∙ goes_on printing (printing_in rows) (with_printing rows rules) formed
 
-at_file : (rows : List Row) (rules : List Rule) (printing : Printing) (file : Option Text) →
+at_file : (rows : List Row) (rules : List AskedRule) (printing : Printing) (file : Option Text) →
     Ok rules ≡ rules_in rows → printing_in rows ≡ Ok printing →
     Ok file ≡ file_in (codes "file") rows → watch_in rows ≡ answer (selects_part rows) rules printing file
 at_file rows rules printing file is formed named =
     at_printing rows rules printing is formed ∙ goes_on file (valid (file_in (codes "file") rows))
     (answer (selects_part rows) rules printing) (ap (λ (r : Result (Option Text) FilePathFault). valid r) (sym named))
 
-pub watch_is : (rows : List Row) (rules : List Rule) (printing : Printing) (file : Option Text) →
+pub watch_is : (rows : List Row) (rules : List AskedRule) (printing : Printing) (file : Option Text) →
     Ok rules ≡ rules_in rows → printing_in rows ≡ Ok printing →
     Ok file ≡ file_in (codes "file") rows → selects_part rows ≡ false →
     watch_in rows ≡ Ok (Watch (record { file = file; printing = printing; rules = rules }))
 watch_is rows rules printing file is formed named whole =
     at_file rows rules printing file is formed named ∙ ap (λ (b : Bool). answer b rules printing file) whole
 
-pub refuses_part : (rows : List Row) (rules : List Rule) (printing : Printing) (file : Option Text) →
+pub refuses_part : (rows : List Row) (rules : List AskedRule) (printing : Printing) (file : Option Text) →
     Ok rules ≡ rules_in rows → printing_in rows ≡ Ok printing →
     Ok file ≡ file_in (codes "file") rows → selects_part rows ≡ true → watch_in rows ≡ Err (ValueValidation ∷ [])
 refuses_part rows rules printing file is formed named part =
@@ -91,15 +91,15 @@ refuses_part rows rules printing file is formed named part =
 pub refuses_rules : (rows : List Row) (fault : RuleFault) → Err fault ≡ rules_in rows →
     watch_in rows ≡ Err (ValueValidation ∷ [])
 refuses_rules rows fault none = ends (ValueValidation ∷ []) (valid (rules_in rows)) (with_rules rows)
-    (ap (λ (r : Result (List Rule) RuleFault). valid r) (sym none))
+    (ap (λ (r : Result (List AskedRule) RuleFault). valid r) (sym none))
 
-pub refuses_printing_of : (rows : List Row) (rules : List Rule) → Ok rules ≡ rules_in rows →
+pub refuses_printing_of : (rows : List Row) (rules : List AskedRule) → Ok rules ≡ rules_in rows →
     printing_in rows ≡ Err (ValueValidation ∷ []) → watch_in rows ≡ Err (ValueValidation ∷ [])
 refuses_printing_of rows rules is none =
     at_rules rows rules is ∙
     ends (ValueValidation ∷ []) (printing_in rows) (with_printing rows rules) none
 
-pub refuses_file_of : (rows : List Row) (rules : List Rule) (printing : Printing) (fault : FilePathFault) →
+pub refuses_file_of : (rows : List Row) (rules : List AskedRule) (printing : Printing) (fault : FilePathFault) →
     Ok rules ≡ rules_in rows → printing_in rows ≡ Ok printing →
     Err fault ≡ file_in (codes "file") rows → watch_in rows ≡ Err (ValueValidation ∷ [])
 refuses_file_of rows rules printing fault is formed none =

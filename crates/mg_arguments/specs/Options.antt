@@ -20,9 +20,10 @@ use Rattle.mg_core.specs.declared.shown.Shown.TheVariants.{Sent, SentAndFlows}
 use Rattle.mg_dates.specs.Dates.{date_of_text}
 use Rattle.mg_heard.specs.declared.format.Format.{Format}
 use Rattle.mg_heard.specs.declared.format.Format.TheVariants as formats
-use Rattle.mg_heard.specs.declared.query.Query.{Query}
-use Rattle.mg_heard.specs.Query.{party_name_of}
-use Rattle.mg_heard.specs.declared.rule.Rule.{Rule as HeardRule}
+use Rattle.mg_heard.specs.declared.asked.Asked.{Asked}
+use Rattle.mg_heard.specs.declared.asked_query.AskedQuery.{AskedQuery}
+use Rattle.mg_heard.specs.declared.asked_rule.AskedRule.{AskedRule}
+use Rattle.mg_heard.specs.Asked.{asked_by}
 use Rattle.mg_engine.specs.declared.config.Config.{Config}
 use Rattle.mg_engine.specs.Config.{standard}
 use Rattle.mg_arguments.specs.declared.address.AddressFault.{AddressFault}
@@ -102,7 +103,7 @@ abbrev pub heard_line : App
 heard_line = fold with_rule (new_app (codes "heard"))
     (script_rule ∷ text_rule (codes "listener") ∷ text_rule (codes "talker") ∷ text_rule (codes "at")
     ∷ text_rule (codes "from") ∷ text_rule (codes "to") ∷ never_rule
-    ∷ text_rule (codes "zone") ∷ text_rule (codes "format") ∷ [])
+    ∷ text_rule (codes "zone") ∷ text_rule (codes "names") ∷ text_rule (codes "format") ∷ [])
 
 -- the subcommand that checks seals
 abbrev pub verify_line : App
@@ -267,11 +268,15 @@ format_of text =
     else (if bytes_eq text (codes "csv") then Some formats.Csv
     else (if bytes_eq text (codes "json") then Some formats.Json else None))
 
+-- how a text names terminations: by a key, or also by a name if a file of names is given
+abbrev pub asked_in : List Row → Text → Option Asked
+asked_in found = asked_by (is_given (codes "names") found)
+
 -- which intervals the options ask for
-abbrev pub query_in : List Row → Result Query Kinds
+abbrev pub query_in : List Row → Result AskedQuery Kinds
 query_in found = do
-  listener ← named_by party_name_of (codes "listener") found
-  talker ← named_by party_name_of (codes "talker") found
+  listener ← named_by (asked_in found) (codes "listener") found
+  talker ← named_by (asked_in found) (codes "talker") found
   from ← named_by date_of_text (codes "from") found
   until ← named_by date_of_text (codes "to") found
   Ok (record { listener = listener; talker = talker; from = from; until = until })
@@ -281,7 +286,8 @@ abbrev pub printing_in : List Row → Result Printing Kinds
 printing_in found = do
   format ← named_by format_of (codes "format") found
   zone ← named_by zone_name (codes "zone") found
-  Ok (record { format = unwrap_or format formats.Text; zone = zone })
+  names ← valid (file_in (codes "names") found)
+  Ok (record { format = unwrap_or format formats.Text; zone = zone; names = names })
 
 -- what is asked about a script
 abbrev pub heard_in : List Row → Result Invocation Kinds
@@ -304,8 +310,9 @@ selects_part found =
     || (is_given (codes "at") found || (is_given (codes "from") found
     || is_given (codes "to") found)))
 
-abbrev pub rules_in : List Row → Result (List HeardRule) RuleFault
-rules_in found = rules_of (unwrap_or (all_of (codes "never") found) [])
+abbrev pub rules_in : List Row → Result (List AskedRule) RuleFault
+rules_in found =
+    rules_of (is_given (codes "names") found) (unwrap_or (all_of (codes "never") found) [])
 
 -- the rules that a script must keep
 abbrev pub watch_in : List Row → Result Invocation Kinds

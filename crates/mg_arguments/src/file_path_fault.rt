@@ -28,6 +28,16 @@ impl FilePathFault {
         }
     }
 
+    /// Returns the error text for a file of names.
+    pub fn names_message(self) -> &'static str {
+        match self {
+            FilePathFault::Empty => "invalid value for '--names <FILE>': an empty path",
+            FilePathFault::TooLong => {
+                "invalid value for '--names <FILE>': a path of more than 4000 bytes"
+            }
+        }
+    }
+
     /// Returns the error text for the journal.
     pub fn journal_message(self) -> &'static str {
         match self {

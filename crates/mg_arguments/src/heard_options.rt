@@ -4,10 +4,9 @@ ghost use Rattle.std.specs.Prelude.{◌≡◌, ◌∷◌, [], Err, IfErr, IfOk, 
 ghost use Rattle.clap.specs.declared.error.kind.ErrorKind.TheVariants.{ValueValidation};
 ghost use Rattle.clap.specs.Words.{app_of, found_of, kind_of, rows_of, rule_of};
 ghost use Rattle.mg_dates.specs.Dates.{date_of_text};
-ghost use Rattle.mg_heard.specs.Query.{party_name_of};
 ghost use Rattle.mg_options.specs.Line.{text_rule};
 ghost use Rattle.mg_arguments.specs.ZoneName.{zone_name};
-ghost use Rattle.mg_arguments.specs.Options.{format_of, heard_in, heard_line, named_by, never_rule, printing_in, query_in, rules_in, script_in, script_rule, selects_part, watch_in};
+ghost use Rattle.mg_arguments.specs.Options.{asked_in, format_of, heard_in, heard_line, named_by, never_rule, printing_in, query_in, rules_in, script_in, script_rule, selects_part, watch_in};
 
 use crate::heard_request::HeardRequest;
 use crate::invocation::Invocation;
@@ -20,14 +19,14 @@ use crate::zone_name::ZoneName;
 use clap::error::ErrorKind;
 use clap::{Arg, ArgAction, ArgMatches, Command, Error};
 use mg_dates::Date;
-use mg_heard::{Format, PartyName, Query};
+use mg_heard::{Asked, AskedQuery, Format};
 use std::alloc::Global;
 
 const NO_LISTENER: &str =
-    "invalid value for '--listener <NAME>': not RTP/1, an IPv4 address, or an IPv4 address and a port";
+    "invalid value for '--listener <NAME>': not RTP/1, an IPv4 address with or without a port, or (with '--names') a name";
 
 const NO_TALKER: &str =
-    "invalid value for '--talker <NAME>': not RTP/1, an IPv4 address, or an IPv4 address and a port";
+    "invalid value for '--talker <NAME>': not RTP/1, an IPv4 address with or without a port, or (with '--names') a name";
 
 const NO_TIME: &str = "invalid value for '--at <TIME>': not a time such as 2026-11-27T14:03:20Z";
 
@@ -81,7 +80,7 @@ pub(crate) fn heard_command<'a>(alloc: Global) -> Result<Command<'a>, Error>
         .about("Say who could hear whom, and when, from a journal or a recording")
         .arg(script_argument(alloc))?
         .arg(option(alloc, "listener", "NAME").help(
-            "Only this listener: RTP/1, or the IPv4 address of its Remote, with or without the port",
+            "Only this listener: RTP/1, the IPv4 address of its Remote with or without the port, or a name",
         ))?
         .arg(option(alloc, "talker", "NAME").help("Only this talker"))?
         .arg(option(alloc, "at", "TIME").help(
@@ -93,24 +92,28 @@ pub(crate) fn heard_command<'a>(alloc: Global) -> Result<Command<'a>, Error>
         .arg(option(alloc, "zone", "ZONE").help(
             "Print times in this time zone: an offset such as +01:00, or a name such as Europe/Berlin [default: UTC]",
         ))?
+        .arg(option(alloc, "names", "FILE").help(
+            "CSV file with names: in each line RTP/1 or an address as for --listener, and a name",
+        ))?
         .arg(option(alloc, "format", "FORMAT").help("text, csv or json [default: text]"))?;
     Ok(command)
 }
 
-/// Returns the termination that an option names, if it is given, or the error message.
+/// Returns how an option names terminations, if it is given, or the error message.
 fn name_of(
     name: &str,
     message: &'static str,
     matches: &ArgMatches<'_>,
-) -> Result<Option<PartyName>, &'static str>
-    ensures value { IfOk result (λ party. named_by party_name_of name.now (rows_of (found_of matches.now)) ≡ Ok party) }
-    ensures refused { IfErr result (λ _. named_by party_name_of name.now (rows_of (found_of matches.now)) ≡
+) -> Result<Option<Asked>, &'static str>
+    ensures value { IfOk result (λ party. named_by (asked_in (rows_of (found_of matches.now))) name.now
+        (rows_of (found_of matches.now)) ≡ Ok party) }
+    ensures refused { IfErr result (λ _. named_by (asked_in (rows_of (found_of matches.now))) name.now (rows_of (found_of matches.now)) ≡
         Err (ValueValidation ∷ [])) }
 {
     let Some(text) = matches.get_str(name) else {
         return Ok(None);
     };
-    match PartyName::of(text.as_bytes()) {
+    match Asked::of(text.as_bytes(), is_given("names", matches)) {
         Some(party) => Ok(Some(party)),
         None => Err(message),
     }
@@ -188,14 +191,19 @@ fn printing_in(matches: &ArgMatches<'_>) -> Result<Printing, &'static str>
 {
     let format = given_format(matches)?;
     let zone = given_zone(matches)?;
+    let names = match file_of("names", matches) {
+        Ok(names) => names,
+        Err(fault) => return Err(fault.names_message()),
+    };
     Ok(Printing {
         format: format.unwrap_or(Format::Text),
         zone,
+        names,
     })
 }
 
 /// Returns which intervals the options ask for, or the error message.
-fn query_in(matches: &ArgMatches<'_>) -> Result<Query, &'static str>
+fn query_in(matches: &ArgMatches<'_>) -> Result<AskedQuery, &'static str>
     ensures query { IfOk result (λ query. query_in (rows_of (found_of matches.now)) ≡ Ok query) }
     ensures refused { IfErr result (λ _. query_in (rows_of (found_of matches.now)) ≡ Err (ValueValidation ∷ [])) }
 {
@@ -203,7 +211,7 @@ fn query_in(matches: &ArgMatches<'_>) -> Result<Query, &'static str>
     let talker = name_of("talker", NO_TALKER, matches)?;
     let from = time_of("from", NO_FROM, matches)?;
     let until = time_of("to", NO_TO, matches)?;
-    Ok(Query {
+    Ok(AskedQuery {
         listener,
         talker,
         from,
@@ -246,9 +254,10 @@ fn selects_part(matches: &ArgMatches<'_>) -> bool
 fn rules_of(matches: &ArgMatches<'_>) -> Result<Rules, RuleFault>
     ensures value { result ≡ rules_in (rows_of (found_of matches.now)) }
 {
+    let has_names = is_given("names", matches);
     match matches.get_strs("never") {
-        Some(texts) => Rules::of(texts),
-        None => Rules::of(&[]),
+        Some(texts) => Rules::of(texts, has_names),
+        None => Rules::of(&[], has_names),
     }
 }
 

@@ -1,3 +1,4 @@
+use crate::file_path::FilePath;
 use crate::zone_name::ZoneName;
 use mg_heard::Format;
 
@@ -7,4 +8,6 @@ pub struct Printing {
     pub format: Format,
     /// The time zone of the times, or `None` for UTC.
     pub zone: Option<ZoneName>,
+    /// The file with the names of terminations, or `None` for no names.
+    pub names: Option<FilePath>,
 }

@@ -12,7 +12,7 @@ impl RuleFault {
     pub fn message(self) -> &'static str {
         match self {
             RuleFault::Unreadable => {
-                "invalid value for '--never <RULE>': not 'TALKER -> LISTENER', where each is RTP/1, an IPv4 address with or without a port, or *"
+                "invalid value for '--never <RULE>': not 'TALKER -> LISTENER', where each is RTP/1, an IPv4 address with or without a port, (with '--names') a name, or *"
             }
             RuleFault::TooMany => "invalid value for '--never <RULE>': more than 64 rules",
         }

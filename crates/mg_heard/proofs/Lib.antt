@@ -14,6 +14,7 @@ pub mod AdvanceLemmas
 pub mod KeepingLemmas
 pub mod WatchLemmas
 pub mod FindingLemmas
+pub mod NameLemmas
 pub mod LineLemmas
 pub mod ReportLemmas
 pub mod ReportingLemmas

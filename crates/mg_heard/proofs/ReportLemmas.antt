@@ -4,21 +4,21 @@ use Rattle.std.specs.Io.KnownBytes.{Appends}
 use Rattle.std.proofs.KnownBytes.{Appends-trans}
 use Rattle.std.proofs.lemmas.List.{append-nil}
 use Rattle.mg_heard.specs.declared.entry.Entry.{Entry}
-use Rattle.mg_heard.specs.declared.format.Format.{Format}
+use Rattle.mg_heard.specs.declared.style.Style.{Style}
 use Rattle.mg_heard.specs.declared.query.Query.{Query}
 use Rattle.mg_heard.specs.Lines.{AreLines, IsLine}
 use Rattle.mg_heard.specs.Query.{selects_entry}
 use Rattle.mg_heard.specs.Reported.{HasReported, Reported}
 
 -- lines and one more
-lines_more : (format : Format) (xs : List Entry) (x : Entry) (text line : List ℕ) → AreLines format xs text →
-    IsLine format x line → AreLines format (xs ++ x ∷ []) (text ++ line)
-lines_more format [] x text line e is = (line, [], is, refl, ap (λ (l : List ℕ). l ++ line) e ∙ sym (append-nil line))
-lines_more format (y ∷ xs) x text line (first, others, one, rest, e) is = (
+lines_more : (style : Style) (xs : List Entry) (x : Entry) (text line : List ℕ) → AreLines style xs text →
+    IsLine style x line → AreLines style (xs ++ x ∷ []) (text ++ line)
+lines_more style [] x text line e is = (line, [], is, refl, ap (λ (l : List ℕ). l ++ line) e ∙ sym (append-nil line))
+lines_more style (y ∷ xs) x text line (first, others, one, rest, e) is = (
   first,
   others ++ line,
   one,
-  lines_more format xs x others line rest is,
+  lines_more style xs x others line rest is,
   ap (λ (l : List ℕ). l ++ line) e ∙ append_assoc first others line,
 )
 
@@ -36,7 +36,7 @@ only_one q x b e = ap (λ (b : Bool). cond b (x ∷ []) []) e
 
 -- an entry that is asked for
 pub reported_more : (start old : Reported) (before : List Entry) (x : Entry) (line : List ℕ) (new : Option (List ℕ)) →
-    selects_entry old.query x ≡ true → IsLine old.format x line → Appends old.written new line →
+    selects_entry old.query x ≡ true → IsLine old.style x line → Appends old.written new line →
     HasReported start old before → HasReported start (record old { written = new }) (before ++ x ∷ [])
 reported_more start old before x line new asked is writes h =
     let (text, lines, wrote) = h.lines in
@@ -44,13 +44,13 @@ reported_more start old before x line new asked is writes h =
     let all = filter_more q before x ∙ ap (λ (l : List Entry). filter q before ++ l)
     (only_one q x true (ap (λ (y : Query). selects_entry y x) (sym h.query) ∙ asked)) in
     record {
-      format = h.format;
+      style = h.style;
       query = h.query;
       lines = (
         text ++ line,
-        subst (λ (l : List Entry). AreLines start.format l (text ++ line)) (sym all)
-            (lines_more start.format (filter q before) x text line lines
-            (subst (λ (f : Format). IsLine f x line) h.format is)),
+        subst (λ (l : List Entry). AreLines start.style l (text ++ line)) (sym all)
+            (lines_more start.style (filter q before) x text line lines
+            (subst (λ (f : Style). IsLine f x line) h.style is)),
         Appends-trans start.written old.written new text line wrote writes,
       );
     }
@@ -65,15 +65,15 @@ reported_same start old before x other h =
     (only_one q x false (ap (λ (y : Query). selects_entry y x) (sym h.query) ∙ other))
     ∙ append-nil (filter q before) in
     record {
-      format = h.format;
+      style = h.style;
       query = h.query;
-      lines = (text, subst (λ (l : List Entry). AreLines start.format l text) (sym all) lines, wrote);
+      lines = (text, subst (λ (l : List Entry). AreLines start.style l text) (sym all) lines, wrote);
     }
 
 -- the same, unless the writer fails
 pub reported_more_on : {E : Type 0} (start old : Reported) (before : List Entry) (x : Entry) (new : Option (List ℕ))
     (result : Result (Unit {0}) E) → selects_entry old.query x ≡ true →
-    OnOk result ((line : List ℕ) × IsLine old.format x line × Appends old.written new line) →
+    OnOk result ((line : List ℕ) × IsLine old.style x line × Appends old.written new line) →
     HasReported start old before → OnOk result (HasReported start (record old { written = new }) (before ++ x ∷ []))
 reported_more_on start old before x new (Ok done) asked (line, is, writes) h =
     reported_more start old before x line new asked is writes h

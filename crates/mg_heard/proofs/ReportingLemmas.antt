@@ -1,13 +1,12 @@
 -- From what a sink was told to what was written.
-use Rattle.std.proofs.Common.{◌≡◌, ℕ, false, List, [], ◌++◌, Option, Result, Ok, Err, OnOk, filter, is_err, refl, subst}
+use Rattle.std.proofs.Common.{◌≡◌, ℕ, false, List, [], Option, Result, Ok, Err, OnOk, filter, is_err, refl, subst}
 use Rattle.std.specs.Io.KnownBytes.{Appends}
 use Rattle.std.proofs.KnownBytes.{Appends-nil, Appends-trans}
 use Rattle.mg_engine.specs.declared.config.Config.{Config}
 use Rattle.mg_core.specs.declared.state.CoreState.{CoreState}
 use Rattle.mg_core.specs.Follow.{IsFollowed}
-use Rattle.mg_core.specs.Note.{Note}
 use Rattle.mg_heard.specs.declared.entry.Entry.{Entry}
-use Rattle.mg_heard.specs.declared.format.Format.{Format}
+use Rattle.mg_heard.specs.declared.style.Style.{Style}
 use Rattle.mg_heard.specs.declared.query.Query.{Query}
 use Rattle.mg_heard.specs.Lines.{AreLines, head_of}
 use Rattle.mg_heard.specs.Query.{selects_entry}
@@ -22,21 +21,21 @@ if_done (Err error) ok x = absurd cc
 -- nothing was reported yet
 pub reported_none : (start : Reported) → HasReported start start []
 reported_none start = record {
-  format = refl;
+  style = refl;
   query = refl;
   lines = ([], refl, Appends-nil start.written);
 }
 
 -- the head and the lines are the report
-pub reported_whole : (format : Format) (query : Query) (old : Option (List ℕ)) (start now : Reported) (xs : List Entry) →
-    start.format ≡ format → start.query ≡ query → Appends old start.written (head_of format) →
-    HasReported start now xs → WritesReport format query old now.written xs
-reported_whole format query old start now xs formed asked begins h =
+pub reported_whole : (style : Style) (query : Query) (old : Option (List ℕ)) (start now : Reported) (xs : List Entry) →
+    start.style ≡ style → start.query ≡ query → Appends old start.written (head_of style.format) →
+    HasReported start now xs → WritesReport style query old now.written xs
+reported_whole style query old start now xs formed asked begins h =
     let (text, lines, wrote) = h.lines in (
       text,
-      subst (λ (f : Format). AreLines f (filter (selects_entry query) xs) text) formed
-          (subst (λ (q : Query). AreLines start.format (filter (selects_entry q) xs) text) asked lines),
-      Appends-trans old start.written now.written (head_of format) text begins wrote,
+      subst (λ (f : Style). AreLines f (filter (selects_entry query) xs) text) formed
+          (subst (λ (q : Query). AreLines start.style (filter (selects_entry q) xs) text) asked lines),
+      Appends-trans old start.written now.written (head_of style.format) text begins wrote,
     )
 
 -- what was written, once a script was followed

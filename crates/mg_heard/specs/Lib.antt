@@ -6,6 +6,8 @@ pub mod Maximal
 pub mod Laws
 pub mod Told
 pub mod Query
+pub mod Names
+pub mod Asked
 pub mod Verdict
 pub mod Lines
 pub mod Reported

@@ -2,7 +2,7 @@
 -- objects (JSON, RFC 8259). No definition says what the text of a date is, because none says what
 -- `jiff` writes. So the texts of a line's two dates are parameters.
 use Rattle.std.specs.Prelude.{◌≡◌, ℕ, ◌∷◌, ◌++◌, List, [], filter, Option, Some, None, codes}
-use Rattle.std.specs.Prelude.{decimal}
+use Rattle.std.specs.Prelude.{decimal, length, ◌==◌, if◌then◌else◌}
 use Rattle.std.specs.Io.KnownBytes.{Appends}
 use Rattle.std.specs.Prelude.{option_and_then}
 use Rattle.mg_words.specs.Term.{rtp_name}
@@ -15,9 +15,13 @@ use Rattle.mg_heard.specs.declared.format.Format.{Format}
 use Rattle.mg_heard.specs.declared.format.Format.TheVariants.{Text, Csv, Json}
 use Rattle.mg_heard.specs.declared.interval.Interval.{Interval}
 use Rattle.mg_heard.specs.declared.moment.Moment.{Moment}
+use Rattle.mg_heard.specs.declared.named.Named.{Named}
+use Rattle.mg_heard.specs.declared.open_flow.OpenFlow.{OpenFlow}
 use Rattle.mg_heard.specs.declared.query.Query.{Query}
+use Rattle.mg_heard.specs.declared.style.Style.{Style}
 use Rattle.mg_heard.specs.declared.verdict.Verdict.{Verdict}
 use Rattle.mg_heard.specs.declared.verdict.Verdict.TheVariants.{CouldHear, CouldNotHear, Unknown}
+use Rattle.mg_heard.specs.Names.{name_of}
 use Rattle.mg_heard.specs.Query.{selects_entry}
 
 -- ## Sentences
@@ -26,8 +30,19 @@ abbrev pub at_text : Option Peer → List ℕ
 at_text None = []
 at_text (Some peer) = codes " (" ++ (peer_text peer ++ codes ")")
 
-abbrev pub party_text : ℕ → Option Peer → List ℕ
-party_text n at = rtp_name n ++ at_text at
+-- a Remote after the number in brackets
+abbrev pub comma_text : Option Peer → List ℕ
+comma_text None = []
+comma_text (Some peer) = codes ", " ++ peer_text peer
+
+-- a termination with this name, or without a name if the text is empty
+abbrev pub called_text : List ℕ → ℕ → Option Peer → List ℕ
+called_text name n at =
+    if length name == 0 then rtp_name n ++ at_text at
+    else name ++ (codes " (" ++ (rtp_name n ++ (comma_text at ++ codes ")")))
+
+abbrev pub party_text : List Named → ℕ → Option Peer → List ℕ
+party_text names n at = called_text (name_of names n at) n at
 
 -- a tick, with its time if the time is known
 abbrev pub moment_text : List ℕ → ℕ → Option Date → List ℕ
@@ -43,10 +58,10 @@ extent_text from until first end =
     codes " from " ++ (moment_text from first.tick first.date
     ++ (codes " until " ++ (end_text until end ++ codes "\n")))
 
-abbrev pub sentence_of : List ℕ → List ℕ → Interval → List ℕ
-sentence_of from until x =
-    party_text x.flow.listener x.flow.listener_at ++ (codes " could hear "
-    ++ (party_text x.flow.talker x.flow.talker_at ++ (codes " in context "
+abbrev pub sentence_of : List ℕ → List ℕ → List Named → Interval → List ℕ
+sentence_of from until names x =
+    party_text names x.flow.listener x.flow.listener_at ++ (codes " could hear "
+    ++ (party_text names x.flow.talker x.flow.talker_at ++ (codes " in context "
     ++ (decimal x.flow.context ++ extent_text from until x.first x.end))))
 
 -- ## Rows
@@ -71,14 +86,25 @@ abbrev pub extent_columns : List ℕ → List ℕ → Moment → Option Moment �
 extent_columns from until first end =
     decimal first.tick ++ (codes "," ++ (tick_column end ++ (codes ","
     ++ (time_column from first.date ++ (codes ","
-    ++ (time_column until (date_of_end end) ++ codes "\n"))))))
+    ++ time_column until (date_of_end end))))))
 
-abbrev pub row_of : List ℕ → List ℕ → Interval → List ℕ
-row_of from until x =
+-- a name in quotes, if there is one; it has no quotes of its own
+abbrev pub name_column : List ℕ → List ℕ
+name_column name =
+    if length name == 0 then [] else codes "\"" ++ (name ++ codes "\"")
+
+abbrev pub name_columns : List Named → OpenFlow → List ℕ
+name_columns names x =
+    codes "," ++ (name_column (name_of names x.listener x.listener_at)
+    ++ (codes "," ++ (name_column (name_of names x.talker x.talker_at) ++ codes "\n")))
+
+abbrev pub row_of : List ℕ → List ℕ → List Named → Interval → List ℕ
+row_of from until names x =
     codes "heard," ++ (rtp_name x.flow.listener ++ (codes "," ++ (peer_column x.flow.listener_at
     ++ (codes "," ++ (rtp_name x.flow.talker ++ (codes "," ++ (peer_column x.flow.talker_at
     ++ (codes "," ++ (decimal x.flow.context
-    ++ (codes "," ++ extent_columns from until x.first x.end))))))))))
+    ++ (codes "," ++ (extent_columns from until x.first x.end
+    ++ name_columns names x.flow)))))))))))
 
 -- ## Objects
 
@@ -98,16 +124,26 @@ abbrev pub extent_members : List ℕ → List ℕ → Moment → Option Moment �
 extent_members from until first end =
     codes ",\"first_tick\":" ++ (decimal first.tick ++ (codes ",\"end_tick\":" ++ (tick_value end
     ++ (codes ",\"from\":" ++ (time_value from first.date ++ (codes ",\"until\":"
-    ++ (time_value until (date_of_end end) ++ codes "}\n")))))))
+    ++ time_value until (date_of_end end)))))))
 
-abbrev pub object_of : List ℕ → List ℕ → Interval → List ℕ
-object_of from until x =
+abbrev pub name_value : List ℕ → List ℕ
+name_value name =
+    if length name == 0 then codes "null" else codes "\"" ++ (name ++ codes "\"")
+
+abbrev pub name_members : List Named → OpenFlow → List ℕ
+name_members names x =
+    codes ",\"listener_name\":" ++ (name_value (name_of names x.listener x.listener_at)
+    ++ (codes ",\"talker_name\":" ++ (name_value (name_of names x.talker x.talker_at)
+    ++ codes "}\n")))
+
+abbrev pub object_of : List ℕ → List ℕ → List Named → Interval → List ℕ
+object_of from until names x =
     codes "{\"kind\":\"heard\",\"listener\":\"" ++ (rtp_name x.flow.listener
     ++ (codes "\",\"listener_at\":" ++ (peer_value x.flow.listener_at
     ++ (codes ",\"talker\":\"" ++ (rtp_name x.flow.talker
     ++ (codes "\",\"talker_at\":" ++ (peer_value x.flow.talker_at
     ++ (codes ",\"context\":" ++ (decimal x.flow.context
-    ++ extent_members from until x.first x.end)))))))))
+    ++ (extent_members from until x.first x.end ++ name_members names x.flow))))))))))
 
 -- ## Each format
 
@@ -115,57 +151,60 @@ abbrev pub head_of : Format → List ℕ
 head_of Text = []
 head_of Json = []
 head_of Csv =
-    codes "kind,listener,listener_at,talker,talker_at,context,first_tick,end_tick,from,until\n"
+    codes "kind,listener,listener_at,talker,talker_at,context,first_tick,end_tick,from,until"
+    ++ codes ",listener_name,talker_name\n"
 
-abbrev pub interval_line : Format → List ℕ → List ℕ → Interval → List ℕ
-interval_line Text from until x = sentence_of from until x
-interval_line Csv from until x = row_of from until x
-interval_line Json from until x = object_of from until x
+abbrev pub interval_line : Format → List ℕ → List ℕ → List Named → Interval → List ℕ
+interval_line Text from until names x = sentence_of from until names x
+interval_line Csv from until names x = row_of from until names x
+interval_line Json from until names x = object_of from until names x
 
 abbrev pub gap_line : Format → List ℕ → List ℕ → Moment → Moment → List ℕ
 gap_line Text from until first end = codes "gap" ++ extent_text from until first (Some end)
-gap_line Csv from until first end = codes "gap,,,,,," ++ extent_columns from until first (Some end)
+gap_line Csv from until first end =
+    codes "gap,,,,,," ++ (extent_columns from until first (Some end) ++ codes ",,\n")
 gap_line Json from until first end =
-    codes "{\"kind\":\"gap\"" ++ extent_members from until first (Some end)
+    codes "{\"kind\":\"gap\"" ++ (extent_members from until first (Some end) ++ codes "}\n")
 
-abbrev pub line_of : Format → List ℕ → List ℕ → Entry → List ℕ
-line_of format from until (entries.Interval x) = interval_line format from until x
-line_of format from until (entries.Gap gap) = gap_line format from until gap.first gap.end
+abbrev pub line_of : Style → List ℕ → List ℕ → Entry → List ℕ
+line_of style from until (entries.Interval x) =
+    interval_line style.format from until style.names x
+line_of style from until (entries.Gap gap) = gap_line style.format from until gap.first gap.end
 
 -- the line of an entry, with some texts for its dates
-abbrev pub IsLine : Format → Entry → List ℕ → Type 0
-IsLine format entry line =
-    (from : List ℕ) × (until : List ℕ) × (line ≡ line_of format from until entry)
+abbrev pub IsLine : Style → Entry → List ℕ → Type 0
+IsLine style entry line =
+    (from : List ℕ) × (until : List ℕ) × (line ≡ line_of style from until entry)
 
 -- ## Answers about a given time
 
 abbrev pub not_heard_line : Format → List ℕ
 not_heard_line Text = codes "could not hear\n"
-not_heard_line Csv = codes "not heard,,,,,,,,,\n"
+not_heard_line Csv = codes "not heard,,,,,,,,,,,\n"
 not_heard_line Json = codes "{\"kind\":\"not heard\"}\n"
 
 abbrev pub unknown_line : Format → List ℕ
 unknown_line Text = codes "not known\n"
-unknown_line Csv = codes "not known,,,,,,,,,\n"
+unknown_line Csv = codes "not known,,,,,,,,,,,\n"
 unknown_line Json = codes "{\"kind\":\"not known\"}\n"
 
 -- the line of an answer: that of the interval, if there is one
-abbrev pub IsVerdictLine : Format → Verdict → List ℕ → Type 0
-IsVerdictLine format (CouldHear x) line = IsLine format (entries.Interval x) line
-IsVerdictLine format CouldNotHear line = line ≡ not_heard_line format
-IsVerdictLine format Unknown line = line ≡ unknown_line format
+abbrev pub IsVerdictLine : Style → Verdict → List ℕ → Type 0
+IsVerdictLine style (CouldHear x) line = IsLine style (entries.Interval x) line
+IsVerdictLine style CouldNotHear line = line ≡ not_heard_line style.format
+IsVerdictLine style Unknown line = line ≡ unknown_line style.format
 
 -- ## All lines
 
 -- a line for each entry, in order
-abbrev pub AreLines : Format → List Entry → List ℕ → Type 0
-AreLines format [] text = text ≡ []
-AreLines format (x ∷ xs) text =
-    (line : List ℕ) × (others : List ℕ) × IsLine format x line × AreLines format xs others
+abbrev pub AreLines : Style → List Entry → List ℕ → Type 0
+AreLines style [] text = text ≡ []
+AreLines style (x ∷ xs) text =
+    (line : List ℕ) × (others : List ℕ) × IsLine style x line × AreLines style xs others
     × (text ≡ line ++ others)
 
 -- a writer has received a line for each entry that is asked for
-abbrev pub WritesLines : Format → Query → (old new : Option (List ℕ)) → List Entry → Type 0
-WritesLines format query old new xs =
-    (text : List ℕ) × AreLines format (filter (selects_entry query) xs) text
+abbrev pub WritesLines : Style → Query → (old new : Option (List ℕ)) → List Entry → Type 0
+WritesLines style query old new xs =
+    (text : List ℕ) × AreLines style (filter (selects_entry query) xs) text
     × Appends old new text

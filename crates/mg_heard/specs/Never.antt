@@ -1,12 +1,9 @@
 -- Rules: a talker must never be heard by a listener. And the first flow of a script that breaks one.
 use Rattle.std.specs.Prelude.{◌≡◌, ◌⊎◌, ℕ, ◌+◌, ◌<◌, ◌≤◌, ◌&&◌, Bool, false, List, [], ◌∷◌, ◌++◌, length, find}
-use Rattle.std.specs.Prelude.{Option, Some, None, IsSomeAnd, codes, decimal, if◌then◌else◌}
+use Rattle.std.specs.Prelude.{Option, Some, None, IsSomeAnd, codes, decimal}
 use Rattle.std.specs.Io.KnownBytes.{Appends}
 use Rattle.std.specs.List.{list_any}
 use Rattle.std.specs.Option.{option_map, option_map_or}
-use Rattle.std.specs.Str.{bytes_eq}
-use Rattle.mg_words.specs.Cut.{cut}
-use Rattle.mg_words.specs.OptionSteps.{◌>>=◌}
 use Rattle.mg_engine.specs.declared.config.Config.{Config}
 use Rattle.mg_lines.specs.Lines.{lines_of}
 use Rattle.mg_core.specs.Note.{Note, events_in, notes_of}
@@ -15,29 +12,15 @@ use Rattle.mg_core.specs.World.{start_of}
 use Rattle.mg_heard.specs.declared.format.Format.{Format}
 use Rattle.mg_heard.specs.declared.format.Format.TheVariants.{Text, Csv, Json}
 use Rattle.mg_heard.specs.declared.open_flow.OpenFlow.{OpenFlow}
-use Rattle.mg_heard.specs.declared.party_name.PartyName.{PartyName}
+use Rattle.mg_heard.specs.declared.named.Named.{Named}
 use Rattle.mg_heard.specs.declared.rule.Rule.{Rule}
+use Rattle.mg_heard.specs.declared.style.Style.{Style}
 use Rattle.mg_heard.specs.declared.violation.Violation.{Violation}
 use Rattle.mg_heard.specs.Lines.{moment_text, object_of, party_text, row_of}
 use Rattle.mg_heard.specs.Moments.{AreMoments}
-use Rattle.mg_heard.specs.Query.{is_asked, party_name_of}
+use Rattle.mg_heard.specs.Query.{is_asked}
 
 -- ## Rules
-
--- the termination that a rule names; `*` names all of them
-abbrev pub pattern_of : List ℕ → Option (Option PartyName)
-pattern_of text =
-    if bytes_eq text (codes "*") then Some None else option_map Some (party_name_of text)
-
--- the rule in a text: a talker, an arrow and a listener, with a space on either side of the arrow
-abbrev pub rule_of : List ℕ → Option Rule
-rule_of text = do
-  first ← cut 32 text
-  second ← cut 32 first.1
-  talker ← pattern_of first.0
-  listener ← pattern_of second.1
-  if bytes_eq second.0 (codes "->") then Some (record { talker = talker; listener = listener })
-      else None
 
 abbrev pub forbids : Rule → OpenFlow → Bool
 forbids rule x =
@@ -94,17 +77,19 @@ pub record IsWatched (rules : List Rule) (config : Config) (input rest : Option 
 -- ## The line
 
 -- the line of a violation, with some text for its date: that of an interval whose end is not known
-abbrev pub violation_line : Format → List ℕ → Violation → List ℕ
-violation_line Text time v =
-    party_text v.flow.listener v.flow.listener_at ++ (codes " could hear "
-    ++ (party_text v.flow.talker v.flow.talker_at ++ (codes " in context "
+abbrev pub violation_line : Format → List ℕ → List Named → Violation → List ℕ
+violation_line Text time names v =
+    party_text names v.flow.listener v.flow.listener_at ++ (codes " could hear "
+    ++ (party_text names v.flow.talker v.flow.talker_at ++ (codes " in context "
     ++ (decimal v.flow.context ++ (codes " from "
     ++ (moment_text time v.at.tick v.at.date ++ codes "\n"))))))
-violation_line Csv time v = row_of time [] (record { flow = v.flow; first = v.at; end = None })
-violation_line Json time v = object_of time [] (record { flow = v.flow; first = v.at; end = None })
+violation_line Csv time names v =
+    row_of time [] names (record { flow = v.flow; first = v.at; end = None })
+violation_line Json time names v =
+    object_of time [] names (record { flow = v.flow; first = v.at; end = None })
 
 -- a writer has received the line of a violation, if there is one
-abbrev pub WritesViolation : Format → Option Violation → (old new : Option (List ℕ)) → Type 0
-WritesViolation format None old new = new ≡ old
-WritesViolation format (Some v) old new =
-    (time : List ℕ) × Appends old new (violation_line format time v)
+abbrev pub WritesViolation : Style → Option Violation → (old new : Option (List ℕ)) → Type 0
+WritesViolation style None old new = new ≡ old
+WritesViolation style (Some v) old new =
+    (time : List ℕ) × Appends old new (violation_line style.format time style.names v)

@@ -1,7 +1,7 @@
 -- Which intervals a question asks for.
 use Rattle.std.specs.Prelude.{ℕ, ◌==◌, ◌&&◌, Bool, true, false, nat_eq, nat_le, nat_lt, List, Option}
 use Rattle.std.specs.Prelude.{Some, None, codes, drop, if◌then◌else◌}
-use Rattle.std.specs.List.{starts_with}
+use Rattle.std.specs.List.{list_any, starts_with}
 use Rattle.std.specs.Option.{option_map, option_map_or, option_or}
 use Rattle.std.specs.Str.{bytes_eq}
 use Rattle.mg_words.specs.Address.{address_of}
@@ -17,13 +17,13 @@ use Rattle.mg_heard.specs.declared.party_name.PartyName.{PartyName}
 use Rattle.mg_heard.specs.declared.party_name.PartyName.TheVariants.{Termination, Address, Remote}
 use Rattle.mg_heard.specs.declared.query.Query.{Query}
 
--- the name in a text: `RTP/7`, an address and a port, or an address
+-- the key in a text: `RTP/7`, an address and a port, or an address
 abbrev pub party_name_of : List ℕ → Option PartyName
 party_name_of text =
     if starts_with nat_eq text (codes "RTP/") then option_map Termination (number_of (drop 4 text))
     else option_or (option_map Remote (peer_of text)) (option_map Address (address_of text))
 
--- the name is that of a termination with this number and this Remote
+-- the key applies to a termination with this number and this Remote
 abbrev pub is_named : PartyName → ℕ → Option Peer → Bool
 is_named (Termination n) number at = n == number
 is_named (Address address) number None = false
@@ -31,9 +31,9 @@ is_named (Address address) number (Some peer) = bytes_eq peer.address address
 is_named (Remote remote) number None = false
 is_named (Remote remote) number (Some peer) = is_same_peer peer remote
 
--- without a name, each termination is asked for
-abbrev pub is_asked : Option PartyName → ℕ → Option Peer → Bool
-is_asked name number at = option_map_or (λ n. is_named n number at) name true
+-- a question with these keys asks about this termination; without keys, it asks about all of them
+abbrev pub is_asked : Option (List PartyName) → ℕ → Option Peer → Bool
+is_asked keys number at = option_map_or (list_any (λ k. is_named k number at)) keys true
 
 -- without a date, an interval may begin before any time
 abbrev pub begins_before : Interval → Date → Bool

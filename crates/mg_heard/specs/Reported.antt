@@ -2,32 +2,32 @@
 use Rattle.std.specs.Prelude.{◌≡◌, ℕ, List, ◌++◌, filter, Option}
 use Rattle.std.specs.Io.KnownBytes.{Appends}
 use Rattle.mg_heard.specs.declared.entry.Entry.{Entry}
-use Rattle.mg_heard.specs.declared.format.Format.{Format}
 use Rattle.mg_heard.specs.declared.query.Query.{Query}
+use Rattle.mg_heard.specs.declared.style.Style.{Style}
 use Rattle.mg_heard.specs.declared.verdict.Verdict.{Verdict}
 use Rattle.mg_heard.specs.Lines.{AreLines, IsVerdictLine, WritesLines, head_of}
 use Rattle.mg_heard.specs.Query.{selects_entry}
 
 -- a writer has received a whole report about these entries: the names of the columns, if the format
 -- has any, and a line for each entry that is asked for
-abbrev pub WritesReport : Format → Query → (old new : Option (List ℕ)) → List Entry → Type 0
-WritesReport format query old new xs =
-    (text : List ℕ) × AreLines format (filter (selects_entry query) xs) text
-    × Appends old new (head_of format ++ text)
+abbrev pub WritesReport : Style → Query → (old new : Option (List ℕ)) → List Entry → Type 0
+WritesReport style query old new xs =
+    (text : List ℕ) × AreLines style (filter (selects_entry query) xs) text
+    × Appends old new (head_of style.format ++ text)
 
 -- a writer has received the line of an answer about a given time
-abbrev pub WritesVerdict : Format → Verdict → (old new : Option (List ℕ)) → Type 0
-WritesVerdict format verdict old new =
-    (line : List ℕ) × IsVerdictLine format verdict line × Appends old new line
+abbrev pub WritesVerdict : Style → Verdict → (old new : Option (List ℕ)) → Type 0
+WritesVerdict style verdict old new =
+    (line : List ℕ) × IsVerdictLine style verdict line × Appends old new line
 
 -- a report, as its caller sees it
 pub record Reported : Type 0 where
-  pub format : Format
+  pub style : Style
   pub query : Query
   pub written : Option (List ℕ)
 
 -- a line was written for each of these entries that is asked for
 pub record HasReported (start now : Reported) (xs : List Entry) : Type 0 where
-  pub format : now.format ≡ start.format
+  pub style : now.style ≡ start.style
   pub query : now.query ≡ start.query
-  pub lines : WritesLines start.format start.query start.written now.written xs
+  pub lines : WritesLines start.style start.query start.written now.written xs

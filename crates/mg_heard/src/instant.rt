@@ -14,7 +14,7 @@ use mg_core::Stopped;
 use mg_dates::Date;
 
 /// Finds out who could hear whom at a given time.
-#[derive(Clone, Copy, Debug, PartialEq, Eq)]
+#[derive(Drop)]
 pub struct Instant {
     pub query: Query,
     pub time: Date,

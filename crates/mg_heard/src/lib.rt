@@ -10,6 +10,9 @@
 //! [`hear_at`] answers whether a talker could be heard at a given time. [`write_report`] writes a line for each
 //! interval that a query selects, and for each gap; [`write_answer`] writes the answer about a given time.
 //!
+//! A question may give the name of a listener or a talker. [`Names`] are the lines of a file of names; with them, an
+//! [`AskedQuery`] becomes a [`Query`], which has keys in place of names, and lines say what terminations are called.
+//!
 //! An interval contains a tick for a pair if and only if the talker's speech flows to the listener in the world before
 //! that tick (`specs/Laws.antt`). The intervals follow from the flows that are open before each tick
 //! (`specs/Intervals.antt`). Intervals that have not ended are stored, and compared with the flows before the next
@@ -19,6 +22,9 @@
 #![tactic(auto)]
 
 mod answering;
+mod asked;
+mod asked_query;
+mod asked_rule;
 mod clock;
 mod clock_fault;
 mod continuing;
@@ -32,9 +38,14 @@ mod heard_fault;
 mod hearing;
 mod instant;
 mod interval;
+mod keys;
 mod line;
 mod line_writer;
 mod moment;
+mod name;
+mod name_fault;
+mod named;
+mod names;
 mod open_flow;
 mod open_interval;
 mod open_intervals;
@@ -55,6 +66,9 @@ mod watch;
 mod watching;
 
 pub use crate::answering::hear_at;
+pub use crate::asked::Asked;
+pub use crate::asked_query::AskedQuery;
+pub use crate::asked_rule::{AskedRule, rules_of};
 pub use crate::clock_fault::ClockFault;
 pub use crate::entry::Entry;
 pub use crate::extent::Extent;
@@ -64,7 +78,12 @@ pub use crate::heard_fault::HeardFault;
 pub use crate::hearing::hear;
 pub use crate::instant::Instant;
 pub use crate::interval::Interval;
+pub use crate::keys::Keys;
 pub use crate::moment::Moment;
+pub use crate::name::{Name, NameText};
+pub use crate::name_fault::NameFault;
+pub use crate::named::Named;
+pub use crate::names::Names;
 pub use crate::open_flow::OpenFlow;
 pub use crate::party_name::PartyName;
 pub use crate::query::Query;

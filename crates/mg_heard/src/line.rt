@@ -1,10 +1,10 @@
 //! The lines for intervals and gaps, in each format.
 
-ghost use Rattle.std.specs.Prelude.{◌≡◌, ◌≤◌, ◌+◌, ◌++◌, codes, decimal, length, None, Some};
+ghost use Rattle.std.specs.Prelude.{◌≡◌, ◌≤◌, ◌+◌, ◌*◌, ◌++◌, codes, decimal, length, None, Some};
 ghost use Rattle.mg_words.specs.Term.{rtp_name};
 ghost use Rattle.mg_core.specs.Peer.{peer_text};
 ghost use Rattle.mg_reply.specs.Bytes.{appended};
-ghost use Rattle.mg_heard.specs.Lines.{at_text, date_of_end, end_text, extent_columns, extent_members, extent_text, gap_line, head_of, interval_line, line_of, moment_text, not_heard_line, object_of, party_text, peer_column, peer_value, row_of, sentence_of, tick_column, tick_value, time_column, time_value, unknown_line};
+ghost use Rattle.mg_heard.specs.Lines.{at_text, called_text, comma_text, date_of_end, end_text, extent_columns, extent_members, extent_text, gap_line, head_of, interval_line, line_of, moment_text, name_column, name_columns, name_members, name_value, not_heard_line, object_of, party_text, peer_column, peer_value, row_of, sentence_of, tick_column, tick_value, time_column, time_value, unknown_line};
 ghost use Rattle.mg_heard.specs.Never.{violation_line};
 ghost use Rattle.mg_heard.specs.declared.format.Format.TheVariants.{Text};
 
@@ -13,6 +13,10 @@ use crate::format::Format;
 use crate::gap::Gap;
 use crate::interval::Interval;
 use crate::moment::Moment;
+use crate::name::NAME_ROOM;
+use crate::names::Names;
+use crate::open_flow::OpenFlow;
+use crate::style::Style;
 use crate::violation::Violation;
 use itoa::Buffer;
 use mg_core::Peer;
@@ -20,7 +24,7 @@ use mg_dates::Date;
 use mg_reply::{Bytes, write_address, write_port};
 
 /// The maximum length of a line, in bytes.
-pub(crate) const LINE_LIMIT: usize = 512;
+pub(crate) const LINE_LIMIT: usize = 640;
 
 /// The maximum length of a time, in bytes.
 pub(crate) const TIME_LIMIT: usize = 64;
@@ -28,14 +32,14 @@ pub(crate) const TIME_LIMIT: usize = 64;
 /// The maximum length, in bytes, of a number in decimal.
 const NUMBER_LIMIT: usize = 20;
 
-/// The maximum length, in bytes, of a name: `RTP/` and a number.
+/// The maximum length, in bytes, of `RTP/` and a number.
 const NAME_LIMIT: usize = 4 + NUMBER_LIMIT;
 
 /// The maximum length of a peer, in bytes: an address, a colon and a port.
 const PEER_LIMIT: usize = 21;
 
-/// The maximum length, in bytes, of a name, a space, and a peer in brackets.
-const PARTY_LIMIT: usize = 3 + NAME_LIMIT + PEER_LIMIT;
+/// The maximum length, in bytes, of a name, and of a number and a peer in brackets.
+const PARTY_LIMIT: usize = 5 + NAME_ROOM + NAME_LIMIT + PEER_LIMIT;
 
 /// The maximum length, in bytes, of a moment: a time, and a tick in brackets.
 const MOMENT_LIMIT: usize = 8 + TIME_LIMIT + NUMBER_LIMIT;
@@ -43,12 +47,12 @@ const MOMENT_LIMIT: usize = 8 + TIME_LIMIT + NUMBER_LIMIT;
 /// The maximum length, in bytes, of the end of a sentence: ` from `, ` until `, two moments and a line feed.
 const EXTENT_LIMIT: usize = 14 + 2 * MOMENT_LIMIT;
 
-/// The maximum length, in bytes, of the last columns of a row: two numbers, two times, commas and a line feed.
-const COLUMNS_LIMIT: usize = 4 + 2 * NUMBER_LIMIT + 2 * TIME_LIMIT;
+/// The maximum length, in bytes, of the columns for a beginning and an end: two numbers, two times and commas.
+const COLUMNS_LIMIT: usize = 3 + 2 * NUMBER_LIMIT + 2 * TIME_LIMIT;
 
-/// The maximum length, in bytes, of the last members of an object: their names, two numbers, two times in quotes, a
-/// brace and a line feed.
-const MEMBERS_LIMIT: usize = 49 + 2 * NUMBER_LIMIT + 2 * TIME_LIMIT;
+/// The maximum length, in bytes, of the members for a beginning and an end: their names, two numbers and two times in
+/// quotes.
+const MEMBERS_LIMIT: usize = 47 + 2 * NUMBER_LIMIT + 2 * TIME_LIMIT;
 
 /// Writes a number in decimal.
 #[tactic(auto, using(crate::proofs::LineLemmas::lengths))]
@@ -71,7 +75,7 @@ fn push_context(n: u32, out: &mut Bytes)
     push_number(u64::from(n), out);
 }
 
-/// Writes the name of a termination.
+/// Writes the number of a termination, such as `RTP/7`.
 #[tactic(auto, using(crate::proofs::LineLemmas::steps))]
 fn push_name(number: u32, out: &mut Bytes)
     requires room { NAME_LIMIT ≤ out.old.room }
@@ -110,15 +114,46 @@ fn push_at(at: Option<Peer>, out: &mut Bytes)
     }
 }
 
-/// Writes a termination, and its Remote if it has one.
+/// Writes a comma and a peer, or nothing if there is no peer.
 #[tactic(auto, using(crate::proofs::LineLemmas::steps))]
-fn push_party(number: u32, at: Option<Peer>, out: &mut Bytes)
-    requires room { PARTY_LIMIT ≤ out.old.room }
-    ensures value { out.new ≡ appended out.old (party_text number at) }
-    ensures short { length (party_text number at) ≤ PARTY_LIMIT }
+fn push_comma(at: Option<Peer>, out: &mut Bytes)
+    requires room { 2 + PEER_LIMIT ≤ out.old.room }
+    ensures value { out.new ≡ appended out.old (comma_text at) }
+    ensures short { length (comma_text at) ≤ 2 + PEER_LIMIT }
 {
-    push_name(number, out);
-    push_at(at, out);
+    if let Some(peer) = at {
+        out.push(b", ");
+        push_peer(peer, out);
+    }
+}
+
+/// Writes a termination with this name, or without a name if the text is empty.
+#[tactic(auto, using(crate::proofs::LineLemmas::steps))]
+fn push_called(name: &[u8], number: u32, at: Option<Peer>, out: &mut Bytes)
+    requires name { length name.now ≤ NAME_ROOM }
+    requires room { PARTY_LIMIT ≤ out.old.room }
+    ensures value { out.new ≡ appended out.old (called_text name.now number at) }
+    ensures short { length (called_text name.now number at) ≤ PARTY_LIMIT }
+{
+    if name.is_empty() {
+        push_name(number, out);
+        push_at(at, out);
+    } else {
+        out.push(name);
+        out.push(b" (");
+        push_name(number, out);
+        push_comma(at, out);
+        out.push(b")");
+    }
+}
+
+/// Writes a termination, with its name and its Remote if it has them.
+fn push_party(names: &Names, number: u32, at: Option<Peer>, out: &mut Bytes)
+    requires room { PARTY_LIMIT ≤ out.old.room }
+    ensures value { out.new ≡ appended out.old (party_text names.now number at) }
+    ensures short { length (party_text names.now number at) ≤ PARTY_LIMIT }
+{
+    push_called(names.name_of(number, at), number, at, out);
 }
 
 /// Writes a tick, and its time if the time is known.
@@ -175,17 +210,17 @@ fn push_extent(from: &[u8], until: &[u8], first: Moment, end: Option<Moment>, ou
 
 /// Writes the sentence for an interval.
 #[tactic(auto, using(crate::proofs::LineLemmas::steps))]
-fn push_sentence(from: &[u8], until: &[u8], interval: &Interval, out: &mut Bytes)
+fn push_sentence(from: &[u8], until: &[u8], names: &Names, interval: &Interval, out: &mut Bytes)
     requires from { length from.now ≤ TIME_LIMIT }
     requires until { length until.now ≤ TIME_LIMIT }
     requires room { LINE_LIMIT ≤ out.old.room }
-    ensures value { out.new ≡ appended out.old (sentence_of from.now until.now interval.now) }
-    ensures short { length (sentence_of from.now until.now interval.now) ≤ LINE_LIMIT }
+    ensures value { out.new ≡ appended out.old (sentence_of from.now until.now names.now interval.now) }
+    ensures short { length (sentence_of from.now until.now names.now interval.now) ≤ LINE_LIMIT }
 {
     let flow = &interval.flow;
-    push_party(flow.listener, flow.listener_at, out);
+    push_party(names, flow.listener, flow.listener_at, out);
     out.push(b" could hear ");
-    push_party(flow.talker, flow.talker_at, out);
+    push_party(names, flow.talker, flow.talker_at, out);
     out.push(b" in context ");
     push_context(flow.context, out);
     push_extent(from, until, interval.first, interval.end, out);
@@ -237,7 +272,7 @@ fn date_of_end(end: Option<Moment>) -> Option<Date>
     }
 }
 
-/// Writes the four columns for a beginning and an end.
+/// Writes the columns for a beginning and an end.
 #[tactic(auto, using(crate::proofs::LineLemmas::steps))]
 fn push_extent_columns(
     from: &[u8],
@@ -259,17 +294,45 @@ fn push_extent_columns(
     push_optional_time(from, first.date, out);
     out.push(b",");
     push_optional_time(until, date_of_end(end), out);
+}
+
+/// Writes a name in quotes, or nothing if the text is empty.
+#[tactic(auto, using(crate::proofs::LineLemmas::steps))]
+fn push_optional_name(name: &[u8], out: &mut Bytes)
+    requires name { length name.now ≤ NAME_ROOM }
+    requires room { 2 + NAME_ROOM ≤ out.old.room }
+    ensures value { out.new ≡ appended out.old (name_column name.now) }
+    ensures short { length (name_column name.now) ≤ 2 + NAME_ROOM }
+{
+    if !name.is_empty() {
+        out.push(b"\"");
+        out.push(name);
+        out.push(b"\"");
+    }
+}
+
+/// Writes the columns for the names of a listener and a talker.
+#[tactic(auto, using(crate::proofs::LineLemmas::steps))]
+fn push_name_columns(names: &Names, flow: &OpenFlow, out: &mut Bytes)
+    requires room { 7 + 2 * NAME_ROOM ≤ out.old.room }
+    ensures value { out.new ≡ appended out.old (name_columns names.now flow.now) }
+    ensures short { length (name_columns names.now flow.now) ≤ 7 + 2 * NAME_ROOM }
+{
+    out.push(b",");
+    push_optional_name(names.name_of(flow.listener, flow.listener_at), out);
+    out.push(b",");
+    push_optional_name(names.name_of(flow.talker, flow.talker_at), out);
     out.push(b"\n");
 }
 
 /// Writes the row for an interval.
 #[tactic(auto, using(crate::proofs::LineLemmas::steps))]
-fn push_row(from: &[u8], until: &[u8], interval: &Interval, out: &mut Bytes)
+fn push_row(from: &[u8], until: &[u8], names: &Names, interval: &Interval, out: &mut Bytes)
     requires from { length from.now ≤ TIME_LIMIT }
     requires until { length until.now ≤ TIME_LIMIT }
     requires room { LINE_LIMIT ≤ out.old.room }
-    ensures value { out.new ≡ appended out.old (row_of from.now until.now interval.now) }
-    ensures short { length (row_of from.now until.now interval.now) ≤ LINE_LIMIT }
+    ensures value { out.new ≡ appended out.old (row_of from.now until.now names.now interval.now) }
+    ensures short { length (row_of from.now until.now names.now interval.now) ≤ LINE_LIMIT }
 {
     let flow = &interval.flow;
     out.push(b"heard,");
@@ -284,6 +347,7 @@ fn push_row(from: &[u8], until: &[u8], interval: &Interval, out: &mut Bytes)
     push_context(flow.context, out);
     out.push(b",");
     push_extent_columns(from, until, interval.first, interval.end, out);
+    push_name_columns(names, flow, out);
 }
 
 // ## Objects
@@ -335,7 +399,7 @@ fn push_time_value(time: &[u8], date: Option<Date>, out: &mut Bytes)
     }
 }
 
-/// Writes the members for a beginning and an end, and closes the object.
+/// Writes the members for a beginning and an end.
 #[tactic(auto, using(crate::proofs::LineLemmas::steps))]
 fn push_extent_members(
     from: &[u8],
@@ -358,17 +422,47 @@ fn push_extent_members(
     push_time_value(from, first.date, out);
     out.push(b",\"until\":");
     push_time_value(until, date_of_end(end), out);
+}
+
+/// Writes a name as a string, or `null` if the text is empty.
+#[tactic(auto, using(crate::proofs::LineLemmas::steps))]
+fn push_name_value(name: &[u8], out: &mut Bytes)
+    requires name { length name.now ≤ NAME_ROOM }
+    requires room { 2 + NAME_ROOM ≤ out.old.room }
+    ensures value { out.new ≡ appended out.old (name_value name.now) }
+    ensures short { length (name_value name.now) ≤ 2 + NAME_ROOM }
+{
+    if name.is_empty() {
+        out.push(b"null");
+    } else {
+        out.push(b"\"");
+        out.push(name);
+        out.push(b"\"");
+    }
+}
+
+/// Writes the members for the names of a listener and a talker, and closes the object.
+#[tactic(auto, using(crate::proofs::LineLemmas::steps))]
+fn push_name_members(names: &Names, flow: &OpenFlow, out: &mut Bytes)
+    requires room { 38 + 2 * NAME_ROOM ≤ out.old.room }
+    ensures value { out.new ≡ appended out.old (name_members names.now flow.now) }
+    ensures short { length (name_members names.now flow.now) ≤ 38 + 2 * NAME_ROOM }
+{
+    out.push(b",\"listener_name\":");
+    push_name_value(names.name_of(flow.listener, flow.listener_at), out);
+    out.push(b",\"talker_name\":");
+    push_name_value(names.name_of(flow.talker, flow.talker_at), out);
     out.push(b"}\n");
 }
 
 /// Writes the object for an interval.
 #[tactic(auto, using(crate::proofs::LineLemmas::steps))]
-fn push_object(from: &[u8], until: &[u8], interval: &Interval, out: &mut Bytes)
+fn push_object(from: &[u8], until: &[u8], names: &Names, interval: &Interval, out: &mut Bytes)
     requires from { length from.now ≤ TIME_LIMIT }
     requires until { length until.now ≤ TIME_LIMIT }
     requires room { LINE_LIMIT ≤ out.old.room }
-    ensures value { out.new ≡ appended out.old (object_of from.now until.now interval.now) }
-    ensures short { length (object_of from.now until.now interval.now) ≤ LINE_LIMIT }
+    ensures value { out.new ≡ appended out.old (object_of from.now until.now names.now interval.now) }
+    ensures short { length (object_of from.now until.now names.now interval.now) ≤ LINE_LIMIT }
 {
     let flow = &interval.flow;
     out.push(b"{\"kind\":\"heard\",\"listener\":\"");
@@ -382,36 +476,42 @@ fn push_object(from: &[u8], until: &[u8], interval: &Interval, out: &mut Bytes)
     out.push(b",\"context\":");
     push_context(flow.context, out);
     push_extent_members(from, until, interval.first, interval.end, out);
+    push_name_members(names, flow, out);
 }
 
 // ## Each format
 
 /// Writes the header: the column names in CSV, and nothing in the other formats.
+#[tactic(auto, using(crate::proofs::LineLemmas::steps))]
 pub(crate) fn push_head(format: Format, out: &mut Bytes)
     requires room { LINE_LIMIT ≤ out.old.room }
     ensures value { out.new ≡ appended out.old (head_of format) }
 {
     match format {
-        Format::Csv => out.push(
-            b"kind,listener,listener_at,talker,talker_at,context,first_tick,end_tick,from,until\n",
-        ),
+        Format::Csv => {
+            out.push(
+                b"kind,listener,listener_at,talker,talker_at,context,first_tick,end_tick,from,until",
+            );
+            out.push(b",listener_name,talker_name\n");
+        }
         Format::Text => {}
         Format::Json => {}
     }
 }
 
 /// Writes the line for an interval.
-fn push_interval(format: Format, from: &[u8], until: &[u8], interval: &Interval, out: &mut Bytes)
+fn push_interval(style: &Style, from: &[u8], until: &[u8], interval: &Interval, out: &mut Bytes)
     requires from { length from.now ≤ TIME_LIMIT }
     requires until { length until.now ≤ TIME_LIMIT }
     requires room { LINE_LIMIT ≤ out.old.room }
-    ensures value { out.new ≡ appended out.old (interval_line format from.now until.now interval.now) }
-    ensures short { length (interval_line format from.now until.now interval.now) ≤ LINE_LIMIT }
+    ensures value { out.new ≡ appended out.old (interval_line style.now.format from.now until.now style.now.names interval.now) }
+    ensures short { length (interval_line style.now.format from.now until.now style.now.names interval.now) ≤ LINE_LIMIT }
 {
-    match format {
-        Format::Text => push_sentence(from, until, interval, out),
-        Format::Csv => push_row(from, until, interval, out),
-        Format::Json => push_object(from, until, interval, out),
+    let names = &style.names;
+    match style.format {
+        Format::Text => push_sentence(from, until, names, interval, out),
+        Format::Csv => push_row(from, until, names, interval, out),
+        Format::Json => push_object(from, until, names, interval, out),
     }
 }
 
@@ -432,25 +532,27 @@ fn push_gap(format: Format, from: &[u8], until: &[u8], gap: &Gap, out: &mut Byte
         Format::Csv => {
             out.push(b"gap,,,,,,");
             push_extent_columns(from, until, gap.first, Some(gap.end), out);
+            out.push(b",,\n");
         }
         Format::Json => {
             out.push(b"{\"kind\":\"gap\"");
             push_extent_members(from, until, gap.first, Some(gap.end), out);
+            out.push(b"}\n");
         }
     }
 }
 
 /// Writes the line for an interval or a gap, given its two dates as text.
-pub(crate) fn push_entry(format: Format, from: &[u8], until: &[u8], entry: &Entry, out: &mut Bytes)
+pub(crate) fn push_entry(style: &Style, from: &[u8], until: &[u8], entry: &Entry, out: &mut Bytes)
     requires from { length from.now ≤ TIME_LIMIT }
     requires until { length until.now ≤ TIME_LIMIT }
     requires room { LINE_LIMIT ≤ out.old.room }
-    ensures value { out.new ≡ appended out.old (line_of format from.now until.now entry.now) }
-    ensures short { length (line_of format from.now until.now entry.now) ≤ LINE_LIMIT }
+    ensures value { out.new ≡ appended out.old (line_of style.now from.now until.now entry.now) }
+    ensures short { length (line_of style.now from.now until.now entry.now) ≤ LINE_LIMIT }
 {
     match entry {
-        Entry::Interval(interval) => push_interval(format, from, until, interval, out),
-        Entry::Gap(gap) => push_gap(format, from, until, gap, out),
+        Entry::Interval(interval) => push_interval(style, from, until, interval, out),
+        Entry::Gap(gap) => push_gap(style.format, from, until, gap, out),
     }
 }
 
@@ -460,7 +562,7 @@ pub(crate) fn not_heard_line(format: Format) -> &'static [u8]
 {
     match format {
         Format::Text => b"could not hear\n",
-        Format::Csv => b"not heard,,,,,,,,,\n",
+        Format::Csv => b"not heard,,,,,,,,,,,\n",
         Format::Json => b"{\"kind\":\"not heard\"}\n",
     }
 }
@@ -471,7 +573,7 @@ pub(crate) fn unknown_line(format: Format) -> &'static [u8]
 {
     match format {
         Format::Text => b"not known\n",
-        Format::Csv => b"not known,,,,,,,,,\n",
+        Format::Csv => b"not known,,,,,,,,,,,\n",
         Format::Json => b"{\"kind\":\"not known\"}\n",
     }
 }
@@ -480,17 +582,17 @@ pub(crate) fn unknown_line(format: Format) -> &'static [u8]
 
 /// Writes the sentence for a violation.
 #[tactic(auto, using(crate::proofs::LineLemmas::steps))]
-fn push_violation_sentence(time: &[u8], violation: &Violation, out: &mut Bytes)
+fn push_violation_sentence(time: &[u8], names: &Names, violation: &Violation, out: &mut Bytes)
     requires time { length time.now ≤ TIME_LIMIT }
     requires room { LINE_LIMIT ≤ out.old.room }
-    ensures value { out.new ≡ appended out.old (violation_line Text time.now violation.now) }
-    ensures short { length (violation_line Text time.now violation.now) ≤ LINE_LIMIT }
+    ensures value { out.new ≡ appended out.old (violation_line Text time.now names.now violation.now) }
+    ensures short { length (violation_line Text time.now names.now violation.now) ≤ LINE_LIMIT }
 {
     let flow = &violation.flow;
     let at = violation.at;
-    push_party(flow.listener, flow.listener_at, out);
+    push_party(names, flow.listener, flow.listener_at, out);
     out.push(b" could hear ");
-    push_party(flow.talker, flow.talker_at, out);
+    push_party(names, flow.talker, flow.talker_at, out);
     out.push(b" in context ");
     push_context(flow.context, out);
     out.push(b" from ");
@@ -510,15 +612,16 @@ fn interval_from(violation: &Violation) -> Interval
 }
 
 /// Writes the line for a violation, given its date as text.
-pub(crate) fn push_violation(format: Format, time: &[u8], violation: &Violation, out: &mut Bytes)
+pub(crate) fn push_violation(style: &Style, time: &[u8], violation: &Violation, out: &mut Bytes)
     requires time { length time.now ≤ TIME_LIMIT }
     requires room { LINE_LIMIT ≤ out.old.room }
-    ensures value { out.new ≡ appended out.old (violation_line format time.now violation.now) }
-    ensures short { length (violation_line format time.now violation.now) ≤ LINE_LIMIT }
+    ensures value { out.new ≡ appended out.old (violation_line style.now.format time.now style.now.names violation.now) }
+    ensures short { length (violation_line style.now.format time.now style.now.names violation.now) ≤ LINE_LIMIT }
 {
-    match format {
-        Format::Text => push_violation_sentence(time, violation, out),
-        Format::Csv => push_row(time, b"", &interval_from(violation), out),
-        Format::Json => push_object(time, b"", &interval_from(violation), out),
+    let names = &style.names;
+    match style.format {
+        Format::Text => push_violation_sentence(time, names, violation, out),
+        Format::Csv => push_row(time, b"", names, &interval_from(violation), out),
+        Format::Json => push_object(time, b"", names, &interval_from(violation), out),
     }
 }

@@ -19,7 +19,7 @@ use std::alloc::{AllocError, Global};
 use std::io::Write;
 use std::marker::Model;
 
-/// Writes lines in a style, each as a whole. In contracts, it appears as the format.
+/// Writes lines in a style, each as a whole. In contracts, it appears as the style.
 #[derive(Drop)]
 pub(crate) struct LineWriter {
     style: Style,
@@ -28,12 +28,12 @@ pub(crate) struct LineWriter {
 
 impl Model for LineWriter {
     ghost use Rattle.std.specs.Prelude.{◌≡◌, ◌+◌, length};
-    ghost use Rattle.mg_heard.specs.declared.format.Format.{Format};
+    ghost use Rattle.mg_heard.specs.declared.style.Style.{Style};
     ghost use Rattle.mg_heard.specs.declared.line.TheConstants.{LINE_LIMIT};
 
-    ghost Value = { Format };
+    ghost Value = { Style };
 
-    ghost view = { λ w. w.style.format };
+    ghost view = { λ w. w.style };
 
     ghost invariant = { λ w. w.line.room + length w.line.text ≡ LINE_LIMIT };
 }
@@ -73,21 +73,21 @@ fn write_entry<W: Write>(
 ) -> Result<(), Stopped>
     requires room { LINE_LIMIT ≤ line.old.room + length line.old.text }
     ensures room { line.new.room + length line.new.text ≡ line.old.room + length line.old.text }
-    ensures value { OnOk result ((text : List ℕ) × IsLine style.now.format entry.now text
+    ensures value { OnOk result ((text : List ℕ) × IsLine style.now entry.now text
         × Appends (W.contents writer.old) (W.contents writer.new) text) }
 {
     let (from, until) = dates_of(entry);
     let from = text_of(from, &style.zone);
     let until = text_of(until, &style.zone);
     line.clear();
-    push_entry(style.format, from.as_slice(), until.as_slice(), entry, line);
+    push_entry(style, from.as_slice(), until.as_slice(), entry, line);
     write_text(line.as_slice(), writer)
 }
 
 impl LineWriter {
     /// Creates a writer. No other call allocates.
     pub(crate) fn new(alloc: Global, style: Style) -> Result<Self, AllocError>
-        ensures value { IfOk result (λ lines. lines ≡ style.format) }
+        ensures value { IfOk result (λ lines. lines ≡ style) }
     {
         let line = Bytes::new(alloc, LINE_LIMIT)?;
         Ok(LineWriter { style, line })
@@ -96,7 +96,7 @@ impl LineWriter {
     /// Writes what precedes all lines: the names of the columns in CSV, and nothing in the other formats.
     pub(crate) fn write_head<W: Write>(&mut self, writer: &mut W) -> Result<(), Stopped>
         ensures same { self.new ≡ self.old }
-        ensures value { OnOk result (Appends (W.contents writer.old) (W.contents writer.new) (head_of self.old)) }
+        ensures value { OnOk result (Appends (W.contents writer.old) (W.contents writer.new) (head_of self.old.format)) }
     {
         self.line.clear();
         push_head(self.style.format, &mut self.line);
@@ -153,12 +153,11 @@ impl LineWriter {
         writer: &mut W,
     ) -> Result<(), Stopped>
         ensures value { OnOk result ((time : List ℕ)
-            × Appends (W.contents writer.old) (W.contents writer.new) (violation_line self.old time violation.now)) }
+            × Appends (W.contents writer.old) (W.contents writer.new) (violation_line self.old.format time self.old.names violation.now)) }
     {
         let time = text_of(violation.at.date, &self.style.zone);
         self.line.clear();
-        let format = self.style.format;
-        push_violation(format, time.as_slice(), violation, &mut self.line);
+        push_violation(&self.style, time.as_slice(), violation, &mut self.line);
         write_text(self.line.as_slice(), writer)
     }
 }

@@ -4,29 +4,29 @@ ghost use Rattle.mg_heard.specs.Query.{begins_before, covers, ends_after, has_be
 
 use crate::entry::Entry;
 use crate::interval::Interval;
-use crate::party_name::PartyName;
+use crate::keys::Keys;
 use mg_core::Peer;
 use mg_dates::Date;
 
 /// A selection of intervals by listener, talker and time.
-#[derive(Clone, Copy, Debug, PartialEq, Eq)]
+#[derive(Drop)]
 pub struct Query {
     /// The listener, or `None` for any listener.
-    pub listener: Option<PartyName>,
+    pub listener: Option<Keys>,
     /// The talker, or `None` for any talker.
-    pub talker: Option<PartyName>,
+    pub talker: Option<Keys>,
     /// Leaves out intervals that end at this time or earlier.
     pub from: Option<Date>,
     /// Leaves out intervals that begin at this time or later.
     pub until: Option<Date>,
 }
 
-/// Returns whether a query asks about this termination.
-pub(crate) fn is_asked(name: Option<PartyName>, number: u32, at: Option<Peer>) -> bool
-    ensures value { result ≡ is_asked name number at }
+/// Returns whether a question with these keys asks about this termination.
+pub(crate) fn is_asked(keys: &Option<Keys>, number: u32, at: Option<Peer>) -> bool
+    ensures value { result ≡ is_asked keys.now number at }
 {
-    match name {
-        Some(name) => name.names(number, at),
+    match keys {
+        Some(keys) => keys.apply_to(number, at),
         None => true,
     }
 }
@@ -103,8 +103,8 @@ impl Query {
         ensures value { result ≡ selects self.now interval.now }
     {
         let flow = &interval.flow;
-        is_asked(self.listener, flow.listener, flow.listener_at)
-            && is_asked(self.talker, flow.talker, flow.talker_at)
+        is_asked(&self.listener, flow.listener, flow.listener_at)
+            && is_asked(&self.talker, flow.talker, flow.talker_at)
             && ends_after_from(interval, self.from)
             && begins_before_until(interval, self.until)
     }

@@ -9,7 +9,7 @@ use std::io::Write;
 #[derive(Drop)]
 pub(crate) struct Report<'a, W: Write> {
     pub(crate) lines: &'a mut LineWriter,
-    pub(crate) query: Query,
+    pub(crate) query: &'a Query,
     pub(crate) writer: &'a mut W,
 }
 
@@ -18,8 +18,8 @@ impl<W: Write> Sink for Report<'_, W> {
     ghost use Rattle.mg_heard.specs.Reported.{HasReported};
 
     ghost told = { λ start now xs. (now.writer.ghost_name ≡ start.writer.ghost_name) × HasReported
-        (record { format = start.lines.now; query = start.query; written = W.contents start.writer.now })
-        (record { format = now.lines.now; query = now.query; written = W.contents now.writer.now }) xs };
+        (record { style = start.lines.now; query = start.query.now; written = W.contents start.writer.now })
+        (record { style = now.lines.now; query = now.query.now; written = W.contents now.writer.now }) xs };
 
     fn tell(&mut self, entry: &Entry) -> Result<(), Stopped> {
         if self.query.selects_entry(entry) {

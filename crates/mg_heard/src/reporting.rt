@@ -30,8 +30,8 @@ fn hear_report<'a, R: Read, W: Write>(
     ensures reported { IfOk result (λ last. (state : CoreState) ×
         IsFollowed config (R.remaining reader.old) (R.remaining reader.new) state
         (λ notes. TellsAll config notes (HasReported
-        (record { format = report.entry.lines.now; query = report.entry.query; written = W.contents report.entry.writer.now })
-        (record { format = last.lines.now; query = last.query; written = W.contents last.writer.now })))) }
+        (record { style = report.entry.lines.now; query = report.entry.query.now; written = W.contents report.entry.writer.now })
+        (record { style = last.lines.now; query = last.query.now; written = W.contents last.writer.now })))) }
 {
     let (report, _) = hear(alloc, config, reader, report)?;
     Ok(report)
@@ -50,7 +50,7 @@ pub fn write_report<R: Read, W: Write>(
     ensures report { IfOk result (λ _. (state : CoreState) ×
         IsFollowed config (R.remaining reader.old) (R.remaining reader.new) state
         (λ notes. TellsAll config notes
-        (WritesReport style.format query (W.contents writer.old) (W.contents writer.new)))) }
+        (WritesReport style query (W.contents writer.old) (W.contents writer.new)))) }
 {
     let Ok(mut lines) = LineWriter::new(alloc, style) else {
         return Err(HeardFault::NoMemory);
@@ -60,7 +60,7 @@ pub fn write_report<R: Read, W: Write>(
     }
     let report = Report {
         lines: &mut lines,
-        query,
+        query: &query,
         writer,
     };
     let report = hear_report(alloc, config, reader, report)?;
@@ -77,7 +77,7 @@ fn write_verdict<W: Write>(
     verdict: &Verdict,
     writer: &mut W,
 ) -> Result<(), HeardFault>
-    ensures value { IfOk result (λ _. WritesVerdict style.format verdict.now (W.contents writer.old) (W.contents writer.new)) }
+    ensures value { IfOk result (λ _. WritesVerdict style verdict.now (W.contents writer.old) (W.contents writer.new)) }
 {
     let Ok(mut lines) = LineWriter::new(alloc, style) else {
         return Err(HeardFault::NoMemory);
@@ -105,7 +105,7 @@ pub fn write_answer<R: Read, W: Write>(
         IsFollowed config (R.remaining reader.old) (R.remaining reader.new) state
         (λ notes. TellsAll config notes (λ xs. verdict ≡ verdict_at query time extent xs))) }
     ensures written { IfOk result (λ verdict.
-        WritesVerdict style.format verdict (W.contents writer.old) (W.contents writer.new)) }
+        WritesVerdict style verdict (W.contents writer.old) (W.contents writer.new)) }
 {
     let verdict = hear_at(alloc, config, reader, query, time)?;
     write_verdict(alloc, style, &verdict, writer)?;

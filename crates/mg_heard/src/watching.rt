@@ -46,7 +46,7 @@ fn write_line<W: Write>(
     writer: &mut W,
 ) -> Result<(), HeardFault>
     ensures value { IfOk result (λ _.
-        WritesViolation style.format (Some violation.now) (W.contents writer.old) (W.contents writer.new)) }
+        WritesViolation style (Some violation.now) (W.contents writer.old) (W.contents writer.new)) }
 {
     let Ok(mut lines) = LineWriter::new(alloc, style) else {
         return Err(HeardFault::NoMemory);
@@ -70,7 +70,7 @@ pub fn write_violation<R: Read, W: Write>(
     ensures watched { IfOk result (λ found.
         IsWatched rules.now config (R.remaining reader.old) (R.remaining reader.new) found) }
     ensures written { IfOk result (λ found.
-        WritesViolation style.format found (W.contents writer.old) (W.contents writer.new)) }
+        WritesViolation style found (W.contents writer.old) (W.contents writer.new)) }
 {
     let Some(violation) = find_violation(alloc, config, reader, rules)? else {
         return Ok(None);

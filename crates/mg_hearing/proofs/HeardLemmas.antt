@@ -106,7 +106,7 @@ prints_more config input rest state P Q more h = record {
 -- the line of the answer about a given time
 pub prints_answer : (asked : Question) (at : Option Date) (time : Date) (config : Config)
     (input rest old new : Option (List ℕ)) (verdict : Verdict) (status : Status) → at ≡ Some time →
-    WritesVerdict asked.style.format verdict old new → status ≡ status_for verdict →
+    WritesVerdict asked.style verdict old new → status ≡ status_for verdict →
     ((state : CoreState) × (extent : Extent) × IsFollowed config input rest state
     (λ notes. TellsAll config notes (λ xs. verdict ≡ verdict_at asked.query time extent xs))) →
     (state : CoreState) × IsFollowed config input rest state
@@ -118,7 +118,7 @@ prints_answer asked at time config input rest old new verdict status timed writt
       (λ (xs : List Entry) (e : verdict ≡ verdict_at asked.query time extent xs).
       subst (λ (t : Option Date). Prints asked t old new status xs) (sym timed) (
         extent,
-        subst (λ (v : Verdict). WritesVerdict asked.style.format v old new) e written,
+        subst (λ (v : Verdict). WritesVerdict asked.style v old new) e written,
         is ∙ ap (λ (v : Verdict). status_for v) e,
       )) h,
 )
@@ -127,14 +127,14 @@ prints_answer asked at time config input rest old new verdict status timed writt
 pub prints_report : (asked : Question) (at : Option Date) (config : Config)
     (input rest old new : Option (List ℕ)) (status : Status) → at ≡ None → status ≡ Done →
     ((state : CoreState) × IsFollowed config input rest state
-    (λ notes. TellsAll config notes (WritesReport asked.style.format asked.query old new))) →
+    (λ notes. TellsAll config notes (WritesReport asked.style asked.query old new))) →
     (state : CoreState) × IsFollowed config input rest state
     (λ notes. TellsAll config notes (Prints asked at old new status))
 prints_report asked at config input rest old new status timed is (state, h) = (
   state,
-  prints_more config input rest state (WritesReport asked.style.format asked.query old new)
+  prints_more config input rest state (WritesReport asked.style asked.query old new)
       (Prints asked at old new status)
-      (λ (xs : List Entry) (written : WritesReport asked.style.format asked.query old new xs).
+      (λ (xs : List Entry) (written : WritesReport asked.style asked.query old new xs).
       subst (λ (t : Option Date). Prints asked t old new status xs) (sym timed) (written, is)) h,
 )
 

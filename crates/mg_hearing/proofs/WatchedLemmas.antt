@@ -17,7 +17,7 @@ use Rattle.mg_hearing.proofs.HeardLemmas.{hears_more, read_all, titled}
 pub is_answered : (alarm : Alarm) (config : Config) (old mid rest : Option (List ℕ)) (front : List ℕ)
     (held written : Option (List ℕ)) (found : Option Violation) (status : Status) → Consumes old mid front →
     front ≡ title_line config → IsWatched alarm.rules.items config (option_append (Some front) mid) rest found →
-    WritesViolation alarm.style.format found held written → status ≡ status_for found →
+    WritesViolation alarm.style found held written → status ≡ status_for found →
     IsAnswered alarm old held written status
 is_answered alarm config old mid rest front held written found status first is h line status_is = record {
   config = config;

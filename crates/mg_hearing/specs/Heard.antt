@@ -1,5 +1,5 @@
 -- What `mg_bridge heard` prints, and what its exit status answers.
-use Rattle.std.specs.Prelude.{◌≡◌, ℕ, ⊤, List, Option, Some, None, IfSome}
+use Rattle.std.specs.Prelude.{◌≡◌, ℕ, ⊤, List, [], Option, Some, None, IfSome}
 use Rattle.std.specs.Io.{StartsWith}
 use Rattle.mg_engine.specs.declared.config.Config.{Config}
 use Rattle.mg_core.specs.declared.state.CoreState.{CoreState}
@@ -10,6 +10,8 @@ use Rattle.mg_heard.specs.declared.extent.Extent.{Extent}
 use Rattle.mg_heard.specs.declared.verdict.Verdict.{Verdict}
 use Rattle.mg_heard.specs.declared.verdict.Verdict.TheVariants.{CouldHear}
 use Rattle.mg_heard.specs.declared.verdict.Verdict.TheVariants as verdicts
+use Rattle.mg_heard.specs.declared.style.Style.{Style}
+use Rattle.mg_heard.specs.Asked.{IsQuery}
 use Rattle.mg_heard.specs.Reported.{WritesReport, WritesVerdict}
 use Rattle.mg_heard.specs.Told.{TellsAll}
 use Rattle.mg_heard.specs.Verdict.{verdict_at}
@@ -17,6 +19,7 @@ use Rattle.mg_options.specs.declared.status.Status.{Status}
 use Rattle.mg_options.specs.declared.status.Status.TheVariants.{Done, CouldNotHear, Unknown, RuleBroken}
 use Rattle.mg_options.specs.declared.status.Status.TheVariants.{Failed, NoMemory, BadJournal}
 use Rattle.mg_arguments.specs.declared.heard_request.HeardRequest.{HeardRequest}
+use Rattle.mg_arguments.specs.declared.printing.Printing.{Printing}
 use Rattle.mg_arguments.specs.Title.{title_line}
 use Rattle.mg_hearing.specs.declared.question.Question.{Question}
 
@@ -32,10 +35,10 @@ status_for verdicts.Unknown = Unknown
 abbrev pub Prints : Question → Option Date → (old new : Option (List ℕ)) → Status → List Entry
     → Type 0
 Prints asked None old new status xs =
-    WritesReport asked.style.format asked.query old new xs × (status ≡ Done)
+    WritesReport asked.style asked.query old new xs × (status ≡ Done)
 Prints asked (Some time) old new status xs =
     (extent : Extent)
-    × WritesVerdict asked.style.format (verdict_at asked.query time extent xs) old new
+    × WritesVerdict asked.style (verdict_at asked.query time extent xs) old new
     × (status ≡ status_for (verdict_at asked.query time extent xs))
 
 -- A script was read to its end. It begins with the title of the configuration with which it is run,
@@ -49,10 +52,17 @@ pub record IsHeard (asked : Question) (script old new : Option (List ℕ)) (stat
   pub prints : IsFollowed config script rest state
       (λ notes. TellsAll config notes (Prints asked asked.at old new status))
 
--- the question that a request asks, and the format that it names
+-- How an answer is written, as a request asks: in its format; and without a file of names, nothing
+-- has a name. (No contract says what a file contains, or which time zones the system has.)
+pub record IsStyle (printing : Printing) (style : Style) : Type 0 where
+  pub format : style.format ≡ printing.format
+  pub names : printing.names ≡ None → style.names ≡ []
+
+-- The question that a request asks. Its query asks about the terminations with the names in the
+-- request, and each of these names is in the file.
 pub record IsAsked (request : HeardRequest) (asked : Question) : Type 0 where
-  pub format : asked.style.format ≡ request.printing.format
-  pub query : asked.query ≡ request.query
+  pub style : IsStyle request.printing asked.style
+  pub query : IsQuery asked.style.names request.query asked.query
   pub at : asked.at ≡ request.at
 
 -- Without a file, the script is the input. (No contract says what a file contains.)

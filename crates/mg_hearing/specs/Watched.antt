@@ -3,11 +3,13 @@ use Rattle.std.specs.Prelude.{◌≡◌, ℕ, List, Option, Some, None, IfSome}
 use Rattle.std.specs.Io.{StartsWith}
 use Rattle.mg_engine.specs.declared.config.Config.{Config}
 use Rattle.mg_heard.specs.declared.violation.Violation.{Violation}
+use Rattle.mg_heard.specs.Asked.{AreRules}
 use Rattle.mg_heard.specs.Never.{IsWatched, WritesViolation}
 use Rattle.mg_options.specs.declared.status.Status.{Status}
 use Rattle.mg_options.specs.declared.status.Status.TheVariants.{Done, RuleBroken}
 use Rattle.mg_arguments.specs.declared.watch_request.WatchRequest.{WatchRequest}
 use Rattle.mg_arguments.specs.Title.{title_line}
+use Rattle.mg_hearing.specs.Heard.{IsStyle}
 use Rattle.mg_hearing.specs.declared.alarm.Alarm.{Alarm}
 
 abbrev pub status_for : Option Violation → Status
@@ -24,13 +26,14 @@ pub record IsAnswered (alarm : Alarm) (script old new : Option (List ℕ)) (stat
   pub rest : Option (List ℕ)
   pub found : Option Violation
   pub watched : IsWatched alarm.rules.items config script rest found
-  pub written : WritesViolation alarm.style.format found old new
+  pub written : WritesViolation alarm.style found old new
   pub status_is : status ≡ status_for found
 
--- the rules that a request states, and the format that it names
+-- The alarm that a request sets. Its rules are about the terminations with the names in the
+-- request, and each of these names is in the file.
 pub record IsSet (request : WatchRequest) (alarm : Alarm) : Type 0 where
-  pub format : alarm.style.format ≡ request.printing.format
-  pub rules : alarm.rules.items ≡ request.rules
+  pub style : IsStyle request.printing alarm.style
+  pub rules : AreRules alarm.style.names request.rules alarm.rules.items
 
 -- Without a file, the script is the input. (No contract says what a file contains.)
 abbrev pub IsAnsweredFrom : WatchRequest → (input old new : Option (List ℕ)) → Status → Type 0

@@ -7,7 +7,7 @@ ghost use Rattle.mg_hearing.specs.Heard.{Hears, IsAsked, IsHeard, IsHeardFrom, P
 use crate::faults::{INPUT, report_fault};
 use crate::question::Question;
 use crate::script_title::read_title;
-use crate::styling::style_of;
+use crate::styling::{report_name_fault, style_of};
 use mg_arguments::HeardRequest;
 use mg_core::Config;
 use mg_heard::{HeardFault, Verdict, write_answer, write_report};
@@ -76,7 +76,7 @@ fn hear_script<R: Read, W: Write, E: Write>(
     }
 }
 
-/// Returns the question that a request asks. If its answer can't be written, reports why to `errors`, and returns the
+/// Returns the question that a request asks. If it can't be asked, reports why to `errors`, and returns the
 /// exit status.
 fn question_of<F: Files, E: Write>(
     files: &F,
@@ -86,15 +86,20 @@ fn question_of<F: Files, E: Write>(
 ) -> Result<Question, Status>
     ensures asked { IfOk result (IsAsked request.now) }
     ensures silent { OnOk result (errors.new ≡ errors.old) }
-    ensures ends { IfErr result (λ status. status ≡ Status.BadJournal) }
+    ensures ends { IfErr result (λ status.
+        (status ≡ Status.Failed) ⊎ (status ≡ Status.NoMemory) ⊎ (status ≡ Status.BadJournal)) }
 {
-    match style_of(files, alloc, &request.printing, errors) {
-        Ok(style) => Ok(Question {
+    let style = match style_of(files, alloc, &request.printing, errors) {
+        Ok(style) => style,
+        Err(status) => return Err(status),
+    };
+    match request.query.query(alloc, &style.names) {
+        Ok(query) => Ok(Question {
             style,
-            query: request.query,
+            query,
             at: request.at,
         }),
-        Err(status) => Err(status),
+        Err(fault) => Err(report_name_fault(&request.printing, fault, errors)),
     }
 }
 

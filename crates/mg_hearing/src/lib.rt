@@ -15,6 +15,8 @@ mod alarm;
 mod answering;
 mod faults;
 mod first_line;
+mod names_fault;
+mod names_file;
 mod question;
 mod script_title;
 mod styling;

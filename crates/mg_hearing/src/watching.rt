@@ -6,9 +6,9 @@ ghost use Rattle.mg_hearing.specs.Watched.{IsAnswered, IsAnsweredFrom, IsSet, st
 use crate::alarm::Alarm;
 use crate::faults::{INPUT, report_fault};
 use crate::script_title::read_title;
-use crate::styling::style_of;
+use crate::styling::{report_name_fault, style_of};
 use mg_arguments::WatchRequest;
-use mg_heard::{Violation, write_violation};
+use mg_heard::{Violation, rules_of, write_violation};
 use mg_options::Status;
 use std::alloc::Global;
 use std::fs::{Files, OpenOptions};
@@ -57,15 +57,16 @@ fn alarm_of<F: Files, E: Write>(
 ) -> Result<Alarm, Status>
     ensures set { IfOk result (IsSet request.now) }
     ensures silent { OnOk result (errors.new ≡ errors.old) }
-    ensures ends { IfErr result (λ status. (status ≡ Status.NoMemory) ⊎ (status ≡ Status.BadJournal)) }
+    ensures ends { IfErr result (λ status.
+        (status ≡ Status.Failed) ⊎ (status ≡ Status.NoMemory) ⊎ (status ≡ Status.BadJournal)) }
 {
-    let Ok(rules) = Vec::from_slice(alloc, request.rules.as_slice()) else {
-        let _ = writeln!(errors, "out of memory");
-        return Err(Status::NoMemory);
+    let style = match style_of(files, alloc, &request.printing, errors) {
+        Ok(style) => style,
+        Err(status) => return Err(status),
     };
-    match style_of(files, alloc, &request.printing, errors) {
-        Ok(style) => Ok(Alarm { style, rules }),
-        Err(status) => Err(status),
+    match rules_of(alloc, request.rules.as_slice(), &style.names) {
+        Ok(rules) => Ok(Alarm { style, rules }),
+        Err(fault) => Err(report_name_fault(&request.printing, fault, errors)),
     }
 }
 

@@ -22,4 +22,6 @@ returns-clause-app c =
     let never = adds_rule _ _ _ _ _ c.in_ok-arg-7.ensures until c.never_option.ensures.rule refl in
     let zone = adds_rule _ _ _ _ _ c.in_ok-arg-8.ensures never
     (ap rule_of c.help-6.ensures ∙ c.option-6.ensures.rule) refl in
-    adds_rule _ _ _ _ _ c.in_ok-command.ensures zone (ap rule_of c.help-7.ensures ∙ c.option-7.ensures.rule) refl
+    let names = adds_rule _ _ _ _ _ c.in_ok-arg-9.ensures zone
+    (ap rule_of c.help-7.ensures ∙ c.option-7.ensures.rule) refl in
+    adds_rule _ _ _ _ _ c.in_ok-command.ensures names (ap rule_of c.help-8.ensures ∙ c.option-8.ensures.rule) refl

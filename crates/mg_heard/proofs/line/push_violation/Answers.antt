@@ -5,4 +5,4 @@ use Rattle.mg_heard.proofs.line.push_violation.Goals as goal
 
 pub returns-in-Json-clause-value : goal.returns-in-Json-clause-value
 returns-in-Json-clause-value c = rw c.in-Json.is (c.push_object.ensures.value
-    ∙ ap (λ x. appended c.args.out.now (object_of c.args.time.now [] x)) c.interval_from-in-Json.ensures.value)
+    ∙ ap (λ x. appended c.args.out.now (object_of c.args.time.now [] c.args.style.now.names x)) c.interval_from-in-Json.ensures.value)

@@ -8,8 +8,8 @@ returns g c =
     let held = g.W.Write.contents in
     let first = c.args.report in
     let last = c.in_ok-report.report in
-    let start : Reported = record { format = first.lines.now; query = first.query; written = held first.writer.now } in
-    let now : Reported = record { format = last.lines.now; query = last.query; written = held last.writer.now } in
+    let start : Reported = record { style = first.lines.now; query = first.query.now; written = held first.writer.now } in
+    let now : Reported = record { style = last.lines.now; query = last.query.now; written = held last.writer.now } in
     let told = c.in_ok-report.ensures.told (refl, reported_none start) in
     record {
       same_reference = told.1.follows.told.0;

@@ -1,12 +1,12 @@
-use Rattle.std.proofs.Common.{◌≡◌, ◌∙◌, ap, refl, rules, subst, sym}
+use Rattle.std.proofs.Common.{◌≡◌, ◌∙◌, refl, rules, subst, sym}
 use Rattle.std.specs.Io.KnownBytes.{Appends}
 use Rattle.mg_core.specs.Follow.{IsFollowed}
 use Rattle.mg_core.specs.declared.state.CoreState.{CoreState}
 use Rattle.mg_heard.specs.Lines.{head_of}
 use Rattle.mg_heard.specs.Reported.{HasReported, Reported, WritesReport}
 use Rattle.mg_heard.specs.Told.{TellsAll}
-use Rattle.mg_heard.specs.declared.format.Format.{Format}
-use Rattle.mg_heard.proofs.ReportingLemmas.{if_done, reported_all, reported_none, reported_whole}
+use Rattle.mg_heard.specs.declared.style.Style.{Style}
+use Rattle.mg_heard.proofs.ReportingLemmas.{if_done, reported_all, reported_whole}
 use Rattle.mg_heard.proofs.reporting.write_report.Goals as goal
 
 pub returns : goal.returns
@@ -16,21 +16,21 @@ returns g c =
     let last = c.in_ok-report.report in
     let lines = c.in-Ok.lines in
     let begun = held c.write_head.new.writer in
-    let start : Reported = record { format = c.write_head.new.self; query = c.args.query; written = begun } in
-    let now : Reported = record { format = last.lines.now; query = last.query; written = held last.writer.now } in
+    let start : Reported = record { style = c.write_head.new.self; query = c.args.query; written = begun } in
+    let now : Reported = record { style = last.lines.now; query = last.query.now; written = held last.writer.now } in
     let told = c.in_ok-report.ensures.reported in
     let name = c.in_ok-report.ensures.same_reference in
-    let formed : c.write_head.new.self ≡ c.args.style.format = c.write_head.ensures.same ∙ c.in-Ok.ensures.value in
+    let formed : c.write_head.new.self ≡ c.args.style = c.write_head.ensures.same ∙ c.in-Ok.ensures.value in
     let begins : Appends (held first.now) begun (head_of c.args.style.format) =
-    subst (λ (f : Format). Appends (held first.now) begun (head_of f)) c.in-Ok.ensures.value
+    subst (λ (s : Style). Appends (held first.now) begun (head_of s.format)) c.in-Ok.ensures.value
     (if_done c.write_head.result (sym c.is_err.ensures.value ∙ c.if-is_err.false) c.write_head.ensures.value) in
     let written : (state : CoreState) × IsFollowed c.args.config (g.R.Read.remaining c.args.reader.now)
     (g.R.Read.remaining c.hear_report.new.reader) state (λ notes. TellsAll c.args.config notes
-    (WritesReport c.args.style.format c.args.query (held first.now) (held last.writer.now))) =
+    (WritesReport c.args.style c.args.query (held first.now) (held last.writer.now))) =
     reported_all c.args.config (g.R.Read.remaining c.args.reader.now) (g.R.Read.remaining c.hear_report.new.reader)
     (HasReported start now)
-    (WritesReport c.args.style.format c.args.query (held first.now) (held last.writer.now))
-    (λ xs h. reported_whole c.args.style.format c.args.query (held first.now) start now xs formed refl begins h) told in
+    (WritesReport c.args.style c.args.query (held first.now) (held last.writer.now))
+    (λ xs h. reported_whole c.args.style c.args.query (held first.now) start now xs formed refl begins h) told in
     let (state, h) = written in
     let (text, are, bytes) = h.follows.told in
     record {

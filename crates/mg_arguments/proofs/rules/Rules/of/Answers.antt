@@ -1,5 +1,5 @@
 use Rattle.std.proofs.Common.{◌∙◌, [], ◌∷◌, ap, arith, length, length-append, map, drop, refl, sym, ◌+◌}
-use Rattle.mg_heard.specs.Never.{rule_of}
+use Rattle.mg_heard.specs.Asked.{rule_by}
 use Rattle.mg_arguments.specs.Rules.{all_stated}
 use Rattle.mg_arguments.proofs.RuleLemmas.{next_read, none_read, then_stated}
 use Rattle.mg_arguments.proofs.rules.Rules.of.Goals as goal
@@ -9,9 +9,9 @@ loop-text-init c = rw c.new-rules.ensures (none_read _, refl)
 
 pub loop-text-preserved : goal.loop-text-preserved
 loop-text-preserved c =
-    let rest = all_stated (map (λ t. t.now) (drop (c.loop-text.text-index + 1) c.args.texts.now)) in
-    let is = sym (ap rule_of c.as_bytes.ensures.value) ∙ (sym c.of.ensures.value ∙ c.in-Some.is) in
-    let next = next_read (λ t. t.now) c.args.texts.now c.loop-text.text-index _ c.in-Some.rule
+    let rest = all_stated c.args.has_names (map (λ t. t.now) (drop (c.loop-text.text-index + 1) c.args.texts.now)) in
+    let is = sym (ap (rule_by c.args.has_names) c.as_bytes.ensures.value) ∙ (sym c.of.ensures.value ∙ c.in-Some.is) in
+    let next = next_read c.args.has_names (λ t. t.now) c.args.texts.now c.loop-text.text-index _ c.in-Some.rule
     c.loop-text.rules.items c.loop-text-test.true is in (
       ap (λ items. then_stated items rest) c.push.ensures.items ∙ (sym next ∙ c.loop-text.invariant.0),
       omega (

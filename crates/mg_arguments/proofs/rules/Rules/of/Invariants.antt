@@ -5,6 +5,6 @@ use Rattle.mg_arguments.proofs.rules.Rules.of.Given as goal
 
 abbrev pub invariant-loop-text : goal.invariant-loop-text
 invariant-loop-text l =
-    (then_stated l.rules.items (all_stated (map (λ t. t.now) (drop l.text-index l.texts))) ≡
-    all_stated (map (λ t. t.now) l.texts))
+    (then_stated l.rules.items (all_stated l.has_names (map (λ t. t.now) (drop l.text-index l.texts))) ≡
+    all_stated l.has_names (map (λ t. t.now) l.texts))
     × (length l.rules.items ≡ l.text-index)

@@ -1,0 +1,76 @@
+-- How questions name terminations, and which terminations they are about.
+use Rattle.std.specs.Prelude.{◌≡◌, ℕ, ◌<◌, ◌-◌, ◌&&◌, Bool, ⊤, List, [], ◌∷◌, length, take, drop, Option}
+use Rattle.std.specs.Prelude.{Some, None, codes, if◌then◌else◌}
+use Rattle.std.specs.Option.{option_map, option_or}
+use Rattle.std.specs.Str.{bytes_eq}
+use Rattle.mg_words.specs.Cut.{cut}
+use Rattle.mg_words.specs.OptionSteps.{◌>>=◌}
+use Rattle.mg_heard.specs.declared.asked.Asked.{Asked}
+use Rattle.mg_heard.specs.declared.asked.Asked.TheVariants.{Key, Name}
+use Rattle.mg_heard.specs.declared.asked_query.AskedQuery.{AskedQuery}
+use Rattle.mg_heard.specs.declared.asked_rule.AskedRule.{AskedRule}
+use Rattle.mg_heard.specs.declared.named.Named.{Named}
+use Rattle.mg_heard.specs.declared.party_name.PartyName.{PartyName}
+use Rattle.mg_heard.specs.declared.query.Query.{Query}
+use Rattle.mg_heard.specs.declared.rule.Rule.{Rule}
+use Rattle.mg_heard.specs.Names.{keys_with, name_in}
+use Rattle.mg_heard.specs.Query.{party_name_of}
+
+-- ## Texts
+
+-- what a text names: a key, or a name if names are allowed
+abbrev pub asked_by : (has_names : Bool) → List ℕ → Option Asked
+asked_by has_names text =
+    option_or (option_map Key (party_name_of text))
+    (if has_names then option_map Name (name_in text) else None)
+
+-- the texts before and after an arrow, ` -> `, to which the first `>` belongs
+abbrev pub around_arrow : List ℕ → Option (List ℕ × List ℕ)
+around_arrow text = do
+  parts ← cut 62 text
+  if bytes_eq (drop (length parts.0 - 2) parts.0) (codes " -")
+      && bytes_eq (take 1 parts.1) (codes " ")
+      then Some (take (length parts.0 - 2) parts.0, drop 1 parts.1) else None
+
+-- what one side of an arrow names; `*` names all terminations
+abbrev pub pattern_by : (has_names : Bool) → List ℕ → Option (Option Asked)
+pattern_by has_names text =
+    if bytes_eq text (codes "*") then Some None else option_map Some (asked_by has_names text)
+
+-- the rule in a text: a talker, an arrow and a listener
+abbrev pub rule_by : (has_names : Bool) → List ℕ → Option AskedRule
+rule_by has_names text = do
+  parts ← around_arrow text
+  talker ← pattern_by has_names parts.0
+  listener ← pattern_by has_names parts.1
+  Some (record { talker = talker; listener = listener })
+
+-- ## Terminations
+
+-- These are the keys that a question is about, given the lines of a file of names: the one that it
+-- gives, or those of all lines with the name that it gives, of which there is at least one.
+abbrev pub AreKeys : List Named → Option Asked → Option (List PartyName) → Type 0
+AreKeys lines None keys = keys ≡ None
+AreKeys lines (Some (Key key)) keys = keys ≡ Some (key ∷ [])
+AreKeys lines (Some (Name name)) keys =
+    (keys ≡ Some (keys_with name lines)) × (0 < length (keys_with name lines))
+
+-- the query that asks about the terminations with the given names
+pub record IsQuery (lines : List Named) (asked : AskedQuery) (query : Query) : Type 0 where
+  pub listener : AreKeys lines asked.listener query.listener
+  pub talker : AreKeys lines asked.talker query.talker
+  pub from : query.from ≡ asked.from
+  pub until : query.until ≡ asked.until
+
+-- the rule about the terminations with the given names
+pub record IsRule (lines : List Named) (asked : AskedRule) (rule : Rule) : Type 0 where
+  pub talker : AreKeys lines asked.talker rule.talker
+  pub listener : AreKeys lines asked.listener rule.listener
+
+-- a rule for each one that is asked for, in the same order
+abbrev pub AreRules : List Named → List AskedRule → List Rule → Type 0
+AreRules lines [] [] = ⊤
+AreRules lines (asked ∷ others) (rule ∷ rules) =
+    IsRule lines asked rule × AreRules lines others rules
+AreRules lines [] (rule ∷ rules) = ⊥
+AreRules lines (asked ∷ others) [] = ⊥

@@ -1,0 +1,30 @@
+ghost use Rattle.std.specs.Prelude.{◌≡◌};
+ghost use Rattle.mg_heard.specs.Asked.{asked_by};
+
+use crate::name::Name;
+use crate::party_name::PartyName;
+
+/// How a question names terminations.
+#[derive(Drop)]
+pub enum Asked {
+    /// Each termination to which this key applies.
+    Key(PartyName),
+    /// Each termination to which the key of a line with this name applies.
+    Name(Name),
+}
+
+impl Asked {
+    /// Parses a key or, if `has_names` is set, a name. Returns `None` if the text is neither.
+    pub fn of(text: &[u8], has_names: bool) -> Option<Asked>
+        ensures value { result ≡ asked_by has_names text.now }
+    {
+        if let Some(key) = PartyName::of(text) {
+            return Some(Asked::Key(key));
+        }
+        if has_names {
+            Some(Asked::Name(Name::of(text)?))
+        } else {
+            None
+        }
+    }
+}

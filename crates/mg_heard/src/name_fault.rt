@@ -1,0 +1,9 @@
+use crate::name::NameText;
+
+/// Why a question can't be asked.
+#[derive(Drop)]
+pub enum NameFault {
+    /// No line has this name.
+    Unknown(NameText),
+    NoMemory,
+}

@@ -180,6 +180,16 @@ class Heard(Commands):
             self.ends(0, self.FIRST, "", "heard", path, "--talker", "RTP/2", text="not a script")
             self.refuses(f"{folder}/none.txt", "heard", f"{folder}/none.txt", status=6)
 
+    def test_full_output(self):
+        """If the output can't be written, the message doesn't name the script."""
+        for words in ((), ("--at", "2026-11-27T14:03:20Z"), ("--never", "* -> RTP/1")):
+            with self.subTest(words=words), open("/dev/full", "wb") as full:
+                command = [program("mg_bridge"), "heard", *words]
+                ran = subprocess.run(
+                    command, input=(self.TITLE + self.CALL).encode(), stdout=full, stderr=subprocess.PIPE, timeout=60
+                )
+                self.assertEqual((ran.returncode, ran.stderr), (3, b"write failed\n"))
+
 
 class Intervals(Commands):
     def test_what_holds_before_a_tick(self):

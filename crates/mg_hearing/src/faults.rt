@@ -22,10 +22,17 @@ fn status_of(fault: HeardFault) -> Status
     }
 }
 
-/// Reports a fault of the script with this name. Returns the exit status.
+/// Reports a fault of the script with this name, or of the output. Returns the exit status.
 pub(crate) fn report_fault<E: Write>(name: &str, fault: HeardFault, errors: &mut E) -> Status
     ensures ends { (result ≡ Status.Failed) ⊎ (result ≡ Status.NoMemory) ⊎ (result ≡ Status.BadJournal) }
 {
-    let _ = writeln!(errors, "{name}: {fault}");
+    match fault {
+        HeardFault::Stopped => {
+            let _ = writeln!(errors, "write failed");
+        }
+        _ => {
+            let _ = writeln!(errors, "{name}: {fault}");
+        }
+    }
     status_of(fault)
 }

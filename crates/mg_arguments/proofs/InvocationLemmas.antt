@@ -35,7 +35,7 @@ use Rattle.mg_arguments.specs.declared.bind_address_fault.BindAddressFault.{Bind
 use Rattle.mg_journal.specs.declared.durability.Durability.{Durability}
 use Rattle.mg_arguments.specs.declared.service.Service.{Service}
 use Rattle.mg_options.specs.Numbers.{number_or}
-use Rattle.mg_arguments.specs.Options.{address_in, bind_address_in, check_in, gateway_in, requested, command_line, config_at, controllers_in, durability_in, file_in, given_in, is_set, options, run_in, run_of, service_in, valid}
+use Rattle.mg_arguments.specs.Options.{address_in, bind_address_in, check_in, gateway_in, requested, command_line, config_at, controllers_in, durability_in, file_in, given_in, heard_options, is_set, options, run_in, run_of, service_in, valid}
 
 abbrev has_kinds : Kinds → Bool
 has_kinds [] = false
@@ -71,7 +71,7 @@ unfolding command_line
 wants_subcommand = refl
 
 pub is_simple_line : is_simple_and_free command_line ≡ true
-unfolding command_line options
+unfolding command_line options heard_options
 is_simple_line = refl
 
 has_met : (words : List Text) → fault_of command_line words ≡ [] → is_some (subcommand_of command_line words) ≡ true

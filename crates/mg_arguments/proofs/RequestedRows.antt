@@ -11,7 +11,7 @@ use Rattle.mg_arguments.specs.declared.service.Service.{Service}
 use Rattle.mg_journal.specs.declared.durability.Durability.TheVariants.{Written, Synced}
 use Rattle.mg_arguments.specs.declared.draws.Draws.{Draws}
 use Rattle.mg_arguments.specs.declared.given.Given.{Given}
-use Rattle.mg_arguments.specs.Options.{requested, command_line, config_at, options}
+use Rattle.mg_arguments.specs.Options.{requested, command_line, config_at, heard_options, options}
 
 abbrev slots : Text → List Text
 slots number = codes "replay" ∷ codes "--slots" ∷ number ∷ []
@@ -298,13 +298,13 @@ unfolding requested command_line options config_at clap_on_literals
 help = refl
 
 help_of_all : requested (codes "--help" ∷ []) ≡ Err (kind.DisplayHelp ∷ [])
-unfolding requested command_line options config_at clap_on_literals
+unfolding requested command_line options heard_options config_at clap_on_literals
 help_of_all = refl
 
 version : requested (codes "--version" ∷ []) ≡ Err (kind.DisplayVersion ∷ [])
-unfolding requested command_line options config_at clap_on_literals
+unfolding requested command_line options heard_options config_at clap_on_literals
 version = refl
 
 unknown_word : requested (codes "record" ∷ []) ≡ Err (kind.UnknownArgument ∷ kind.InvalidSubcommand ∷ [])
-unfolding requested command_line options config_at clap_on_literals
+unfolding requested command_line options heard_options config_at clap_on_literals
 unknown_word = refl

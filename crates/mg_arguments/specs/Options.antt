@@ -98,12 +98,15 @@ script_rule = record (new_rule (codes "file")) { value_names = 1 }
 abbrev pub never_rule : Rule
 never_rule = record (text_rule (codes "never")) { action = Some Append }
 
+-- the script and the options of the subcommand that says who could hear whom
+unfoldable pub heard_options : List Rule
+heard_options = script_rule ∷ text_rule (codes "listener") ∷ text_rule (codes "talker")
+    ∷ text_rule (codes "at") ∷ text_rule (codes "from") ∷ text_rule (codes "to") ∷ never_rule
+    ∷ text_rule (codes "zone") ∷ text_rule (codes "names") ∷ text_rule (codes "format") ∷ []
+
 -- the subcommand that says who could hear whom
 abbrev pub heard_line : App
-heard_line = fold with_rule (new_app (codes "heard"))
-    (script_rule ∷ text_rule (codes "listener") ∷ text_rule (codes "talker") ∷ text_rule (codes "at")
-    ∷ text_rule (codes "from") ∷ text_rule (codes "to") ∷ never_rule
-    ∷ text_rule (codes "zone") ∷ text_rule (codes "names") ∷ text_rule (codes "format") ∷ [])
+heard_line = fold with_rule (new_app (codes "heard")) heard_options
 
 -- the subcommand that checks seals
 abbrev pub verify_line : App

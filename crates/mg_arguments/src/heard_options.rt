@@ -1,12 +1,12 @@
 //! The options of `mg_bridge heard`.
 
-ghost use Rattle.std.specs.Prelude.{◌≡◌, ◌∷◌, [], Err, IfErr, IfOk, Ok, codes};
+ghost use Rattle.std.specs.Prelude.{◌≡◌, ◌∷◌, [], Err, IfErr, IfOk, Ok, codes, fold, take};
 ghost use Rattle.clap.specs.declared.error.kind.ErrorKind.TheVariants.{ValueValidation};
-ghost use Rattle.clap.specs.Words.{app_of, found_of, kind_of, rows_of, rule_of};
+ghost use Rattle.clap.specs.Words.{app_of, found_of, kind_of, rows_of, rule_of, with_rule};
 ghost use Rattle.mg_dates.specs.Dates.{date_of_text};
 ghost use Rattle.mg_options.specs.Line.{text_rule};
 ghost use Rattle.mg_arguments.specs.ZoneName.{zone_name};
-ghost use Rattle.mg_arguments.specs.Options.{asked_in, format_of, heard_in, heard_line, named_by, never_rule, printing_in, query_in, rules_in, script_in, script_rule, selects_part, watch_in};
+ghost use Rattle.mg_arguments.specs.Options.{asked_in, format_of, heard_in, heard_line, heard_options, named_by, never_rule, printing_in, query_in, rules_in, script_in, script_rule, selects_part, watch_in};
 
 use crate::heard_request::HeardRequest;
 use crate::invocation::Invocation;
@@ -71,13 +71,12 @@ pub(crate) fn script_argument<'a>(alloc: Global) -> Arg<'a>
         .help("Journal or recording [default: standard input]")
 }
 
-/// Creates the subcommand that says who could hear whom.
-pub(crate) fn heard_command<'a>(alloc: Global) -> Result<Command<'a>, Error>
-    ensures app { IfOk result (λ command. app_of command ≡ heard_line) }
+/// Adds a script, and the options that select terminations and a time.
+fn with_question<'a>(alloc: Global, command: Command<'a>) -> Result<Command<'a>, Error>
+    ensures app { IfOk result (λ with. app_of with ≡ fold with_rule (app_of command.entry) (take 4 heard_options)) }
     ensures memory { IfErr result (λ error. kind_of error ≡ ErrorKind.OutOfMemory) }
 {
-    let command = Command::new(alloc, "heard")
-        .about("Say who could hear whom, and when, from a journal or a recording")
+    let command = command
         .arg(script_argument(alloc))?
         .arg(option(alloc, "listener", "NAME").help(
             "Only this listener: RTP/1, the IPv4 address of its Remote with or without the port, or a name",
@@ -85,10 +84,29 @@ pub(crate) fn heard_command<'a>(alloc: Global) -> Result<Command<'a>, Error>
         .arg(option(alloc, "talker", "NAME").help("Only this talker"))?
         .arg(option(alloc, "at", "TIME").help(
             "Only at this time; exit with 0 if the talker could be heard, 1 if not, 2 if FILE doesn't say",
-        ))?
+        ))?;
+    Ok(command)
+}
+
+/// Adds what [`with_question`] adds, the options that select a period, and the one for rules.
+fn with_period<'a>(alloc: Global, command: Command<'a>) -> Result<Command<'a>, Error>
+    ensures app { IfOk result (λ with. app_of with ≡ fold with_rule (app_of command.entry) (take 7 heard_options)) }
+    ensures memory { IfErr result (λ error. kind_of error ≡ ErrorKind.OutOfMemory) }
+{
+    let command = with_question(alloc, command)?
         .arg(option(alloc, "from", "TIME").help("Only what ended after this time"))?
         .arg(option(alloc, "to", "TIME").help("Only what began before this time"))?
-        .arg(never_option(alloc))?
+        .arg(never_option(alloc))?;
+    Ok(command)
+}
+
+/// Creates the subcommand that says who could hear whom.
+pub(crate) fn heard_command<'a>(alloc: Global) -> Result<Command<'a>, Error>
+    ensures app { IfOk result (λ command. app_of command ≡ heard_line) }
+    ensures memory { IfErr result (λ error. kind_of error ≡ ErrorKind.OutOfMemory) }
+{
+    let about = "Say who could hear whom, and when, from a journal or a recording";
+    let command = with_period(alloc, Command::new(alloc, "heard").about(about))?
         .arg(option(alloc, "zone", "ZONE").help(
             "Print times in this time zone: an offset such as +01:00, or a name such as Europe/Berlin [default: UTC]",
         ))?

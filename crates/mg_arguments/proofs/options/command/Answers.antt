@@ -1,7 +1,7 @@
 use Rattle.std.proofs.Common.{◌≡◌, ◌∙◌, true, ap, refl, codes}
 use Rattle.clap.specs.Words.{Shape}
 use Rattle.clap.specs.Simple.{app_of_fields, on_top}
-use Rattle.mg_arguments.specs.Options.{check_line, command_line, heard_line, live_line, options, replay_line, seal_line, sockets_line, verify_line}
+use Rattle.mg_arguments.specs.Options.{check_line, command_line, heard_line, heard_options, live_line, options, replay_line, seal_line, sockets_line, verify_line}
 use Rattle.mg_options.proofs.CommandLemmas.{adds_subcommand}
 use Rattle.mg_arguments.proofs.options.command.Goals as goal
 
@@ -21,6 +21,7 @@ check_is_plain : check_line.top.is_plain ≡ true
 check_is_plain = refl
 
 heard_is_plain : heard_line.top.is_plain ≡ true
+unfolding heard_options
 heard_is_plain = refl
 
 verify_is_plain : verify_line.top.is_plain ≡ true

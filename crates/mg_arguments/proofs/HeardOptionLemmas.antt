@@ -1,5 +1,5 @@
 -- What the options of `mg_bridge heard` ask for.
-use Rattle.std.proofs.Common.{◌≡◌, ◌∙◌, List, [], ◌∷◌, Option, Some, None, Result, Ok, Err, ap, codes, sym}
+use Rattle.std.proofs.Common.{◌≡◌, ◌∙◌, List, [], ◌∷◌, Option, Some, None, Result, Ok, Err, IfErr, IfOk, ap, codes, sym}
 use Rattle.std.specs.Prelude.{unwrap_or}
 use Rattle.std.specs.Option.{option_map_or}
 use Rattle.clap.specs.Walk.{Row, Text, first_of}
@@ -13,10 +13,11 @@ use Rattle.mg_heard.specs.declared.format.Format.TheVariants as formats
 use Rattle.mg_heard.specs.declared.asked.Asked.{Asked}
 use Rattle.mg_heard.specs.declared.asked_query.AskedQuery.{AskedQuery}
 use Rattle.mg_arguments.specs.declared.file_path_fault.FilePathFault.{FilePathFault}
+use Rattle.mg_arguments.specs.declared.heard_request.HeardRequest.{HeardRequest}
 use Rattle.mg_arguments.specs.declared.invocation.Invocation.{Invocation}
 use Rattle.mg_arguments.specs.declared.invocation.Invocation.TheVariants.{Heard}
 use Rattle.mg_arguments.specs.declared.printing.Printing.{Printing}
-use Rattle.mg_arguments.specs.Options.{asked_in, file_in, format_of, heard_in, named_by, printing_in, query_in, valid, valid_value}
+use Rattle.mg_arguments.specs.Options.{asked_in, audible_in, audible_of, file_in, format_of, heard_in, named_by, printing_in, query_in, request_in, valid, valid_value}
 use Rattle.mg_arguments.specs.ZoneName.{zone_name}
 
 abbrev read_by : {A : Type 0} → (Text → Option A) → Option Text → Result (Option A) Kinds
@@ -174,35 +175,35 @@ refuses_names rows format zone fault is placed none =
 
 -- ## What is asked
 
-abbrev with_file : AskedQuery → Option Date → Printing → Option Text → Result Invocation Kinds
-with_file query time printing file = Ok (Heard (record {
+abbrev with_file : AskedQuery → Option Date → Printing → Option Text → Result HeardRequest Kinds
+with_file query time printing file = Ok (record {
   file = file;
   printing = printing;
   query = query;
   at = time;
-}))
+})
 
-abbrev with_printing : List Row → AskedQuery → Option Date → Printing → Result Invocation Kinds
+abbrev with_printing : List Row → AskedQuery → Option Date → Printing → Result HeardRequest Kinds
 with_printing rows query time printing = valid (file_in (codes "file") rows) >>= with_file query time printing
 
-abbrev with_time : List Row → AskedQuery → Option Date → Result Invocation Kinds
+abbrev with_time : List Row → AskedQuery → Option Date → Result HeardRequest Kinds
 with_time rows query time = printing_in rows >>= with_printing rows query time
 
-abbrev with_query : List Row → AskedQuery → Result Invocation Kinds
+abbrev with_query : List Row → AskedQuery → Result HeardRequest Kinds
 with_query rows query = named_by date_of_text (codes "at") rows >>= with_time rows query
 
-at_query : (rows : List Row) (query : AskedQuery) → query_in rows ≡ Ok query → heard_in rows ≡ with_query rows query
+at_query : (rows : List Row) (query : AskedQuery) → query_in rows ≡ Ok query → request_in rows ≡ with_query rows query
 at_query rows query is = goes_on query (query_in rows) (with_query rows) is
 
 at_time : (rows : List Row) (query : AskedQuery) (time : Option Date) → query_in rows ≡ Ok query →
-    named_by date_of_text (codes "at") rows ≡ Ok time → heard_in rows ≡ with_time rows query time
+    named_by date_of_text (codes "at") rows ≡ Ok time → request_in rows ≡ with_time rows query time
 at_time rows query time is timed =
     at_query rows query is ∙
     goes_on time (named_by date_of_text (codes "at") rows) (with_time rows query) timed
 
 at_printing : (rows : List Row) (query : AskedQuery) (time : Option Date) (printing : Printing) →
     query_in rows ≡ Ok query → named_by date_of_text (codes "at") rows ≡ Ok time →
-    printing_in rows ≡ Ok printing → heard_in rows ≡ with_printing rows query time printing
+    printing_in rows ≡ Ok printing → request_in rows ≡ with_printing rows query time printing
 at_printing rows query time printing is timed formed =
     at_time rows query time is timed ∙
     goes_on printing (printing_in rows) (with_printing rows query time) formed
@@ -210,19 +211,19 @@ at_printing rows query time printing is timed formed =
 pub heard_is : (rows : List Row) (query : AskedQuery) (time : Option Date) (printing : Printing) (file : Option Text) →
     query_in rows ≡ Ok query → named_by date_of_text (codes "at") rows ≡ Ok time →
     printing_in rows ≡ Ok printing → Ok file ≡ file_in (codes "file") rows →
-    heard_in rows ≡ with_file query time printing file
+    request_in rows ≡ with_file query time printing file
 heard_is rows query time printing file is timed formed named =
     at_printing rows query time printing is timed formed ∙
     goes_on file (valid (file_in (codes "file") rows)) (with_file query time printing)
     (ap (λ (r : Result (Option Text) FilePathFault). valid r) (sym named))
 
 pub refuses_query : (rows : List Row) → query_in rows ≡ Err (ValueValidation ∷ []) →
-    heard_in rows ≡ Err (ValueValidation ∷ [])
+    request_in rows ≡ Err (ValueValidation ∷ [])
 refuses_query rows none = ends (ValueValidation ∷ []) (query_in rows) (with_query rows) none
 
 pub refuses_time : (rows : List Row) (query : AskedQuery) → query_in rows ≡ Ok query →
     named_by date_of_text (codes "at") rows ≡ Err (ValueValidation ∷ []) →
-    heard_in rows ≡ Err (ValueValidation ∷ [])
+    request_in rows ≡ Err (ValueValidation ∷ [])
 refuses_time rows query is none =
     at_query rows query is ∙
     ends (ValueValidation ∷ []) (named_by date_of_text (codes "at") rows) (with_time rows query) none
@@ -230,7 +231,7 @@ refuses_time rows query is none =
 pub refuses_printing : (rows : List Row) (query : AskedQuery) (time : Option Date) → query_in rows ≡ Ok query →
     named_by date_of_text (codes "at") rows ≡ Ok time →
     printing_in rows ≡ Err (ValueValidation ∷ []) →
-    heard_in rows ≡ Err (ValueValidation ∷ [])
+    request_in rows ≡ Err (ValueValidation ∷ [])
 refuses_printing rows query time is timed none =
     at_time rows query time is timed ∙
     ends (ValueValidation ∷ []) (printing_in rows) (with_printing rows query time) none
@@ -238,8 +239,38 @@ refuses_printing rows query time is timed none =
 pub refuses_file : (rows : List Row) (query : AskedQuery) (time : Option Date) (printing : Printing)
     (fault : FilePathFault) → query_in rows ≡ Ok query → named_by date_of_text (codes "at") rows ≡ Ok time →
     printing_in rows ≡ Ok printing → Err fault ≡ file_in (codes "file") rows →
-    heard_in rows ≡ Err (ValueValidation ∷ [])
+    request_in rows ≡ Err (ValueValidation ∷ [])
 refuses_file rows query time printing fault is timed formed none =
     at_printing rows query time printing is timed formed ∙
     ends (ValueValidation ∷ []) (valid (file_in (codes "file") rows)) (with_file query time printing)
     (ap (λ (r : Result (Option Text) FilePathFault). valid r) (sym none))
+
+-- ## What a request asks for
+
+pub asks_heard : (rows : List Row) (request : HeardRequest) → request_in rows ≡ Ok request →
+    heard_in rows ≡ Ok (Heard request)
+asks_heard rows request is = goes_on request (request_in rows) (λ r. Ok (Heard r)) is
+
+pub refuses_heard : (rows : List Row) → request_in rows ≡ Err (ValueValidation ∷ []) →
+    heard_in rows ≡ Err (ValueValidation ∷ [])
+refuses_heard rows none = ends (ValueValidation ∷ []) (request_in rows) (λ r. Ok (Heard r)) none
+
+pub asks_audible : (rows : List Row) (request : HeardRequest) (answer : Result Invocation Kinds) →
+    request_in rows ≡ Ok request → audible_of request ≡ answer → audible_in rows ≡ answer
+asks_audible rows request answer is e = goes_on request (request_in rows) audible_of is ∙ e
+
+pub refuses_audible : (rows : List Row) → request_in rows ≡ Err (ValueValidation ∷ []) →
+    audible_in rows ≡ Err (ValueValidation ∷ [])
+refuses_audible rows none = ends (ValueValidation ∷ []) (request_in rows) audible_of none
+
+pub answers_audible : {E : Type 0} (rows : List Row) (request : HeardRequest) (result : Result Invocation E) →
+    request_in rows ≡ Ok request → IfOk result (λ run. audible_of request ≡ Ok run) →
+    IfOk result (λ run. audible_in rows ≡ Ok run)
+answers_audible rows request (Ok run) is h = asks_audible rows request (Ok run) is h
+answers_audible rows request (Err error) is h = tt
+
+pub refuses_of : {E : Type 0} (rows : List Row) (request : HeardRequest) (result : Result Invocation E) →
+    request_in rows ≡ Ok request → IfErr result (λ e. audible_of request ≡ Err (ValueValidation ∷ [])) →
+    IfErr result (λ e. audible_in rows ≡ Err (ValueValidation ∷ []))
+refuses_of rows request (Ok run) is h = tt
+refuses_of rows request (Err error) is h = asks_audible rows request (Err (ValueValidation ∷ [])) is h

@@ -24,6 +24,8 @@ use Rattle.mg_heard.specs.declared.asked.Asked.{Asked}
 use Rattle.mg_heard.specs.declared.asked_query.AskedQuery.{AskedQuery}
 use Rattle.mg_heard.specs.declared.asked_rule.AskedRule.{AskedRule}
 use Rattle.mg_heard.specs.Asked.{asked_by}
+use Rattle.mg_heard.specs.declared.asked.Asked.TheVariants.{Key}
+use Rattle.mg_heard.specs.declared.party_name.PartyName.TheVariants.{Termination}
 use Rattle.mg_engine.specs.declared.config.Config.{Config}
 use Rattle.mg_engine.specs.Config.{standard}
 use Rattle.mg_arguments.specs.declared.address.AddressFault.{AddressFault}
@@ -31,10 +33,12 @@ use Rattle.mg_journal.specs.declared.durability.Durability.{Durability}
 use Rattle.mg_journal.specs.declared.durability.Durability.TheVariants.{Written, Synced}
 use Rattle.mg_arguments.specs.declared.printing.Printing.{Printing}
 use Rattle.mg_arguments.specs.declared.draws.Draws.{Draws}
+use Rattle.mg_arguments.specs.declared.heard_request.HeardRequest.{HeardRequest}
 use Rattle.mg_arguments.specs.declared.given.Given.{Given}
 use Rattle.mg_arguments.specs.declared.invocation.Invocation.{Invocation}
 use Rattle.mg_arguments.specs.declared.invocation.Invocation.TheVariants.{Replay, Serve, Live, Check}
-use Rattle.mg_arguments.specs.declared.invocation.Invocation.TheVariants.{Heard, Watch, Verify, Seal}
+use Rattle.mg_arguments.specs.declared.invocation.Invocation.TheVariants.{Heard, Watch, Audible}
+use Rattle.mg_arguments.specs.declared.invocation.Invocation.TheVariants.{Verify, Seal}
 use Rattle.mg_arguments.specs.declared.service.Service.{Service}
 use Rattle.mg_arguments.specs.declared.controller_fault.ControllerFault.{ControllerFault}
 use Rattle.mg_arguments.specs.declared.bind_address_fault.BindAddressFault.{BindAddressFault}
@@ -101,8 +105,9 @@ never_rule = record (text_rule (codes "never")) { action = Some Append }
 -- the script and the options of the subcommand that says who could hear whom
 unfoldable pub heard_options : List Rule
 heard_options = script_rule ∷ text_rule (codes "listener") ∷ text_rule (codes "talker")
-    ∷ text_rule (codes "at") ∷ text_rule (codes "from") ∷ text_rule (codes "to") ∷ never_rule
-    ∷ text_rule (codes "zone") ∷ text_rule (codes "names") ∷ text_rule (codes "format") ∷ []
+    ∷ text_rule (codes "at") ∷ text_rule (codes "from") ∷ text_rule (codes "to")
+    ∷ flag_rule (codes "audible") ∷ never_rule ∷ text_rule (codes "zone")
+    ∷ text_rule (codes "names") ∷ text_rule (codes "format") ∷ []
 
 -- the subcommand that says who could hear whom
 abbrev pub heard_line : App
@@ -293,25 +298,48 @@ printing_in found = do
   Ok (record { format = unwrap_or format formats.Text; zone = zone; names = names })
 
 -- what is asked about a script
-abbrev pub heard_in : List Row → Result Invocation Kinds
-heard_in found = do
+abbrev pub request_in : List Row → Result HeardRequest Kinds
+request_in found = do
   query ← query_in found
   time ← named_by date_of_text (codes "at") found
   printing ← printing_in found
   file ← valid (file_in (codes "file") found)
-  Ok (Heard (record {
+  Ok (record {
     file = file;
     printing = printing;
     query = query;
     at = time;
-  }))
+  })
+
+-- who could hear whom
+abbrev pub heard_in : List Row → Result Invocation Kinds
+heard_in found = do
+  request ← request_in found
+  Ok (Heard request)
+
+-- the number that a key is, if it is one
+abbrev pub number_named : Option Asked → Option ℕ
+number_named (Some (Key (Termination n))) = Some n
+number_named other = None
+
+-- when a talker was audible, who is named by his number; no single time can be asked about
+abbrev pub audible_of : HeardRequest → Result Invocation Kinds
+audible_of request =
+    if is_some request.at then Err (ValueValidation ∷ [])
+    else option_map_or (λ n. Ok (Audible (record { talker = n; heard = request })))
+    (number_named request.query.talker) (Err (ValueValidation ∷ []))
+
+abbrev pub audible_in : List Row → Result Invocation Kinds
+audible_in found = do
+  request ← request_in found
+  audible_of request
 
 -- whether options select a part of what is heard, which rules don't allow
 abbrev pub selects_part : List Row → Bool
 selects_part found =
     is_given (codes "listener") found || (is_given (codes "talker") found
     || (is_given (codes "at") found || (is_given (codes "from") found
-    || is_given (codes "to") found)))
+    || (is_given (codes "to") found || is_set (codes "audible") found))))
 
 abbrev pub rules_in : List Row → Result (List AskedRule) RuleFault
 rules_in found =
@@ -331,7 +359,9 @@ watch_in found = do
 
 -- what is asked about a script, or the rules that it must keep
 abbrev pub script_in : List Row → Result Invocation Kinds
-script_in found = if is_given (codes "never") found then watch_in found else heard_in found
+script_in found =
+    if is_given (codes "never") found then watch_in found
+    else (if is_set (codes "audible") found then audible_in found else heard_in found)
 
 -- the check of the seals in a file, or in the input
 abbrev pub verify_in : List Row → Result Invocation Kinds

@@ -6,11 +6,12 @@ ghost use Rattle.clap.specs.Words.{app_of, found_of, kind_of, rows_of, rule_of, 
 ghost use Rattle.mg_dates.specs.Dates.{date_of_text};
 ghost use Rattle.mg_options.specs.Line.{text_rule};
 ghost use Rattle.mg_arguments.specs.ZoneName.{zone_name};
-ghost use Rattle.mg_arguments.specs.Options.{asked_in, format_of, heard_in, heard_line, heard_options, named_by, never_rule, printing_in, query_in, rules_in, script_in, script_rule, selects_part, watch_in};
+ghost use Rattle.mg_arguments.specs.Options.{asked_in, audible_in, audible_of, format_of, heard_in, heard_line, heard_options, named_by, never_rule, number_named, printing_in, query_in, request_in, rules_in, script_in, script_rule, selects_part, watch_in};
 
+use crate::audible_request::AudibleRequest;
 use crate::heard_request::HeardRequest;
 use crate::invocation::Invocation;
-use crate::options::{file_of, is_given};
+use crate::options::{file_of, flag, is_given, is_set};
 use crate::printing::Printing;
 use crate::rule_fault::RuleFault;
 use crate::rules::Rules;
@@ -19,7 +20,7 @@ use crate::zone_name::ZoneName;
 use clap::error::ErrorKind;
 use clap::{Arg, ArgAction, ArgMatches, Command, Error};
 use mg_dates::Date;
-use mg_heard::{Asked, AskedQuery, Format};
+use mg_heard::{Asked, AskedQuery, Format, PartyName};
 use std::alloc::Global;
 
 const NO_LISTENER: &str =
@@ -40,7 +41,14 @@ const NO_FORMAT: &str = "invalid value for '--format <FORMAT>': not text, csv or
 
 /// The error message if a part is selected of what rules are about.
 const NO_PART: &str =
-    "'--never' can't be used with '--listener', '--talker', '--at', '--from' or '--to'";
+    "'--never' can't be used with '--listener', '--talker', '--at', '--from', '--to' or '--audible'";
+
+/// The error message if it is asked when a talker was audible who has no number.
+const NO_NUMBER: &str =
+    "'--audible' needs '--talker' with the number of a termination, such as RTP/1";
+
+/// The error message if it is asked whether a talker was audible at a single time.
+const NO_SINGLE_TIME: &str = "'--audible' can't be used with '--at'";
 
 /// Creates an option that takes a text.
 fn option<'a>(alloc: Global, name: &'a str, value: &'a str) -> Arg<'a>
@@ -88,14 +96,17 @@ fn with_question<'a>(alloc: Global, command: Command<'a>) -> Result<Command<'a>,
     Ok(command)
 }
 
-/// Adds what [`with_question`] adds, the options that select a period, and the one for rules.
+/// Adds what [`with_question`] adds, the options that select a period or what was audible, and the one for rules.
 fn with_period<'a>(alloc: Global, command: Command<'a>) -> Result<Command<'a>, Error>
-    ensures app { IfOk result (λ with. app_of with ≡ fold with_rule (app_of command.entry) (take 7 heard_options)) }
+    ensures app { IfOk result (λ with. app_of with ≡ fold with_rule (app_of command.entry) (take 8 heard_options)) }
     ensures memory { IfErr result (λ error. kind_of error ≡ ErrorKind.OutOfMemory) }
 {
     let command = with_question(alloc, command)?
         .arg(option(alloc, "from", "TIME").help("Only what ended after this time"))?
         .arg(option(alloc, "to", "TIME").help("Only what began before this time"))?
+        .arg(flag(alloc, "audible").help(
+            "Only when the talker's speech reached the listener, from a full recording; needs --talker RTP/1",
+        ))?
         .arg(never_option(alloc))?;
     Ok(command)
 }
@@ -238,9 +249,9 @@ fn query_in(matches: &ArgMatches<'_>) -> Result<AskedQuery, &'static str>
 }
 
 /// Returns the question that the options ask about a script, or the error message.
-fn heard_in(matches: &ArgMatches<'_>) -> Result<Invocation, &'static str>
-    ensures run { IfOk result (λ run. heard_in (rows_of (found_of matches.now)) ≡ Ok run) }
-    ensures refused { IfErr result (λ _. heard_in (rows_of (found_of matches.now)) ≡ Err (ValueValidation ∷ [])) }
+fn request_in(matches: &ArgMatches<'_>) -> Result<HeardRequest, &'static str>
+    ensures request { IfOk result (λ request. request_in (rows_of (found_of matches.now)) ≡ Ok request) }
+    ensures refused { IfErr result (λ _. request_in (rows_of (found_of matches.now)) ≡ Err (ValueValidation ∷ [])) }
 {
     let query = query_in(matches)?;
     let at = time_of("at", NO_TIME, matches)?;
@@ -249,12 +260,61 @@ fn heard_in(matches: &ArgMatches<'_>) -> Result<Invocation, &'static str>
         Ok(file) => file,
         Err(fault) => return Err(fault.script_message()),
     };
-    Ok(Invocation::Heard(HeardRequest {
+    Ok(HeardRequest {
         file,
         printing,
         query,
         at,
+    })
+}
+
+/// Returns who could hear whom, as the options ask, or the error message.
+fn heard_in(matches: &ArgMatches<'_>) -> Result<Invocation, &'static str>
+    ensures run { IfOk result (λ run. heard_in (rows_of (found_of matches.now)) ≡ Ok run) }
+    ensures refused { IfErr result (λ _. heard_in (rows_of (found_of matches.now)) ≡ Err (ValueValidation ∷ [])) }
+{
+    let request = request_in(matches)?;
+    Ok(Invocation::Heard(request))
+}
+
+/// Returns the number that a key is, if it is one.
+fn number_named(asked: &Option<Asked>) -> Option<u32>
+    ensures value { result ≡ number_named asked.now }
+{
+    match asked {
+        Some(Asked::Key(PartyName::Termination(number))) => Some(*number),
+        Some(Asked::Key(PartyName::Address(_))) => None,
+        Some(Asked::Key(PartyName::Remote(_))) => None,
+        Some(Asked::Name(_)) => None,
+        None => None,
+    }
+}
+
+/// Returns the question when the talker of a request was audible, or the error message if the talker has no number or a
+/// time is asked about.
+fn audible_of(request: HeardRequest) -> Result<Invocation, &'static str>
+    ensures run { IfOk result (λ run. audible_of request ≡ Ok run) }
+    ensures refused { IfErr result (λ _. audible_of request ≡ Err (ValueValidation ∷ [])) }
+{
+    if request.at.is_some() {
+        return Err(NO_SINGLE_TIME);
+    }
+    let Some(talker) = number_named(&request.query.talker) else {
+        return Err(NO_NUMBER);
+    };
+    Ok(Invocation::Audible(AudibleRequest {
+        talker,
+        heard: request,
     }))
+}
+
+/// Returns the question when a talker was audible, or the error message.
+fn audible_in(matches: &ArgMatches<'_>) -> Result<Invocation, &'static str>
+    ensures run { IfOk result (λ run. audible_in (rows_of (found_of matches.now)) ≡ Ok run) }
+    ensures refused { IfErr result (λ _. audible_in (rows_of (found_of matches.now)) ≡ Err (ValueValidation ∷ [])) }
+{
+    let request = request_in(matches)?;
+    audible_of(request)
 }
 
 /// Returns whether options select a part of what is heard.
@@ -266,6 +326,7 @@ fn selects_part(matches: &ArgMatches<'_>) -> bool
         || is_given("at", matches)
         || is_given("from", matches)
         || is_given("to", matches)
+        || is_set("audible", matches)
 }
 
 /// Returns the rules on the command line.
@@ -310,6 +371,8 @@ pub(crate) fn script_in(matches: &ArgMatches<'_>) -> Result<Invocation, &'static
 {
     if is_given("never", matches) {
         watch_in(matches)
+    } else if is_set("audible", matches) {
+        audible_in(matches)
     } else {
         heard_in(matches)
     }

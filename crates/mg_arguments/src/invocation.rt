@@ -1,3 +1,4 @@
+use crate::audible_request::AudibleRequest;
 use crate::draws::Draws;
 use crate::file_path::FilePath;
 use crate::heard_request::HeardRequest;
@@ -20,6 +21,8 @@ pub enum Invocation {
     Check(Peer),
     /// Say who could hear whom while a script ran.
     Heard(HeardRequest),
+    /// Say when a talker was audible while a script ran.
+    Audible(AudibleRequest),
     /// Say whether the seals in a file are right, or those in the input if there is no file.
     Verify(Option<FilePath>),
     /// Copy the input to the output, with seals.

@@ -20,6 +20,7 @@
 #![tactic(auto)]
 
 mod address;
+mod audible_request;
 mod bind_address_fault;
 mod config_fault;
 mod controller_fault;
@@ -43,6 +44,7 @@ mod watch_request;
 mod zone_name;
 
 pub use crate::address::is_multicast;
+pub use crate::audible_request::AudibleRequest;
 pub use crate::bind_address_fault::BindAddressFault;
 pub use crate::config_fault::ConfigFault;
 pub use crate::controller_fault::ControllerFault;

@@ -98,7 +98,7 @@ fn controller_option<'a>(alloc: Global) -> Arg<'a>
 }
 
 /// Creates a flag: an option without a value, which is set if it occurs.
-fn flag<'a>(alloc: Global, name: &'a str) -> Arg<'a>
+pub(crate) fn flag<'a>(alloc: Global, name: &'a str) -> Arg<'a>
     ensures rule { rule_of result ≡ flag_rule name.now }
 {
     Arg::new(alloc, name).long(name).action(ArgAction::SetTrue)
@@ -273,7 +273,7 @@ fn report_of(matches: &ArgMatches<'_>) -> u16
 }
 
 /// Returns whether a flag is set.
-fn is_set(name: &str, matches: &ArgMatches<'_>) -> bool
+pub(crate) fn is_set(name: &str, matches: &ArgMatches<'_>) -> bool
     ensures value { result ≡ is_set name.now (rows_of (found_of matches.now)) }
 {
     match matches.get_str(name) {

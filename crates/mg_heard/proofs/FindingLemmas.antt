@@ -38,6 +38,7 @@ heard_more query time [] x = refl
 heard_more query time (entries.Interval y ∷ xs) x = first_more (selects query y && covers y time) y
     (heard_at query time (xs ++ x ∷ [])) (heard_at query time xs) (heard_at query time (x ∷ [])) (heard_more query time xs x)
 heard_more query time (entries.Gap gap ∷ xs) x = heard_more query time xs x
+heard_more query time (entries.Audible y ∷ xs) x = heard_more query time xs x
 
 gap_more : (time : Date) (xs : List Entry) (x : Entry) →
     gap_at time (xs ++ x ∷ []) ≡ option_or (gap_at time xs) (gap_at time (x ∷ []))
@@ -45,6 +46,7 @@ gap_more time [] x = refl
 gap_more time (entries.Interval y ∷ xs) x = gap_more time xs x
 gap_more time (entries.Gap gap ∷ xs) x = first_more (is_in_gap gap time) gap
     (gap_at time (xs ++ x ∷ [])) (gap_at time xs) (gap_at time (x ∷ [])) (gap_more time xs x)
+gap_more time (entries.Audible y ∷ xs) x = gap_more time xs x
 
 -- one more entry
 found_more : (start old : Instant) (before : List Entry) (x : Entry) (heard : Option Interval) (gap : Option Gap) →
@@ -76,6 +78,12 @@ pub found_gap : (start old new : Instant) (before : List Entry) (x : Gap) →
 found_gap start old new before x e h = subst (λ (y : Instant). HasFound start y (before ++ entries.Gap x ∷ []))
     (sym e) (found_more start old before (entries.Gap x) old.heard
     (option_or old.gap (gap_at old.time (entries.Gap x ∷ []))) (sym (or_none old.heard)) refl h)
+
+-- an entry that answers no such question
+pub found_audible : (start old : Instant) (before : List Entry) (x : Interval) → HasFound start old before →
+    HasFound start old (before ++ entries.Audible x ∷ [])
+found_audible start old before x h = found_more start old before (entries.Audible x) old.heard old.gap
+    (sym (or_none old.heard)) (sym (or_none old.gap)) h
 
 -- ## The answer
 

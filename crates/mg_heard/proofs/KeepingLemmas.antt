@@ -94,7 +94,7 @@ events_with_ticks notes n = events_in_both notes (ticks_of n) ∙ ap (λ (l : Li
 
 -- ## The intervals among entries
 
-intervals_in_both : (a b : List Entry) → intervals_in (a ++ b) ≡ intervals_in a ++ intervals_in b
+pub intervals_in_both : (a b : List Entry) → intervals_in (a ++ b) ≡ intervals_in a ++ intervals_in b
 intervals_in_both [] b = refl
 intervals_in_both (entries.Interval x ∷ a) b = λ i. record {
   flow = x.flow;
@@ -102,6 +102,7 @@ intervals_in_both (entries.Interval x ∷ a) b = λ i. record {
   end = Rattle.std.specs.Option.option_map (λ (m : Moment). m.tick) x.end;
 } ∷ intervals_in_both a b i
 intervals_in_both (entries.Gap gap ∷ a) b = intervals_in_both a b
+intervals_in_both (entries.Audible x ∷ a) b = intervals_in_both a b
 
 told_until : (end : Moment) (xs : List OpenInterval) →
     intervals_in (map (entry_until (Some end)) xs) ≡ map (ended_at end.tick) xs

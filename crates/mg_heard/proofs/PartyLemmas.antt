@@ -24,7 +24,7 @@ party_more rs i r p ns new (Err fault) there few is e h put full =
     let long = ap length h ∙ length-map (take i rs) party_of in
     absurd (omega (arith, full))
 
-is_party : (w : Gateway) (r : Record) → record_at w.rooms r.number ≡ Some r → IsParty w (party_of r)
+pub is_party : (w : Gateway) (r : Record) → record_at w.rooms r.number ≡ Some r → IsParty w (party_of r)
 is_party w r is = record {
   context = sym (ap (λ (o : Option Record). option_map_or (λ r. r.context) o 0) is);
   at = sym (ap (λ (o : Option Record).

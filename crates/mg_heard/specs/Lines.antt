@@ -9,6 +9,8 @@ use Rattle.mg_words.specs.Term.{rtp_name}
 use Rattle.mg_words.specs.declared.peer.Peer.{Peer}
 use Rattle.mg_core.specs.Peer.{peer_text}
 use Rattle.mg_dates.specs.declared.date.Date.{Date}
+use Rattle.mg_heard.specs.declared.claim.Claim.{Claim}
+use Rattle.mg_heard.specs.declared.claim.Claim.TheVariants as claims
 use Rattle.mg_heard.specs.declared.entry.Entry.{Entry}
 use Rattle.mg_heard.specs.declared.entry.Entry.TheVariants as entries
 use Rattle.mg_heard.specs.declared.format.Format.{Format}
@@ -58,9 +60,14 @@ extent_text from until first end =
     codes " from " ++ (moment_text from first.tick first.date
     ++ (codes " until " ++ (end_text until end ++ codes "\n")))
 
-abbrev pub sentence_of : List ℕ → List ℕ → List Named → Interval → List ℕ
-sentence_of from until names x =
-    party_text names x.flow.listener x.flow.listener_at ++ (codes " could hear "
+-- what a sentence says: that the listener could hear the talker, or that he did
+abbrev pub verb_of : Claim → List ℕ
+verb_of claims.CouldHear = codes " could hear "
+verb_of claims.Heard = codes " heard "
+
+abbrev pub sentence_of : Claim → List ℕ → List ℕ → List Named → Interval → List ℕ
+sentence_of claim from until names x =
+    party_text names x.flow.listener x.flow.listener_at ++ (verb_of claim
     ++ (party_text names x.flow.talker x.flow.talker_at ++ (codes " in context "
     ++ (decimal x.flow.context ++ extent_text from until x.first x.end))))
 
@@ -98,13 +105,19 @@ name_columns names x =
     codes "," ++ (name_column (name_of names x.listener x.listener_at)
     ++ (codes "," ++ (name_column (name_of names x.talker x.talker_at) ++ codes "\n")))
 
-abbrev pub row_of : List ℕ → List ℕ → List Named → Interval → List ℕ
-row_of from until names x =
-    codes "heard," ++ (rtp_name x.flow.listener ++ (codes "," ++ (peer_column x.flow.listener_at
+-- the kind of a row or an object
+abbrev pub kind_of : Claim → List ℕ
+kind_of claims.CouldHear = codes "heard"
+kind_of claims.Heard = codes "audible"
+
+abbrev pub row_of : Claim → List ℕ → List ℕ → List Named → Interval → List ℕ
+row_of claim from until names x =
+    kind_of claim ++ (codes "," ++ (rtp_name x.flow.listener
+    ++ (codes "," ++ (peer_column x.flow.listener_at
     ++ (codes "," ++ (rtp_name x.flow.talker ++ (codes "," ++ (peer_column x.flow.talker_at
     ++ (codes "," ++ (decimal x.flow.context
     ++ (codes "," ++ (extent_columns from until x.first x.end
-    ++ name_columns names x.flow)))))))))))
+    ++ name_columns names x.flow))))))))))))
 
 -- ## Objects
 
@@ -136,14 +149,14 @@ name_members names x =
     ++ (codes ",\"talker_name\":" ++ (name_value (name_of names x.talker x.talker_at)
     ++ codes "}\n")))
 
-abbrev pub object_of : List ℕ → List ℕ → List Named → Interval → List ℕ
-object_of from until names x =
-    codes "{\"kind\":\"heard\",\"listener\":\"" ++ (rtp_name x.flow.listener
+abbrev pub object_of : Claim → List ℕ → List ℕ → List Named → Interval → List ℕ
+object_of claim from until names x =
+    codes "{\"kind\":\"" ++ (kind_of claim ++ (codes "\",\"listener\":\"" ++ (rtp_name x.flow.listener
     ++ (codes "\",\"listener_at\":" ++ (peer_value x.flow.listener_at
     ++ (codes ",\"talker\":\"" ++ (rtp_name x.flow.talker
     ++ (codes "\",\"talker_at\":" ++ (peer_value x.flow.talker_at
     ++ (codes ",\"context\":" ++ (decimal x.flow.context
-    ++ (extent_members from until x.first x.end ++ name_members names x.flow))))))))))
+    ++ (extent_members from until x.first x.end ++ name_members names x.flow))))))))))))
 
 -- ## Each format
 
@@ -154,10 +167,10 @@ head_of Csv =
     codes "kind,listener,listener_at,talker,talker_at,context,first_tick,end_tick,from,until"
     ++ codes ",listener_name,talker_name\n"
 
-abbrev pub interval_line : Format → List ℕ → List ℕ → List Named → Interval → List ℕ
-interval_line Text from until names x = sentence_of from until names x
-interval_line Csv from until names x = row_of from until names x
-interval_line Json from until names x = object_of from until names x
+abbrev pub interval_line : Claim → Format → List ℕ → List ℕ → List Named → Interval → List ℕ
+interval_line claim Text from until names x = sentence_of claim from until names x
+interval_line claim Csv from until names x = row_of claim from until names x
+interval_line claim Json from until names x = object_of claim from until names x
 
 abbrev pub gap_line : Format → List ℕ → List ℕ → Moment → Moment → List ℕ
 gap_line Text from until first end = codes "gap" ++ extent_text from until first (Some end)
@@ -168,8 +181,10 @@ gap_line Json from until first end =
 
 abbrev pub line_of : Style → List ℕ → List ℕ → Entry → List ℕ
 line_of style from until (entries.Interval x) =
-    interval_line style.format from until style.names x
+    interval_line claims.CouldHear style.format from until style.names x
 line_of style from until (entries.Gap gap) = gap_line style.format from until gap.first gap.end
+line_of style from until (entries.Audible x) =
+    interval_line claims.Heard style.format from until style.names x
 
 -- the line of an entry, with some texts for its dates
 abbrev pub IsLine : Style → Entry → List ℕ → Type 0

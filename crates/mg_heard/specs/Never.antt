@@ -9,6 +9,7 @@ use Rattle.mg_lines.specs.Lines.{lines_of}
 use Rattle.mg_core.specs.Note.{Note, events_in, notes_of}
 use Rattle.mg_core.specs.Run.{HasRead}
 use Rattle.mg_core.specs.World.{start_of}
+use Rattle.mg_heard.specs.declared.claim.Claim.TheVariants.{CouldHear}
 use Rattle.mg_heard.specs.declared.format.Format.{Format}
 use Rattle.mg_heard.specs.declared.format.Format.TheVariants.{Text, Csv, Json}
 use Rattle.mg_heard.specs.declared.open_flow.OpenFlow.{OpenFlow}
@@ -84,9 +85,9 @@ violation_line Text time names v =
     ++ (decimal v.flow.context ++ (codes " from "
     ++ (moment_text time v.at.tick v.at.date ++ codes "\n"))))))
 violation_line Csv time names v =
-    row_of time [] names (record { flow = v.flow; first = v.at; end = None })
+    row_of CouldHear time [] names (record { flow = v.flow; first = v.at; end = None })
 violation_line Json time names v =
-    object_of time [] names (record { flow = v.flow; first = v.at; end = None })
+    object_of CouldHear time [] names (record { flow = v.flow; first = v.at; end = None })
 
 -- a writer has received the line of a violation, if there is one
 abbrev pub WritesViolation : Style → Option Violation → (old new : Option (List ℕ)) → Type 0

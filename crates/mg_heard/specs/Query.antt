@@ -67,3 +67,4 @@ covers x time = has_begun x time && lasts_beyond x time
 abbrev pub selects_entry : Query → Entry → Bool
 selects_entry q (entries.Interval x) = selects q x
 selects_entry q (entries.Gap gap) = true
+selects_entry q (entries.Audible x) = selects q x

@@ -21,11 +21,12 @@ without_dates x = record {
   end = option_map (λ m. m.tick) x.end;
 }
 
--- the intervals among the entries, in order, without their dates
+-- the intervals among the entries in which a talker could be heard, in order, without their dates
 abbrev pub intervals_in : List Entry → List Interval
 intervals_in [] = []
 intervals_in (entries.Interval x ∷ xs) = without_dates x ∷ intervals_in xs
 intervals_in (entries.Gap gap ∷ xs) = intervals_in xs
+intervals_in (entries.Audible x ∷ xs) = intervals_in xs
 
 -- Before each tick, and before the tick that comes next after all events, a talker's speech flows
 -- to a listener if and only if one of the intervals contains this tick for this pair. This is the

@@ -20,6 +20,7 @@ heard_at query time [] = None
 heard_at query time (entries.Interval x ∷ xs) =
     if selects query x && covers x time then Some x else heard_at query time xs
 heard_at query time (entries.Gap gap ∷ xs) = heard_at query time xs
+heard_at query time (entries.Audible x ∷ xs) = heard_at query time xs
 
 -- the moment is known to be at or before this time
 abbrev pub is_past : Moment → Date → Bool
@@ -37,6 +38,7 @@ abbrev pub gap_at : Date → List Entry → Option Gap
 gap_at time [] = None
 gap_at time (entries.Interval x ∷ xs) = gap_at time xs
 gap_at time (entries.Gap gap ∷ xs) = if is_in_gap gap time then Some gap else gap_at time xs
+gap_at time (entries.Audible x ∷ xs) = gap_at time xs
 
 -- the script covers this time: it is not before the first date, and it is before the end
 abbrev pub is_within : Extent → Date → Bool

@@ -13,12 +13,12 @@ const TITLE_LIMIT: usize = 600;
 
 /// Counts the ticks and lines of a script, and keeps track of when the ticks happened.
 #[derive(Drop)]
-pub(crate) struct Clock {
+pub struct Clock {
     timeline: Timeline,
     /// The first tick whose time is known.
     first: Option<Moment>,
     /// The number of ticks so far. This is also the index of the next tick, because ticks are counted from 0.
-    pub(crate) ticks: u64,
+    pub ticks: u64,
     /// The number of lines so far.
     lines: u64,
     /// The first title.
@@ -27,7 +27,7 @@ pub(crate) struct Clock {
 
 impl Clock {
     /// Creates a clock at the beginning of a script.
-    pub(crate) fn new() -> Self
+    pub fn new() -> Self
         ensures ticks { result.ticks ≡ 0 }
     {
         Clock {
@@ -40,7 +40,7 @@ impl Clock {
     }
 
     /// Returns the next tick.
-    pub(crate) fn now(&self) -> Moment
+    pub fn now(&self) -> Moment
         ensures tick { result.tick ≡ self.now.ticks }
     {
         Moment {
@@ -68,14 +68,14 @@ impl Clock {
     }
 
     /// Counts the line of a datagram.
-    pub(crate) fn pass_line(&mut self)
+    pub fn pass_line(&mut self)
         ensures ticks { self.new.ticks ≡ self.old.ticks }
     {
         self.lines = self.lines.saturating_add(1);
     }
 
     /// Counts ticks and their lines. Fails if the script then has 2^64 ticks or more.
-    pub(crate) fn pass_ticks(&mut self, count: u64) -> Result<(), ClockFault>
+    pub fn pass_ticks(&mut self, count: u64) -> Result<(), ClockFault>
         ensures ticks { OnOk result (self.new.ticks ≡ self.old.ticks + count) }
     {
         let Some(ticks) = self.ticks.checked_add(count) else {
@@ -89,7 +89,7 @@ impl Clock {
 
     /// Counts the line of a comment and takes note of what it says. Returns the gap that begins with the comment, if
     /// any.
-    pub(crate) fn pass_comment(&mut self, line: &[u8]) -> Result<Option<Gap>, ClockFault>
+    pub fn pass_comment(&mut self, line: &[u8]) -> Result<Option<Gap>, ClockFault>
         ensures ticks { self.new.ticks ≡ self.old.ticks }
     {
         self.lines = self.lines.saturating_add(1);

@@ -4,6 +4,9 @@ use crate::interval::Interval;
 /// What a sink receives: an interval that has ended, or a gap that begins.
 #[derive(Clone, Copy, Debug, PartialEq, Eq)]
 pub enum Entry {
+    /// The listener could hear the talker.
     Interval(Interval),
     Gap(Gap),
+    /// The listener heard the talker: in each tick, the talker's speech changed what the listener was sent.
+    Audible(Interval),
 }

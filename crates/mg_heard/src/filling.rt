@@ -9,6 +9,7 @@ ghost use Rattle.mg_heard.specs.aids.Opening.{beginning_at};
 ghost use Rattle.mg_heard.specs.aids.Parties.{AreParties, IsParty};
 
 use crate::moment::Moment;
+use crate::open_flow::OpenFlow;
 use crate::open_interval::OpenInterval;
 use crate::party::{Party, parties_of};
 use mg_core::{Core, TERMINATIONS};
@@ -82,4 +83,14 @@ fn put(places: &mut [OpenInterval], place: usize, interval: OpenInterval) -> usi
     }
     places[place] = interval;
     place + 1
+}
+
+/// Fills the first places with an interval for each of these flows.
+pub(crate) fn put_flows(places: &mut [OpenInterval], flows: &[OpenFlow], first: Moment)
+    requires room { length flows.now ≤ length places.old }
+    ensures value { take (length flows.now) places.new ≡ map (beginning_at first) flows.now }
+{
+    for (place, flow) in flows.iter().enumerate() {
+        places[place] = OpenInterval { flow: *flow, first };
+    }
 }

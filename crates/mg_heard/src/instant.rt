@@ -106,6 +106,7 @@ impl Sink for Instant {
                 self.take_gap(gap);
                 Ok(())
             }
+            Entry::Audible(_) => Ok(()),
         }
     }
 }

@@ -8,6 +8,7 @@ ghost use Rattle.mg_heard.specs.Lines.{at_text, called_text, comma_text, date_of
 ghost use Rattle.mg_heard.specs.Never.{violation_line};
 ghost use Rattle.mg_heard.specs.declared.format.Format.TheVariants.{Text};
 
+use crate::claim::Claim;
 use crate::entry::Entry;
 use crate::format::Format;
 use crate::gap::Gap;
@@ -210,16 +211,23 @@ fn push_extent(from: &[u8], until: &[u8], first: Moment, end: Option<Moment>, ou
 
 /// Writes the sentence for an interval.
 #[tactic(auto, using(crate::proofs::LineLemmas::steps))]
-fn push_sentence(from: &[u8], until: &[u8], names: &Names, interval: &Interval, out: &mut Bytes)
+fn push_sentence(
+    claim: Claim,
+    from: &[u8],
+    until: &[u8],
+    names: &Names,
+    interval: &Interval,
+    out: &mut Bytes,
+)
     requires from { length from.now ≤ TIME_LIMIT }
     requires until { length until.now ≤ TIME_LIMIT }
     requires room { LINE_LIMIT ≤ out.old.room }
-    ensures value { out.new ≡ appended out.old (sentence_of from.now until.now names.now interval.now) }
-    ensures short { length (sentence_of from.now until.now names.now interval.now) ≤ LINE_LIMIT }
+    ensures value { out.new ≡ appended out.old (sentence_of claim from.now until.now names.now interval.now) }
+    ensures short { length (sentence_of claim from.now until.now names.now interval.now) ≤ LINE_LIMIT }
 {
     let flow = &interval.flow;
     push_party(names, flow.listener, flow.listener_at, out);
-    out.push(b" could hear ");
+    out.push(claim.verb());
     push_party(names, flow.talker, flow.talker_at, out);
     out.push(b" in context ");
     push_context(flow.context, out);
@@ -327,15 +335,23 @@ fn push_name_columns(names: &Names, flow: &OpenFlow, out: &mut Bytes)
 
 /// Writes the row for an interval.
 #[tactic(auto, using(crate::proofs::LineLemmas::steps))]
-fn push_row(from: &[u8], until: &[u8], names: &Names, interval: &Interval, out: &mut Bytes)
+fn push_row(
+    claim: Claim,
+    from: &[u8],
+    until: &[u8],
+    names: &Names,
+    interval: &Interval,
+    out: &mut Bytes,
+)
     requires from { length from.now ≤ TIME_LIMIT }
     requires until { length until.now ≤ TIME_LIMIT }
     requires room { LINE_LIMIT ≤ out.old.room }
-    ensures value { out.new ≡ appended out.old (row_of from.now until.now names.now interval.now) }
-    ensures short { length (row_of from.now until.now names.now interval.now) ≤ LINE_LIMIT }
+    ensures value { out.new ≡ appended out.old (row_of claim from.now until.now names.now interval.now) }
+    ensures short { length (row_of claim from.now until.now names.now interval.now) ≤ LINE_LIMIT }
 {
     let flow = &interval.flow;
-    out.push(b"heard,");
+    out.push(claim.kind());
+    out.push(b",");
     push_name(flow.listener, out);
     out.push(b",");
     push_optional_peer(flow.listener_at, out);
@@ -457,15 +473,24 @@ fn push_name_members(names: &Names, flow: &OpenFlow, out: &mut Bytes)
 
 /// Writes the object for an interval.
 #[tactic(auto, using(crate::proofs::LineLemmas::steps))]
-fn push_object(from: &[u8], until: &[u8], names: &Names, interval: &Interval, out: &mut Bytes)
+fn push_object(
+    claim: Claim,
+    from: &[u8],
+    until: &[u8],
+    names: &Names,
+    interval: &Interval,
+    out: &mut Bytes,
+)
     requires from { length from.now ≤ TIME_LIMIT }
     requires until { length until.now ≤ TIME_LIMIT }
     requires room { LINE_LIMIT ≤ out.old.room }
-    ensures value { out.new ≡ appended out.old (object_of from.now until.now names.now interval.now) }
-    ensures short { length (object_of from.now until.now names.now interval.now) ≤ LINE_LIMIT }
+    ensures value { out.new ≡ appended out.old (object_of claim from.now until.now names.now interval.now) }
+    ensures short { length (object_of claim from.now until.now names.now interval.now) ≤ LINE_LIMIT }
 {
     let flow = &interval.flow;
-    out.push(b"{\"kind\":\"heard\",\"listener\":\"");
+    out.push(b"{\"kind\":\"");
+    out.push(claim.kind());
+    out.push(b"\",\"listener\":\"");
     push_name(flow.listener, out);
     out.push(b"\",\"listener_at\":");
     push_peer_value(flow.listener_at, out);
@@ -500,18 +525,25 @@ pub(crate) fn push_head(format: Format, out: &mut Bytes)
 }
 
 /// Writes the line for an interval.
-fn push_interval(style: &Style, from: &[u8], until: &[u8], interval: &Interval, out: &mut Bytes)
+fn push_interval(
+    claim: Claim,
+    style: &Style,
+    from: &[u8],
+    until: &[u8],
+    interval: &Interval,
+    out: &mut Bytes,
+)
     requires from { length from.now ≤ TIME_LIMIT }
     requires until { length until.now ≤ TIME_LIMIT }
     requires room { LINE_LIMIT ≤ out.old.room }
-    ensures value { out.new ≡ appended out.old (interval_line style.now.format from.now until.now style.now.names interval.now) }
-    ensures short { length (interval_line style.now.format from.now until.now style.now.names interval.now) ≤ LINE_LIMIT }
+    ensures value { out.new ≡ appended out.old (interval_line claim style.now.format from.now until.now style.now.names interval.now) }
+    ensures short { length (interval_line claim style.now.format from.now until.now style.now.names interval.now) ≤ LINE_LIMIT }
 {
     let names = &style.names;
     match style.format {
-        Format::Text => push_sentence(from, until, names, interval, out),
-        Format::Csv => push_row(from, until, names, interval, out),
-        Format::Json => push_object(from, until, names, interval, out),
+        Format::Text => push_sentence(claim, from, until, names, interval, out),
+        Format::Csv => push_row(claim, from, until, names, interval, out),
+        Format::Json => push_object(claim, from, until, names, interval, out),
     }
 }
 
@@ -551,8 +583,13 @@ pub(crate) fn push_entry(style: &Style, from: &[u8], until: &[u8], entry: &Entry
     ensures short { length (line_of style.now from.now until.now entry.now) ≤ LINE_LIMIT }
 {
     match entry {
-        Entry::Interval(interval) => push_interval(style, from, until, interval, out),
+        Entry::Interval(interval) => {
+            push_interval(Claim::CouldHear, style, from, until, interval, out);
+        }
         Entry::Gap(gap) => push_gap(style.format, from, until, gap, out),
+        Entry::Audible(interval) => {
+            push_interval(Claim::Heard, style, from, until, interval, out);
+        }
     }
 }
 
@@ -619,9 +656,10 @@ pub(crate) fn push_violation(style: &Style, time: &[u8], violation: &Violation, 
     ensures short { length (violation_line style.now.format time.now style.now.names violation.now) ≤ LINE_LIMIT }
 {
     let names = &style.names;
+    let claim = Claim::CouldHear;
     match style.format {
         Format::Text => push_violation_sentence(time, names, violation, out),
-        Format::Csv => push_row(time, b"", names, &interval_from(violation), out),
-        Format::Json => push_object(time, b"", names, &interval_from(violation), out),
+        Format::Csv => push_row(claim, time, b"", names, &interval_from(violation), out),
+        Format::Json => push_object(claim, time, b"", names, &interval_from(violation), out),
     }
 }

@@ -21,7 +21,7 @@ use std::marker::Model;
 
 /// Writes lines in a style, each as a whole. In contracts, it appears as the style.
 #[derive(Drop)]
-pub(crate) struct LineWriter {
+pub struct LineWriter {
     style: Style,
     line: Bytes,
 }
@@ -41,7 +41,9 @@ impl Model for LineWriter {
 /// Returns the dates of an entry.
 fn dates_of(entry: &Entry) -> (Option<Date>, Option<Date>) {
     match entry {
-        Entry::Interval(interval) => (interval.first.date, interval.end.and_then(|end| end.date)),
+        Entry::Interval(interval) | Entry::Audible(interval) => {
+            (interval.first.date, interval.end.and_then(|end| end.date))
+        }
         Entry::Gap(gap) => (gap.first.date, gap.end.date),
     }
 }
@@ -86,7 +88,7 @@ fn write_entry<W: Write>(
 
 impl LineWriter {
     /// Creates a writer. No other call allocates.
-    pub(crate) fn new(alloc: Global, style: Style) -> Result<Self, AllocError>
+    pub fn new(alloc: Global, style: Style) -> Result<Self, AllocError>
         ensures value { IfOk result (λ lines. lines ≡ style) }
     {
         let line = Bytes::new(alloc, LINE_LIMIT)?;
@@ -94,7 +96,7 @@ impl LineWriter {
     }
 
     /// Writes what precedes all lines: the names of the columns in CSV, and nothing in the other formats.
-    pub(crate) fn write_head<W: Write>(&mut self, writer: &mut W) -> Result<(), Stopped>
+    pub fn write_head<W: Write>(&mut self, writer: &mut W) -> Result<(), Stopped>
         ensures same { self.new ≡ self.old }
         ensures value { OnOk result (Appends (W.contents writer.old) (W.contents writer.new) (head_of self.old.format)) }
     {

@@ -5,7 +5,7 @@ ghost use Rattle.mg_heard.specs.aids.Opening.{key_of};
 use mg_core::Peer;
 
 /// A flow of speech from a talker to a listener, as long as the flow and both Remotes stay the same.
-#[derive(Clone, Copy, Debug, PartialEq, Eq)]
+#[derive(Clone, Copy, Debug, Default, PartialEq, Eq)]
 pub struct OpenFlow {
     pub listener: u32,
     pub talker: u32,

@@ -6,9 +6,9 @@ use crate::open_flow::OpenFlow;
 
 /// An interval that has not ended.
 #[derive(Clone, Copy, Debug, PartialEq, Eq)]
-pub(crate) struct OpenInterval {
-    pub(crate) flow: OpenFlow,
-    pub(crate) first: Moment,
+pub struct OpenInterval {
+    pub flow: OpenFlow,
+    pub first: Moment,
 }
 
 impl OpenInterval {
@@ -30,7 +30,7 @@ impl OpenInterval {
     }
 
     /// Returns the interval with this end, or without an end if `end` is `None`.
-    pub(crate) fn until(&self, end: Option<Moment>) -> Interval
+    pub fn until(&self, end: Option<Moment>) -> Interval
         ensures value { result ≡ record { flow = self.now.flow; first = self.now.first; end = end } }
     {
         Interval {

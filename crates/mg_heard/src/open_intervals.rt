@@ -7,8 +7,9 @@ ghost use Rattle.mg_heard.specs.aids.Opening.{beginning_at, continued, ended_at,
 ghost use Rattle.mg_heard.specs.declared.open_flow.OpenFlow.{OpenFlow};
 
 use crate::continuing::{continue_each, keep_ended};
-use crate::filling::{FLOWS, fill_places};
+use crate::filling::{FLOWS, fill_places, put_flows};
 use crate::moment::Moment;
+use crate::open_flow::OpenFlow;
 use crate::open_interval::OpenInterval;
 use mg_core::Core;
 use std::alloc::{AllocError, Global};
@@ -17,7 +18,7 @@ use std::mem;
 
 /// Intervals that have not ended, ordered by listener, then by talker.
 #[derive(Drop)]
-pub(crate) struct OpenIntervals {
+pub struct OpenIntervals {
     /// A place for each possible flow. The first `len` places are in use.
     places: Vec<OpenInterval>,
     len: usize,
@@ -37,7 +38,7 @@ impl Model for OpenIntervals {
 
 impl OpenIntervals {
     /// Creates an empty store. No other call allocates.
-    pub(crate) fn new(alloc: Global) -> Result<Self, AllocError>
+    pub fn new(alloc: Global) -> Result<Self, AllocError>
         ensures value { IfOk result (λ x. x ≡ []) }
     {
         Ok(OpenIntervals {
@@ -46,7 +47,7 @@ impl OpenIntervals {
         })
     }
 
-    pub(crate) fn as_slice(&self) -> &[OpenInterval]
+    pub fn as_slice(&self) -> &[OpenInterval]
         ensures value { result.now ≡ self.now }
     {
         &self.places[..self.len]
@@ -64,6 +65,29 @@ impl OpenIntervals {
         self.fill(core, now);
         self.continue_from(ended);
         ended.remove_continued(self);
+    }
+
+    /// Advances to a moment at which exactly these flows count as open. Afterwards, an interval is stored for each of
+    /// them, and `ended` holds the intervals that end at this moment. The flows are in order of their pairs.
+    pub fn advance_to(&mut self, ended: &mut OpenIntervals, flows: &[OpenFlow], now: Moment)
+        requires few { length flows.now ≤ FLOWS }
+        ensures value { (past : List (List OpenFlow)) → IsRising (map (beginning_at now) flows.now) →
+            now.tick ≡ length past → AreLasting past self.old → AreLasting (flows.now ∷ past) self.new
+            × (map (ended_at now.tick) ended.new ≡ ending past flows.now) }
+    {
+        mem::swap(self, ended);
+        self.replace(flows, now);
+        self.continue_from(ended);
+        ended.remove_continued(self);
+    }
+
+    /// Replaces the stored intervals with one for each of these flows. Each of them begins at this moment.
+    fn replace(&mut self, flows: &[OpenFlow], first: Moment)
+        requires few { length flows.now ≤ FLOWS }
+        ensures value { self.new ≡ map (beginning_at first) flows.now }
+    {
+        put_flows(&mut self.places, flows, first);
+        self.len = flows.len();
     }
 
     /// Replaces the stored intervals with one for each flow that is open in a core. Each of them begins at this moment.

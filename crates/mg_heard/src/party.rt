@@ -11,16 +11,16 @@ use mg_core::{Core, Peer, Record, TERMINATIONS};
 
 /// What an interval says about a termination.
 #[derive(Clone, Copy, Debug, Default, PartialEq, Eq)]
-pub(crate) struct Party {
-    pub(crate) number: u32,
-    pub(crate) context: u32,
+pub struct Party {
+    pub number: u32,
+    pub context: u32,
     /// The address and port of the termination's Remote, if it has one.
-    pub(crate) at: Option<Peer>,
+    pub at: Option<Peer>,
 }
 
 impl Party {
     /// Returns what an interval says about a termination.
-    fn of(termination: &Record) -> Party
+    pub fn of(termination: &Record) -> Party
         ensures value { result ≡ party_of termination.now }
     {
         let at = termination.remote.map(|chosen| {
@@ -38,7 +38,7 @@ impl Party {
     }
 
     /// Returns the flow from this termination to a listener in the same context.
-    pub(crate) fn flow_to(&self, listener: &Party) -> OpenFlow
+    pub fn flow_to(&self, listener: &Party) -> OpenFlow
         ensures value { (w : Gateway) → IsParty w self.now → IsParty w listener.now →
             result ≡ open_flow w listener.now.number self.now.number }
     {

@@ -95,6 +95,7 @@ impl Query {
         match entry {
             Entry::Interval(interval) => self.selects(interval),
             Entry::Gap(_) => true,
+            Entry::Audible(interval) => self.selects(interval),
         }
     }
 

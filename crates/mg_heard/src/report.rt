@@ -7,10 +7,10 @@ use std::io::Write;
 
 /// Writes a line for each interval that a query selects, and for each gap.
 #[derive(Drop)]
-pub(crate) struct Report<'a, W: Write> {
-    pub(crate) lines: &'a mut LineWriter,
-    pub(crate) query: &'a Query,
-    pub(crate) writer: &'a mut W,
+pub struct Report<'a, W: Write> {
+    pub lines: &'a mut LineWriter,
+    pub query: &'a Query,
+    pub writer: &'a mut W,
 }
 
 impl<W: Write> Sink for Report<'_, W> {

@@ -28,7 +28,7 @@ pub(crate) fn tell_intervals<S: Sink>(
 }
 
 /// Reports a gap to a sink.
-pub(crate) fn tell_gap<S: Sink>(gap: Gap, sink: &mut S) -> Result<(), Stopped>
+pub fn tell_gap<S: Sink>(gap: Gap, sink: &mut S) -> Result<(), Stopped>
     ensures value { (start : S) (before : List Entry) → S.told start sink.old before →
         OnOk result (S.told start sink.new (before ++ entries.Gap gap ∷ [])) }
 {

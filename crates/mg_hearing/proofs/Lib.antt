@@ -1,2 +1,3 @@
 pub mod HeardLemmas
 pub mod WatchedLemmas
+pub mod AudibleLemmas

@@ -78,7 +78,7 @@ fn hear_script<R: Read, W: Write, E: Write>(
 
 /// Returns the question that a request asks. If it can't be asked, reports why to `errors`, and returns the
 /// exit status.
-fn question_of<F: Files, E: Write>(
+pub(crate) fn question_of<F: Files, E: Write>(
     files: &F,
     alloc: Global,
     request: &HeardRequest,

@@ -13,6 +13,7 @@
 
 mod alarm;
 mod answering;
+mod audibility;
 mod faults;
 mod first_line;
 mod names_fault;
@@ -20,7 +21,9 @@ mod names_file;
 mod question;
 mod script_title;
 mod styling;
+mod talker_question;
 mod watching;
 
 pub use crate::answering::heard;
+pub use crate::audibility::audible;
 pub use crate::watching::watch;

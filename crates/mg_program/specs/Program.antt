@@ -4,8 +4,9 @@ use Rattle.mg_options.specs.declared.status.Status.{Status}
 use Rattle.mg_options.specs.declared.status.Status.TheVariants.{Done, Failed, NoAnswer}
 use Rattle.mg_arguments.specs.declared.invocation.Invocation.{Invocation}
 use Rattle.mg_arguments.specs.declared.invocation.Invocation.TheVariants.{Replay, Serve, Live, Check}
-use Rattle.mg_arguments.specs.declared.invocation.Invocation.TheVariants.{Heard, Watch, Verify}
-use Rattle.mg_arguments.specs.declared.invocation.Invocation.TheVariants.{Seal}
+use Rattle.mg_arguments.specs.declared.invocation.Invocation.TheVariants.{Heard, Watch, Audible}
+use Rattle.mg_arguments.specs.declared.invocation.Invocation.TheVariants.{Verify, Seal}
+use Rattle.mg_hearing.specs.Audible.{IsAudibleFrom, Reports}
 use Rattle.mg_hearing.specs.Heard.{Hears, IsHeardFrom}
 use Rattle.mg_hearing.specs.Watched.{IsAnsweredFrom}
 use Rattle.mg_sealing.specs.Seal.{SealsInput}
@@ -19,7 +20,8 @@ abbrev pub Checks : {W : Type 0} → W → W → Status → Type 0
 Checks old new status =
     (status ≡ Done) ⊎ (status ≡ Failed) ⊎ ((status ≡ NoAnswer) × (new ≡ old))
 
--- A run took place, and the status says how it ended. A successful run prints no error. A
+-- A run took place, and the status says how it ended. A successful run prints no error, unless it is
+-- asked when a talker was audible and the script has no RTP datagrams. A
 -- clock-driven run reads no input.
 abbrev pub Runs : {R W : Type 0} → (R → Option (List ℕ)) → (W → Option (List ℕ))
     → (silent : Type 0) → R → R → W → W → Invocation → Status → Type 0
@@ -39,6 +41,9 @@ Runs remaining contents silent input rest old new (Heard request) status =
 Runs remaining contents silent input rest old new (Watch request) status =
     (IsSome request.file → rest ≡ input)
     × Hears (IsAnsweredFrom request (remaining input) (contents old) (contents new) status) silent status
+Runs remaining contents silent input rest old new (Audible request) status =
+    (IsSome request.heard.file → rest ≡ input)
+    × Reports (IsAudibleFrom request (remaining input) (contents old) (contents new) silent) status
 Runs remaining contents silent input rest old new (Verify file) status =
     (IsSome file → rest ≡ input)
     × Verifies (IsVerifiedFrom file (remaining input) (contents old) (contents new) status) silent status

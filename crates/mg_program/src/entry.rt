@@ -10,7 +10,7 @@ use crate::serve::serve;
 use crate::system::System;
 use crate::verify::verify;
 use mg_arguments::{Invocation, requested_run};
-use mg_hearing::{heard, watch};
+use mg_hearing::{audible, heard, watch};
 use mg_options::{Status, report_error};
 use mg_sealing::seal;
 use std::alloc::Global;
@@ -45,6 +45,14 @@ fn run<N: Net, C: Clock, G: RandomSource, F: Files, R: Read, W: Write, E: Write,
         Invocation::Check(gateway) => check(system.net, system.clock, *gateway, output, errors),
         Invocation::Heard(request) => heard(system.files, alloc, request, input, output, errors),
         Invocation::Watch(request) => watch(system.files, alloc, request, input, output, errors),
+        Invocation::Audible(request) => audible(
+            system.files,
+            alloc,
+            request,
+            input,
+            output,
+            errors,
+        ),
         Invocation::Verify(file) => verify(system.files, alloc, file, input, output, errors),
         Invocation::Seal => seal(alloc, input, output, errors),
     }

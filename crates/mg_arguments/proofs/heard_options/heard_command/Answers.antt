@@ -10,7 +10,7 @@ unfolding heard_options
 returns-clause-app c =
     let start : app_of c.about.result ≡ new_app (codes "heard") = ap app_of_fields c.about.ensures ∙
     c.new.ensures.app in
-    let period = c.in_ok-with_period.ensures.app ∙ ap (λ (a : App). fold with_rule a (take 7 heard_options)) start in
+    let period = c.in_ok-with_period.ensures.app ∙ ap (λ (a : App). fold with_rule a (take 8 heard_options)) start in
     let zone = adds_rule _ _ _ _ _ c.in_ok-arg.ensures period (ap rule_of c.help.ensures ∙ c.option.ensures.rule) refl in
     let names = adds_rule _ _ _ _ _ c.in_ok-arg-2.ensures zone
     (ap rule_of c.help-2.ensures ∙ c.option-2.ensures.rule) refl in

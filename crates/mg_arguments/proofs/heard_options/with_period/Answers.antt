@@ -11,4 +11,6 @@ returns-clause-app c =
     (ap rule_of c.help.ensures ∙ c.option.ensures.rule) refl in
     let until = adds_rule _ _ _ _ _ c.in_ok-arg-2.ensures from
     (ap rule_of c.help-2.ensures ∙ c.option-2.ensures.rule) refl in
-    adds_rule _ _ _ _ _ c.in_ok-command.ensures until c.never_option.ensures.rule refl
+    let audible = adds_rule _ _ _ _ _ c.in_ok-arg-3.ensures until
+    (ap rule_of c.help-3.ensures ∙ c.flag.ensures.rule) refl in
+    adds_rule _ _ _ _ _ c.in_ok-command.ensures audible c.never_option.ensures.rule refl

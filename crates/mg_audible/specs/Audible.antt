@@ -1,0 +1,58 @@
+-- When a talker is audible to a listener: the listener is sent other bytes than he would be sent if
+-- the gateway had never received the talker's speech. Intervals are read off the moments as in
+-- `mg_heard`. Here, each tick has a moment: the flows whose listeners are sent other bytes.
+use Rattle.std.specs.Prelude.{◌≡◌, ℕ, ◌==◌, not, Bool, List, [], ◌∷◌, filter, find, map}
+use Rattle.std.specs.Prelude.{reverse, if◌then◌else◌}
+use Rattle.std.specs.Option.{option_map_or}
+use Rattle.std.specs.Str.{bytes_eq}
+use Rattle.mg_rooms.specs.Limits.{slot_port}
+use Rattle.mg_rooms.specs.declared.record.Record.{Record}
+use Rattle.mg_engine.specs.declared.config.Config.{Config}
+use Rattle.mg_engine.specs.declared.datagram.Datagram.{Datagram}
+use Rattle.mg_core.specs.declared.event.Event.{Event}
+use Rattle.mg_core.specs.Counting.{is_tick}
+use Rattle.mg_core.specs.World.{World, packets_of, start_of}
+use Rattle.mg_heard.specs.declared.open_flow.OpenFlow.{OpenFlow}
+use Rattle.mg_heard.specs.Intervals.{Interval, intervals}
+use Rattle.mg_heard.specs.OpenFlows.{open_flow}
+use Rattle.mg_audible.specs.Without.{StepWithout}
+
+-- ## One tick
+
+-- the bytes of the first packet that is sent from a port, or no bytes (no port has two packets)
+abbrev pub bytes_from : ℕ → List Datagram → List ℕ
+bytes_from port packets = option_map_or (λ d. d.bytes) (find (λ d. d.from == port) packets) []
+
+-- In the next tick, the termination with this record in the first world is sent other bytes in the
+-- first world than in the second.
+abbrev pub is_sent_other : World → World → Record → Bool
+is_sent_other v w r =
+    let port = slot_port v.gateway.rooms.limits r.slot in
+    not (bytes_eq (bytes_from port (packets_of v)) (bytes_from port (packets_of w)))
+
+-- the flows from the talker to those who are sent other bytes in the next tick, in order of
+-- listeners, as they are in the first world
+abbrev pub audible_flows : ℕ → World → World → List OpenFlow
+audible_flows talker v w =
+    map (λ r. open_flow v.gateway r.number talker)
+    (filter (is_sent_other v w) v.gateway.rooms.terminations)
+
+-- ## All ticks
+
+-- Events arrive at two gateways, one after another, but the talker's speech only at the first. These
+-- are the audible flows of each tick, and the worlds in which the gateways end.
+abbrev pub RunsWithout : ℕ → World → World → List Event → List (List OpenFlow) → World → World
+    → Type 0
+RunsWithout talker v w [] moments last other = (moments ≡ []) × (last ≡ v) × (other ≡ w)
+RunsWithout talker v w (event ∷ events) moments last other =
+    (next : World) × (also : World) × (later : List (List OpenFlow))
+    × StepWithout talker v w event next also
+    × RunsWithout talker next also events later last other
+    × (moments ≡ if is_tick event then audible_flows talker v w ∷ later else later)
+
+-- the intervals in which the talker is audible, for gateways with this configuration
+abbrev pub AreAudible : Config → ℕ → List Event → List Interval → Type 0
+AreAudible config talker events ys =
+    (moments : List (List OpenFlow)) × (last : World) × (other : World)
+    × RunsWithout talker (start_of config) (start_of config) events moments last other
+    × (ys ≡ intervals (reverse moments))

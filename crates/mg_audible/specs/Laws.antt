@@ -1,0 +1,61 @@
+-- What an audible interval says about each of its ticks.
+use Rattle.std.specs.Prelude.{◌≡◌, ◌↔◌, ℕ, ◌==◌, ◌&&◌, ◌||◌, Bool, true, List, ◌∷◌, ◌++◌}
+use Rattle.std.specs.Prelude.{count_by, Contains}
+use Rattle.mg_rooms.specs.declared.record.Record.{Record}
+use Rattle.mg_engine.specs.declared.config.Config.{Config}
+use Rattle.mg_engine.specs.Flow.{flow}
+use Rattle.mg_engine.specs.Gateway.{Gateway}
+use Rattle.mg_engine.specs.Isolation.{hears_itself}
+use Rattle.mg_core.specs.declared.event.Event.{Event}
+use Rattle.mg_core.specs.declared.event.Event.TheVariants.{Tick}
+use Rattle.mg_core.specs.Counting.{is_tick}
+use Rattle.mg_core.specs.Headline.{IsStart}
+use Rattle.mg_core.specs.Step.{Sent, Run}
+use Rattle.mg_core.specs.World.{World, start_of}
+use Rattle.mg_heard.specs.declared.open_flow.OpenFlow.{OpenFlow}
+use Rattle.mg_heard.specs.Intervals.{Interval}
+use Rattle.mg_heard.specs.Laws.{IsToldAt}
+use Rattle.mg_audible.specs.Audible.{RunsWithout, is_sent_other}
+
+-- ## What differs
+
+-- Two gateways with this configuration have received these events, the second without the talker's
+-- speech. In the next tick, they send this listener different bytes.
+pub record Differs (config : Config) (talker listener : ℕ) (past : List Event) : Type 0 where
+  pub moments : List (List OpenFlow)
+  pub whole : World
+  pub without : World
+  pub runs : RunsWithout talker (start_of config) (start_of config) past moments whole without
+  pub r : Record
+  pub among : Contains whole.gateway.rooms.terminations r
+  pub number : r.number ≡ listener
+  pub other : is_sent_other whole without r ≡ true
+
+-- One of the intervals contains a tick for a listener if and only if the bytes of that tick differ.
+abbrev pub TellsDifferences : Config → ℕ → List Event → List Interval → Type 0
+TellsDifferences config talker events ys =
+    (past later : List Event) (listener : ℕ) → events ≡ past ++ Tick ∷ later
+    → IsToldAt (count_by is_tick past) talker listener ys
+    ↔ Differs config talker listener past
+
+-- ## What it shows
+
+-- the talker's speech flows to the listener, or the listener is the talker himself, in Loopback
+abbrev pub reaches : Gateway → ℕ → ℕ → Bool
+reaches w talker listener =
+    flow w talker listener || ((talker == listener) && hears_itself w listener)
+
+-- If the bytes of a tick differ, the talker's speech reaches the listener in the world before it.
+abbrev pub DifferencesAreSpeech : Type 0
+DifferencesAreSpeech =
+    (config : Config) (talker listener : ℕ) (past : List Event) (sent : List Sent) (w : World)
+    → IsStart config → Differs config talker listener past → Run (start_of config) past sent w
+    → reaches w.gateway talker listener ≡ true
+
+-- So it does if an interval contains the tick.
+abbrev pub TellsSpeech : Config → ℕ → List Event → List Interval → Type 0
+TellsSpeech config talker events ys =
+    (past later : List Event) (listener : ℕ) (sent : List Sent) (w : World)
+    → events ≡ past ++ Tick ∷ later → Run (start_of config) past sent w
+    → IsToldAt (count_by is_tick past) talker listener ys
+    → reaches w.gateway talker listener ≡ true

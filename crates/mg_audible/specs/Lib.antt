@@ -1,0 +1,5 @@
+pub mod Without
+pub mod Audible
+pub mod Laws
+pub mod Told
+pub mod aids

@@ -1,0 +1,78 @@
+ghost use Rattle.std.specs.Prelude.{◌≡◌, [], IfOk, List};
+ghost use Rattle.std.specs.List.{list_any};
+ghost use Rattle.mg_engine.specs.declared.config.Config.{Config};
+ghost use Rattle.mg_core.specs.Counting.{is_media};
+ghost use Rattle.mg_core.specs.Follow.{HasRun, IsFollowed};
+ghost use Rattle.mg_core.specs.Headline.{IsStart};
+ghost use Rattle.mg_core.specs.Note.{Note, events_in};
+ghost use Rattle.mg_core.specs.declared.state.CoreState.{CoreState};
+ghost use Rattle.mg_audible.specs.Told.{TellsAudible};
+ghost use Rattle.mg_audible.specs.aids.Keeping.{KeepsAudible};
+
+use crate::audible::Audible;
+use mg_core::{Config, Core, RunFault, resume};
+use mg_heard::{HeardFault, Sink};
+use std::alloc::Global;
+use std::io::Read;
+
+/// Runs a script, and reports to a sink when the talker with this number was audible to which listeners, as a series of
+/// intervals. Returns the sink, and whether the script has any RTP datagrams.
+///
+/// An interval is reported when it ends, so the memory needed does not grow with the script. Two gateways mix all
+/// packets; no packets are sent.
+pub fn hear_talker<R: Read, S: Sink>(
+    alloc: Global,
+    config: Config,
+    reader: &mut R,
+    talker: u32,
+    sink: S,
+) -> Result<(S, bool), HeardFault>
+where
+    S: Drop,
+    ensures told { S.told sink sink [] → IfOk result (λ heard. (state : CoreState) ×
+        IsFollowed config (R.remaining reader.old) (R.remaining reader.new) state
+        (λ notes. TellsAudible config talker notes (S.told sink heard.0)
+        × (heard.1 ≡ list_any is_media (events_in notes)))) }
+{
+    let mut audible = Audible::new(alloc, config, talker, sink)?;
+    match resume(alloc, config, reader, &mut audible) {
+        Ok(core) => {
+            let has_rtp = has_rtp(&core);
+            Ok((finish(audible)?, has_rtp))
+        }
+        Err(fault) => Err(fault_of(fault, audible.fault)),
+    }
+}
+
+/// Reports the last intervals. Returns the sink.
+fn finish<S: Sink>(mut audible: Audible<S>) -> Result<S, HeardFault>
+where
+    S: Drop,
+    ensures value { (start : S) (config : Config) (notes : List Note) → IsStart config →
+        KeepsAudible config audible.pair.talker notes audible.pair.whole.state audible.pair.without.state
+        audible.clock.ticks audible.open (S.told start audible.sink) →
+        IfOk result (λ last. TellsAudible config audible.pair.talker notes (S.told start last)) }
+{
+    match audible.finish() {
+        Ok(_) => Ok(audible.sink),
+        Err(_) => Err(HeardFault::Stopped),
+    }
+}
+
+/// Returns whether a core has received any RTP datagrams.
+fn has_rtp(core: &Core) -> bool
+    ensures value { (config : Config) (notes : List Note) → HasRun config notes core.now.state →
+        result ≡ list_any is_media (events_in notes) }
+{
+    mg_core::theorems::events_are_counted();
+    core.counts().media > 0
+}
+
+/// Returns why a script was not run to its end, given why its follower stopped.
+fn fault_of(fault: RunFault, stopped: Option<HeardFault>) -> HeardFault {
+    match (fault, stopped) {
+        (RunFault::Write, Some(own)) => own,
+        (RunFault::Write, None) => HeardFault::Stopped,
+        _ => HeardFault::Run(fault),
+    }
+}

@@ -1,0 +1,32 @@
+//! When a talker was audible to a listener: the intervals in which a talker's speech changed what a listener was sent.
+//!
+//! [`hear_talker`] runs a full recording on two gateways. One of them receives all events, and the other all but the
+//! talker's speech: the RTP datagrams that arrive at the talker's port. If a tick's packets to a listener differ, the
+//! talker was audible to that listener:
+//!
+//! ```rust
+//! let sink = hear_talker(alloc, config, &mut input, 3, sink)?;
+//! ```
+//!
+//! [`write_audible`] writes a line for each such interval that a query selects, and for each gap.
+//!
+//! If an interval contains a tick, the two gateways send the listener different bytes in that tick, and the talker's
+//! speech reaches the listener (`specs/Laws.antt`). Equal bytes show less: either the talker could not be heard, or he
+//! was silent.
+//!
+//! Dates and gaps come from the script's comments, as in [`mg_heard`]. No proof covers them.
+#![tactic(auto)]
+
+mod audible;
+mod differences;
+mod hearing;
+mod pair;
+mod ports;
+mod reporting;
+mod talker_query;
+mod telling;
+pub mod theorems;
+
+pub use crate::hearing::hear_talker;
+pub use crate::reporting::write_audible;
+pub use crate::talker_query::TalkerQuery;

@@ -1,0 +1,71 @@
+ghost use Rattle.std.specs.Prelude.{◌≡◌, IfOk};
+ghost use Rattle.std.specs.List.{list_any};
+ghost use Rattle.mg_core.specs.Counting.{is_media};
+ghost use Rattle.mg_core.specs.Follow.{IsFollowed};
+ghost use Rattle.mg_core.specs.Note.{events_in};
+ghost use Rattle.mg_core.specs.declared.state.CoreState.{CoreState};
+ghost use Rattle.mg_heard.specs.Reported.{HasReported, WritesReport};
+ghost use Rattle.mg_audible.specs.Told.{TellsAudible};
+
+use crate::hearing::hear_talker;
+use crate::talker_query::TalkerQuery;
+use mg_core::Config;
+use mg_heard::{HeardFault, LineWriter, Report, Style};
+use std::alloc::Global;
+use std::io::{Read, Write};
+
+/// Reports when a talker was audible while a script ran. Returns the report, and whether the script has any RTP
+/// datagrams.
+fn hear_report<'a, R: Read, W: Write>(
+    alloc: Global,
+    config: Config,
+    reader: &mut R,
+    talker: u32,
+    report: Report<'a, W>,
+) -> Result<(Report<'a, W>, bool), HeardFault>
+    ensures same_reference { IfOk result (λ heard. heard.0.writer.ghost_name ≡ report.entry.writer.ghost_name) }
+    ensures reported { IfOk result (λ heard. (state : CoreState) ×
+        IsFollowed config (R.remaining reader.old) (R.remaining reader.new) state
+        (λ notes. TellsAudible config talker notes (HasReported
+        (record { style = report.entry.lines.now; query = report.entry.query.now; written = W.contents report.entry.writer.now })
+        (record { style = heard.0.lines.now; query = heard.0.query.now; written = W.contents heard.0.writer.now }))
+        × (heard.1 ≡ list_any is_media (events_in notes)))) }
+{
+    let (report, has_rtp) = hear_talker(alloc, config, reader, talker, report)?;
+    Ok((report, has_rtp))
+}
+
+/// Writes when a talker was audible while a script ran: a line for each interval that is asked for, and for each gap.
+/// The line for an interval is written when the interval ends. Returns whether the script has any RTP datagrams; without
+/// them, nothing is audible.
+pub fn write_audible<R: Read, W: Write>(
+    alloc: Global,
+    config: Config,
+    reader: &mut R,
+    style: Style,
+    asked: TalkerQuery,
+    writer: &mut W,
+) -> Result<bool, HeardFault>
+    ensures report { IfOk result (λ has_rtp. (state : CoreState) ×
+        IsFollowed config (R.remaining reader.old) (R.remaining reader.new) state
+        (λ notes. TellsAudible config asked.talker notes
+        (WritesReport style asked.query (W.contents writer.old) (W.contents writer.new))
+        × (has_rtp ≡ list_any is_media (events_in notes)))) }
+{
+    let Ok(mut lines) = LineWriter::new(alloc, style) else {
+        return Err(HeardFault::NoMemory);
+    };
+    if lines.write_head(writer).is_err() {
+        return Err(HeardFault::Stopped);
+    }
+    let report = Report {
+        lines: &mut lines,
+        query: &asked.query,
+        writer,
+    };
+    let (report, has_rtp) = hear_report(alloc, config, reader, asked.talker, report)?;
+    let Report { writer, .. } = report;
+    // This does nothing at run time. It shows the proof what the writer holds.
+    let _ = &*writer;
+    Ok(has_rtp)
+}

@@ -1,0 +1,33 @@
+ghost use Rattle.std.specs.Prelude.{◌≡◌, ◌≤◌, length};
+ghost use Rattle.mg_heard.specs.Lines.{kind_of, verb_of};
+
+/// What a line says about a listener and a talker.
+#[derive(Clone, Copy, Debug, PartialEq, Eq)]
+pub enum Claim {
+    CouldHear,
+    Heard,
+}
+
+impl Claim {
+    /// Returns what a sentence says.
+    pub(crate) fn verb(self) -> &'static [u8]
+        ensures value { result.now ≡ verb_of self }
+        ensures short { length result.now ≤ 12 }
+    {
+        match self {
+            Claim::CouldHear => b" could hear ",
+            Claim::Heard => b" heard ",
+        }
+    }
+
+    /// Returns the kind of a row or an object.
+    pub(crate) fn kind(self) -> &'static [u8]
+        ensures value { result.now ≡ kind_of self }
+        ensures short { length result.now ≤ 7 }
+    {
+        match self {
+            Claim::CouldHear => b"heard",
+            Claim::Heard => b"audible",
+        }
+    }
+}

@@ -1,6 +1,6 @@
 -- What the options of `mg_bridge heard` ask for.
-use Rattle.std.proofs.Common.{◌≡◌, ◌∙◌, List, [], ◌∷◌, Option, Some, None, Result, Ok, Err, IfErr, IfOk, ap, codes, sym}
-use Rattle.std.specs.Prelude.{unwrap_or}
+use Rattle.std.proofs.Common.{◌≡◌, ◌∙◌, Bool, true, false, List, [], ◌∷◌, Option, Some, None, Result, Ok, Err, IfErr, IfOk, ap, codes, sym}
+use Rattle.std.specs.Prelude.{unwrap_or, if◌then◌else◌}
 use Rattle.std.specs.Option.{option_map_or}
 use Rattle.clap.specs.Walk.{Row, Text, first_of}
 use Rattle.clap.specs.Kinds.{Kinds}
@@ -17,7 +17,7 @@ use Rattle.mg_arguments.specs.declared.heard_request.HeardRequest.{HeardRequest}
 use Rattle.mg_arguments.specs.declared.invocation.Invocation.{Invocation}
 use Rattle.mg_arguments.specs.declared.invocation.Invocation.TheVariants.{Heard}
 use Rattle.mg_arguments.specs.declared.printing.Printing.{Printing}
-use Rattle.mg_arguments.specs.Options.{asked_in, audible_in, audible_of, file_in, format_of, heard_in, named_by, printing_in, query_in, request_in, valid, valid_value}
+use Rattle.mg_arguments.specs.Options.{asked_in, audible_in, audible_of, file_in, form_in, format_of, heard_in, is_set, named_by, printing_in, query_in, request_in, reshapes_page, valid, valid_value}
 use Rattle.mg_arguments.specs.ZoneName.{zone_name}
 
 abbrev read_by : {A : Type 0} → (Text → Option A) → Option Text → Result (Option A) Kinds
@@ -125,48 +125,83 @@ refuses_until rows listener talker from is heard begins none =
     at_from rows listener talker from is heard begins ∙
     ends (ValueValidation ∷ []) (named_by date_of_text (codes "to") rows) (with_until listener talker from) none
 
+-- ## How it is printed
+
+abbrev formed : Bool → Bool → Result (Option Format) Kinds → Result Format Kinds
+formed page reshapes named =
+    if page then (if reshapes then Err (ValueValidation ∷ []) else Ok formats.Page)
+    else (named >>= (λ format. Ok (unwrap_or format formats.Text)))
+
+in_format : (rows : List Row) (named : Result (Option Format) Kinds) → is_set (codes "report") rows ≡ false →
+    named_by format_of (codes "format") rows ≡ named → form_in rows ≡ formed false (reshapes_page rows) named
+in_format rows named lines is =
+    ap (λ (b : Bool). formed b (reshapes_page rows) (named_by format_of (codes "format") rows)) lines ∙
+    ap (λ (r : Result (Option Format) Kinds). formed false (reshapes_page rows) r) is
+
+pub form_is : (rows : List Row) (format : Option Format) → is_set (codes "report") rows ≡ false →
+    named_by format_of (codes "format") rows ≡ Ok format → form_in rows ≡ Ok (unwrap_or format formats.Text)
+form_is rows format lines is = in_format rows (Ok format) lines is
+
+pub refuses_form : (rows : List Row) → is_set (codes "report") rows ≡ false →
+    named_by format_of (codes "format") rows ≡ Err (ValueValidation ∷ []) → form_in rows ≡ Err (ValueValidation ∷ [])
+refuses_form rows lines none = in_format rows (Err (ValueValidation ∷ [])) lines none
+
+on_page : (rows : List Row) (reshapes : Bool) → is_set (codes "report") rows ≡ true → reshapes_page rows ≡ reshapes →
+    form_in rows ≡ formed true reshapes (named_by format_of (codes "format") rows)
+on_page rows reshapes page is =
+    ap (λ (b : Bool). formed b (reshapes_page rows) (named_by format_of (codes "format") rows)) page ∙
+    ap (λ (b : Bool). formed true b (named_by format_of (codes "format") rows)) is
+
+pub form_is_page : (rows : List Row) → is_set (codes "report") rows ≡ true → reshapes_page rows ≡ false →
+    form_in rows ≡ Ok formats.Page
+form_is_page rows page own = on_page rows false page own
+
+pub refuses_page : (rows : List Row) → is_set (codes "report") rows ≡ true → reshapes_page rows ≡ true →
+    form_in rows ≡ Err (ValueValidation ∷ [])
+refuses_page rows page other = on_page rows true page other
+
 -- ## How answers are printed
 
-abbrev with_names : Option Format → (zone names : Option Text) → Result Printing Kinds
+abbrev with_names : Format → (zone names : Option Text) → Result Printing Kinds
 with_names format zone names =
-    Ok (record { format = unwrap_or format formats.Text; zone = zone; names = names })
+    Ok (record { format = format; zone = zone; names = names })
 
-abbrev with_zone : List Row → Option Format → Option Text → Result Printing Kinds
+abbrev with_zone : List Row → Format → Option Text → Result Printing Kinds
 with_zone rows format zone = valid (file_in (codes "names") rows) >>= with_names format zone
 
-abbrev with_format : List Row → Option Format → Result Printing Kinds
+abbrev with_format : List Row → Format → Result Printing Kinds
 with_format rows format = named_by zone_name (codes "zone") rows >>= with_zone rows format
 
-at_format : (rows : List Row) (format : Option Format) → named_by format_of (codes "format") rows ≡ Ok format →
+at_format : (rows : List Row) (format : Format) → form_in rows ≡ Ok format →
     printing_in rows ≡ with_format rows format
-at_format rows format is = goes_on format (named_by format_of (codes "format") rows) (with_format rows) is
+at_format rows format is = goes_on format (form_in rows) (with_format rows) is
 
-at_zone : (rows : List Row) (format : Option Format) (zone : Option Text) →
-    named_by format_of (codes "format") rows ≡ Ok format → named_by zone_name (codes "zone") rows ≡ Ok zone →
+at_zone : (rows : List Row) (format : Format) (zone : Option Text) →
+    form_in rows ≡ Ok format → named_by zone_name (codes "zone") rows ≡ Ok zone →
     printing_in rows ≡ with_zone rows format zone
 at_zone rows format zone is placed =
     at_format rows format is ∙ goes_on zone (named_by zone_name (codes "zone") rows) (with_zone rows format) placed
 
-pub printing_is : (rows : List Row) (format : Option Format) (zone names : Option Text) →
-    named_by format_of (codes "format") rows ≡ Ok format → named_by zone_name (codes "zone") rows ≡ Ok zone →
+pub printing_is : (rows : List Row) (format : Format) (zone names : Option Text) →
+    form_in rows ≡ Ok format → named_by zone_name (codes "zone") rows ≡ Ok zone →
     Ok names ≡ file_in (codes "names") rows → printing_in rows ≡ with_names format zone names
 printing_is rows format zone names is placed called =
     at_zone rows format zone is placed ∙ goes_on names (valid (file_in (codes "names") rows)) (with_names format zone)
     (ap (λ (r : Result (Option Text) FilePathFault). valid r) (sym called))
 
-pub refuses_format : (rows : List Row) → named_by format_of (codes "format") rows ≡ Err (ValueValidation ∷ []) →
+pub refuses_format : (rows : List Row) → form_in rows ≡ Err (ValueValidation ∷ []) →
     printing_in rows ≡ Err (ValueValidation ∷ [])
 refuses_format rows none =
-    ends (ValueValidation ∷ []) (named_by format_of (codes "format") rows) (with_format rows) none
+    ends (ValueValidation ∷ []) (form_in rows) (with_format rows) none
 
-pub refuses_zone : (rows : List Row) (format : Option Format) → named_by format_of (codes "format") rows ≡ Ok format →
+pub refuses_zone : (rows : List Row) (format : Format) → form_in rows ≡ Ok format →
     named_by zone_name (codes "zone") rows ≡ Err (ValueValidation ∷ []) → printing_in rows ≡ Err (ValueValidation ∷ [])
 refuses_zone rows format is none =
     at_format rows format is ∙
     ends (ValueValidation ∷ []) (named_by zone_name (codes "zone") rows) (with_zone rows format) none
 
-pub refuses_names : (rows : List Row) (format : Option Format) (zone : Option Text) (fault : FilePathFault) →
-    named_by format_of (codes "format") rows ≡ Ok format → named_by zone_name (codes "zone") rows ≡ Ok zone →
+pub refuses_names : (rows : List Row) (format : Format) (zone : Option Text) (fault : FilePathFault) →
+    form_in rows ≡ Ok format → named_by zone_name (codes "zone") rows ≡ Ok zone →
     Err fault ≡ file_in (codes "names") rows → printing_in rows ≡ Err (ValueValidation ∷ [])
 refuses_names rows format zone fault is placed none =
     at_zone rows format zone is placed ∙

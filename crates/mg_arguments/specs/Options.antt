@@ -107,7 +107,7 @@ unfoldable pub heard_options : List Rule
 heard_options = script_rule ∷ text_rule (codes "listener") ∷ text_rule (codes "talker")
     ∷ text_rule (codes "at") ∷ text_rule (codes "from") ∷ text_rule (codes "to")
     ∷ flag_rule (codes "audible") ∷ never_rule ∷ text_rule (codes "zone")
-    ∷ text_rule (codes "names") ∷ text_rule (codes "format") ∷ []
+    ∷ text_rule (codes "names") ∷ text_rule (codes "format") ∷ flag_rule (codes "report") ∷ []
 
 -- the subcommand that says who could hear whom
 abbrev pub heard_line : App
@@ -289,13 +289,26 @@ query_in found = do
   until ← named_by date_of_text (codes "to") found
   Ok (record { listener = listener; talker = talker; from = from; until = until })
 
+-- whether a page is asked for in a form that isn't its own: in a format, about a
+-- time, or about what was audible
+abbrev pub reshapes_page : List Row → Bool
+reshapes_page found = is_given (codes "format") found || (is_given (codes "at") found || is_set (codes "audible") found)
+
+-- how what is asked is printed: as a page, or in a format
+abbrev pub form_in : List Row → Result Format Kinds
+form_in found =
+    if is_set (codes "report") found
+    then (if reshapes_page found then Err (ValueValidation ∷ []) else Ok formats.Page)
+    else (named_by format_of (codes "format") found
+    >>= (λ format. Ok (unwrap_or format formats.Text)))
+
 -- how answers about a script are printed
 abbrev pub printing_in : List Row → Result Printing Kinds
 printing_in found = do
-  format ← named_by format_of (codes "format") found
+  format ← form_in found
   zone ← named_by zone_name (codes "zone") found
   names ← valid (file_in (codes "names") found)
-  Ok (record { format = unwrap_or format formats.Text; zone = zone; names = names })
+  Ok (record { format = format; zone = zone; names = names })
 
 -- what is asked about a script
 abbrev pub request_in : List Row → Result HeardRequest Kinds
@@ -334,12 +347,13 @@ audible_in found = do
   request ← request_in found
   audible_of request
 
--- whether options select a part of what is heard, which rules don't allow
+-- whether options select a part of what is heard, or a page, which rules don't allow
 abbrev pub selects_part : List Row → Bool
 selects_part found =
     is_given (codes "listener") found || (is_given (codes "talker") found
     || (is_given (codes "at") found || (is_given (codes "from") found
-    || (is_given (codes "to") found || is_set (codes "audible") found))))
+    || (is_given (codes "to") found || (is_set (codes "audible") found
+    || is_set (codes "report") found)))))
 
 abbrev pub rules_in : List Row → Result (List AskedRule) RuleFault
 rules_in found =

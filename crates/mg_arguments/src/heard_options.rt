@@ -6,7 +6,7 @@ ghost use Rattle.clap.specs.Words.{app_of, found_of, kind_of, rows_of, rule_of, 
 ghost use Rattle.mg_dates.specs.Dates.{date_of_text};
 ghost use Rattle.mg_options.specs.Line.{text_rule};
 ghost use Rattle.mg_arguments.specs.ZoneName.{zone_name};
-ghost use Rattle.mg_arguments.specs.Options.{asked_in, audible_in, audible_of, format_of, heard_in, heard_line, heard_options, named_by, never_rule, number_named, printing_in, query_in, request_in, rules_in, script_in, script_rule, selects_part, watch_in};
+ghost use Rattle.mg_arguments.specs.Options.{asked_in, audible_in, audible_of, form_in, format_of, heard_in, heard_line, heard_options, named_by, never_rule, number_named, printing_in, query_in, request_in, reshapes_page, rules_in, script_in, script_rule, selects_part, watch_in};
 
 use crate::audible_request::AudibleRequest;
 use crate::heard_request::HeardRequest;
@@ -39,9 +39,9 @@ const NO_ZONE: &str = "invalid value for '--zone <ZONE>': empty, or longer than 
 
 const NO_FORMAT: &str = "invalid value for '--format <FORMAT>': not text, csv or json";
 
-/// The error message if a part is selected of what rules are about.
+/// The error message if options select a part of what rules are about, or a page.
 const NO_PART: &str =
-    "'--never' can't be used with '--listener', '--talker', '--at', '--from', '--to' or '--audible'";
+    "'--never' can't be used with '--listener', '--talker', '--at', '--from', '--to', '--audible' or '--report'";
 
 /// The error message if it is asked when a talker was audible who has no number.
 const NO_NUMBER: &str =
@@ -49,6 +49,9 @@ const NO_NUMBER: &str =
 
 /// The error message if it is asked whether a talker was audible at a single time.
 const NO_SINGLE_TIME: &str = "'--audible' can't be used with '--at'";
+
+/// The error message if a page is asked for in a form that is not its own.
+const NO_FORM: &str = "'--report' can't be used with '--format', '--at' or '--audible'";
 
 /// Creates an option that takes a text.
 fn option<'a>(alloc: Global, name: &'a str, value: &'a str) -> Arg<'a>
@@ -124,7 +127,10 @@ pub(crate) fn heard_command<'a>(alloc: Global) -> Result<Command<'a>, Error>
         .arg(option(alloc, "names", "FILE").help(
             "CSV file with names: in each line RTP/1 or an address as for --listener, and a name",
         ))?
-        .arg(option(alloc, "format", "FORMAT").help("text, csv or json [default: text]"))?;
+        .arg(option(alloc, "format", "FORMAT").help("text, csv or json [default: text]"))?
+        .arg(flag(alloc, "report").help(
+            "Write a page (HTML) with a table and a timeline, to hand on or to print",
+        ))?;
     Ok(command)
 }
 
@@ -198,6 +204,28 @@ fn given_format(matches: &ArgMatches<'_>) -> Result<Option<Format>, &'static str
     }
 }
 
+/// Returns whether a page is asked for in a form that is not its own.
+fn reshapes_page(matches: &ArgMatches<'_>) -> bool
+    ensures value { result ≡ reshapes_page (rows_of (found_of matches.now)) }
+{
+    is_given("format", matches) || is_given("at", matches) || is_set("audible", matches)
+}
+
+/// Returns how the options ask to print, or the error message.
+fn form_in(matches: &ArgMatches<'_>) -> Result<Format, &'static str>
+    ensures value { IfOk result (λ format. form_in (rows_of (found_of matches.now)) ≡ Ok format) }
+    ensures refused { IfErr result (λ _. form_in (rows_of (found_of matches.now)) ≡ Err (ValueValidation ∷ [])) }
+{
+    if is_set("report", matches) {
+        if reshapes_page(matches) {
+            return Err(NO_FORM);
+        }
+        return Ok(Format::Page);
+    }
+    let format = given_format(matches)?;
+    Ok(format.unwrap_or(Format::Text))
+}
+
 /// Returns the time zone that an option names, if it is given, or the error message.
 fn given_zone(matches: &ArgMatches<'_>) -> Result<Option<ZoneName>, &'static str>
     ensures value { IfOk result (λ zone. named_by zone_name (codes "zone") (rows_of (found_of matches.now)) ≡ Ok zone) }
@@ -218,14 +246,14 @@ fn printing_in(matches: &ArgMatches<'_>) -> Result<Printing, &'static str>
     ensures value { IfOk result (λ printing. printing_in (rows_of (found_of matches.now)) ≡ Ok printing) }
     ensures refused { IfErr result (λ _. printing_in (rows_of (found_of matches.now)) ≡ Err (ValueValidation ∷ [])) }
 {
-    let format = given_format(matches)?;
+    let format = form_in(matches)?;
     let zone = given_zone(matches)?;
     let names = match file_of("names", matches) {
         Ok(names) => names,
         Err(fault) => return Err(fault.names_message()),
     };
     Ok(Printing {
-        format: format.unwrap_or(Format::Text),
+        format,
         zone,
         names,
     })
@@ -327,6 +355,7 @@ fn selects_part(matches: &ArgMatches<'_>) -> bool
         || is_given("from", matches)
         || is_given("to", matches)
         || is_set("audible", matches)
+        || is_set("report", matches)
 }
 
 /// Returns the rules on the command line.

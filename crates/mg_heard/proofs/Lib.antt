@@ -15,6 +15,7 @@ pub mod KeepingLemmas
 pub mod WatchLemmas
 pub mod FindingLemmas
 pub mod NameLemmas
+pub mod EscapedLemmas
 pub mod LineLemmas
 pub mod ReportLemmas
 pub mod ReportingLemmas

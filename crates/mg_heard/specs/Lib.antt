@@ -9,6 +9,7 @@ pub mod Query
 pub mod Names
 pub mod Asked
 pub mod Verdict
+pub mod Escaped
 pub mod Lines
 pub mod Reported
 pub mod Never

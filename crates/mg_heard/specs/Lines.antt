@@ -1,6 +1,6 @@
--- The lines for intervals and gaps: sentences of this project's own, rows (CSV, RFC 4180) and
--- objects (JSON, RFC 8259). No definition says what the text of a date is, because none says what
--- `jiff` writes. So the texts of a line's two dates are parameters.
+-- The lines for intervals and gaps: sentences of this project's own, rows (CSV, RFC 4180), objects
+-- (JSON, RFC 8259) and rows of a table in a page (HTML). No definition says what the text of a date
+-- is, because none says what `jiff` writes. So the texts of a line's two dates are parameters.
 use Rattle.std.specs.Prelude.{◌≡◌, ℕ, ◌∷◌, ◌++◌, List, [], filter, Option, Some, None, codes}
 use Rattle.std.specs.Prelude.{decimal, length, ◌==◌, if◌then◌else◌}
 use Rattle.std.specs.Io.KnownBytes.{Appends}
@@ -14,7 +14,7 @@ use Rattle.mg_heard.specs.declared.claim.Claim.TheVariants as claims
 use Rattle.mg_heard.specs.declared.entry.Entry.{Entry}
 use Rattle.mg_heard.specs.declared.entry.Entry.TheVariants as entries
 use Rattle.mg_heard.specs.declared.format.Format.{Format}
-use Rattle.mg_heard.specs.declared.format.Format.TheVariants.{Text, Csv, Json}
+use Rattle.mg_heard.specs.declared.format.Format.TheVariants.{Text, Csv, Json, Page}
 use Rattle.mg_heard.specs.declared.interval.Interval.{Interval}
 use Rattle.mg_heard.specs.declared.moment.Moment.{Moment}
 use Rattle.mg_heard.specs.declared.named.Named.{Named}
@@ -23,6 +23,7 @@ use Rattle.mg_heard.specs.declared.query.Query.{Query}
 use Rattle.mg_heard.specs.declared.style.Style.{Style}
 use Rattle.mg_heard.specs.declared.verdict.Verdict.{Verdict}
 use Rattle.mg_heard.specs.declared.verdict.Verdict.TheVariants.{CouldHear, CouldNotHear, Unknown}
+use Rattle.mg_heard.specs.Escaped.{escaped}
 use Rattle.mg_heard.specs.Names.{name_of}
 use Rattle.mg_heard.specs.Query.{selects_entry}
 
@@ -158,6 +159,40 @@ object_of claim from until names x =
     ++ (codes ",\"context\":" ++ (decimal x.flow.context
     ++ (extent_members from until x.first x.end ++ name_members names x.flow))))))))))))
 
+-- ## Rows of a page
+
+-- the tick at which a bar ends; without an end, it is that of the timeline
+abbrev pub bar_end : Option Moment → List ℕ
+bar_end None = codes "var(--t1)"
+bar_end (Some end) = decimal end.tick
+
+-- the ticks from which the page draws a row's bar
+abbrev pub bar_of : Moment → Option Moment → List ℕ
+bar_of first end =
+    codes "style=\"--a:" ++ (decimal first.tick ++ (codes ";--b:" ++ (bar_end end ++ codes "\">")))
+
+-- the last three cells
+abbrev pub extent_cells : List ℕ → List ℕ → Moment → Option Moment → List ℕ
+extent_cells from until first end =
+    codes "<td>" ++ (moment_text from first.tick first.date ++ (codes "</td><td>"
+    ++ (end_text until end ++ codes "</td><td><div></div></td></tr>\n")))
+
+-- a termination with this name, or without a name if the text is empty; names have escapes
+abbrev pub shown_text : List ℕ → ℕ → Option Peer → List ℕ
+shown_text name n at =
+    if length name == 0 then rtp_name n ++ at_text at
+    else escaped name ++ (codes " (" ++ (rtp_name n ++ (comma_text at ++ codes ")")))
+
+abbrev pub shown_party : List Named → ℕ → Option Peer → List ℕ
+shown_party names n at = shown_text (name_of names n at) n at
+
+abbrev pub table_row_of : List ℕ → List ℕ → List Named → Interval → List ℕ
+table_row_of from until names x =
+    codes "<tr " ++ (bar_of x.first x.end ++ (codes "<th scope=\"row\">"
+    ++ (shown_party names x.flow.listener x.flow.listener_at ++ (codes "</th><td>"
+    ++ (shown_party names x.flow.talker x.flow.talker_at ++ (codes "</td><td>"
+    ++ (decimal x.flow.context ++ (codes "</td>" ++ extent_cells from until x.first x.end))))))))
+
 -- ## Each format
 
 abbrev pub head_of : Format → List ℕ
@@ -166,11 +201,16 @@ head_of Json = []
 head_of Csv =
     codes "kind,listener,listener_at,talker,talker_at,context,first_tick,end_tick,from,until"
     ++ codes ",listener_name,talker_name\n"
+head_of Page =
+    codes "<table>\n<thead><tr><th scope=\"col\">Listener</th><th scope=\"col\">Talker</th>"
+    ++ (codes "<th scope=\"col\">Context</th><th scope=\"col\">From</th><th scope=\"col\">Until</th>"
+    ++ codes "<th scope=\"col\">Timeline</th></tr></thead>\n<tbody>\n")
 
 abbrev pub interval_line : Claim → Format → List ℕ → List ℕ → List Named → Interval → List ℕ
 interval_line claim Text from until names x = sentence_of claim from until names x
 interval_line claim Csv from until names x = row_of claim from until names x
 interval_line claim Json from until names x = object_of claim from until names x
+interval_line claim Page from until names x = table_row_of from until names x
 
 abbrev pub gap_line : Format → List ℕ → List ℕ → Moment → Moment → List ℕ
 gap_line Text from until first end = codes "gap" ++ extent_text from until first (Some end)
@@ -178,6 +218,9 @@ gap_line Csv from until first end =
     codes "gap,,,,,," ++ (extent_columns from until first (Some end) ++ codes ",,\n")
 gap_line Json from until first end =
     codes "{\"kind\":\"gap\"" ++ (extent_members from until first (Some end) ++ codes "}\n")
+gap_line Page from until first end =
+    codes "<tr class=\"gap\" " ++ (bar_of first (Some end)
+    ++ (codes "<th scope=\"row\" colspan=\"3\">Gap</th>" ++ extent_cells from until first (Some end)))
 
 abbrev pub line_of : Style → List ℕ → List ℕ → Entry → List ℕ
 line_of style from until (entries.Interval x) =
@@ -195,11 +238,13 @@ IsLine style entry line =
 
 abbrev pub not_heard_line : Format → List ℕ
 not_heard_line Text = codes "could not hear\n"
+not_heard_line Page = codes "could not hear\n"
 not_heard_line Csv = codes "not heard,,,,,,,,,,,\n"
 not_heard_line Json = codes "{\"kind\":\"not heard\"}\n"
 
 abbrev pub unknown_line : Format → List ℕ
 unknown_line Text = codes "not known\n"
+unknown_line Page = codes "not known\n"
 unknown_line Csv = codes "not known,,,,,,,,,,,\n"
 unknown_line Json = codes "{\"kind\":\"not known\"}\n"
 

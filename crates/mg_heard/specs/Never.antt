@@ -11,7 +11,7 @@ use Rattle.mg_core.specs.Run.{HasRead}
 use Rattle.mg_core.specs.World.{start_of}
 use Rattle.mg_heard.specs.declared.claim.Claim.TheVariants.{CouldHear}
 use Rattle.mg_heard.specs.declared.format.Format.{Format}
-use Rattle.mg_heard.specs.declared.format.Format.TheVariants.{Text, Csv, Json}
+use Rattle.mg_heard.specs.declared.format.Format.TheVariants.{Text, Csv, Json, Page}
 use Rattle.mg_heard.specs.declared.open_flow.OpenFlow.{OpenFlow}
 use Rattle.mg_heard.specs.declared.named.Named.{Named}
 use Rattle.mg_heard.specs.declared.rule.Rule.{Rule}
@@ -77,13 +77,18 @@ pub record IsWatched (rules : List Rule) (config : Config) (input rest : Option 
 
 -- ## The line
 
--- the line of a violation, with some text for its date: that of an interval whose end is not known
-abbrev pub violation_line : Format → List ℕ → List Named → Violation → List ℕ
-violation_line Text time names v =
+-- the sentence for a violation, with some text for its date
+abbrev pub violation_sentence : List ℕ → List Named → Violation → List ℕ
+violation_sentence time names v =
     party_text names v.flow.listener v.flow.listener_at ++ (codes " could hear "
     ++ (party_text names v.flow.talker v.flow.talker_at ++ (codes " in context "
     ++ (decimal v.flow.context ++ (codes " from "
     ++ (moment_text time v.at.tick v.at.date ++ codes "\n"))))))
+
+-- the line of a violation: a sentence, or that of an interval whose end is not known
+abbrev pub violation_line : Format → List ℕ → List Named → Violation → List ℕ
+violation_line Text time names v = violation_sentence time names v
+violation_line Page time names v = violation_sentence time names v
 violation_line Csv time names v =
     row_of CouldHear time [] names (record { flow = v.flow; first = v.at; end = None })
 violation_line Json time names v =

@@ -4,10 +4,11 @@ use Rattle.std.specs.Prelude.{Some, None, codes, drop, if◌then◌else◌}
 use Rattle.std.specs.List.{list_any, starts_with}
 use Rattle.std.specs.Option.{option_map, option_map_or, option_or}
 use Rattle.std.specs.Str.{bytes_eq}
-use Rattle.mg_words.specs.Address.{address_of}
+use Rattle.mg_words.specs.Address.{address_of, address_text}
 use Rattle.mg_words.specs.Numbers.{number_of}
+use Rattle.mg_words.specs.Term.{rtp_name}
 use Rattle.mg_words.specs.declared.peer.Peer.{Peer}
-use Rattle.mg_core.specs.Peer.{peer_of}
+use Rattle.mg_core.specs.Peer.{peer_of, peer_text}
 use Rattle.mg_dates.specs.declared.date.Date.{Date}
 use Rattle.mg_heard.specs.OpenFlow.{is_same_peer}
 use Rattle.mg_heard.specs.declared.entry.Entry.{Entry}
@@ -22,6 +23,12 @@ abbrev pub party_name_of : List ℕ → Option PartyName
 party_name_of text =
     if starts_with nat_eq text (codes "RTP/") then option_map Termination (number_of (drop 4 text))
     else option_or (option_map Remote (peer_of text)) (option_map Address (address_of text))
+
+-- the text of a key
+abbrev pub party_name_text : PartyName → List ℕ
+party_name_text (Termination n) = rtp_name n
+party_name_text (Address address) = address_text address
+party_name_text (Remote remote) = peer_text remote
 
 -- the key applies to a termination with this number and this Remote
 abbrev pub is_named : PartyName → ℕ → Option Peer → Bool

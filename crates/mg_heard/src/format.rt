@@ -7,4 +7,6 @@ pub enum Format {
     Csv,
     /// One JSON object per line.
     Json,
+    /// A table of a page (HTML) that isn't closed: one row per line. Answers and violations are sentences.
+    Page,
 }

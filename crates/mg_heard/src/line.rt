@@ -4,12 +4,13 @@ ghost use Rattle.std.specs.Prelude.{◌≡◌, ◌≤◌, ◌+◌, ◌*◌, ◌+
 ghost use Rattle.mg_words.specs.Term.{rtp_name};
 ghost use Rattle.mg_core.specs.Peer.{peer_text};
 ghost use Rattle.mg_reply.specs.Bytes.{appended};
-ghost use Rattle.mg_heard.specs.Lines.{at_text, called_text, comma_text, date_of_end, end_text, extent_columns, extent_members, extent_text, gap_line, head_of, interval_line, line_of, moment_text, name_column, name_columns, name_members, name_value, not_heard_line, object_of, party_text, peer_column, peer_value, row_of, sentence_of, tick_column, tick_value, time_column, time_value, unknown_line};
-ghost use Rattle.mg_heard.specs.Never.{violation_line};
-ghost use Rattle.mg_heard.specs.declared.format.Format.TheVariants.{Text};
+ghost use Rattle.mg_heard.specs.Lines.{at_text, bar_end, bar_of, called_text, comma_text, date_of_end, end_text, extent_cells, extent_columns, extent_members, extent_text, gap_line, head_of, interval_line, line_of, moment_text, name_column, name_columns, name_members, name_value, not_heard_line, object_of, party_text, peer_column, peer_value, row_of, sentence_of, shown_party, shown_text, table_row_of, tick_column, tick_value, time_column, time_value, unknown_line};
+ghost use Rattle.mg_heard.specs.Never.{violation_line, violation_sentence};
+ghost use Rattle.mg_heard.specs.declared.format.Format.TheVariants.{Page};
 
 use crate::claim::Claim;
 use crate::entry::Entry;
+use crate::escaping::{ESCAPE_LIMIT, push_escaped};
 use crate::format::Format;
 use crate::gap::Gap;
 use crate::interval::Interval;
@@ -25,7 +26,7 @@ use mg_dates::Date;
 use mg_reply::{Bytes, write_address, write_port};
 
 /// The maximum length of a line, in bytes.
-pub(crate) const LINE_LIMIT: usize = 640;
+pub(crate) const LINE_LIMIT: usize = 1536;
 
 /// The maximum length of a time, in bytes.
 pub(crate) const TIME_LIMIT: usize = 64;
@@ -42,6 +43,9 @@ const PEER_LIMIT: usize = 21;
 /// The maximum length, in bytes, of a name, and of a number and a peer in brackets.
 const PARTY_LIMIT: usize = 5 + NAME_ROOM + NAME_LIMIT + PEER_LIMIT;
 
+/// The maximum length, in bytes, of a termination on a page: a name with escapes, and a number and a peer in brackets.
+const SHOWN_LIMIT: usize = 5 + ESCAPE_LIMIT * NAME_ROOM + NAME_LIMIT + PEER_LIMIT;
+
 /// The maximum length, in bytes, of a moment: a time, and a tick in brackets.
 const MOMENT_LIMIT: usize = 8 + TIME_LIMIT + NUMBER_LIMIT;
 
@@ -54,6 +58,12 @@ const COLUMNS_LIMIT: usize = 3 + 2 * NUMBER_LIMIT + 2 * TIME_LIMIT;
 /// The maximum length, in bytes, of the members for a beginning and an end: their names, two numbers and two times in
 /// quotes.
 const MEMBERS_LIMIT: usize = 47 + 2 * NUMBER_LIMIT + 2 * TIME_LIMIT;
+
+/// The maximum length, in bytes, of the style of a table's row: two numbers and what is around them.
+const BAR_LIMIT: usize = 18 + 2 * NUMBER_LIMIT;
+
+/// The maximum length, in bytes, of the last cells of a table's row: two moments, and what is around them.
+const CELLS_LIMIT: usize = 44 + 2 * MOMENT_LIMIT;
 
 /// Writes a number in decimal.
 #[tactic(auto, using(crate::proofs::LineLemmas::lengths))]
@@ -78,7 +88,7 @@ fn push_context(n: u32, out: &mut Bytes)
 
 /// Writes the number of a termination, such as `RTP/7`.
 #[tactic(auto, using(crate::proofs::LineLemmas::steps))]
-fn push_name(number: u32, out: &mut Bytes)
+pub(crate) fn push_name(number: u32, out: &mut Bytes)
     requires room { NAME_LIMIT ≤ out.old.room }
     ensures value { out.new ≡ appended out.old (rtp_name number) }
     ensures short { length (rtp_name number) ≤ NAME_LIMIT }
@@ -89,7 +99,7 @@ fn push_name(number: u32, out: &mut Bytes)
 
 /// Writes a peer: an address, a colon and a port.
 #[tactic(auto, using(crate::proofs::LineLemmas::steps))]
-fn push_peer(peer: Peer, out: &mut Bytes)
+pub(crate) fn push_peer(peer: Peer, out: &mut Bytes)
     requires room { PEER_LIMIT ≤ out.old.room }
     ensures value { out.new ≡ appended out.old (peer_text peer) }
     ensures short { length (peer_text peer) ≤ PEER_LIMIT }
@@ -504,9 +514,133 @@ fn push_object(
     push_name_members(names, flow, out);
 }
 
+// ## Rows of a page
+
+/// Writes the tick at which a bar ends. Without an end, it is that of the timeline.
+#[tactic(auto, using(crate::proofs::LineLemmas::steps))]
+fn push_bar_end(end: Option<Moment>, out: &mut Bytes)
+    requires room { NUMBER_LIMIT ≤ out.old.room }
+    ensures value { out.new ≡ appended out.old (bar_end end) }
+    ensures short { length (bar_end end) ≤ NUMBER_LIMIT }
+{
+    match end {
+        Some(end) => push_number(end.tick, out),
+        None => out.push(b"var(--t1)"),
+    }
+}
+
+/// Writes the ticks from which the page draws a row's bar.
+#[tactic(auto, using(crate::proofs::LineLemmas::steps))]
+fn push_bar(first: Moment, end: Option<Moment>, out: &mut Bytes)
+    requires room { BAR_LIMIT ≤ out.old.room }
+    ensures value { out.new ≡ appended out.old (bar_of first end) }
+    ensures short { length (bar_of first end) ≤ BAR_LIMIT }
+{
+    out.push(b"style=\"--a:");
+    push_number(first.tick, out);
+    out.push(b";--b:");
+    push_bar_end(end, out);
+    out.push(b"\">");
+}
+
+/// Writes a row's last three cells: the beginning, the end and the bar.
+#[tactic(auto, using(crate::proofs::LineLemmas::steps))]
+fn push_extent_cells(from: &[u8], until: &[u8], first: Moment, end: Option<Moment>, out: &mut Bytes)
+    requires from { length from.now ≤ TIME_LIMIT }
+    requires until { length until.now ≤ TIME_LIMIT }
+    requires room { CELLS_LIMIT ≤ out.old.room }
+    ensures value { out.new ≡ appended out.old (extent_cells from.now until.now first end) }
+    ensures short { length (extent_cells from.now until.now first end) ≤ CELLS_LIMIT }
+{
+    out.push(b"<td>");
+    push_moment(from, first.tick, first.date, out);
+    out.push(b"</td><td>");
+    push_end(until, end, out);
+    out.push(b"</td><td><div></div></td></tr>\n");
+}
+
+/// Writes a termination with this name, or without a name if the text is empty, to a page.
+#[tactic(auto, using(crate::proofs::LineLemmas::steps))]
+fn push_shown(name: &[u8], number: u32, at: Option<Peer>, out: &mut Bytes)
+    requires name { length name.now ≤ NAME_ROOM }
+    requires room { SHOWN_LIMIT ≤ out.old.room }
+    ensures value { out.new ≡ appended out.old (shown_text name.now number at) }
+    ensures short { length (shown_text name.now number at) ≤ SHOWN_LIMIT }
+{
+    if name.is_empty() {
+        push_name(number, out);
+        push_at(at, out);
+    } else {
+        push_escaped(name, out);
+        out.push(b" (");
+        push_name(number, out);
+        push_comma(at, out);
+        out.push(b")");
+    }
+}
+
+/// Writes a termination, with its name and its Remote if it has them, to a page.
+fn push_shown_party(names: &Names, number: u32, at: Option<Peer>, out: &mut Bytes)
+    requires room { SHOWN_LIMIT ≤ out.old.room }
+    ensures value { out.new ≡ appended out.old (shown_party names.now number at) }
+    ensures short { length (shown_party names.now number at) ≤ SHOWN_LIMIT }
+{
+    push_shown(names.name_of(number, at), number, at, out);
+}
+
+/// Writes the row of a table for an interval.
+#[tactic(auto, using(crate::proofs::LineLemmas::steps))]
+fn push_table_row(from: &[u8], until: &[u8], names: &Names, interval: &Interval, out: &mut Bytes)
+    requires from { length from.now ≤ TIME_LIMIT }
+    requires until { length until.now ≤ TIME_LIMIT }
+    requires room { LINE_LIMIT ≤ out.old.room }
+    ensures value { out.new ≡ appended out.old (table_row_of from.now until.now names.now interval.now) }
+    ensures short { length (table_row_of from.now until.now names.now interval.now) ≤ LINE_LIMIT }
+{
+    let flow = &interval.flow;
+    out.push(b"<tr ");
+    push_bar(interval.first, interval.end, out);
+    out.push(b"<th scope=\"row\">");
+    push_shown_party(names, flow.listener, flow.listener_at, out);
+    out.push(b"</th><td>");
+    push_shown_party(names, flow.talker, flow.talker_at, out);
+    out.push(b"</td><td>");
+    push_context(flow.context, out);
+    out.push(b"</td>");
+    push_extent_cells(from, until, interval.first, interval.end, out);
+}
+
+/// Writes the row of a table for a gap.
+#[tactic(auto, using(crate::proofs::LineLemmas::steps))]
+fn push_gap_row(from: &[u8], until: &[u8], gap: &Gap, out: &mut Bytes)
+    requires from { length from.now ≤ TIME_LIMIT }
+    requires until { length until.now ≤ TIME_LIMIT }
+    requires room { LINE_LIMIT ≤ out.old.room }
+    ensures value { out.new ≡ appended out.old (gap_line Page from.now until.now gap.now.first gap.now.end) }
+    ensures short { length (gap_line Page from.now until.now gap.now.first gap.now.end) ≤ LINE_LIMIT }
+{
+    out.push(b"<tr class=\"gap\" ");
+    push_bar(gap.first, Some(gap.end), out);
+    out.push(b"<th scope=\"row\" colspan=\"3\">Gap</th>");
+    push_extent_cells(from, until, gap.first, Some(gap.end), out);
+}
+
+/// Writes the beginning of a table, with its header.
+#[tactic(auto, using(crate::proofs::LineLemmas::steps))]
+fn push_table_head(out: &mut Bytes)
+    requires room { LINE_LIMIT ≤ out.old.room }
+    ensures value { out.new ≡ appended out.old (head_of Page) }
+{
+    out.push(b"<table>\n<thead><tr><th scope=\"col\">Listener</th><th scope=\"col\">Talker</th>");
+    out.push(
+        b"<th scope=\"col\">Context</th><th scope=\"col\">From</th><th scope=\"col\">Until</th>",
+    );
+    out.push(b"<th scope=\"col\">Timeline</th></tr></thead>\n<tbody>\n");
+}
+
 // ## Each format
 
-/// Writes the header: the column names in CSV, and nothing in the other formats.
+/// Writes the header: the column names in CSV and on a page, and nothing in the other formats.
 #[tactic(auto, using(crate::proofs::LineLemmas::steps))]
 pub(crate) fn push_head(format: Format, out: &mut Bytes)
     requires room { LINE_LIMIT ≤ out.old.room }
@@ -519,6 +653,7 @@ pub(crate) fn push_head(format: Format, out: &mut Bytes)
             );
             out.push(b",listener_name,talker_name\n");
         }
+        Format::Page => push_table_head(out),
         Format::Text => {}
         Format::Json => {}
     }
@@ -544,6 +679,7 @@ fn push_interval(
         Format::Text => push_sentence(claim, from, until, names, interval, out),
         Format::Csv => push_row(claim, from, until, names, interval, out),
         Format::Json => push_object(claim, from, until, names, interval, out),
+        Format::Page => push_table_row(from, until, names, interval, out),
     }
 }
 
@@ -571,6 +707,7 @@ fn push_gap(format: Format, from: &[u8], until: &[u8], gap: &Gap, out: &mut Byte
             push_extent_members(from, until, gap.first, Some(gap.end), out);
             out.push(b"}\n");
         }
+        Format::Page => push_gap_row(from, until, gap, out),
     }
 }
 
@@ -598,7 +735,7 @@ pub(crate) fn not_heard_line(format: Format) -> &'static [u8]
     ensures value { result.now ≡ not_heard_line format }
 {
     match format {
-        Format::Text => b"could not hear\n",
+        Format::Text | Format::Page => b"could not hear\n",
         Format::Csv => b"not heard,,,,,,,,,,,\n",
         Format::Json => b"{\"kind\":\"not heard\"}\n",
     }
@@ -609,7 +746,7 @@ pub(crate) fn unknown_line(format: Format) -> &'static [u8]
     ensures value { result.now ≡ unknown_line format }
 {
     match format {
-        Format::Text => b"not known\n",
+        Format::Text | Format::Page => b"not known\n",
         Format::Csv => b"not known,,,,,,,,,,,\n",
         Format::Json => b"{\"kind\":\"not known\"}\n",
     }
@@ -622,8 +759,8 @@ pub(crate) fn unknown_line(format: Format) -> &'static [u8]
 fn push_violation_sentence(time: &[u8], names: &Names, violation: &Violation, out: &mut Bytes)
     requires time { length time.now ≤ TIME_LIMIT }
     requires room { LINE_LIMIT ≤ out.old.room }
-    ensures value { out.new ≡ appended out.old (violation_line Text time.now names.now violation.now) }
-    ensures short { length (violation_line Text time.now names.now violation.now) ≤ LINE_LIMIT }
+    ensures value { out.new ≡ appended out.old (violation_sentence time.now names.now violation.now) }
+    ensures short { length (violation_sentence time.now names.now violation.now) ≤ LINE_LIMIT }
 {
     let flow = &violation.flow;
     let at = violation.at;
@@ -658,7 +795,7 @@ pub(crate) fn push_violation(style: &Style, time: &[u8], violation: &Violation, 
     let names = &style.names;
     let claim = Claim::CouldHear;
     match style.format {
-        Format::Text => push_violation_sentence(time, names, violation, out),
+        Format::Text | Format::Page => push_violation_sentence(time, names, violation, out),
         Format::Csv => push_row(claim, time, b"", names, &interval_from(violation), out),
         Format::Json => push_object(claim, time, b"", names, &interval_from(violation), out),
     }

@@ -4,10 +4,12 @@ ghost use Rattle.mg_heard.specs.Lines.{head_of, IsLine, IsVerdictLine};
 ghost use Rattle.mg_heard.specs.Never.{violation_line};
 
 use crate::entry::Entry;
+use crate::extent::Extent;
 use crate::interval::Interval;
 use crate::line::{
     LINE_LIMIT, not_heard_line, push_entry, push_head, push_violation, unknown_line,
 };
+use crate::scale::Scale;
 use crate::style::Style;
 use crate::verdict::Verdict;
 use crate::violation::Violation;
@@ -24,6 +26,8 @@ use std::marker::Model;
 pub struct LineWriter {
     style: Style,
     line: Bytes,
+    /// The scale of the entries so far.
+    scale: Scale,
 }
 
 impl Model for LineWriter {
@@ -92,10 +96,12 @@ impl LineWriter {
         ensures value { IfOk result (λ lines. lines ≡ style) }
     {
         let line = Bytes::new(alloc, LINE_LIMIT)?;
-        Ok(LineWriter { style, line })
+        let scale = Scale::new();
+        Ok(LineWriter { style, line, scale })
     }
 
-    /// Writes what precedes all lines: the names of the columns in CSV, and nothing in the other formats.
+    /// Writes what precedes all lines: the names of the columns in CSV and on a page, and nothing in the
+    /// other formats.
     pub fn write_head<W: Write>(&mut self, writer: &mut W) -> Result<(), Stopped>
         ensures same { self.new ≡ self.old }
         ensures value { OnOk result (Appends (W.contents writer.old) (W.contents writer.new) (head_of self.old.format)) }
@@ -115,7 +121,13 @@ impl LineWriter {
         ensures value { OnOk result ((text : List ℕ) × IsLine self.old entry.now text
             × Appends (W.contents writer.old) (W.contents writer.new) text) }
     {
+        self.scale.include(entry);
         write_entry(&self.style, entry, &mut self.line, writer)
+    }
+
+    /// Returns the scale of the entries so far, given the time that their script covers.
+    pub(crate) fn scale(&self, extent: &Extent) -> Scale {
+        self.scale.within(extent)
     }
 
     /// Writes a line for the interval that is the answer to a question about a given time.

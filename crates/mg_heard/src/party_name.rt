@@ -1,7 +1,10 @@
-ghost use Rattle.std.specs.Prelude.{◌≡◌};
-ghost use Rattle.mg_heard.specs.Query.{is_named, party_name_of};
+ghost use Rattle.std.specs.Prelude.{◌≡◌, ◌≤◌};
+ghost use Rattle.mg_reply.specs.Bytes.{appended};
+ghost use Rattle.mg_heard.specs.Query.{is_named, party_name_of, party_name_text};
 
+use crate::line::{push_name, push_peer};
 use mg_core::{Peer, peer_of};
+use mg_reply::{Bytes, write_address};
 use mg_words::{address_of, number_of};
 
 /// How a question names terminations.
@@ -38,6 +41,18 @@ impl PartyName {
             (PartyName::Address(address), Some(peer)) => peer.address == *address,
             (PartyName::Remote(remote), Some(peer)) => peer == *remote,
             (_, None) => false,
+        }
+    }
+
+    /// Writes the name, in at most 32 bytes. [`of`](PartyName::of) reads it.
+    pub fn write(&self, out: &mut Bytes)
+        requires room { 32 ≤ out.old.room }
+        ensures value { out.new ≡ appended out.old (party_name_text self.now) }
+    {
+        match self {
+            PartyName::Termination(number) => push_name(*number, out),
+            PartyName::Address(address) => write_address(*address, out),
+            PartyName::Remote(peer) => push_peer(*peer, out),
         }
     }
 }

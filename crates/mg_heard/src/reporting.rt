@@ -7,11 +7,13 @@ ghost use Rattle.mg_heard.specs.Verdict.{verdict_at};
 ghost use Rattle.mg_heard.specs.declared.extent.Extent.{Extent};
 
 use crate::answering::hear_at;
+use crate::extent::Extent;
 use crate::heard_fault::HeardFault;
 use crate::hearing::hear;
 use crate::line_writer::LineWriter;
 use crate::query::Query;
 use crate::report::Report;
+use crate::scale::Scale;
 use crate::style::Style;
 use crate::verdict::Verdict;
 use mg_core::Config;
@@ -19,26 +21,27 @@ use mg_dates::Date;
 use std::alloc::Global;
 use std::io::{Read, Write};
 
-/// Reports who could hear whom while a script ran. Returns the report.
+/// Reports who could hear whom while a script ran. Returns the report, and the time that the script covers.
 fn hear_report<'a, R: Read, W: Write>(
     alloc: Global,
     config: Config,
     reader: &mut R,
     report: Report<'a, W>,
-) -> Result<Report<'a, W>, HeardFault>
-    ensures same_reference { IfOk result (λ last. last.writer.ghost_name ≡ report.entry.writer.ghost_name) }
-    ensures reported { IfOk result (λ last. (state : CoreState) ×
+) -> Result<(Report<'a, W>, Extent), HeardFault>
+    ensures same_reference { IfOk result (λ heard. heard.0.writer.ghost_name ≡ report.entry.writer.ghost_name) }
+    ensures reported { IfOk result (λ heard. (state : CoreState) ×
         IsFollowed config (R.remaining reader.old) (R.remaining reader.new) state
         (λ notes. TellsAll config notes (HasReported
         (record { style = report.entry.lines.now; query = report.entry.query.now; written = W.contents report.entry.writer.now })
-        (record { style = last.lines.now; query = last.query.now; written = W.contents last.writer.now })))) }
+        (record { style = heard.0.lines.now; query = heard.0.query.now; written = W.contents heard.0.writer.now })))) }
 {
-    let (report, _) = hear(alloc, config, reader, report)?;
-    Ok(report)
+    let (report, extent) = hear(alloc, config, reader, report)?;
+    Ok((report, extent))
 }
 
 /// Writes who could hear whom while a script ran: a line for each interval that `query` selects, and for each gap. The
-/// line for an interval is written when the interval ends.
+/// line for an interval is written when the interval ends. Returns the ticks of these intervals, and the time that the
+/// script covers.
 pub fn write_report<R: Read, W: Write>(
     alloc: Global,
     config: Config,
@@ -46,7 +49,7 @@ pub fn write_report<R: Read, W: Write>(
     style: Style,
     query: Query,
     writer: &mut W,
-) -> Result<(), HeardFault>
+) -> Result<(Scale, Extent), HeardFault>
     ensures report { IfOk result (λ _. (state : CoreState) ×
         IsFollowed config (R.remaining reader.old) (R.remaining reader.new) state
         (λ notes. TellsAll config notes
@@ -63,11 +66,11 @@ pub fn write_report<R: Read, W: Write>(
         query: &query,
         writer,
     };
-    let report = hear_report(alloc, config, reader, report)?;
+    let (report, extent) = hear_report(alloc, config, reader, report)?;
     let Report { writer, .. } = report;
     // This does nothing at run time. It shows the proof what the writer holds.
     let _ = &*writer;
-    Ok(())
+    Ok((lines.scale(&extent), extent))
 }
 
 /// Writes one line.

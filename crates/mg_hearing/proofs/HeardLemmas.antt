@@ -12,6 +12,8 @@ use Rattle.mg_core.specs.Run.{HasRead}
 use Rattle.mg_dates.specs.declared.date.Date.{Date}
 use Rattle.mg_heard.specs.declared.entry.Entry.{Entry}
 use Rattle.mg_heard.specs.declared.extent.Extent.{Extent}
+use Rattle.mg_heard.specs.declared.format.Format.{Format}
+use Rattle.mg_heard.specs.declared.format.Format.TheVariants as formats
 use Rattle.mg_heard.specs.declared.verdict.Verdict.{Verdict}
 use Rattle.mg_heard.specs.declared.verdict.Verdict.TheVariants.{CouldHear}
 use Rattle.mg_heard.specs.declared.verdict.Verdict.TheVariants as verdicts
@@ -23,7 +25,8 @@ use Rattle.mg_options.specs.declared.status.Status.TheVariants.{Done, CouldNotHe
 use Rattle.mg_options.specs.declared.status.Status.TheVariants.{Failed, NoMemory, BadJournal}
 use Rattle.mg_options.specs.declared.status.Status.TheVariants as statuses
 use Rattle.mg_hearing.specs.declared.question.Question.{Question}
-use Rattle.mg_hearing.specs.Heard.{Hears, IsHeard, Prints, status_for}
+use Rattle.mg_hearing.specs.Heard.{Hears, IsHeard, Prints, PrintsAs, status_for}
+use Rattle.mg_arguments.specs.declared.heard_request.HeardRequest.{HeardRequest}
 use Rattle.mg_arguments.specs.Title.{title_line}
 use Rattle.mg_arguments.specs.Title.{title_text}
 
@@ -79,6 +82,13 @@ answers asked None old new status xs h = inl h.1
 answers asked (Some time) old new status xs (extent, line, is) =
     subst IsAnswer (sym is) (answers_by (verdict_at asked.query time extent xs))
 
+answers_as : (format : Format) (request : HeardRequest) (asked : Question) (old new : Option (List ℕ)) (status : Status)
+    (xs : List Entry) → PrintsAs format request asked old new status xs → IsAnswer status
+answers_as formats.Page request asked old new status xs h = inl h.1
+answers_as formats.Text request asked old new status xs h = answers asked asked.at old new status xs h
+answers_as formats.Csv request asked old new status xs h = answers asked asked.at old new status xs h
+answers_as formats.Json request asked old new status xs h = answers asked asked.at old new status xs h
+
 hears_of : (heard silent : Type 0) (status : Status) → IsAnswer status → heard × silent → Hears heard silent status
 hears_of heard silent status (inl is) h = subst (λ (s : Status). Hears heard silent s) (sym is) h
 hears_of heard silent status (inr (inl is)) h = subst (λ (s : Status). Hears heard silent s) (sym is) h
@@ -86,7 +96,7 @@ hears_of heard silent status (inr (inr is)) h = subst (λ (s : Status). Hears he
 
 -- ## What is printed
 
-prints_more : (config : Config) (input rest : Option (List ℕ)) (state : CoreState) (P Q : List Entry → Type 0) →
+pub prints_more : (config : Config) (input rest : Option (List ℕ)) (state : CoreState) (P Q : List Entry → Type 0) →
     ((xs : List Entry) → P xs → Q xs) → IsFollowed config input rest state (λ notes. TellsAll config notes P) →
     IsFollowed config input rest state (λ notes. TellsAll config notes Q)
 prints_more config input rest state P Q more h = record {
@@ -139,12 +149,12 @@ prints_report asked at config input rest old new status timed is (state, h) = (
 )
 
 -- a script with its first line in front
-pub is_heard : (asked : Question) (config : Config) (old mid : Option (List ℕ)) (front : List ℕ)
+pub is_heard : (request : HeardRequest) (asked : Question) (config : Config) (old mid : Option (List ℕ)) (front : List ℕ)
     (held written : Option (List ℕ)) (status : Status) → Consumes old mid front → front ≡ title_line config →
     ((rest : Option (List ℕ)) × (state : CoreState) × IsFollowed config (option_append (Some front) mid) rest state
-    (λ notes. TellsAll config notes (Prints asked asked.at held written status))) →
-    IsHeard asked old held written status
-is_heard asked config old mid front held written status first is (rest, state, h) = record {
+    (λ notes. TellsAll config notes (PrintsAs asked.style.format request asked held written status))) →
+    IsHeard request asked old held written status
+is_heard request asked config old mid front held written status first is (rest, state, h) = record {
   config = config;
   titled = titled old mid front (title_line config) first is;
   rest = rest;
@@ -159,11 +169,12 @@ is_heard asked config old mid front held written status first is (rest, state, h
   };
 }
 
-pub hears : (asked : Question) (script old new : Option (List ℕ)) (silent : Type 0) (status : Status) →
-    IsHeard asked script old new status → silent → Hears (IsHeard asked script old new status) silent status
-hears asked script old new silent status h quiet =
-    hears_of (IsHeard asked script old new status) silent status
-    (answers asked asked.at old new status h.prints.follows.xs h.prints.follows.told) (h, quiet)
+pub hears : (request : HeardRequest) (asked : Question) (script old new : Option (List ℕ)) (silent : Type 0)
+    (status : Status) → IsHeard request asked script old new status → silent →
+    Hears (IsHeard request asked script old new status) silent status
+hears request asked script old new silent status h quiet =
+    hears_of (IsHeard request asked script old new status) silent status
+    (answers_as asked.style.format request asked old new status h.prints.follows.xs h.prints.follows.told) (h, quiet)
 
 -- what follows from what a run did, is true after it
 pub hears_more : (heard more silent quiet : Type 0) (status : Status) → (heard → more) → (silent → quiet) →

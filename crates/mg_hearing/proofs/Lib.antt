@@ -1,3 +1,4 @@
 pub mod HeardLemmas
+pub mod PageLemmas
 pub mod WatchedLemmas
 pub mod AudibleLemmas

@@ -7,6 +7,8 @@ use Rattle.mg_core.specs.Follow.{IsFollowed}
 use Rattle.mg_dates.specs.declared.date.Date.{Date}
 use Rattle.mg_heard.specs.declared.entry.Entry.{Entry}
 use Rattle.mg_heard.specs.declared.extent.Extent.{Extent}
+use Rattle.mg_heard.specs.declared.format.Format.{Format}
+use Rattle.mg_heard.specs.declared.format.Format.TheVariants as formats
 use Rattle.mg_heard.specs.declared.verdict.Verdict.{Verdict}
 use Rattle.mg_heard.specs.declared.verdict.Verdict.TheVariants.{CouldHear}
 use Rattle.mg_heard.specs.declared.verdict.Verdict.TheVariants as verdicts
@@ -22,6 +24,7 @@ use Rattle.mg_arguments.specs.declared.heard_request.HeardRequest.{HeardRequest}
 use Rattle.mg_arguments.specs.declared.printing.Printing.{Printing}
 use Rattle.mg_arguments.specs.Title.{title_line}
 use Rattle.mg_hearing.specs.declared.question.Question.{Question}
+use Rattle.mg_hearing.specs.Page.{WritesPage}
 
 -- the exit status that answers a question about a given time
 abbrev pub status_for : Verdict → Status
@@ -41,16 +44,25 @@ Prints asked (Some time) old new status xs =
     × WritesVerdict asked.style (verdict_at asked.query time extent xs) old new
     × (status ≡ status_for (verdict_at asked.query time extent xs))
 
+-- what is printed in a format: a page, or what the request asks for in lines
+abbrev pub PrintsAs : Format → HeardRequest → Question → (old new : Option (List ℕ)) → Status
+    → List Entry → Type 0
+PrintsAs formats.Page request asked old new status xs =
+    WritesPage request asked old new xs × (status ≡ Done)
+PrintsAs formats.Text request asked old new status xs = Prints asked asked.at old new status xs
+PrintsAs formats.Csv request asked old new status xs = Prints asked asked.at old new status xs
+PrintsAs formats.Json request asked old new status xs = Prints asked asked.at old new status xs
+
 -- A script was read to its end. It begins with the title of the configuration with which it is run,
 -- and what is printed is about all its intervals.
-pub record IsHeard (asked : Question) (script old new : Option (List ℕ)) (status : Status)
-    : Type 0 where
+pub record IsHeard (request : HeardRequest) (asked : Question)
+    (script old new : Option (List ℕ)) (status : Status) : Type 0 where
   pub config : Config
   pub titled : IfSome script (λ text. StartsWith text (title_line config))
   pub rest : Option (List ℕ)
   pub state : CoreState
   pub prints : IsFollowed config script rest state
-      (λ notes. TellsAll config notes (Prints asked asked.at old new status))
+      (λ notes. TellsAll config notes (PrintsAs asked.style.format request asked old new status))
 
 -- How an answer is written, as a request asks: in its format; and without a file of names, nothing
 -- has a name. (No contract says what a file contains, or which time zones the system has.)
@@ -69,7 +81,7 @@ pub record IsAsked (request : HeardRequest) (asked : Question) : Type 0 where
 abbrev pub IsHeardFrom : HeardRequest → (input old new : Option (List ℕ)) → Status → Type 0
 IsHeardFrom request input old new status =
     (script : Option (List ℕ)) × (asked : Question) × (request.file ≡ None → script ≡ input)
-    × IsAsked request asked × IsHeard asked script old new status
+    × IsAsked request asked × IsHeard request asked script old new status
 
 -- What is true after a run, given its status. The statuses of answers aren't those of faults: a
 -- read or a write failed, memory ran out, or the script can't be used.

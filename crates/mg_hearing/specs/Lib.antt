@@ -1,3 +1,4 @@
+pub mod Page
 pub mod Heard
 pub mod Audible
 pub mod Watched

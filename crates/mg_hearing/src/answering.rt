@@ -1,16 +1,20 @@
-ghost use Rattle.std.specs.Prelude.{◌≡◌, ◌⊎◌, IfErr, IfOk, IsSome, OnOk, Option, List, ℕ};
+ghost use Rattle.std.specs.Prelude.{◌≡◌, ◌⊎◌, IfErr, IfOk, IsSome, OnOk, Option, List, false, ℕ};
 ghost use Rattle.mg_core.specs.Follow.{IsFollowed};
 ghost use Rattle.mg_core.specs.declared.state.CoreState.{CoreState};
 ghost use Rattle.mg_heard.specs.Told.{TellsAll};
 ghost use Rattle.mg_hearing.specs.Heard.{Hears, IsAsked, IsHeard, IsHeardFrom, Prints, status_for};
+ghost use Rattle.mg_hearing.specs.Page.{is_page};
 
-use crate::faults::{INPUT, report_fault};
+use crate::asking::Asking;
+use crate::faults::report_fault;
+use crate::paging::hear_page;
 use crate::question::Question;
 use crate::script_title::read_title;
 use crate::styling::{report_name_fault, style_of};
+use crate::words::script_name;
 use mg_arguments::HeardRequest;
 use mg_core::Config;
-use mg_heard::{HeardFault, Verdict, write_answer, write_report};
+use mg_heard::{Format, HeardFault, Verdict, write_answer, write_report};
 use mg_options::Status;
 use std::alloc::Global;
 use std::fs::{Files, OpenOptions};
@@ -53,26 +57,58 @@ fn print_heard<R: Read, W: Write>(
     }
 }
 
-/// Prints the answer to a question about the script with this name. A fault is reported to `errors`.
-fn hear_script<R: Read, W: Write, E: Write>(
+/// Prints the answer to a question about the script of a reader, in lines. A fault is reported to `errors`.
+fn hear_lines<R: Read, W: Write, E: Write>(
     alloc: Global,
-    name: &str,
-    question: Question,
+    asking: Asking<'_>,
     reader: &mut R,
     output: &mut W,
     errors: &mut E,
 ) -> Status
-    ensures value { Hears (IsHeard question (R.remaining reader.old) (W.contents output.old) (W.contents output.new)
-        result) (errors.new ≡ errors.old) result }
+    requires lines { is_page asking.question.style.format ≡ false }
+    ensures value { Hears (IsHeard asking.request.now asking.question (R.remaining reader.old) (W.contents output.old)
+        (W.contents output.new) result) (errors.new ≡ errors.old) result }
 {
+    let name = script_name(asking.request);
     let (line, config) = match read_title(alloc, name, reader, errors) {
         Ok(title) => title,
         Err(status) => return status,
     };
     let mut script = line.as_slice().chain(reader);
-    match print_heard(alloc, config, question, &mut script, output) {
+    match print_heard(alloc, config, asking.question, &mut script, output) {
         Ok(status) => status,
         Err(fault) => report_fault(name, fault, errors),
+    }
+}
+
+/// Returns whether a format is that of a page.
+fn is_page(format: Format) -> bool
+    ensures value { result ≡ is_page format }
+{
+    match format {
+        Format::Page => true,
+        Format::Text => false,
+        Format::Csv => false,
+        Format::Json => false,
+    }
+}
+
+/// Prints the answer to a question about the script of a reader. A fault is reported to `errors`.
+fn hear_script<F: Files, R: Read, W: Write, E: Write>(
+    files: &F,
+    alloc: Global,
+    asking: Asking<'_>,
+    reader: &mut R,
+    output: &mut W,
+    errors: &mut E,
+) -> Status
+    ensures value { Hears (IsHeard asking.request.now asking.question (R.remaining reader.old) (W.contents output.old)
+        (W.contents output.new) result) (errors.new ≡ errors.old) result }
+{
+    if is_page(asking.question.style.format) {
+        hear_page(files, alloc, asking, reader, output, errors)
+    } else {
+        hear_lines(alloc, asking, reader, output, errors)
     }
 }
 
@@ -121,12 +157,13 @@ pub fn heard<F: Files, R: Read, W: Write, E: Write>(
         Ok(question) => question,
         Err(status) => return status,
     };
+    let asking = Asking { request, question };
     let Some(path) = &request.file else {
-        return hear_script(alloc, INPUT, question, input, output, errors);
+        return hear_script(files, alloc, asking, input, output, errors);
     };
     let name = path.as_str();
     match OpenOptions::new().read(true).open(files, name) {
-        Ok(mut file) => hear_script(alloc, name, question, &mut file, output, errors),
+        Ok(mut file) => hear_script(files, alloc, asking, &mut file, output, errors),
         Err(error) => {
             let _ = writeln!(errors, "{name}: cannot be opened: {error}");
             Status::BadJournal

@@ -8,21 +8,32 @@
 //! The script is a journal or a recording, whose first line states the configuration of its gateway. [`heard`] runs it
 //! with the same configuration, and returns the program's exit status.
 //!
-//! `specs/Heard.antt` defines what is printed, and what the status answers.
+//! `specs/Heard.antt` defines what is printed, and what the status answers. `specs/Page.antt` defines a page (HTML).
 #![tactic(auto)]
 
 mod alarm;
 mod answering;
+mod asking;
 mod audibility;
+mod back;
+mod digest;
+mod escaping;
 mod faults;
 mod first_line;
+mod front;
+mod hashed;
 mod names_fault;
 mod names_file;
+mod origin;
+mod page_text;
+mod paging;
+mod parts;
 mod question;
 mod script_title;
 mod styling;
 mod talker_question;
 mod watching;
+mod words;
 
 pub use crate::answering::heard;
 pub use crate::audibility::audible;

@@ -14,4 +14,6 @@ returns-clause-app c =
     let zone = adds_rule _ _ _ _ _ c.in_ok-arg.ensures period (ap rule_of c.help.ensures ∙ c.option.ensures.rule) refl in
     let names = adds_rule _ _ _ _ _ c.in_ok-arg-2.ensures zone
     (ap rule_of c.help-2.ensures ∙ c.option-2.ensures.rule) refl in
-    adds_rule _ _ _ _ _ c.in_ok-command.ensures names (ap rule_of c.help-3.ensures ∙ c.option-3.ensures.rule) refl
+    let format = adds_rule _ _ _ _ _ c.in_ok-arg-3.ensures names
+    (ap rule_of c.help-3.ensures ∙ c.option-3.ensures.rule) refl in
+    adds_rule _ _ _ _ _ c.in_ok-command.ensures format (ap rule_of c.help-4.ensures ∙ c.flag.ensures.rule) refl

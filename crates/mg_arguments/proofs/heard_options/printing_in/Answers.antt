@@ -21,5 +21,5 @@ returns-in-Err-clause-refused c =
 
 pub returns-clause-value : goal.returns-clause-value
 returns-clause-value c =
-    rw c.unwrap_or.ensures (printing_is (rows_of (found_of c.args.matches.now)) c.in_ok-format.format c.in_ok-zone.zone
-    c.in-Ok.names c.in_ok-format.ensures.value c.in_ok-zone.ensures.value c.in-Ok.ensures.value)
+    printing_is (rows_of (found_of c.args.matches.now)) c.in_ok-format.format c.in_ok-zone.zone
+    c.in-Ok.names c.in_ok-format.ensures.value c.in_ok-zone.ensures.value c.in-Ok.ensures.value

@@ -1,0 +1,10 @@
+use Rattle.mg_reply.proofs.WrittenLemmas.{after}
+use Rattle.mg_heard.proofs.line.push_bar.Goals as goal
+
+pub returns-clause-value : goal.returns-clause-value
+returns-clause-value c =
+    after c.args.out.now c.push.new.self c.push-3.new.self _ _ c.push.ensures.value
+    (after c.push.new.self c.push_number.new.out c.push-3.new.self _ _ c.push_number.ensures.value
+    (after c.push_number.new.out c.push-2.new.self c.push-3.new.self _ _ c.push-2.ensures.value
+    (after c.push-2.new.self c.push_bar_end.new.out c.push-3.new.self _ _ c.push_bar_end.ensures.value
+    c.push-3.ensures.value)))

@@ -1,0 +1,48 @@
+use crate::entry::Entry;
+use crate::extent::Extent;
+
+/// The ticks between which a page draws its bars. No contract says which.
+#[derive(Clone, Copy, Debug, PartialEq, Eq)]
+pub struct Scale {
+    /// The first tick of the intervals so far, or 2^64 - 1 if there is none.
+    pub first: u64,
+    /// The last end of these intervals: 0 if there is none, and 2^64 - 1 if one has no end.
+    pub end: u64,
+}
+
+impl Scale {
+    /// Creates the scale of no interval.
+    pub(crate) fn new() -> Self {
+        Scale {
+            first: u64::MAX,
+            end: 0,
+        }
+    }
+
+    /// Makes room for an entry. A gap needs none.
+    pub(crate) fn include(&mut self, entry: &Entry) {
+        match entry {
+            Entry::Interval(interval) | Entry::Audible(interval) => {
+                let end = match interval.end {
+                    Some(end) => end.tick,
+                    None => u64::MAX,
+                };
+                self.first = self.first.min(interval.first.tick);
+                self.end = self.end.max(end);
+            }
+            Entry::Gap(_) => {}
+        }
+    }
+
+    /// Returns the scale within the ticks of a script: all of them if there is no interval.
+    pub(crate) fn within(self, extent: &Extent) -> Self {
+        let end = extent.end.tick;
+        if self.end == 0 {
+            return Scale { first: 0, end };
+        }
+        Scale {
+            first: self.first.min(end),
+            end: self.end.min(end),
+        }
+    }
+}

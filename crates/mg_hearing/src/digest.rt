@@ -1,0 +1,16 @@
+use mg_chain::END;
+
+/// The length and the SHA-256 of a text.
+#[derive(Drop)]
+pub(crate) struct Digest {
+    pub(crate) length: u64,
+    /// The SHA-256 in hexadecimal digits, and a line feed.
+    pub(crate) end: [u8; END],
+}
+
+impl Digest {
+    /// Returns the SHA-256 in hexadecimal digits.
+    pub(crate) fn digits(&self) -> &[u8] {
+        &self.end[..END - 1]
+    }
+}

@@ -1,0 +1,31 @@
+use crate::digest::Digest;
+use crate::hashed::{Hashed, program_digest};
+use mg_heard::Extent;
+use std::fs::Files;
+use std::io::Read;
+
+/// Where a page comes from.
+#[derive(Drop)]
+pub(crate) struct Origin {
+    /// What was read of the script.
+    pub(crate) script: Digest,
+    /// The time that the script covers, or `None` if it was not read to its end.
+    pub(crate) extent: Option<Extent>,
+    /// The running program, or `None` if the system does not show it.
+    pub(crate) program: Option<Digest>,
+}
+
+impl Origin {
+    /// Returns the origin of a page about the script of a reader.
+    pub(crate) fn of<F: Files, R: Read>(
+        files: &F,
+        script: &Hashed<R>,
+        extent: Option<Extent>,
+    ) -> Self {
+        Origin {
+            script: script.digest(),
+            extent,
+            program: program_digest(files),
+        }
+    }
+}

@@ -1,0 +1,150 @@
+//! The words of a request, as a page and its command state them.
+
+ghost use Rattle.std.specs.Prelude.{◌≡◌, IfOk};
+ghost use Rattle.mg_heard.specs.Query.{party_name_text};
+ghost use Rattle.mg_heard.specs.Escaped.{escaped};
+ghost use Rattle.mg_hearing.specs.Page.{last_words, party_word, script_name};
+
+use crate::escaping::{escaped, quoted};
+use crate::faults::INPUT;
+use mg_arguments::{HeardRequest, Printing};
+use mg_dates::{Date, TimeText};
+use mg_heard::{Asked, PartyName};
+use mg_reply::Bytes;
+use std::alloc::{AllocError, Global};
+
+/// The maximum length of a key, in bytes.
+const KEY_ROOM: usize = 32;
+
+/// Returns the name of a request's script.
+pub(crate) fn script_name(request: &HeardRequest) -> &str
+    ensures value { result.now ≡ script_name request.now.file }
+{
+    match &request.file {
+        Some(path) => path.as_str(),
+        None => INPUT,
+    }
+}
+
+/// Returns the text of a key.
+fn key_word(alloc: Global, key: &PartyName) -> Result<Vec<u8>, AllocError>
+    ensures value { IfOk result (λ word. word.items ≡ party_name_text key.now) }
+{
+    let mut word = Bytes::new(alloc, KEY_ROOM)?;
+    key.write(&mut word);
+    Vec::from_slice(alloc, word.as_slice())
+}
+
+/// Returns who is asked about, as on the command line.
+fn party_word(alloc: Global, asked: &Option<Asked>) -> Result<Vec<u8>, AllocError>
+    ensures value { IfOk result (λ word. word.items ≡ party_word asked.now) }
+{
+    match asked {
+        Some(Asked::Key(key)) => key_word(alloc, key),
+        Some(Asked::Name(name)) => Vec::from_slice(alloc, name.as_slice()),
+        None => Vec::from_slice(alloc, b"anyone"),
+    }
+}
+
+/// Returns how a page shows who is asked about.
+pub(crate) fn shown_party(alloc: Global, asked: &Option<Asked>) -> Result<Vec<u8>, AllocError>
+    ensures value { IfOk result (λ word. word.items ≡ escaped (party_word asked.now)) }
+{
+    let word = party_word(alloc, asked)?;
+    escaped(alloc, word.as_slice())
+}
+
+/// Returns the text of a time, or another text if there is none.
+pub(crate) fn time_word(time: Option<Date>, otherwise: &[u8]) -> TimeText {
+    match time {
+        Some(time) => time.text(),
+        None => {
+            let mut word = TimeText::new();
+            let _ = word.try_extend_from_slice(otherwise);
+            word
+        }
+    }
+}
+
+/// Returns the end of the command that makes a request's page: the script, as one word or as the input.
+pub(crate) fn last_words(alloc: Global, request: &HeardRequest) -> Result<Vec<u8>, AllocError>
+    ensures value { IfOk result (λ words. words.items ≡ last_words request.now.file) }
+{
+    let mut words = Vec::new(alloc);
+    match &request.file {
+        Some(path) => {
+            let name = quoted(alloc, path.as_str().as_bytes())?;
+            words.extend_from_slice(b" -- ")?;
+            words.extend_from_slice(name.as_slice())?;
+        }
+        None => words.extend_from_slice(b" < FILE")?,
+    }
+    Ok(words)
+}
+
+/// Appends an option with a text to a command.
+fn push_text(
+    alloc: Global,
+    option: &[u8],
+    text: &[u8],
+    command: &mut Vec<u8>,
+) -> Result<(), AllocError> {
+    let word = quoted(alloc, text)?;
+    command.extend_from_slice(option)?;
+    command.extend_from_slice(word.as_slice())
+}
+
+/// Appends an option about terminations to a command, if it is given.
+fn push_party(
+    alloc: Global,
+    option: &[u8],
+    asked: &Option<Asked>,
+    command: &mut Vec<u8>,
+) -> Result<(), AllocError> {
+    match asked {
+        Some(Asked::Key(key)) => {
+            let word = key_word(alloc, key)?;
+            command.extend_from_slice(option)?;
+            command.extend_from_slice(word.as_slice())
+        }
+        Some(Asked::Name(name)) => push_text(alloc, option, name.as_slice(), command),
+        None => Ok(()),
+    }
+}
+
+/// Appends an option about a time to a command, if it is given.
+fn push_time(option: &[u8], time: Option<Date>, command: &mut Vec<u8>) -> Result<(), AllocError> {
+    if time.is_some() {
+        let word = time_word(time, b"");
+        command.extend_from_slice(option)?;
+        command.extend_from_slice(word.as_slice())?;
+    }
+    Ok(())
+}
+
+/// Appends the options about how a page is printed to a command.
+fn push_printing(
+    alloc: Global,
+    printing: &Printing,
+    command: &mut Vec<u8>,
+) -> Result<(), AllocError> {
+    if let Some(zone) = &printing.zone {
+        push_text(alloc, b" --zone=", zone.as_str().as_bytes(), command)?;
+    }
+    if let Some(names) = &printing.names {
+        push_text(alloc, b" --names=", names.as_str().as_bytes(), command)?;
+    }
+    Ok(())
+}
+
+/// Returns the beginning of the command that makes a page: the options.
+pub(crate) fn first_words(alloc: Global, request: &HeardRequest) -> Result<Vec<u8>, AllocError> {
+    let query = &request.query;
+    let mut command = Vec::from_slice(alloc, b"mg_bridge heard --report")?;
+    push_party(alloc, b" --listener=", &query.listener, &mut command)?;
+    push_party(alloc, b" --talker=", &query.talker, &mut command)?;
+    push_time(b" --from=", query.from, &mut command)?;
+    push_time(b" --to=", query.until, &mut command)?;
+    push_printing(alloc, &request.printing, &mut command)?;
+    Ok(command)
+}

@@ -9,7 +9,7 @@ import tempfile
 from html.parser import HTMLParser
 from pathlib import Path
 
-from programs import Commands, program, run
+from programs import ROOT, Commands, program, run
 from test_heard import CHANGES, DATED, LASTING, PAIR, PART, TITLE, date
 
 VOID = {"meta", "br"}
@@ -94,7 +94,7 @@ class Reports(Commands):
         return page
 
     def test_rows(self):
-        examples = (Path(__file__).parent.parent.parent / "examples" / "coached_call.txt").read_text()
+        examples = (ROOT / "examples/coached_call.txt").read_text()
         for text in (TITLE + CHANGES, TITLE + DATED, TITLE + LASTING, TITLE, examples):
             for words in ([], ["--listener=RTP/1"], ["--talker=RTP/9"], ["--from=2026-11-27T14:03:20.04Z"]):
                 with self.subTest(text=text[-200:], words=words):
@@ -140,6 +140,15 @@ class Reports(Commands):
             page.said["pre"],
             ["mg_bridge heard --report --talker=192.0.2.7:40000 --from=2026-11-27T14:03:20Z < FILE"],
         )
+
+    def test_hash_of_sealed_file(self):
+        """The hash is that of all bytes, also if the file has seals."""
+        path = ROOT / "examples/coached_call.txt"
+        self.assertIn("\n# sha256 ", path.read_text())
+        for words, text in (([str(path)], ""), ([], path.read_text())):
+            facts = self.page(*words, text=text).facts
+            self.assertEqual(facts["Their SHA-256"], [hashlib.sha256(path.read_bytes()).hexdigest()])
+            self.assertEqual(facts["Bytes read"], [str(path.stat().st_size)])
 
     def test_names(self):
         """Rows, the question and the command have the names of terminations."""

@@ -40,7 +40,7 @@ impl<R: Read> Read for Hashed<R> {
     fn read(&mut self, buffer: &mut [u8]) -> io::Result<usize> {
         match self.inner.read(buffer) {
             Ok(n) => {
-                self.chain.add(&buffer[..n]);
+                self.chain.extend(&buffer[..n]);
                 self.length = self.length.saturating_add(n as u64);
                 Ok(n)
             }

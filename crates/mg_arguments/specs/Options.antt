@@ -289,10 +289,12 @@ query_in found = do
   until ← named_by date_of_text (codes "to") found
   Ok (record { listener = listener; talker = talker; from = from; until = until })
 
--- whether a page is asked for in a form that isn't its own: in a format, about a
--- time, or about what was audible
+-- whether a page is asked for in a form that isn't its own: in a format, about a time, or about what
+-- was audible
 abbrev pub reshapes_page : List Row → Bool
-reshapes_page found = is_given (codes "format") found || (is_given (codes "at") found || is_set (codes "audible") found)
+reshapes_page found =
+    is_given (codes "format") found
+    || (is_given (codes "at") found || is_set (codes "audible") found)
 
 -- how what is asked is printed: as a page, or in a format
 abbrev pub form_in : List Row → Result Format Kinds

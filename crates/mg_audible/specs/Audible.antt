@@ -39,8 +39,8 @@ audible_flows talker v w =
 
 -- ## All ticks
 
--- Events arrive at two gateways, one after another, but the talker's speech only at the first. These
--- are the audible flows of each tick, and the worlds in which the gateways end.
+-- Events arrive at two gateways, one after another, but the talker's speech only at the first.
+-- These are the audible flows of each tick, and the worlds in which the gateways end.
 abbrev pub RunsWithout : ℕ → World → World → List Event → List (List OpenFlow) → World → World
     → Type 0
 RunsWithout talker v w [] moments last other = (moments ≡ []) × (last ≡ v) × (other ≡ w)

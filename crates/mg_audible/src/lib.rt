@@ -1,11 +1,11 @@
-//! When a talker was audible to a listener: the intervals in which a talker's speech changed what a listener was sent.
+//! When a talker was audible: the intervals in which his speech changed what a listener was sent.
 //!
 //! [`hear_talker`] runs a full recording on two gateways. One of them receives all events, and the other all but the
 //! talker's speech: the RTP datagrams that arrive at the talker's port. If a tick's packets to a listener differ, the
 //! talker was audible to that listener:
 //!
 //! ```rust
-//! let sink = hear_talker(alloc, config, &mut input, 3, sink)?;
+//! let (sink, has_rtp) = hear_talker(alloc, config, &mut input, 3, sink)?;
 //! ```
 //!
 //! [`write_audible`] writes a line for each such interval that a query selects, and for each gap.

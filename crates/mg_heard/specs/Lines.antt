@@ -152,7 +152,8 @@ name_members names x =
 
 abbrev pub object_of : Claim → List ℕ → List ℕ → List Named → Interval → List ℕ
 object_of claim from until names x =
-    codes "{\"kind\":\"" ++ (kind_of claim ++ (codes "\",\"listener\":\"" ++ (rtp_name x.flow.listener
+    codes "{\"kind\":\"" ++ (kind_of claim
+    ++ (codes "\",\"listener\":\"" ++ (rtp_name x.flow.listener
     ++ (codes "\",\"listener_at\":" ++ (peer_value x.flow.listener_at
     ++ (codes ",\"talker\":\"" ++ (rtp_name x.flow.talker
     ++ (codes "\",\"talker_at\":" ++ (peer_value x.flow.talker_at

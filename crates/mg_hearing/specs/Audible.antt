@@ -37,8 +37,8 @@ IsAudibleFrom request input old new silent =
     (script : Option (List ℕ)) × (asked : Question) × (request.heard.file ≡ None → script ≡ input)
     × IsAsked request.heard asked × IsAudible request.talker asked script old new silent
 
--- What is true after a run, given its status. It succeeded, a read or a write failed, memory ran out,
--- or the script can't be used.
+-- What is true after a run, given its status. It succeeded, a read or a write failed, memory ran
+-- out, or the script can't be used.
 abbrev pub Reports : (is_audible : Type 0) → Status → Type 0
 Reports is_audible Done = is_audible
 Reports is_audible Failed = ⊤

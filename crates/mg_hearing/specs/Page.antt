@@ -58,7 +58,8 @@ pub record IsFront (request : HeardRequest) (front : List ℕ) : Type 0 where
 pub record IsScale (text : List ℕ) : Type 0 where
   pub scale : List ℕ
   pub ticks : List ℕ
-  pub is : text ≡ concat (TABLE_END.now ∷ escaped scale ∷ TICKS.now ∷ escaped ticks ∷ WHOLE.now ∷ [])
+  pub is : text ≡ concat (
+      TABLE_END.now ∷ escaped scale ∷ TICKS.now ∷ escaped ticks ∷ WHOLE.now ∷ [])
 
 -- the end of a command about a file, or about the input, which has no name
 abbrev pub last_words : Option (List ℕ) → List ℕ
@@ -98,5 +99,6 @@ WritesTable request asked old new xs =
 -- times, hashes and options are right.)
 abbrev pub WritesPage : HeardRequest → Question → (old new : Option (List ℕ)) → List Entry → Type 0
 WritesPage request asked old new xs =
-    (mid : Option (List ℕ)) × (scale : List ℕ) × (origin : List ℕ) × WritesTable request asked old mid xs
-    × IsScale scale × IsOrigin request.file origin × Appends mid new (scale ++ origin)
+    (mid : Option (List ℕ)) × (scale : List ℕ) × (origin : List ℕ)
+    × WritesTable request asked old mid xs × IsScale scale × IsOrigin request.file origin
+    × Appends mid new (scale ++ origin)

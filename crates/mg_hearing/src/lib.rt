@@ -1,5 +1,4 @@
-//! What `mg_bridge heard` prints: who could hear whom while a script ran, or whether a talker could be heard at a given
-//! time.
+//! What `mg_bridge heard` prints.
 //!
 //! ```rust
 //! let status = heard(&rt, alloc, &request, &mut input, &mut output, &mut errors);

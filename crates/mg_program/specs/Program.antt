@@ -20,9 +20,9 @@ abbrev pub Checks : {W : Type 0} → W → W → Status → Type 0
 Checks old new status =
     (status ≡ Done) ⊎ (status ≡ Failed) ⊎ ((status ≡ NoAnswer) × (new ≡ old))
 
--- A run took place, and the status says how it ended. A successful run prints no error, unless it is
--- asked when a talker was audible and the script has no RTP datagrams. A
--- clock-driven run reads no input.
+-- A run took place, and the status says how it ended. A successful run prints no error, unless it
+-- is asked when a talker was audible and the script has no RTP datagrams. A clock-driven run reads
+-- no input.
 abbrev pub Runs : {R W : Type 0} → (R → Option (List ℕ)) → (W → Option (List ℕ))
     → (silent : Type 0) → R → R → W → W → Invocation → Status → Type 0
 Runs remaining contents silent input rest old new (Replay config shown) status =

@@ -1,5 +1,6 @@
-use Rattle.std.proofs.Common.{◌∙◌, sym}
+use Rattle.std.proofs.Common.{◌∙◌, Ok, ap, sym}
 use Rattle.clap.specs.Words.{found_of, rows_of}
+use Rattle.mg_heard.specs.declared.format.Format.{Format}
 use Rattle.mg_arguments.proofs.HeardOptionLemmas.{form_is, form_is_page, refuses_form, refuses_page}
 use Rattle.mg_arguments.proofs.InvocationLemmas.{at_error}
 use Rattle.mg_arguments.proofs.heard_options.form_in.Goals as goal
@@ -24,3 +25,4 @@ pub returns-clause-value : goal.returns-clause-value
 returns-clause-value c =
     form_is (rows_of (found_of c.args.matches.now)) c.in_ok-format.format
     (sym c.is_set.ensures.value ∙ c.if-is_set.false) c.in_ok-format.ensures.value
+    ∙ ap (λ (f : Format). Ok f) (sym c.unwrap_or.ensures)

@@ -66,8 +66,8 @@ fn hear_lines<R: Read, W: Write, E: Write>(
     errors: &mut E,
 ) -> Status
     requires lines { is_page asking.question.style.format ≡ false }
-    ensures value { Hears (IsHeard asking.request.now asking.question (R.remaining reader.old) (W.contents output.old)
-        (W.contents output.new) result) (errors.new ≡ errors.old) result }
+    ensures value { Hears (IsHeard asking.entry.request.now asking.entry.question (R.remaining reader.old)
+        (W.contents output.old) (W.contents output.new) result) (errors.new ≡ errors.old) result }
 {
     let name = script_name(asking.request);
     let (line, config) = match read_title(alloc, name, reader, errors) {
@@ -102,8 +102,8 @@ fn hear_script<F: Files, R: Read, W: Write, E: Write>(
     output: &mut W,
     errors: &mut E,
 ) -> Status
-    ensures value { Hears (IsHeard asking.request.now asking.question (R.remaining reader.old) (W.contents output.old)
-        (W.contents output.new) result) (errors.new ≡ errors.old) result }
+    ensures value { Hears (IsHeard asking.entry.request.now asking.entry.question (R.remaining reader.old)
+        (W.contents output.old) (W.contents output.new) result) (errors.new ≡ errors.old) result }
 {
     if is_page(asking.question.style.format) {
         hear_page(files, alloc, asking, reader, output, errors)

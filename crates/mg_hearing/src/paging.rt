@@ -63,8 +63,8 @@ pub(crate) fn hear_page<F: Files, R: Read, W: Write, E: Write>(
     errors: &mut E,
 ) -> Status
     requires page { is_page asking.question.style.format ≡ true }
-    ensures value { Hears (IsHeard asking.request.now asking.question (R.remaining reader.old) (W.contents output.old)
-        (W.contents output.new) result) (errors.new ≡ errors.old) result }
+    ensures value { Hears (IsHeard asking.entry.request.now asking.entry.question (R.remaining reader.old)
+        (W.contents output.old) (W.contents output.new) result) (errors.new ≡ errors.old) result }
 {
     let Asking { request, question } = asking;
     let name = script_name(request);

@@ -1,17 +1,7 @@
 -- What keeps two gateways in agreement outside some terminations.
-use Rattle.mg_engine.proofs.Common.{◌≡◌, ℕ, ℤ, ◌+◌, eqb, Bool, true, false, cond, ◌&&◌, List, [], ◌∷◌, ◌++◌, map, find, Option, Some, None, Result, Ok, Err, refl, sym, ap, subst, ◌∙◌, eqb-true, option_to_list, option_map, ◌>>=◌, ErrorNumber, Header, Reading, Record, Settings, Target, change, members_at, silence, TopologyTriple, Arrived, arrived, at_port, frame_placed, taken_at, frame_placed_at, taken_by, has, Gateway, TerminationMedia, ContextEdit, Enter, Leave, media_of, new_media, frame_in, added, modified, moved, subtracted, existing_context, done_with, tuned, all_played, played, sends_at, sent, check_triples, with_triples}
-use Rattle.std.proofs.lemmas.Bool.{true≢false}
-use Rattle.std.proofs.lemmas.List.{map-append}
-use Rattle.mg_playout.specs.Playout.{first_list}
+use Rattle.mg_engine.proofs.Common.{◌≡◌, ℕ, ℤ, ◌+◌, eqb, Bool, true, false, cond, ◌&&◌, List, [], ◌∷◌, ◌++◌, map, find, Option, Some, None, Result, Ok, Err, refl, sym, ap, subst, ◌∙◌, eqb-true, option_to_list, option_map, ◌>>=◌, ErrorNumber, Header, Reading, Record, Settings, Target, change, members_at, silence, TopologyTriple, Arrived, arrived, at_port, frame_placed, taken_at, frame_placed_at, taken_by, has, Gateway, TerminationMedia, ContextEdit, Enter, Leave, media_of, new_media, frame_in, added, modified, moved, subtracted, existing_context, done_with, tuned, all_played, played, sends_at, sent, check_triples, with_triples, true≢false, Registry, map-append, counted_up, first_list, frame_of, all_ended, AgreeOutside, IsPortAmong, SamePackets, but_received, unless_among, without_arrivals, EndsAlike, SameEditsKeepAgreement, AgreementIsMutual, SameStatsButReceived, SameTickKeepsAgreement, hears_itself, progress_of}
 use Rattle.mg_rooms.specs.Outcome as commands
-use Rattle.mg_rooms.specs.Registry as rooms
-use Rattle.mg_engine.specs.Apart.{AgreeOutside, IsPortAmong, SamePackets, but_received, unless_among, without_arrivals}
-use Rattle.mg_engine.specs.aids.Agreement.{EndsAlike, SameEditsKeepAgreement, AgreementIsMutual, SameStatsButReceived, SameTickKeepsAgreement}
-use Rattle.mg_engine.specs.Steps.{counted_up}
-use Rattle.mg_engine.specs.Gateway.{frame_of}
-use Rattle.mg_engine.specs.Isolation.{hears_itself, progress_of}
 use Rattle.mg_engine.specs.Outcome.{apply_triples}
-use Rattle.mg_engine.specs.Tick.{all_ended}
 use Rattle.mg_engine.proofs.MemberLemmas.{not_so}
 use Rattle.mg_engine.proofs.IsolationLemmas.{packets_depend_on_heard}
 use Rattle.mg_engine.proofs.OrderLemmas.{found_passes}
@@ -68,7 +58,7 @@ module _ (some : List ℕ) where
   sent_same true s = refl
   sent_same false s = refl
 
-  ended_blind : (z : rooms.Registry) → IsBlind (λ s. sent (sends_at z s.number) s)
+  ended_blind : (z : Registry) → IsBlind (λ s. sent (sends_at z s.number) s)
   ended_blind z = blind (λ s. sent (sends_at z s.number) s) (λ s. sent_number (sends_at z s.number) s)
       (λ s. sent_same (sends_at z s.number) s)
 
@@ -152,18 +142,18 @@ module _ (some : List ℕ) where
 
   -- ## Edits
 
-  ends : (f g : rooms.Registry → Record → Gateway) (o : Result (rooms.Registry × Record) ErrorNumber) →
-      ((z : rooms.Registry) (r : Record) → AgreeOutside some (f z r) (g z r)) →
+  ends : (f g : Registry → Record → Gateway) (o : Result (Registry × Record) ErrorNumber) →
+      ((z : Registry) (r : Record) → AgreeOutside some (f z r) (g z r)) →
       EndsAlike some (done_with f o) (done_with g o)
   ends f g (Ok p) h = (h p.0 p.1, refl)
   ends f g (Err e) h = refl
 
   -- a command on the terminations and contexts, which are the same
-  ends_on : (f g : rooms.Registry → Record → Gateway)
-      (command : rooms.Registry → Result (rooms.Registry × Record) ErrorNumber) (x y : rooms.Registry) → x ≡ y →
-      ((z : rooms.Registry) (r : Record) → AgreeOutside some (f z r) (g z r)) →
+  ends_on : (f g : Registry → Record → Gateway)
+      (command : Registry → Result (Registry × Record) ErrorNumber) (x y : Registry) → x ≡ y →
+      ((z : Registry) (r : Record) → AgreeOutside some (f z r) (g z r)) →
       EndsAlike some (done_with f (command x)) (done_with g (command y))
-  ends_on f g command x y same h = subst (λ (z : rooms.Registry). EndsAlike some (done_with f (command x))
+  ends_on f g command x y same h = subst (λ (z : Registry). EndsAlike some (done_with f (command x))
       (done_with g (command z))) same (ends f g (command x) h)
 
   tuned_media : (settings : Settings) (n : ℕ) (a b : Gateway) → AgreeOutside some a b →
@@ -172,7 +162,7 @@ module _ (some : List ℕ) where
       b.media h.media
 
   -- triples applied to the members of these rooms, after these edits
-  abbrev applied : Target → List TopologyTriple → rooms.Registry → List ContextEdit → Gateway →
+  abbrev applied : Target → List TopologyTriple → Registry → List ContextEdit → Gateway →
       Result (Gateway × ℕ) ErrorNumber
   applied target xs z es w = existing_context z target >>=
       (λ c. check_triples (members_at z c) xs >>=
@@ -196,7 +186,7 @@ module _ (some : List ℕ) where
   ends_applied target xs a b h =
       let same = ends_there (existing_context a.rooms target) (λ c. check_triples (members_at a.rooms c) xs)
       (λ c. with_triples (members_at a.rooms c) xs a.edits) a b h in
-      let on_rooms = subst (λ (z : rooms.Registry). EndsAlike some (applied target xs a.rooms a.edits a)
+      let on_rooms = subst (λ (z : Registry). EndsAlike some (applied target xs a.rooms a.edits a)
       (applied target xs z a.edits b)) h.rooms same in
       subst (λ (es : List ContextEdit). EndsAlike some (applied target xs a.rooms a.edits a)
       (applied target xs b.rooms es b)) h.edits on_rooms
@@ -275,7 +265,7 @@ module _ (some : List ℕ) where
     config = h.config;
     rooms = h.rooms;
     edits = h.edits;
-    media = subst (λ (z : rooms.Registry). AreLike (map (λ s. sent (sends_at a.rooms s.number) s) a.media)
+    media = subst (λ (z : Registry). AreLike (map (λ s. sent (sends_at a.rooms s.number) s) a.media)
         (map (λ s. sent (sends_at z s.number) s) b.media)) h.rooms
         (mapped (λ s. sent (sends_at a.rooms s.number) s) (ended_blind a.rooms) a.media b.media h.media);
   }
@@ -335,7 +325,7 @@ pub taken_alike : (some : List ℕ) (a b : Gateway) (port : ℕ) (source : List 
     AgreeOutside some a b → AgreeOutside some (taken_by a (at_port a.rooms port) source reading).0
     (taken_by b (at_port b.rooms port) source reading).0
 taken_alike some a b port source reading h =
-    subst (λ (z : rooms.Registry). AgreeOutside some (taken_by a (at_port a.rooms port) source reading).0
+    subst (λ (z : Registry). AgreeOutside some (taken_by a (at_port a.rooms port) source reading).0
     (taken_by b (at_port z port) source reading).0) h.rooms
     (arrives_by some (at_port a.rooms port) source reading a b h)
 

@@ -1,27 +1,17 @@
 -- An engine stands for the world after an RTP datagram.
-use Rattle.mg_engine.proofs.Common.{◌≡◌, ℕ, ◌<◌, eqb, Bool, true, false, List, ℤ, [], ◌∷◌, length, get_or, set, Some, Ok, Err, refl, sym, ap, subst, ◌∙◌, option_map, eqb-true, same_Some, get_or-set_same, Header, PlayList, Record, change, record_at, Share, Config, Taken, Gateway, TerminationMedia, media_of, Arrived, frame_placed, taken_at, frame_placed_at, idle, EngineState, StandsFor, IsMediaOf, media_at}
-use Rattle.std.specs.Prelude.{find}
-use Rattle.mg_playout.specs.Playout as play_lists
-use Rattle.mg_rooms.specs.Registry as rooms
-use Rattle.mg_flow.specs.Table as table
-use Rattle.mg_sums.specs.Sums as sums
+use Rattle.mg_engine.proofs.Common.{◌≡◌, ℕ, ◌<◌, eqb, Bool, true, false, List, ℤ, [], ◌∷◌, length, get_or, set, Some, Ok, Err, refl, sym, ap, subst, ◌∙◌, option_map, eqb-true, same_Some, get_or-set_same, Header, PlayList, Record, change, record_at, Share, Config, Taken, Gateway, TerminationMedia, media_of, Arrived, frame_placed, taken_at, frame_placed_at, idle, EngineState, StandsFor, IsMediaOf, media_at, find, Registry, find-change_other, RoomFlows, received, SlotMedia, SumsState, PlacedAt, placed, slot_placed}
 use Rattle.mg_engine.specs.declared.taken.Taken.TheVariants.{Placed}
-use Rattle.mg_engine.specs.Steps.{received}
-use Rattle.mg_engine.specs.Media as media
-use Rattle.mg_engine.specs.aids.MediaSteps as media_steps
-use Rattle.mg_engine.specs.aids.Sending.{PlacedAt}
 use Rattle.mg_engine.proofs.JoinedLemmas.{Slots}
 use Rattle.mg_engine.proofs.EditLemmas.{others_kept, apart_from}
-use Rattle.mg_rooms.proofs.CountLemmas.{find-change_other}
 use Rattle.mg_engine.proofs.KeyLemmas.{found_changed, mapped_kept}
 use Rattle.mg_engine.proofs.TickLemmas.{with_media}
 use Rattle.mg_engine.proofs.GatewayLemmas.{has_media, media_is}
 
-placed_is : (config : Config) (header : Header) (frame : List ℤ) (m : media.SlotMedia) (row : List ℤ)
+placed_is : (config : Config) (header : Header) (frame : List ℤ) (m : SlotMedia) (row : List ℤ)
     (s : TerminationMedia) → IsMediaOf config m row s →
-    IsMediaOf config ((media_steps.slot_placed m header frame).0) row (frame_placed header frame s)
+    IsMediaOf config ((slot_placed m header frame).0) row (frame_placed header frame s)
 placed_is config header frame m row s h = record {
-  play = ap (λ (p : PlayList). (play_lists.placed p header.ssrc header.sequence frame).0) h.play;
+  play = ap (λ (p : PlayList). (placed p header.ssrc header.sequence frame).0) h.play;
   frame = h.frame;
   stats = ap received h.stats;
   timestamp = h.timestamp;
@@ -32,7 +22,7 @@ placed_is config header frame m row s h = record {
 abbrev with_changed : Gateway → ℕ → (TerminationMedia → TerminationMedia) → Gateway
 with_changed w n f = record w { media = change (λ s. s.number) n (λ s. Some (f s)) w.media }
 
-module _ (k : EngineState) (w : Gateway) (r : Record) (f : TerminationMedia → TerminationMedia) (m : media.SlotMedia)
+module _ (k : EngineState) (w : Gateway) (r : Record) (f : TerminationMedia → TerminationMedia) (m : SlotMedia)
     (s : TerminationMedia) (keeps : (x : TerminationMedia) → (f x).number ≡ x.number) (slots : Slots k.rooms)
     (found : record_at k.rooms r.number ≡ Some r) (lt : r.slot < length k.media) (h : StandsFor k w)
     (there : media_of w r.number ≡ Some s) (is : IsMediaOf k.config m (get_or k.sums.frames r.slot []) (f s)) where
@@ -60,7 +50,7 @@ module _ (k : EngineState) (w : Gateway) (r : Record) (f : TerminationMedia → 
       now in
       let kept : media_at (set k.media r.slot m) q.slot ≡ media_at k.media q.slot =
       others_kept k.rooms k.media m n r.number r q slots found at apart in
-      subst (λ (x : media.SlotMedia). IsMediaOf k.config x (get_or k.sums.frames q.slot []) t) (sym kept)
+      subst (λ (x : SlotMedia). IsMediaOf k.config x (get_or k.sums.frames q.slot []) t) (sym kept)
       (h.media n q t at stream)
 
   pub placed_stands : StandsFor (with_media k (set k.media r.slot m)) (with_changed w r.number f)
@@ -73,38 +63,38 @@ module _ (k : EngineState) (w : Gateway) (r : Record) (f : TerminationMedia → 
     hears = h.hears;
   }
 
-abbrev Took : EngineState → Gateway → ℕ → Arrived → List media.SlotMedia → Taken → Type 0
+abbrev Took : EngineState → Gateway → ℕ → Arrived → List SlotMedia → Taken → Type 0
 Took k w n arrived after result = (now : Gateway) × (taken_at w n arrived ≡ (now, result)) ×
     StandsFor (with_media k after) now
 
-pub took_stands : (k : EngineState) (w : Gateway) (r : Record) (after : List media.SlotMedia) (arrived : Arrived)
+pub took_stands : (k : EngineState) (w : Gateway) (r : Record) (after : List SlotMedia) (arrived : Arrived)
     (result : Taken) → Slots k.rooms → record_at k.rooms r.number ≡ Some r → r.slot < length k.media →
     PlacedAt k.media after r.slot arrived result → StandsFor k w → Took k w r.number arrived after result
 took_stands k w r after (Err cause) result slots found lt p h = (
   w,
   ap (λ (t : Taken). let q : Gateway × Taken = (w, t) in q) (sym p.1),
-  subst (λ (ms : List media.SlotMedia). StandsFor (with_media k ms) w) (sym p.0) h,
+  subst (λ (ms : List SlotMedia). StandsFor (with_media k ms) w) (sym p.0) h,
 )
 took_stands k w r after (Ok a) result slots found lt p h =
     let (s, there, is) = has_media k w r.number r h found in
     let now = with_changed w r.number (frame_placed a.0 a.1) in
-    let m = (media_steps.slot_placed (media_at k.media r.slot) a.0 a.1).0 in
-    let answer = ap (λ (x : PlayList). Placed ((play_lists.placed x a.0.ssrc a.0.sequence a.1).1)) (sym is.play) ∙
+    let m = (slot_placed (media_at k.media r.slot) a.0 a.1).0 in
+    let answer = ap (λ (x : PlayList). Placed ((placed x a.0.ssrc a.0.sequence a.1).1)) (sym is.play) ∙
     sym p.1 in
     let stands = placed_stands k w r (frame_placed a.0 a.1) m s (λ x. refl) slots found lt h there
     (placed_is k.config a.0 a.1 (media_at k.media r.slot) (get_or k.sums.frames r.slot []) s is) in (
       now,
       ap (frame_placed_at w r.number a) there ∙
           ap (λ (t : Taken). let q : Gateway × Taken = (now, t) in q) answer,
-      subst (λ (ms : List media.SlotMedia). StandsFor (with_media k ms) now) (sym p.0) stands,
+      subst (λ (ms : List SlotMedia). StandsFor (with_media k ms) now) (sym p.0) stands,
     )
 
 -- an engine whose media alone changed
 pub media_alone : (old new : EngineState) → new.config ≡ old.config → new.rooms ≡ old.rooms → new.flows ≡ old.flows →
     new.sums ≡ old.sums → new.shares ≡ old.shares → with_media old new.media ≡ new
 media_alone old new config same flows frames shares =
-    let keep : Config → rooms.Registry → List table.RoomFlows → sums.SumsState → List (List Share) → EngineState =
-    λ (c : Config). λ (w : rooms.Registry). λ (t : List table.RoomFlows). λ (f : sums.SumsState).
+    let keep : Config → Registry → List RoomFlows → SumsState → List (List Share) → EngineState =
+    λ (c : Config). λ (w : Registry). λ (t : List RoomFlows). λ (f : SumsState).
     λ (s : List (List Share)). record {
       config = c;
       rooms = w;
@@ -114,7 +104,7 @@ media_alone old new config same flows frames shares =
       shares = s;
     } in
     ap (λ (c : Config). keep c old.rooms old.flows old.sums old.shares) (sym config)
-    ∙ ap (λ (w : rooms.Registry). keep new.config w old.flows old.sums old.shares) (sym same)
-    ∙ ap (λ (t : List table.RoomFlows). keep new.config new.rooms t old.sums old.shares) (sym flows)
-    ∙ ap (λ (f : sums.SumsState). keep new.config new.rooms new.flows f old.shares) (sym frames)
+    ∙ ap (λ (w : Registry). keep new.config w old.flows old.sums old.shares) (sym same)
+    ∙ ap (λ (t : List RoomFlows). keep new.config new.rooms t old.sums old.shares) (sym flows)
+    ∙ ap (λ (f : SumsState). keep new.config new.rooms new.flows f old.shares) (sym frames)
     ∙ ap (λ (s : List (List Share)). keep new.config new.rooms new.flows new.sums s) (sym shares)

@@ -1,19 +1,11 @@
 -- How many frames of a tick are concealed, by slots and by terminations.
-use Rattle.mg_engine.proofs.Common.{◌≡◌, ℕ, suc, ◌+◌, ◌<◌, Bool, true, false, cond, List, [], ◌∷◌, length, map, get_or, take, Some, refl, sym, ap, ◌∙◌, arith, count_by, sum_by-cons, is_concealed, PlayList, Record, Gateway, EngineState, StandsFor, media_at}
-use Rattle.std.specs.Int.{from_bool}
-use Rattle.std.proofs.lemmas.List.Sums.{sum_by_more}
-use Rattle.mg_playout.specs.Playout as play_lists
-use Rattle.mg_rooms.specs.Registry as rooms
-use Rattle.mg_engine.specs.Media as media
-use Rattle.mg_engine.specs.aids.MediaSteps as media_steps
-use Rattle.mg_engine.specs.Tick.{conceals, concealed_in_tick}
-use Rattle.mg_engine.specs.aids.Found.{conceals_in}
+use Rattle.mg_engine.proofs.Common.{◌≡◌, ℕ, suc, ◌+◌, ◌<◌, Bool, true, false, cond, List, [], ◌∷◌, length, map, get_or, take, Some, refl, sym, ap, ◌∙◌, arith, count_by, sum_by-cons, is_concealed, PlayList, Record, Gateway, EngineState, StandsFor, media_at, Registry, record_at, SlotMedia, conceals_in, ticked, is_concealing, conceals, concealed_in_tick, from_bool, sum_by_more}
 use Rattle.mg_engine.proofs.GatewayLemmas.{has_media}
 use Rattle.mg_engine.proofs.PlaceLemmas.{ByNumber}
 use Rattle.mg_engine.proofs.SendingLemmas.{nobody}
 
-abbrev pub conceals_slot : List media.SlotMedia → ℕ → Bool
-conceals_slot kept slot = media_steps.is_concealing (media_at kept slot)
+abbrev pub conceals_slot : List SlotMedia → ℕ → Bool
+conceals_slot kept slot = is_concealing (media_at kept slot)
 
 abbrev one : Bool → ℕ
 one b = cond b 1 0
@@ -23,7 +15,7 @@ byte_is true = refl
 byte_is false = refl
 
 -- with the next slot, one more is concealed where its frame is
-pub counted_more : (kept : List media.SlotMedia) (slots : List ℕ) (i : ℕ) (b : Bool) → i < length slots →
+pub counted_more : (kept : List SlotMedia) (slots : List ℕ) (i : ℕ) (b : Bool) → i < length slots →
     b ≡ conceals_slot kept (get_or slots i 0) →
     count_by (conceals_slot kept) (take i slots) + from_bool b ≡ count_by (conceals_slot kept) (take (i + 1) slots)
 counted_more kept slots i b within is =
@@ -45,10 +37,10 @@ counts_agree f g p q (x ∷ xs) d same =
 
 -- a termination's play list conceals a frame where its slot's does
 same_concealing : (k : EngineState) (w : Gateway) → StandsFor k w → (n : ℕ) (r : Record) →
-    rooms.record_at k.rooms n ≡ Some r → conceals_slot k.media r.slot ≡ conceals w n
+    record_at k.rooms n ≡ Some r → conceals_slot k.media r.slot ≡ conceals w n
 same_concealing k w h n r found =
     let (s, there, is) = has_media k w n r h found in
-    ap (λ (list : PlayList). is_concealed ((play_lists.ticked list).1)) is.play ∙ ap conceals_in (sym there)
+    ap (λ (list : PlayList). is_concealed ((ticked list).1)) is.play ∙ ap conceals_in (sym there)
 
 pub concealed_is : (k : EngineState) (w : Gateway) (slots : List ℕ) → StandsFor k w → ByNumber k.rooms →
     slots ≡ map (λ r. r.slot) k.rooms.terminations → count_by (conceals_slot k.media) slots ≡ concealed_in_tick w
@@ -58,4 +50,4 @@ concealed_is k w slots h by_number held =
     k.rooms.terminations nobody
     (λ i within. same_concealing k w h (get_or k.rooms.terminations i nobody).number
     (get_or k.rooms.terminations i nobody) (by_number i nobody within))
-    ∙ ap (λ (x : rooms.Registry). count_by (conceals w) (map (λ (r : Record). r.number) x.terminations)) (sym h.rooms)
+    ∙ ap (λ (x : Registry). count_by (conceals w) (map (λ (r : Record). r.number) x.terminations)) (sym h.rooms)

@@ -1,9 +1,6 @@
 -- What mixes cost, by what an engine keeps and in the worlds that it stands for.
-use Rattle.mg_engine.proofs.Common.{◌≡◌, ℕ, suc, ◌+◌, ◌<◌, Bool, cond, List, [], ◌∷◌, length, map, get_or, Option, Some, refl, sym, ap, ◌∙◌, arith, count_by, sum_by, is_some, sum_by-cons, Record, record_at, Place, Gateway, is_loopback, place_of, EngineState, StandsFor, sent_to, sending_work, HasMembers, silenced_now, sending_work_now}
-use Rattle.mg_rooms.specs.Registry as rooms
+use Rattle.mg_engine.proofs.Common.{◌≡◌, ℕ, suc, ◌+◌, ◌<◌, Bool, cond, List, [], ◌∷◌, length, map, get_or, Option, Some, refl, sym, ap, ◌∙◌, arith, count_by, sum_by, is_some, sum_by-cons, Record, record_at, Place, Gateway, is_loopback, place_of, EngineState, StandsFor, sent_to, sending_work, HasMembers, silenced_now, sending_work_now, Registry, is_silenced_between, silenced_for}
 use Rattle.mg_engine.specs.Flow.{is_silenced}
-use Rattle.mg_engine.specs.Work.{silenced_for}
-use Rattle.mg_engine.specs.aids.Sending.{is_silenced_between}
 use Rattle.mg_engine.proofs.FlowLemmas.{silenced_places}
 use Rattle.mg_engine.proofs.PlaceLemmas.{ByNumber, HaveContexts, OneRoom, OneSeat, on_place}
 use Rattle.mg_engine.proofs.SendingLemmas.{nobody}
@@ -41,7 +38,7 @@ module _ (k : EngineState) (w : Gateway) (one_room : OneRoom k.rooms) (one_seat 
   count_is : (l : Record) → record_at k.rooms l.number ≡ Some l → silenced_for w l.number ≡ silenced_now k l
   count_is l found =
       let rs = k.rooms.terminations in
-      ap (λ (x : rooms.Registry). count_by (λ n. is_silenced w n l.number) (map (λ r. r.number) x.terminations)) h.rooms
+      ap (λ (x : Registry). count_by (λ n. is_silenced w n l.number) (map (λ r. r.number) x.terminations)) h.rooms
       ∙ sum_by-map (λ n. cond (is_silenced w n l.number) 1 0) (λ (r : Record). r.number) rs
       ∙ sum_by-cong (λ (r : Record). cond (is_silenced w r.number l.number) 1 0)
       (λ (r : Record). cond (is_silenced_between k.flows (place_of k.rooms r) (place_of k.rooms l)) 1 0) rs nobody
@@ -53,6 +50,6 @@ module _ (k : EngineState) (w : Gateway) (one_room : OneRoom k.rooms) (one_seat 
   pub all_work_is : sum_by (sending_work w) w.rooms.terminations ≡ sum_by (sending_work_now k) k.rooms.terminations
   all_work_is =
       let rs = k.rooms.terminations in
-      ap (λ (x : rooms.Registry). sum_by (sending_work w) x.terminations) h.rooms
+      ap (λ (x : Registry). sum_by (sending_work w) x.terminations) h.rooms
       ∙ sum_by-cong (sending_work w) (sending_work_now k) rs nobody
       (λ i lt. work_is (get_or rs i nobody) (by_number i nobody lt))

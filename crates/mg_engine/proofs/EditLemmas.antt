@@ -1,20 +1,11 @@
 -- An engine stands for the worlds that its edits lead to, and stays whole.
-use Rattle.mg_engine.proofs.Common.{◌≡◌, ◌≢◌, ℕ, ◌+◌, ◌<◌, ◌≤◌, eqb, not, Bool, true, false, ℤ, List, [], ◌∷◌, ◌++◌, length, map, get_or, set, Option, Some, None, refl, sym, ap, subst, ◌∙◌, arith, count_by, option_map, eqb-true, eq-eqb, same_Some, length-map, map-append, get_or-set_same, get_or-set_other, PlayList, Limits, termination_limit, Record, Settings, change, IsSound, record_at, Config, silence, Gateway, TerminationMedia, Enter, new_media, media_of, idle, tuned, media_with, added, subtracted, EngineState, StandsFor, IsMediaOf, media_at, AreJoined, HasMembers, AreSeated}
-use Rattle.std.specs.Prelude.{find, filter}
-use Rattle.std.proofs.lemmas.List.{set-set, length_push}
+use Rattle.mg_engine.proofs.Common.{◌≡◌, ◌≢◌, ℕ, ◌+◌, ◌<◌, ◌≤◌, eqb, not, Bool, true, false, ℤ, List, [], ◌∷◌, ◌++◌, length, map, get_or, set, Option, Some, None, refl, sym, ap, subst, ◌∙◌, arith, count_by, option_map, eqb-true, eq-eqb, same_Some, length-map, map-append, get_or-set_same, get_or-set_other, PlayList, Limits, termination_limit, Record, Settings, change, IsSound, record_at, Config, silence, Gateway, TerminationMedia, Enter, new_media, media_of, idle, tuned, media_with, added, subtracted, EngineState, StandsFor, IsMediaOf, media_at, AreJoined, HasMembers, AreSeated, find, filter, Registry, find-change_other, find-push_other, RoomFlows, set-set, length_push, play_after, SlotMedia, media_without, SumsState}
 use Rattle.mg_words.specs.declared.limits.TheConstants.{TERMINATIONS}
-use Rattle.mg_rooms.specs.Registry as rooms
 use Rattle.mg_engine.specs.declared.engine.Engine.TheInside.{Inside}
-use Rattle.mg_flow.specs.Table as flow
-use Rattle.mg_engine.specs.Steps.{play_after}
-use Rattle.mg_engine.specs.Media as media
 use Rattle.mg_engine.specs.aids.MediaSteps as media_steps
-use Rattle.mg_engine.specs.Outcome.{media_without}
-use Rattle.mg_sums.specs.Sums as sums
 use Rattle.mg_engine.specs.aids.Whole.{IsWholeEngine}
 use Rattle.mg_engine.proofs.MemberLemmas.{Others, Hears, no_record, unequal}
 use Rattle.mg_engine.proofs.JoinedLemmas.{Slots}
-use Rattle.mg_rooms.proofs.CountLemmas.{find-change_other, find-push_other}
 use Rattle.mg_engine.proofs.KeyLemmas.{none_before_last, found_push, found_changed, found_replaced, none_left, mapped_kept, keys_left, spots_left}
 use Rattle.mg_engine.proofs.OutcomeLemmas.{Adds, Changes, Removes}
 use Rattle.mg_engine.proofs.GatewayLemmas.{found_too, found_key, has_media, media_is}
@@ -31,7 +22,7 @@ begun_is config n = record {
   is_sending = refl;
 }
 
-tuned_is : (config : Config) (settings : Settings) (m : media.SlotMedia) (row : List ℤ) (s : TerminationMedia) →
+tuned_is : (config : Config) (settings : Settings) (m : SlotMedia) (row : List ℤ) (s : TerminationMedia) →
     IsMediaOf config m row s → IsMediaOf config (media_steps.slot_tuned settings.depth m) row (tuned settings s)
 tuned_is config settings m row s h = record {
   play = ap (λ (p : PlayList). play_after settings.depth p) h.play;
@@ -44,21 +35,21 @@ tuned_is config settings m row s h = record {
 
 -- ## An Add
 
-more_terminations : (old new : rooms.Registry) (d : Record) → Adds old new d →
+more_terminations : (old new : Registry) (d : Record) → Adds old new d →
     length new.terminations ≡ length old.terminations + 1
 more_terminations old new d a = ap length a.terminations ∙ length_push old.terminations d
 
-pub slots_kept : (e : Inside) (new : rooms.Registry) → IsWholeEngine e → new.limits ≡ e.rooms.limits →
+pub slots_kept : (e : Inside) (new : Registry) → IsWholeEngine e → new.limits ≡ e.rooms.limits →
     new.limits.slots ≤ length e.media.items
 slots_kept e new h same = omega (arith, ap (λ (l : Limits). l.slots) (same ∙ h.limits), h.media)
 
-pub room_left : (e : Inside) (new : rooms.Registry) (d : Record) → IsWholeEngine e → Adds e.rooms new d →
+pub room_left : (e : Inside) (new : Registry) (d : Record) → IsWholeEngine e → Adds e.rooms new d →
     IsSound new → length e.held.items < TERMINATIONS
 room_left e new d h a sound =
     let some = ap length h.held ∙ length-map e.rooms.terminations (λ r. r.slot) in
     omega (arith, sound.few, more_terminations e.rooms new d a, some, sound.consistent.limits.0.few_slots)
 
-pub held_added : (old new : rooms.Registry) (d : Record) (held now : List ℕ) → Adds old new d →
+pub held_added : (old new : Registry) (d : Record) (held now : List ℕ) → Adds old new d →
     held ≡ map (λ r. r.slot) old.terminations → now ≡ held ++ d.slot ∷ [] → now ≡ map (λ r. r.slot) new.terminations
 held_added old new d held now a before pushed =
     pushed
@@ -67,19 +58,19 @@ held_added old new d held now a before pushed =
     ∙ ap (map (λ r. r.slot)) (sym a.terminations)
 
 -- media that begin and are tuned
-pub begun_tuned : (kept first after : List media.SlotMedia) (slot : ℕ) (initial_media : media.SlotMedia) (depth : Option ℕ) →
+pub begun_tuned : (kept first after : List SlotMedia) (slot : ℕ) (initial_media : SlotMedia) (depth : Option ℕ) →
     slot < length kept → first ≡ set kept slot initial_media →
     after ≡ set first slot (media_steps.slot_tuned depth (media_at first slot)) →
     after ≡ set kept slot (media_steps.slot_tuned depth initial_media)
 begun_tuned kept first after slot initial_media depth lt one two =
     two
-    ∙ ap (λ (ms : List media.SlotMedia). set ms slot (media_steps.slot_tuned depth (media_at ms slot))) one
-    ∙ ap (λ (m : media.SlotMedia). set (set kept slot initial_media) slot (media_steps.slot_tuned depth m))
+    ∙ ap (λ (ms : List SlotMedia). set ms slot (media_steps.slot_tuned depth (media_at ms slot))) one
+    ∙ ap (λ (m : SlotMedia). set (set kept slot initial_media) slot (media_steps.slot_tuned depth m))
     (get_or-set_same kept slot initial_media idle lt)
     ∙ set-set kept slot initial_media (media_steps.slot_tuned depth initial_media)
 
 -- no termination had the number before
-pub unknown_before : (old new : rooms.Registry) (d : Record) → Adds old new d → IsSound new →
+pub unknown_before : (old new : Registry) (d : Record) → Adds old new d → IsSound new →
     record_at old d.number ≡ None
 unknown_before old new d a sound =
     let once = subst (λ (rs : List Record). count_by (λ r. eqb r.number d.number) rs ≤ 1) a.terminations
@@ -95,13 +86,13 @@ none_too k w n same none (Some s) e =
     absurd (no_record r (sym found ∙ none))
 
 -- the media and the frames of other terminations stay
-pub others_kept : (w : rooms.Registry) (kept : List media.SlotMedia) (m : media.SlotMedia) (n x : ℕ) (r q : Record) →
+pub others_kept : (w : Registry) (kept : List SlotMedia) (m : SlotMedia) (n x : ℕ) (r q : Record) →
     Slots w → record_at w x ≡ Some r → record_at w n ≡ Some q → n ≢ x →
     media_at (set kept r.slot m) q.slot ≡ media_at kept q.slot
 others_kept w kept m n x r q slots found there apart =
     get_or-set_other kept r.slot q.slot m idle (λ same. apart (slots n x q r there found same))
 
-pub frames_kept : (w : rooms.Registry) (kept : List (List ℤ)) (row : List ℤ) (n x : ℕ) (r q : Record) → Slots w →
+pub frames_kept : (w : Registry) (kept : List (List ℤ)) (row : List ℤ) (n x : ℕ) (r q : Record) → Slots w →
     record_at w x ≡ Some r → record_at w n ≡ Some q → n ≢ x →
     get_or (set kept r.slot row) q.slot [] ≡ get_or kept q.slot []
 frames_kept w kept row n x r q slots found there apart =
@@ -113,7 +104,7 @@ apart_from m n e same = unequal n m e (sym same)
 abbrev newcomer : Settings → Record → TerminationMedia
 newcomer settings d = tuned settings (new_media d.number)
 
-abbrev pub with_rooms : EngineState → rooms.Registry → List media.SlotMedia → List flow.RoomFlows → sums.SumsState →
+abbrev pub with_rooms : EngineState → Registry → List SlotMedia → List RoomFlows → SumsState →
     EngineState
 with_rooms k new after flows kept = record {
   config = k.config;
@@ -124,7 +115,7 @@ with_rooms k new after flows kept = record {
   shares = k.shares;
 }
 
-added_media : (k : EngineState) (new : rooms.Registry) (after : List media.SlotMedia) (frames : List (List ℤ))
+added_media : (k : EngineState) (new : Registry) (after : List SlotMedia) (frames : List (List ℤ))
     (w : Gateway) (settings : Settings) (d : Record) (r : Record) → Adds k.rooms new d → IsSound new → Slots new →
     Others k.rooms new d.number → record_at new d.number ≡ Some r
     → r.slot < length k.media → r.slot < length k.sums.frames →
@@ -142,7 +133,7 @@ added_media k new after frames w settings d r a sound slots others made lt in_ro
     let stream : newcomer settings d ≡ s = same_Some (newcomer settings d) s (sym pushed ∙ there) in
     let kept : media_at after q.slot ≡ media_steps.slot_tuned settings.depth (media_steps.initial_media k.config) =
     ap (λ (x : Record). media_at after x.slot) (sym is) ∙
-    ap (λ (ms : List media.SlotMedia). media_at ms r.slot) set_to ∙
+    ap (λ (ms : List SlotMedia). media_at ms r.slot) set_to ∙
     get_or-set_same k.media r.slot (media_steps.slot_tuned settings.depth (media_steps.initial_media k.config)) idle lt in
     let row : get_or frames q.slot [] ≡ silence =
     ap (λ (x : Record). get_or frames x.slot []) (sym is) ∙ ap (λ (fs : List (List ℤ)). get_or fs r.slot []) silent ∙
@@ -159,7 +150,7 @@ added_media k new after frames w settings d r a sound slots others made lt in_ro
     let old = sym (others m apart) ∙ found in
     let stream = sym (find-push_other (λ s. eqb s.number m) w.media (newcomer settings d) e) ∙ there in
     let kept : media_at after q.slot ≡ media_at k.media q.slot =
-    ap (λ (ms : List media.SlotMedia). media_at ms q.slot) set_to ∙
+    ap (λ (ms : List SlotMedia). media_at ms q.slot) set_to ∙
     others_kept new k.media (media_steps.slot_tuned settings.depth (media_steps.initial_media k.config)) m d.number r q slots
     made found
     apart in
@@ -168,8 +159,8 @@ added_media k new after frames w settings d r a sound slots others made lt in_ro
     media_is k.config (media_at after q.slot) (media_at k.media q.slot) (get_or frames q.slot [])
     (get_or k.sums.frames q.slot []) s kept row (h.media m q s old stream)
 
-pub added_stands : (k : EngineState) (new : rooms.Registry) (after : List media.SlotMedia) (flows : List flow.RoomFlows)
-    (kept : sums.SumsState) (w : Gateway) (settings : Settings) (d : Record) (r : Record) → Adds k.rooms new d →
+pub added_stands : (k : EngineState) (new : Registry) (after : List SlotMedia) (flows : List RoomFlows)
+    (kept : SumsState) (w : Gateway) (settings : Settings) (d : Record) (r : Record) → Adds k.rooms new d →
     IsSound new → Slots new → Others k.rooms new d.number → record_at new d.number ≡ Some r
     → r.slot < length k.media → r.slot < length k.sums.frames →
     after ≡ set k.media r.slot (media_steps.slot_tuned settings.depth (media_steps.initial_media k.config)) →
@@ -193,7 +184,7 @@ number_of_was : (k : EngineState) (n : ℕ) (r : Record) → record_at k.rooms n
 number_of_was k n r there = found_key (λ x. x.number) n k.rooms.terminations r there
 
 -- the termination has its new record
-pub changed_is : (k : EngineState) (new : rooms.Registry) (n : ℕ) (d : Record) (a : Changes k.rooms new n d) →
+pub changed_is : (k : EngineState) (new : Registry) (n : ℕ) (d : Record) (a : Changes k.rooms new n d) →
     record_at new n ≡ Some d
 changed_is k new n d a =
     let number = a.same ∙ number_of_was k n a.was a.there in
@@ -202,21 +193,21 @@ changed_is k new n d a =
     ∙ found_replaced (λ x. x.number) d n k.rooms.terminations a.was number a.there
 
 -- it is done on the termination that was named
-pub changed_at : (k : EngineState) (new : rooms.Registry) (n : ℕ) (d : Record) → Changes k.rooms new n d → d.number ≡ n
+pub changed_at : (k : EngineState) (new : Registry) (n : ℕ) (d : Record) → Changes k.rooms new n d → d.number ≡ n
 changed_at k new n d a = a.same ∙ number_of_was k n a.was a.there
 
-kept_by : {B : Type 0} (f : Record → B) (k : EngineState) (new : rooms.Registry) (n : ℕ) (d : Record)
+kept_by : {B : Type 0} (f : Record → B) (k : EngineState) (new : Registry) (n : ℕ) (d : Record)
     (a : Changes k.rooms new n d) → f d ≡ f a.was → map f new.terminations ≡ map f k.rooms.terminations
 kept_by f k new n d a same =
     let number = a.same ∙ number_of_was k n a.was a.there in
     ap (map f) (a.terminations ∙ ap (λ (m : ℕ). change (λ x. x.number) m (λ _. Some d) k.rooms.terminations) number)
     ∙ mapped_kept (λ x. x.number) f n (λ _. Some d) k.rooms.terminations a.was (ap (λ (b : _). b ∷ []) same) a.there
 
-pub held_changed : (k : EngineState) (new : rooms.Registry) (n : ℕ) (d : Record) (held : List ℕ) →
+pub held_changed : (k : EngineState) (new : Registry) (n : ℕ) (d : Record) (held : List ℕ) →
     Changes k.rooms new n d → held ≡ map (λ r. r.slot) k.rooms.terminations → held ≡ map (λ r. r.slot) new.terminations
 held_changed k new n d held a before = before ∙ sym (kept_by (λ r. r.slot) k new n d a a.slot)
 
-tuned_media : (k : EngineState) (new : rooms.Registry) (after : List media.SlotMedia) (frames : List (List ℤ))
+tuned_media : (k : EngineState) (new : Registry) (after : List SlotMedia) (frames : List (List ℤ))
     (w : Gateway) (settings : Settings) (n : ℕ) (d : Record) (a : Changes k.rooms new n d) → Slots new →
     Others k.rooms new n
     → d.slot < length k.media →
@@ -236,7 +227,7 @@ tuned_media k new after frames w settings n d a slots others lt set_to rows h m 
     let old = media_at k.media d.slot in
     let kept : media_at after q.slot ≡ media_steps.slot_tuned settings.depth old =
     ap (λ (x : Record). media_at after x.slot) (sym is) ∙
-    ap (λ (ms : List media.SlotMedia). media_at ms d.slot) set_to ∙
+    ap (λ (ms : List SlotMedia). media_at ms d.slot) set_to ∙
     get_or-set_same k.media d.slot (media_steps.slot_tuned settings.depth old) idle lt in
     let begin = subst (λ (slot : ℕ). IsMediaOf k.config (media_at k.media slot) (get_or k.sums.frames slot []) t)
     (sym a.slot) stream in
@@ -253,14 +244,14 @@ tuned_media k new after frames w settings n d a slots others lt set_to rows h m 
     let stream = sym (find-change_other (λ s. s.number) n m (λ s. Some (tuned settings s)) w.media (λ x same. refl) e) ∙
     there in
     let kept : media_at after q.slot ≡ media_at k.media q.slot =
-    ap (λ (ms : List media.SlotMedia). media_at ms q.slot) set_to ∙
+    ap (λ (ms : List SlotMedia). media_at ms q.slot) set_to ∙
     others_kept new k.media (media_steps.slot_tuned settings.depth (media_at k.media d.slot)) m n d q slots
     (changed_is k new n d a) found apart in
     media_is k.config (media_at after q.slot) (media_at k.media q.slot) (get_or frames q.slot [])
     (get_or k.sums.frames q.slot []) s kept (ap (λ (fs : List (List ℤ)). get_or fs q.slot []) rows)
     (h.media m q s old stream)
 
-tuned_numbers : (k : EngineState) (new : rooms.Registry) (w : Gateway) (settings : Settings) (n : ℕ) (d : Record)
+tuned_numbers : (k : EngineState) (new : Registry) (w : Gateway) (settings : Settings) (n : ℕ) (d : Record)
     (a : Changes k.rooms new n d) → StandsFor k w →
     map (λ s. s.number) (media_with settings n w.media) ≡ map (λ r. r.number) new.terminations
 tuned_numbers k new w settings n d a h =
@@ -270,9 +261,9 @@ tuned_numbers k new w settings n d a h =
     ∙ sym (kept_by (λ r. r.number) k new n d a a.same)
 
 -- the streams after a command on a termination
-pub changed_stands : (k : EngineState) (new : rooms.Registry) (after : List media.SlotMedia)
-    (flows : List flow.RoomFlows)
-    (kept : sums.SumsState) (w now : Gateway) (settings : Settings) (n : ℕ) (d : Record) (a : Changes k.rooms new n d)
+pub changed_stands : (k : EngineState) (new : Registry) (after : List SlotMedia)
+    (flows : List RoomFlows)
+    (kept : SumsState) (w now : Gateway) (settings : Settings) (n : ℕ) (d : Record) (a : Changes k.rooms new n d)
     → Slots new → Others k.rooms new n
     → d.slot < length k.media →
     after ≡ set k.media d.slot (media_steps.slot_tuned settings.depth (media_at k.media d.slot)) →
@@ -292,15 +283,15 @@ changed_stands k new after flows kept w now settings n d a slots others lt set_t
 
 -- ## A Subtract
 
-pub removed_at : (k : EngineState) (new : rooms.Registry) (n : ℕ) (d : Record) → Removes k.rooms new n d → d.number ≡ n
+pub removed_at : (k : EngineState) (new : Registry) (n : ℕ) (d : Record) → Removes k.rooms new n d → d.number ≡ n
 removed_at k new n d a = number_of_was k n d a.there
 
-left_terminations : (k : EngineState) (new : rooms.Registry) (n : ℕ) (d : Record) (a : Removes k.rooms new n d) →
+left_terminations : (k : EngineState) (new : Registry) (n : ℕ) (d : Record) (a : Removes k.rooms new n d) →
     new.terminations ≡ change (λ x. x.number) n (λ _. None) k.rooms.terminations
 left_terminations k new n d a = a.terminations ∙
     ap (λ (m : ℕ). change (λ x. x.number) m (λ _. None) k.rooms.terminations) (removed_at k new n d a)
 
-pub held_removed : (k : EngineState) (new : rooms.Registry) (n : ℕ) (d : Record) (held now : List ℕ) →
+pub held_removed : (k : EngineState) (new : Registry) (n : ℕ) (d : Record) (held now : List ℕ) →
     Removes k.rooms new n d → IsSound k.rooms → held ≡ map (λ r. r.slot) k.rooms.terminations →
     now ≡ filter (λ s. not (eqb s d.slot)) held → now ≡ map (λ r. r.slot) new.terminations
 held_removed k new n d held now a sound before left =
@@ -310,7 +301,7 @@ held_removed k new n d held now a sound before left =
     (sound.consistent.terminations.one_slot d.slot) a.there refl
     ∙ ap (map (λ r. r.slot)) (sym (left_terminations k new n d a))
 
-left_media : (k : EngineState) (new : rooms.Registry) (w : Gateway) (n : ℕ) (d : Record) → Removes k.rooms new n d →
+left_media : (k : EngineState) (new : Registry) (w : Gateway) (n : ℕ) (d : Record) → Removes k.rooms new n d →
     IsSound k.rooms → Others k.rooms new n → StandsFor k w
     → (m : ℕ) (q : Record) (s : TerminationMedia) → record_at new m ≡ Some q →
     find (λ s. eqb s.number m) (media_without n w.media) ≡ Some s → (b : Bool) → eqb n m ≡ b →
@@ -325,12 +316,12 @@ left_media k new w n d a sound others h m q s found there false e =
     h.media m q s (sym (others m apart) ∙ found) stream
 
 -- who was subtracted is there no longer
-pub gone : (k : EngineState) (new : rooms.Registry) (n : ℕ) (d : Record) → Removes k.rooms new n d → IsSound k.rooms →
+pub gone : (k : EngineState) (new : Registry) (n : ℕ) (d : Record) → Removes k.rooms new n d → IsSound k.rooms →
     record_at new n ≡ None
 gone k new n d a sound = ap (find (λ x. eqb x.number n)) (left_terminations k new n d a) ∙
     none_left (λ x. x.number) n k.rooms.terminations (sound.consistent.terminations.one_number n)
 
-pub removed_stands : (k : EngineState) (new : rooms.Registry) (flows : List flow.RoomFlows) (kept : sums.SumsState)
+pub removed_stands : (k : EngineState) (new : Registry) (flows : List RoomFlows) (kept : SumsState)
     (w : Gateway) (n : ℕ) (d : Record) (a : Removes k.rooms new n d) → IsSound k.rooms → Others k.rooms new n →
     Hears new flows w.edits → kept.frames ≡ k.sums.frames → StandsFor k w
     → StandsFor (with_rooms k new k.media flows kept) (subtracted w new d)

@@ -1,10 +1,5 @@
 -- What a command on a termination leaves of a context that it isn't about.
-use Rattle.mg_engine.proofs.Common.{◌≡◌, ◌≢◌, ℕ, ◌<◌, eqb, Bool, true, false, Some, Ok, refl, sym, ap, subst, ◌∙◌, arith, IsSome, ne_eqb, Record, Settings, Target, is_number, Registry, record_at, context_at, members_at, IsSound, has}
-use Rattle.std.proofs.lemmas.Bool.{eqb-false}
-use Rattle.mg_rooms.specs.Lasting.{LeavesOthers}
-use Rattle.mg_rooms.specs.Outcome.{add, modify, move_to, subtract}
-use Rattle.mg_rooms.proofs.OutcomeLemmas.{Enters, add_done, modify_done, move_done, subtract_done}
-use Rattle.mg_rooms.proofs.LastLemmas.{next_is_new, record_replaced, add_lasts, move_lasts, subtract_lasts}
+use Rattle.mg_engine.proofs.Common.{◌≡◌, ◌≢◌, ℕ, ◌<◌, eqb, Bool, true, false, Some, Ok, refl, sym, ap, subst, ◌∙◌, arith, IsSome, ne_eqb, Record, Settings, Target, is_number, Registry, record_at, context_at, members_at, IsSound, has, eqb-false, Enters, add_done, modify_done, move_done, subtract_done, next_is_new, record_replaced, add_lasts, move_lasts, subtract_lasts, add, modify, move_to, subtract, LeavesOthers}
 use Rattle.mg_engine.proofs.MemberLemmas.{neither, not_so, some_context}
 
 -- a termination that is no member of a context is in another

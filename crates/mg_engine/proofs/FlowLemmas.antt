@@ -1,27 +1,21 @@
 -- Who hears whom in the worlds that an engine stands for.
-use Rattle.mg_engine.proofs.Common.{◌≡◌, ℕ, ◌&&◌, not, eqb, Bool, true, false, List, Some, Option, refl, sym, ap, subst, ◌∙◌, is_some, eqb-true, eq-eqb, ne_eqb, Record, record_at, Place, Gateway, may_hear, place_of, IsOnPlace, EngineState, StandsFor, ShareContext, HasMembers, flows_between}
+use Rattle.mg_engine.proofs.Common.{◌≡◌, ℕ, ◌&&◌, not, eqb, Bool, true, false, List, Some, Option, refl, sym, ap, subst, ◌∙◌, is_some, eqb-true, eq-eqb, ne_eqb, Record, record_at, Place, Gateway, may_hear, place_of, IsOnPlace, EngineState, StandsFor, ShareContext, HasMembers, flows_between, Registry, flows_now, talks, context_in, mode_or_inactive, mode_of, context_of}
 use Rattle.std.proofs.Math.Bool.{and-false}
-use Rattle.mg_rooms.specs.Registry as rooms
-use Rattle.mg_words.specs.Mode as mode
 use Rattle.mg_flow.specs.Table as flow
-use Rattle.mg_engine.specs.Gateway.{mode_of, context_of}
-use Rattle.mg_engine.specs.aids.Found.{context_in}
-use Rattle.mg_engine.specs.aids.Found.{mode_or_inactive}
 use Rattle.mg_engine.specs.Flow.{share_context, is_silenced}
 use Rattle.mg_engine.specs.Flow as worlds
 use Rattle.mg_engine.specs.Masks.{RepresentsFlows}
-use Rattle.mg_engine.specs.aids.Sending.{flows_now}
 use Rattle.mg_engine.proofs.MemberLemmas.{seats_differ, unequal}
 use Rattle.mg_engine.proofs.PlaceLemmas.{HaveContexts, OneRoom, OneSeat, on_place, one_place, in_one_room, in_one_context, hears_apart, no_hearing}
 
 pub mode_found : (k : EngineState) (w : Gateway) (n : ℕ) (r : Record) → StandsFor k w → record_at k.rooms n ≡ Some r →
     mode_of w n ≡ r.mode
-mode_found k w n r h found = ap (λ (x : rooms.Registry). mode_or_inactive (record_at x n)) h.rooms ∙
+mode_found k w n r h found = ap (λ (x : Registry). mode_or_inactive (record_at x n)) h.rooms ∙
     ap mode_or_inactive found
 
 pub context_found : (k : EngineState) (w : Gateway) (n : ℕ) (r : Record) → StandsFor k w →
     record_at k.rooms n ≡ Some r → context_of w n ≡ r.context
-context_found k w n r h found = ap (λ (x : rooms.Registry). context_in (record_at x n)) h.rooms ∙ ap context_in found
+context_found k w n r h found = ap (λ (x : Registry). context_in (record_at x n)) h.rooms ∙ ap context_in found
 
 -- ## What a table says of two places
 
@@ -121,7 +115,7 @@ module _ (k : EngineState) (w : Gateway) (one_room : OneRoom k.rooms) (all : Has
       ap (λ (o : Option Place). flows_between k.flows o (place_of k.rooms l)) (sym from.place)
 
   there_is : (n : ℕ) (r : Record) → record_at k.rooms n ≡ Some r → is_some (record_at w.rooms n) ≡ true
-  there_is n r found = ap (λ (x : rooms.Registry). is_some (record_at x n)) h.rooms ∙ ap is_some found
+  there_is n r found = ap (λ (x : Registry). is_some (record_at x n)) h.rooms ∙ ap is_some found
 
   shared : (talker listener : ℕ) (t l : Record) → record_at k.rooms talker ≡ Some t →
       record_at k.rooms listener ≡ Some l → share_context w talker listener ≡
@@ -198,7 +192,7 @@ module _ (k : EngineState) (w : Gateway) (one_room : OneRoom k.rooms) (all : Has
       (not_itself k.flows q ∙ sym (ap (λ (b : Bool). b &&
       (worlds_talk && not (may_hear w.edits talker listener))) (and-false (eqb t.context l.context)))) where
         worlds_talk : Bool
-        worlds_talk = mode.talks (mode_of w talker)
+        worlds_talk = talks (mode_of w talker)
   silenced_case seats talker listener t l p q first second false true e f =
       silenced_there seats talker listener t l p q (record {
         first = first;
@@ -219,11 +213,11 @@ module _ (k : EngineState) (w : Gateway) (one_room : OneRoom k.rooms) (all : Has
 
   pub tells : OneSeat k.rooms → RepresentsFlows w k.flows
   tells seats = record {
-    held = λ n r p on. (all.each n r p (subst (λ (x : rooms.Registry). IsOnPlace x n r p) h.rooms on)).held;
+    held = λ n r p on. (all.each n r p (subst (λ (x : Registry). IsOnPlace x n r p) h.rooms on)).held;
     nobody = λ p held. let (n, r, on) = all.nobody p held in
-        (n, r, subst (λ (x : rooms.Registry). IsOnPlace x n r p) (sym h.rooms) on);
+        (n, r, subst (λ (x : Registry). IsOnPlace x n r p) (sym h.rooms) on);
     flows = λ talker listener t l p q s. flow_there talker listener t l p q
-        (subst (λ (x : rooms.Registry). ShareContext x talker listener t l p q) h.rooms s);
+        (subst (λ (x : Registry). ShareContext x talker listener t l p q) h.rooms s);
     silenced = λ talker listener t l p q s. silenced_there seats talker listener t l p q
-        (subst (λ (x : rooms.Registry). ShareContext x talker listener t l p q) h.rooms s);
+        (subst (λ (x : Registry). ShareContext x talker listener t l p q) h.rooms s);
   }

@@ -1,11 +1,6 @@
 -- What is looked up in a world that an engine stands for.
-use Rattle.mg_engine.proofs.Common.{inl, inr, ◌≡◌, ℕ, suc, ◌<◌, eqb, Bool, true, false, cond, ℤ, length, get_or, subst, arith, List, [], ◌∷◌, map, Option, Some, None, refl, sym, ap, ◌∙◌, option_map, eqb-true, same_Some, Record, record_at, Gateway, TerminationMedia, media_of, Config, EngineState, StandsFor, IsMediaOf, media_at}
-use Rattle.std.specs.Prelude.{find}
-use Rattle.std.proofs.lemmas.Bool.{cases_Bool}
-use Rattle.std.proofs.lemmas.Bool.Decides.{nat_tests}
+use Rattle.mg_engine.proofs.Common.{inl, inr, ◌≡◌, ℕ, suc, ◌<◌, eqb, Bool, true, false, cond, ℤ, length, get_or, subst, arith, List, [], ◌∷◌, map, Option, Some, None, refl, sym, ap, ◌∙◌, option_map, eqb-true, same_Some, Record, record_at, Gateway, TerminationMedia, media_of, Config, EngineState, StandsFor, IsMediaOf, media_at, find, cases_Bool, nat_tests, SlotMedia, frame_of_row}
 use Rattle.mg_rooms.proofs.OrderLemmas as orders
-use Rattle.mg_sums.specs.Sums as sums
-use Rattle.mg_engine.specs.Media as media
 
 abbrev some : {A : Type 0} → A → Option A
 some x = Some x
@@ -50,16 +45,16 @@ found_too key name n (a ∷ xs) (b ∷ ys) h x e =
 -- each termination has its stream
 pub has_media : (k : EngineState) (w : Gateway) (n : ℕ) (r : Record) → StandsFor k w → record_at k.rooms n ≡ Some r →
     (s : TerminationMedia) × (media_of w n ≡ Some s) ×
-    IsMediaOf k.config (media_at k.media r.slot) (sums.frame_of_row k.sums r.slot) s
+    IsMediaOf k.config (media_at k.media r.slot) (frame_of_row k.sums r.slot) s
 has_media k w n r h found =
     let (s, there) = found_too (λ r. r.number) (λ s. s.number) n k.rooms.terminations w.media (sym h.numbers) r found in
     (s, there, h.media n r s found there)
 
 -- media and a frame that are as before
-pub media_is : (config : Config) (m n : media.SlotMedia) (row line : List ℤ) (s : TerminationMedia) → m ≡ n →
+pub media_is : (config : Config) (m n : SlotMedia) (row line : List ℤ) (s : TerminationMedia) → m ≡ n →
     row ≡ line → IsMediaOf config n line s → IsMediaOf config m row s
 media_is config m n row line s kept same h =
-    subst (λ (x : media.SlotMedia). IsMediaOf config x row s) (sym kept)
+    subst (λ (x : SlotMedia). IsMediaOf config x row s) (sym kept)
     (subst (λ (x : List ℤ). IsMediaOf config n x s) (sym same) h)
 
 -- ## The slot of a termination

@@ -1,6 +1,5 @@
 -- The slots that are held, in the order of their terminations' numbers.
-use Rattle.mg_engine.proofs.Common.{◌≡◌, ℕ, ◌<◌, ◌≤◌, eqb, List, length, map, get_or, Some, sym, ap, ◌∙◌, arith, count_by, get_or-map, length-map, Record, Registry, record_at}
-use Rattle.mg_engine.specs.aids.Playing.{AreApart}
+use Rattle.mg_engine.proofs.Common.{◌≡◌, ℕ, ◌<◌, ◌≤◌, eqb, List, length, map, get_or, Some, sym, ap, ◌∙◌, arith, count_by, get_or-map, length-map, Record, Registry, record_at, AreApart}
 use Rattle.mg_engine.proofs.GatewayLemmas.{found_place}
 use Rattle.mg_engine.proofs.KeyLemmas.{one_place}
 use Rattle.mg_engine.proofs.PlaceLemmas.{ByNumber}

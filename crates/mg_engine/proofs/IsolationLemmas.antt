@@ -1,21 +1,7 @@
 -- Who isn't heard.
-use Rattle.mg_engine.proofs.Common.{◌≡◌, ℕ, ℤ, pos, ◌+◌, ◌-◌, ◌*◌, ◌%◌, ◌^◌, ◌<◌, eqb, not, ◌&&◌, ◌||◌, Bool, true, false, List, [], ◌∷◌, ◌++◌, length, map, get_or, find, Option, Some, None, refl, sym, ap, ◌∙◌, arith, if◌then◌else◌, range_with_len, option_map, same_Some, eqb-true, eq-eqb, byte_of, header_bytes, plain, Chosen, talks, Record, slot_port, nearest_sample, map_agree, sum_of-same, Datagram, Gateway, TerminationMedia, ContextEdit, Enter, Leave, Apply, media_of, frame_in, may_hear, played_sample, is_loopback, sent_to, type_of}
-use Rattle.std.specs.List.{list_all}
-use Rattle.std.specs.Prelude.{slice_index_or}
-use Rattle.std.proofs.lemmas.Bool.{not-true, and_parts}
-use Rattle.std.proofs.lemmas.List.{get_or-append-add}
-use Rattle.std.proofs.lemmas.List.FromFn.{get_or-map-range_with_len}
-use Rattle.mg_topology.specs.Triple.{permits}
-use Rattle.mg_words.specs.Mode.{listens}
-use Rattle.mg_words.specs.declared.association.Association.TheVariants.{Isolate}
-use Rattle.mg_rooms.specs.Registry as rooms
+use Rattle.mg_engine.proofs.Common.{◌≡◌, ℕ, ℤ, pos, ◌+◌, ◌-◌, ◌*◌, ◌%◌, ◌^◌, ◌<◌, eqb, not, ◌&&◌, ◌||◌, Bool, true, false, List, [], ◌∷◌, ◌++◌, length, map, get_or, find, Option, Some, None, refl, sym, ap, ◌∙◌, arith, if◌then◌else◌, range_with_len, option_map, same_Some, eqb-true, eq-eqb, byte_of, header_bytes, plain, Chosen, talks, Record, slot_port, nearest_sample, map_agree, sum_of-same, Datagram, Gateway, TerminationMedia, ContextEdit, Enter, Leave, Apply, media_of, frame_in, may_hear, played_sample, is_loopback, sent_to, type_of, slice_index_or, list_all, not-true, and_parts, Registry, part_of_mix, heard, mix, mixed, get_or-append-add, get_or-map-range_with_len, listens, packet_to, frame_of, mode_of, context_of, numbers_of, packet, header_of, NoneHearsItself, leaves_isolated, IsolatedAreNotHeard, replayed, with_frame, hears_itself, progress_of, PacketsDependOnHeard, OwnSpeechChangesNoPacket, UnheardChangesNoPacket, PayloadsAreMixes, permits, Isolate}
 use Rattle.mg_sums.specs.Samples.{sum_of}
-use Rattle.mg_engine.specs.Gateway.{frame_of, mode_of, context_of, numbers_of}
 use Rattle.mg_engine.specs.Flow.{flow, is_forward, mentions}
-use Rattle.mg_engine.specs.Mix.{part_of_mix, heard, mix, mixed}
-use Rattle.mg_engine.specs.Tick.{packet, header_of}
-use Rattle.mg_engine.specs.aids.Found.{packet_to}
-use Rattle.mg_engine.specs.Isolation.{NoneHearsItself, leaves_isolated, IsolatedAreNotHeard, replayed, with_frame, hears_itself, progress_of, PacketsDependOnHeard, OwnSpeechChangesNoPacket, UnheardChangesNoPacket, PayloadsAreMixes}
 
 and_none : (x y : Bool) → y ≡ false → (x && y) ≡ false
 and_none true y h = h
@@ -107,7 +93,7 @@ module _ (a b : Gateway) (same_rooms : a.rooms ≡ b.rooms) (same_edits : a.edit
   heard_same listener k same =
       sum_of-same (part_of_mix a listener k) (part_of_mix b listener k) (numbers_of a)
       (λ talker. part_same listener k talker (same talker))
-      ∙ ap (λ (z : rooms.Registry). sum_of (part_of_mix b listener k) (map (λ r. r.number) z.terminations)) same_rooms
+      ∙ ap (λ (z : Registry). sum_of (part_of_mix b listener k) (map (λ r. r.number) z.terminations)) same_rooms
 
   mix_at : (n k : ℕ) (x : Bool) → (x ≡ true → frame_of a n ≡ frame_of b n) → heard a n k ≡ heard b n k →
       (if x then played_sample a n k else nearest_sample (heard a n k)) ≡
@@ -119,7 +105,7 @@ module _ (a b : Gateway) (same_rooms : a.rooms ≡ b.rooms) (same_edits : a.edit
       (hears_itself a n ≡ true → frame_of a n ≡ frame_of b n) → mix a n k ≡ mix b n k
   mix_same n k same own =
       mix_at n k (hears_itself a n) own (heard_same n k same)
-      ∙ ap (λ (z : rooms.Registry). if is_loopback (mode_of (record a { rooms = z }) n) then played_sample b n k else
+      ∙ ap (λ (z : Registry). if is_loopback (mode_of (record a { rooms = z }) n) then played_sample b n k else
       nearest_sample (heard b n k)) same_rooms
 
   header_same : (to : Chosen) (s t : TerminationMedia) → a.config ≡ b.config → progress_of s ≡ progress_of t →

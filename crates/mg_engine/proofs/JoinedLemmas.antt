@@ -1,7 +1,5 @@
 -- The rooms that the rows of terminations are joined to, when one of them changes.
-use Rattle.mg_engine.proofs.Common.{◌≡◌, ◌≢◌, ℕ, eqb, Bool, true, false, cond, List, Option, Some, None, refl, sym, ap, ◌∙◌, eqb-true, eq-eqb, ne_eqb, Limits, Record, Registry, record_at, Place, IsOnPlace, AreJoined, SetsRow, room_for}
-use Rattle.mg_rooms.specs.Registry.{start_of}
-use Rattle.mg_engine.specs.aids.Joined.{room_of_row}
+use Rattle.mg_engine.proofs.Common.{◌≡◌, ◌≢◌, ℕ, eqb, Bool, true, false, cond, List, Option, Some, None, refl, sym, ap, ◌∙◌, eqb-true, eq-eqb, ne_eqb, Limits, Record, Registry, record_at, Place, IsOnPlace, AreJoined, SetsRow, room_for, start_of, room_of_row}
 use Rattle.mg_engine.proofs.MemberLemmas.{SameOthers, no_record, unequal}
 use Rattle.mg_engine.proofs.PlaceLemmas.{one_record, one_place}
 

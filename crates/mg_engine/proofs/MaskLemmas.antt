@@ -1,14 +1,7 @@
 -- Sums over the seats of a mask, as sums over the terminations that are on them.
-use Rattle.mg_engine.proofs.Common.{◌≡◌, ℕ, ◌<◌, ◌≤◌, ◌&&◌, eqb, Bool, true, false, cond, ℤ, pos, List, map, get_or, inl, inr, Option, Some, None, refl, sym, ap, ◌∙◌, arith, IsSome, range_with_len, option_map, cases_eq, eqb-true, eq-eqb, seat_limit, has_seat, Record, Context, record_at, context_at, IsSound, Place, sibling_place, nearest_sample, sum_of-same, place_of, IsOnPlace, slot_at, AreSeated, sample_at, flows_between, heard_now, byte_of, map_agree, EngineState}
-use Rattle.std.specs.Prelude.{IsTrue}
-use Rattle.std.specs.List.{count_by}
-use Rattle.std.proofs.lemmas.Bool.{and_from}
-use Rattle.std.proofs.lemmas.Bool.Decides.{nat_tests}
+use Rattle.mg_engine.proofs.Common.{◌≡◌, ℕ, ◌<◌, ◌≤◌, ◌&&◌, eqb, Bool, true, false, cond, ℤ, pos, List, map, get_or, inl, inr, Option, Some, None, refl, sym, ap, ◌∙◌, arith, IsSome, range_with_len, option_map, cases_eq, eqb-true, eq-eqb, seat_limit, has_seat, Record, Context, record_at, context_at, IsSound, Place, sibling_place, nearest_sample, sum_of-same, place_of, IsOnPlace, slot_at, AreSeated, sample_at, flows_between, heard_now, byte_of, map_agree, EngineState, IsTrue, count_by, and_from, Registry, nat_tests, RoomFlows, flows, is_seated_in, sits_among, heard_on, payload_on}
 use Rattle.mg_topology.specs.Mask.{seats_of}
-use Rattle.mg_rooms.specs.Registry as rooms
-use Rattle.mg_flow.specs.Table as flow
 use Rattle.mg_sums.specs.Samples.{sum_of}
-use Rattle.mg_engine.specs.aids.Shares.{is_seated_in, sits_among, heard_on, payload_on}
 use Rattle.mg_g711.specs.declared.law.Law.{Law}
 use Rattle.mg_engine.proofs.SendingLemmas.{nobody}
 use Rattle.mg_engine.proofs.PlaceLemmas.{ByNumber, HaveContexts, OneRoom, seated, place, hears_apart, no_hearing}
@@ -50,13 +43,13 @@ module _ (p : Place) (mask : ℕ) (test : Place → Bool) (kept : (seat : ℕ) �
 
 -- ## What a listener hears
 
-pub flows_apart : (table : List flow.RoomFlows) (p q : Place) → eqb p.room q.room ≡ false → flow.flows table p q ≡ false
+pub flows_apart : (table : List RoomFlows) (p q : Place) → eqb p.room q.room ≡ false → flows table p q ≡ false
 flows_apart table p q e = no_hearing table p q (hears_apart table p q e)
 
 module _ (k : EngineState) (l : Record) (p : Place) (mask : ℕ) (on : place_of k.rooms l ≡ Some p)
-    (kept : (seat : ℕ) → has_seat mask seat ≡ flow.flows k.flows (sibling_place p seat) p) where
+    (kept : (seat : ℕ) → has_seat mask seat ≡ flows k.flows (sibling_place p seat) p) where
   flows_by : (o : Option Place) → flows_between k.flows o (Some p) ≡ is_seated_in p.room mask o
-  flows_by (Some q) = sym (seated_is p mask (λ x. flow.flows k.flows x p) kept (λ x e. flows_apart k.flows x p e) q)
+  flows_by (Some q) = sym (seated_is p mask (λ x. flows k.flows x p) kept (λ x e. flows_apart k.flows x p e) q)
   flows_by None = refl
 
   -- it is what those on the open seats say
@@ -75,10 +68,10 @@ module _ (k : EngineState) (l : Record) (p : Place) (mask : ℕ) (on : place_of 
 
 -- ## Sums over seats
 
-abbrev pub SeatWithin : rooms.Registry → Type 0
+abbrev pub SeatWithin : Registry → Type 0
 SeatWithin w = (n : ℕ) (r : Record) → record_at w n ≡ Some r → r.seat < seat_limit
 
-module _ (w : rooms.Registry) (seating : List ℕ) (l : Record) (p : Place) (y : Context) (mask : ℕ) (sound : IsSound w)
+module _ (w : Registry) (seating : List ℕ) (l : Record) (p : Place) (y : Context) (mask : ℕ) (sound : IsSound w)
     (seats : AreSeated w seating) (by_number : ByNumber w) (there : HaveContexts w) (one_room : OneRoom w)
     (within : SeatWithin w) (context : context_at w l.context ≡ Some y) (is : seated l.seat y ≡ p)
     (held : (seat : ℕ) → IsTrue (has_seat mask seat) → (n : ℕ) × (r : Record) × IsOnPlace w n r (sibling_place p seat))

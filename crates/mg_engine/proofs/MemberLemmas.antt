@@ -1,11 +1,6 @@
 -- The table of who hears whom when one member enters, leaves or has another mode.
-use Rattle.mg_engine.proofs.Common.{◌≡◌, ◌≢◌, ℕ, eqb, ◌||◌, Bool, true, false, cond, List, [], ◌∷◌, Option, Some, None, refl, sym, ap, subst, ◌∙◌, is_some, option_map, eqb-true, eq-eqb, Context, Record, Limits, Registry, record_at, context_at, Place, RoomFlows, hears, ContextEdit, Enter, may_hear, place_of, IsOnPlace, ShareContext, AreSeated, HasMembers}
-use Rattle.std.specs.Prelude.{IsTrue, IsFalse}
-use Rattle.mg_rooms.specs.Lasting.{Lasts}
-use Rattle.mg_rooms.specs.Registry.{start_of}
-use Rattle.mg_flow.specs.Place.{is_same_place, are_together}
+use Rattle.mg_engine.proofs.Common.{◌≡◌, ◌≢◌, ℕ, eqb, ◌||◌, Bool, true, false, cond, List, [], ◌∷◌, Option, Some, None, refl, sym, ap, subst, ◌∙◌, is_some, option_map, eqb-true, eq-eqb, Context, Record, Limits, Registry, record_at, context_at, Place, RoomFlows, hears, ContextEdit, Enter, may_hear, place_of, IsOnPlace, ShareContext, AreSeated, HasMembers, IsTrue, IsFalse, start_of, is_same_place, are_together, holds, talks_at, listens_at, SetsPlace, Lasts}
 use Rattle.mg_flow.specs.Table as flow
-use Rattle.mg_flow.specs.Table.{holds, talks_at, listens_at, SetsPlace}
 use Rattle.mg_engine.specs.aids.Members.{Enters, Leaves, TakesMode, SaysOf}
 use Rattle.mg_engine.proofs.PlaceLemmas.{HaveContexts, OneSeat, OneRoom, at, one_record, one_place, one_member, in_one_room, both, apart_places}
 

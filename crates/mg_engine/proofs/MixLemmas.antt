@@ -1,19 +1,11 @@
 -- A total without the listener itself and those silenced for it is what the listener hears.
-use Rattle.mg_engine.proofs.Common.{◌≡◌, ◌≢◌, ℕ, ◌+◌, ◌<◌, ◌&&◌, not, eqb, Bool, true, false, cond, ℤ, pos, ◌+ℤ◌, List, [], ◌∷◌, length, map, get_or, Option, Some, None, refl, sym, ap, ◌∙◌, arith, All, range_with_len, eqb-true, eq-eqb, get_or-map, length-map, sum_by-cons, termination_limit, seat_limit, has_seat, Context, Record, IsSound, record_at, context_at, Place, sibling_place, SumsState, total_of, nearest_sample, sum_of-cons, sum_of-same, place_of, IsOnPlace, EngineState, ShareContext, AreJoined, HasMembers, slot_at, AreSeated, sample_at, flows_between, heard_now, silenced_now, map_agree}
-use Rattle.std.specs.Prelude.{IsTrue, AllPairs}
-use Rattle.std.specs.List.{count_by}
-use Rattle.std.proofs.lemmas.Int.{ints}
-use Rattle.std.proofs.lemmas.List.Elements.{All-cons, All-map, filter_passes, All-weaker}
-use Rattle.std.proofs.lemmas.List.FromFn.{length-range_with_len, get_or-range_with_len}
+use Rattle.mg_engine.proofs.Common.{◌≡◌, ◌≢◌, ℕ, ◌+◌, ◌<◌, ◌&&◌, not, eqb, Bool, true, false, cond, ℤ, pos, ◌+ℤ◌, List, [], ◌∷◌, length, map, get_or, Option, Some, None, refl, sym, ap, ◌∙◌, arith, All, range_with_len, eqb-true, eq-eqb, get_or-map, length-map, sum_by-cons, termination_limit, seat_limit, has_seat, Context, Record, IsSound, record_at, context_at, Place, sibling_place, SumsState, total_of, nearest_sample, sum_of-cons, sum_of-same, place_of, IsOnPlace, EngineState, ShareContext, AreJoined, HasMembers, slot_at, AreSeated, sample_at, flows_between, heard_now, silenced_now, map_agree, IsTrue, AllPairs, count_by, All-cons, All-map, filter_passes, All-weaker, sits_among, is_seated_in, ints, length-range_with_len, get_or-range_with_len, sum_of-map, sum_of-nil, sum_of-none, sum_of-plus, is_silenced_between, part_now}
 use Rattle.std.proofs.lemmas.List.Kept.{AllPairs-cons, AllPairs-filter}
 use Rattle.mg_words.specs.Mode as mode
 use Rattle.mg_topology.specs.Mask.{seats_of}
 use Rattle.mg_flow.specs.Table as flow
 use Rattle.mg_sums.specs.Sums.{AreOfRoom, sample_in, is_joined, heard_of, left_out_by, mix_of}
 use Rattle.mg_sums.specs.Samples.{sum_of}
-use Rattle.mg_sums.proofs.SumLemmas.{sum_of-map, sum_of-nil, sum_of-none, sum_of-plus}
-use Rattle.mg_engine.specs.aids.Sending.{is_silenced_between, part_now}
-use Rattle.mg_engine.specs.aids.Shares.{sits_among, is_seated_in}
 use Rattle.mg_engine.proofs.FlowLemmas.{nobody_hears_itself, silenced_apart, not_itself}
 use Rattle.mg_engine.proofs.MaskLemmas.{SeatWithin, flows_apart, seated_is, sum_on_seats}
 use Rattle.mg_engine.proofs.MemberLemmas.{seats_differ, unequal}

@@ -1,15 +1,8 @@
 -- Packets at two ports, in one order and in the other; and what holds of the terminations in any world.
-use Rattle.mg_engine.proofs.Common.{ne_eqb, ◌≡◌, ◌≢◌, ℕ, ◌+◌, ◌≤◌, eqb, Bool, true, false, cond, ℤ, List, [], ◌∷◌, Option, Some, None, Result, Ok, Err, refl, sym, ap, ◌∙◌, arith, count_by, eqb-true, eq-eqb, same_Some, sum_by-cons, ◌>>=◌, ErrorNumber, Header, Reading, Record, Target, change, slot_port, members_at, Taken, TopologyTriple, Arrived, Takes, arrived, at_port, frame_placed, taken_at, frame_placed_at, taken_by, Gateway, TerminationMedia, media_of, existing_context, done_with, check_triples, with_triples}
-use Rattle.std.specs.Prelude.{find}
-use Rattle.mg_rooms.specs.Consistent.{IsConsistent}
-use Rattle.mg_rooms.specs.Registry as rooms
+use Rattle.mg_engine.proofs.Common.{ne_eqb, ◌≡◌, ◌≢◌, ℕ, ◌+◌, ◌≤◌, eqb, Bool, true, false, cond, ℤ, List, [], ◌∷◌, Option, Some, None, Result, Ok, Err, refl, sym, ap, ◌∙◌, arith, count_by, eqb-true, eq-eqb, same_Some, sum_by-cons, ◌>>=◌, ErrorNumber, Header, Reading, Record, Target, change, slot_port, members_at, Taken, TopologyTriple, Arrived, Takes, arrived, at_port, frame_placed, taken_at, frame_placed_at, taken_by, Gateway, TerminationMedia, media_of, existing_context, done_with, check_triples, with_triples, find, eqb-false, Registry, find-change_other, find-found, nat_tests, IsConsistent, bind_ok}
 use Rattle.mg_engine.specs.aids.Order.{ArrivalOrderIsIrrelevant}
 use Rattle.mg_engine.specs.Outcome.{apply_triples}
-use Rattle.std.proofs.lemmas.Bool.{eqb-false}
-use Rattle.std.proofs.lemmas.Bool.Decides.{nat_tests}
-use Rattle.mg_rooms.proofs.CountLemmas.{find-change_other, find-found}
 use Rattle.mg_rooms.proofs.OrderLemmas.{found_key}
-use Rattle.mg_rooms.proofs.OutcomeLemmas.{bind_ok}
 
 -- ## One of each number
 
@@ -17,11 +10,11 @@ use Rattle.mg_rooms.proofs.OutcomeLemmas.{bind_ok}
 pub found_passes : {A : Type 0} (q : A → Bool) (xs : List A) (y : A) → find q xs ≡ Some y → q y ≡ true
 found_passes q xs y found = found_key q xs y found
 
-abbrev has_port : rooms.Registry → ℕ → Record → Bool
+abbrev has_port : Registry → ℕ → Record → Bool
 has_port w port r = eqb (slot_port w.limits r.slot) port
 
 -- terminations at two ports have two numbers
-apart_at : (w : rooms.Registry) (port other : ℕ) (r d : Record) → IsConsistent w → port ≢ other →
+apart_at : (w : Registry) (port other : ℕ) (r d : Record) → IsConsistent w → port ≢ other →
     at_port w port ≡ Some r → at_port w other ≡ Some d → eqb r.number d.number ≡ false
 apart_at w port other r d h ports here there = ne_eqb r.number d.number (λ same.
     let by = λ (x : Record). eqb x.number d.number in
@@ -138,7 +131,7 @@ order_of_two w between last port other from source bytes list a b h ports (x, is
     let at_first = ap (λ (p : Gateway × Taken). p.0) first in
     let same_rooms = ap (λ (g : Gateway). g.rooms) (sym at_first) ∙ taken_rooms w o from x in
     let represents = ap (λ (g : Gateway). taken_by g k source y) at_first ∙
-    ap (λ (z : rooms.Registry). taken_by between (at_port z other) source y) (sym same_rooms) ∙ second in
+    ap (λ (z : Registry). taken_by between (at_port z other) source y) (sym same_rooms) ∙ second in
     let both : (end, (taken_by w k source y).1) ≡ (last, b) = sym after ∙ represents in
     let is_last = ap (λ (p : Gateway × Taken). p.0) both in
     let is_b = ap (λ (p : Gateway × Taken). p.1) both in
@@ -148,7 +141,7 @@ order_of_two w between last port other from source bytes list a b h ports (x, is
       (
         x,
         is,
-        ap (λ (z : rooms.Registry). taken_by turned (at_port z port) from x) (taken_rooms w k source y)
+        ap (λ (z : Registry). taken_by turned (at_port z port) from x) (taken_rooms w k source y)
             ∙ before
             ∙ ap (λ (g : Gateway). (g, (taken_by w o from x).1)) is_last
             ∙ ap (λ (t : Taken). (last, t)) is_a,
@@ -157,12 +150,12 @@ order_of_two w between last port other from source bytes list a b h ports (x, is
 
 -- ## An edit, and the terminations and contexts after it
 
-abbrev ok_pair : rooms.Registry → Record → Result (rooms.Registry × Record) ErrorNumber
+abbrev ok_pair : Registry → Record → Result (Registry × Record) ErrorNumber
 ok_pair z d = Ok (z, d)
 
 -- a command that was done on a gateway was done on its terminations
-pub done_is : (f : rooms.Registry → Record → Gateway) (o : Result (rooms.Registry × Record) ErrorNumber)
-    (next : Gateway) (r : Record) → done_with f o ≡ Ok (next, r) → (z : rooms.Registry) × (o ≡ Ok (z, r)) ×
+pub done_is : (f : Registry → Record → Gateway) (o : Result (Registry × Record) ErrorNumber)
+    (next : Gateway) (r : Record) → done_with f o ≡ Ok (next, r) → (z : Registry) × (o ≡ Ok (z, r)) ×
     (next ≡ f z r)
 done_is f (Ok p) next r e =
     grind (arith, nat_tests, p.1, p.0)

@@ -1,7 +1,5 @@
 -- What is written to a packet of an outbox.
-use Rattle.mg_engine.proofs.Common.{◌≡◌, ℕ, ◌++◌, ◌∷◌, [], List, length, take, drop, sym, ap, ◌∙◌, refill, length-set, Datagram}
-use Rattle.std.proofs.Math.ListN.{set}
-use Rattle.std.proofs.Math.Seq.{set-append_seam, take-append_seam}
+use Rattle.mg_engine.proofs.Common.{◌≡◌, ℕ, ◌++◌, ◌∷◌, [], List, length, take, drop, sym, ap, ◌∙◌, refill, length-set, Datagram, set-append_seam, take-append_seam, set}
 
 pub refilled : (xs : List Datagram) (at : ℕ) (y : Datagram) → refill (length xs) xs (set xs at y) ≡ set xs at y
 refilled xs at y =

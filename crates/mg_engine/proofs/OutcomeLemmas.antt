@@ -1,11 +1,7 @@
 -- What a command on a termination does to the records of terminations.
-use Rattle.mg_engine.proofs.Common.{◌≡◌, ℕ, [], ◌∷◌, ◌++◌, Option, Some, None, Ok, refl, Record, Settings, Target, Registry, record_at, change}
-use Rattle.mg_rooms.proofs.LastLemmas.{entered_terminations}
-use Rattle.mg_rooms.proofs.OutcomeLemmas.{add_done, modify_done, move_done, subtract_done}
+use Rattle.mg_engine.proofs.Common.{◌≡◌, ℕ, [], ◌∷◌, ◌++◌, Option, Some, None, Ok, refl, Record, Settings, Target, Registry, record_at, change, add_done, modify_done, move_done, subtract_done, entered_terminations, inserted, replaced, add, modify, move_to, subtract}
 use Rattle.mg_rooms.specs.declared.place.EntryPlace.{EntryPlace}
-use Rattle.mg_rooms.specs.Changes.{inserted, replaced}
 use Rattle.mg_rooms.specs.aids.Entering.{entered_at}
-use Rattle.mg_rooms.specs.Outcome.{add, modify, move_to, subtract}
 
 entered_limits : (w : Registry) (place : EntryPlace) (n : ℕ) (made : Option ℕ) →
     (entered_at w place n made).limits ≡ w.limits

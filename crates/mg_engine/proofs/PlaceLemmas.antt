@@ -1,11 +1,5 @@
 -- Places of members: each has one, and no two of them one place.
-use Rattle.mg_engine.proofs.Common.{arith, ◌≡◌, ◌≢◌, ℕ, ◌<◌, eqb, ◌&&◌, Bool, true, false, List, length, get_or, Option, Some, None, refl, sym, ap, ◌∙◌, is_some, IsSome, option_map, eqb-true, same_Some, Context, Record, IsTermination, IsSound, Registry, record_at, context_at, Place, RoomFlows, hears, place_of, member_place, IsOnPlace}
-use Rattle.std.proofs.lemmas.Bool.Decides.{nat_tests}
-use Rattle.mg_rooms.specs.declared.member.Member.{Member}
-use Rattle.mg_rooms.specs.Consistent.{IsContext}
-use Rattle.mg_rooms.specs.Member.{ExistsAs}
-use Rattle.mg_flow.specs.Place.{IsWithinLimits, is_same_place}
-use Rattle.mg_flow.specs.Table.{room_at, talks_at, listens_at, flows}
+use Rattle.mg_engine.proofs.Common.{arith, ◌≡◌, ◌≢◌, ℕ, ◌<◌, eqb, ◌&&◌, Bool, true, false, List, length, get_or, Option, Some, None, refl, sym, ap, ◌∙◌, is_some, IsSome, option_map, eqb-true, same_Some, Context, Record, IsTermination, IsSound, Registry, record_at, context_at, Place, RoomFlows, hears, place_of, member_place, IsOnPlace, nat_tests, Member, IsContext, ExistsAs, IsWithinLimits, is_same_place, room_at, talks_at, listens_at, flows}
 use Rattle.mg_topology.specs.Topology as topology
 
 -- ## Facts of the registry, as the calls of mg_rooms hand them out

@@ -1,12 +1,7 @@
 -- Sums over the seats of a room, and over the terminations that are on them.
-use Rattle.mg_engine.proofs.Common.{◌≡◌, ℕ, zero, suc, ◌+◌, ◌<◌, ◌≤◌, ◌&&◌, eqb, Bool, true, false, cond, ℤ, pos, ◌+ℤ◌, List, [], ◌∷◌, inl, inr, length, get_or, Option, Some, refl, sym, ap, ◌∙◌, arith, range_with_len, cases_eq, eq-eqb, sum_by-cons, seat_limit, has_seat, sum_of-cons, sum_of-same}
-use Rattle.std.specs.Prelude.{find}
-use Rattle.std.specs.List.{count_by}
-use Rattle.std.proofs.lemmas.Int.{ints}
-use Rattle.std.proofs.lemmas.Bool.Decides.{nat_tests}
+use Rattle.mg_engine.proofs.Common.{◌≡◌, ℕ, zero, suc, ◌+◌, ◌<◌, ◌≤◌, ◌&&◌, eqb, Bool, true, false, cond, ℤ, pos, ◌+ℤ◌, List, [], ◌∷◌, inl, inr, length, get_or, Option, Some, refl, sym, ap, ◌∙◌, arith, range_with_len, cases_eq, eq-eqb, sum_by-cons, seat_limit, has_seat, sum_of-cons, sum_of-same, find, count_by, nat_tests, ints, sum_of-filter, sum_of-nil, sum_of-none, sum_of-plus}
 use Rattle.mg_topology.specs.Mask.{seats_of}
 use Rattle.mg_sums.specs.Samples.{sum_of}
-use Rattle.mg_sums.proofs.SumLemmas.{sum_of-filter, sum_of-nil, sum_of-none, sum_of-plus}
 use Rattle.mg_engine.proofs.SumLemmas.{sum-cong}
 
 -- ## Sums of sums

@@ -1,7 +1,5 @@
 -- The slots of members by their places.
-use Rattle.mg_engine.proofs.Common.{arith, ◌≡◌, ◌≢◌, ℕ, ◌<◌, eqb, Bool, true, false, List, length, set, None, refl, sym, ap, ◌∙◌, eqb-true, get_or-set_same, get_or-set_other, Record, Registry, record_at, Place, IsOnPlace, place_count, slot_at, AreSeated}
-use Rattle.mg_flow.specs.Place.{IsWithinLimits}
-use Rattle.mg_engine.specs.aids.Seating.{index_of}
+use Rattle.mg_engine.proofs.Common.{arith, ◌≡◌, ◌≢◌, ℕ, ◌<◌, eqb, Bool, true, false, List, length, set, None, refl, sym, ap, ◌∙◌, eqb-true, get_or-set_same, get_or-set_other, Record, Registry, record_at, Place, IsOnPlace, place_count, slot_at, AreSeated, IsWithinLimits, index_of}
 use Rattle.mg_engine.proofs.PlaceLemmas.{OneRoom, OneSeat, one_member, one_place, one_record}
 use Rattle.mg_engine.proofs.MemberLemmas.{SameOthers, no_record, unequal}
 

@@ -1,8 +1,6 @@
 -- What is sent in a tick, part by part.
-use Rattle.std.proofs.lemmas.List.Elements.{filter_map-append}
-use Rattle.mg_engine.proofs.Common.{◌≡◌, ℕ, ◌+◌, ◌<◌, [], ◌∷◌, length, get_or, take, ◌%◌, ◌^◌, List, ◌++◌, map, Option, Some, None, refl, ap, ◌∙◌, filter_map, option_to_list, take_more, byte_of, Header, header_bytes, plain, Chosen, Record, slot_port, Datagram, packet_now, mixed_now, EngineState, media_at, type_of}
+use Rattle.mg_engine.proofs.Common.{◌≡◌, ℕ, ◌+◌, ◌<◌, [], ◌∷◌, length, get_or, take, ◌%◌, ◌^◌, List, ◌++◌, map, Option, Some, None, refl, ap, ◌∙◌, filter_map, option_to_list, take_more, byte_of, Header, header_bytes, plain, Chosen, Record, slot_port, Datagram, packet_now, mixed_now, EngineState, media_at, type_of, SlotMedia, filter_map-append}
 use Rattle.mg_words.specs.declared.mode.Mode.TheVariants.{Inactive}
-use Rattle.mg_engine.specs.Media as media
 use Rattle.mg_engine.specs.aids.MediaSteps as media_steps
 
 abbrev datagram : Chosen → ℕ → List ℕ → Datagram
@@ -12,13 +10,13 @@ abbrev ssrc_of : EngineState → Record → ℕ
 ssrc_of k r = (k.config.ssrc + r.number) % 2 ^ 32
 
 pub packet_is : (k : EngineState) (r : Record) (to : Chosen) (from : ℕ) (bytes payload : List ℕ) (header : Header)
-    (m : media.SlotMedia)
+    (m : SlotMedia)
     → from ≡ slot_port k.rooms.limits r.slot → bytes ≡ header_bytes plain header ++ payload →
     payload ≡ map (byte_of to.law) (mixed_now k r)
     → header ≡ media_steps.header m (type_of to.law) (ssrc_of k r) → m ≡ media_at k.media r.slot
     → datagram to from bytes ≡ packet_now k r to
 packet_is k r to from bytes payload header m port joined body headed kept =
-    let head = headed ∙ ap (λ (x : media.SlotMedia). media_steps.header x (type_of to.law) (ssrc_of k r)) kept in
+    let head = headed ∙ ap (λ (x : SlotMedia). media_steps.header x (type_of to.law) (ssrc_of k r)) kept in
     let whole = joined
     ∙ ap (λ (h : Header). header_bytes plain h ++ payload) head
     ∙ ap (λ (p : List ℕ).

@@ -1,16 +1,6 @@
 -- What an engine sends in a tick is what the world sends.
-use Rattle.mg_engine.proofs.Common.{◌≡◌, ℕ, suc, ◌+◌, ◌-◌, ◌*◌, ◌%◌, ◌^◌, ◌<◌, ◌≤◌, ◌++◌, not, Bool, cond, List, [], ◌∷◌, ℤ, pos, length, map, get_or, Option, Some, None, refl, sym, ap, subst, ◌∙◌, arith, filter_map, range_with_len, option_map, byte_of, Header, header_bytes, plain, Chosen, Mode, Record, slot_port, record_at, nearest_sample, Config, Datagram, Gateway, TerminationMedia, media_of, frame_in, played_sample, is_loopback, type_of, sent_to, HasMembers, sample_at, heard_now, mixed_now, packet_now, EngineState, StandsFor, IsMediaOf, media_at, map_agree}
-use Rattle.std.specs.List.{cons_option}
-use Rattle.mg_rooms.specs.Registry as rooms
+use Rattle.mg_engine.proofs.Common.{◌≡◌, ℕ, suc, ◌+◌, ◌-◌, ◌*◌, ◌%◌, ◌^◌, ◌<◌, ◌≤◌, ◌++◌, not, Bool, cond, List, [], ◌∷◌, ℤ, pos, length, map, get_or, Option, Some, None, refl, sym, ap, subst, ◌∙◌, arith, filter_map, range_with_len, option_map, byte_of, Header, header_bytes, plain, Chosen, Mode, Record, slot_port, record_at, nearest_sample, Config, Datagram, Gateway, TerminationMedia, media_of, frame_in, played_sample, is_loopback, type_of, sent_to, HasMembers, sample_at, heard_now, mixed_now, packet_now, EngineState, StandsFor, IsMediaOf, media_at, map_agree, cons_option, Registry, part_of_mix, heard, mix, mixed, SlotMedia, sum_of-map, flows_now, part_now, mix_now, packets_now, packet_to, header, header_of, packet, packet_of, packets, HaveTicked}
 use Rattle.mg_sums.specs.Samples.{sum_of}
-use Rattle.mg_sums.proofs.SumLemmas.{sum_of-map}
-use Rattle.mg_engine.specs.Mix.{part_of_mix, heard, mix, mixed}
-use Rattle.mg_engine.specs.Media as media
-use Rattle.mg_engine.specs.aids.MediaSteps as media_steps
-use Rattle.mg_engine.specs.Tick.{header_of, packet, packet_of, packets}
-use Rattle.mg_engine.specs.aids.Found.{packet_to}
-use Rattle.mg_engine.specs.aids.Sending.{flows_now, part_now, mix_now, packets_now}
-use Rattle.mg_engine.specs.aids.Playing.{HaveTicked}
 use Rattle.mg_engine.proofs.SumLemmas.{sum-cong}
 use Rattle.mg_engine.proofs.SendingLemmas.{nobody}
 use Rattle.mg_engine.proofs.FlowLemmas.{flow_is, mode_found}
@@ -46,7 +36,7 @@ part_is k w l t i sound members h listens talks =
 heard_is : (k : EngineState) (w : Gateway) (l : Record) (i : ℕ) → AreApart k.rooms → HasMembers k.rooms k.flows →
     ByNumber k.rooms → StandsFor k w → record_at k.rooms l.number ≡ Some l → heard w l.number i ≡ heard_now k l i
 heard_is k w l i sound members by_number h found =
-    ap (λ (x : rooms.Registry). sum_of (part_of_mix w l.number i) (map (λ r. r.number) x.terminations)) h.rooms
+    ap (λ (x : Registry). sum_of (part_of_mix w l.number i) (map (λ r. r.number) x.terminations)) h.rooms
     ∙ sum_of-map (part_of_mix w l.number i) (λ r. r.number) k.rooms.terminations
     ∙ sum-cong (λ (r : Record). part_of_mix w l.number i r.number) (part_now k l i) k.rooms.terminations nobody
     (λ j lt. part_is k w l (get_or k.rooms.terminations j nobody) i sound members h found (by_number j nobody lt))
@@ -72,9 +62,9 @@ abbrev headed : Bool → ℕ → ℕ → ℕ → ℕ → Header
 headed marker payload_type sequence timestamp ssrc =
     record { marker = marker; payload_type = payload_type; sequence = sequence; timestamp = timestamp; ssrc = ssrc }
 
-header_is : (w : Gateway) (to : Chosen) (n : ℕ) (m : media.SlotMedia) (row : List ℤ) (s : TerminationMedia) →
+header_is : (w : Gateway) (to : Chosen) (n : ℕ) (m : SlotMedia) (row : List ℤ) (s : TerminationMedia) →
     IsMediaOf w.config m row s → 1 ≤ s.ticks → s.number ≡ n →
-    header_of w to s ≡ media_steps.header m (type_of to.law) ((w.config.ssrc + n) % 2 ^ 32)
+    header_of w to s ≡ header m (type_of to.law) ((w.config.ssrc + n) % 2 ^ 32)
 header_is w to n m row s is old same =
     let config = w.config in
     let t = type_of to.law in
@@ -99,15 +89,15 @@ packet_same k w r to s sound members by_number h found there old =
     let mine = subst (λ (x : Config). IsMediaOf x (media_at k.media r.slot) (get_or k.sums.frames r.slot []) s)
     (sym h.config) is in
     let head = header_is w to r.number (media_at k.media r.slot) (get_or k.sums.frames r.slot []) s mine old number
-    ∙ ap (λ (x : Config). media_steps.header (media_at k.media r.slot) (type_of to.law) ((x.ssrc + r.number) % 2 ^ 32))
+    ∙ ap (λ (x : Config). header (media_at k.media r.slot) (type_of to.law) ((x.ssrc + r.number) % 2 ^ 32))
     h.config in
     let body = mixed_is k w r sound members by_number h found in
-    ap (λ (x : rooms.Registry). datagram to (slot_port x.limits r.slot)
+    ap (λ (x : Registry). datagram to (slot_port x.limits r.slot)
     (header_bytes plain (header_of w to s) ++ map (byte_of to.law) (mixed w r.number))) h.rooms
     ∙ ap (λ (x : Header). datagram to (slot_port k.rooms.limits r.slot)
     (header_bytes plain x ++ map (byte_of to.law) (mixed w r.number))) head
     ∙ ap (λ (x : List ℤ). datagram to (slot_port k.rooms.limits r.slot)
-    (header_bytes plain (media_steps.header (media_at k.media r.slot) (type_of to.law)
+    (header_bytes plain (header (media_at k.media r.slot) (type_of to.law)
     ((k.config.ssrc + r.number) % 2 ^ 32)) ++ map (byte_of to.law) x)) body
 
 abbrev some : Datagram → Option Datagram
@@ -126,7 +116,7 @@ packet_to_is k w r (Some to) sound members by_number old h found =
 pub packets_are : (k : EngineState) (w : Gateway) → AreApart k.rooms → HasMembers k.rooms k.flows → ByNumber k.rooms →
     HaveTicked w → StandsFor k w → packets w ≡ packets_now k
 packets_are k w sound members by_number old h =
-    ap (λ (x : rooms.Registry). filter_map (packet_of w) x.terminations) h.rooms
+    ap (λ (x : Registry). filter_map (packet_of w) x.terminations) h.rooms
     ∙ gathered-cong (packet_of w) (λ r. option_map (packet_now k r) (sent_to r)) k.rooms.terminations nobody
     (λ i lt. let r = get_or k.rooms.terminations i nobody in
     packet_to_is k w r (sent_to r) sound members by_number old h (by_number i nobody lt))

@@ -1,11 +1,6 @@
 -- Packets that lend their payloads keep them.
-use Rattle.mg_engine.proofs.Common.{◌≡◌, ℕ, zero, suc, ◌<◌, eqb, Bool, true, false, cond, List, [], ◌∷◌, ◌++◌, length, get_or, replicate, refl, sym, ap, subst, ◌∙◌, arith, nat_lt, All, eqb-true, get_or-set_same, get_or-set_other, Datagram, Share, EngineState, with_mixes, AreShared}
-use Rattle.std.proofs.Math.Seq.{get_or-append_seam}
-use Rattle.std.proofs.lemmas.List.{length_push}
-use Rattle.std.proofs.lemmas.List.Elements.{All-nil, All-weaker, All-push}
-use Rattle.mg_words.specs.Limits.{context_limit, member_limit}
+use Rattle.mg_engine.proofs.Common.{◌≡◌, ℕ, zero, suc, ◌<◌, eqb, Bool, true, false, cond, List, [], ◌∷◌, ◌++◌, length, get_or, replicate, refl, sym, ap, subst, ◌∙◌, arith, nat_lt, All, eqb-true, get_or-set_same, get_or-set_other, Datagram, Share, EngineState, with_mixes, AreShared, context_limit, member_limit, length_push, get_or-append_seam, All-nil, All-weaker, All-push, IsShared, one_more, packet_at, payload_of, payload_on, shares_in, with_share}
 use Rattle.mg_engine.specs.Datagram.{blank}
-use Rattle.mg_engine.specs.aids.Shares.{IsShared, one_more, packet_at, payload_of, payload_on, shares_in, with_share}
 use Rattle.mg_engine.proofs.MemberLemmas.{unequal}
 
 before : {A : Type 0} (xs : List A) (y d : A) (i : ℕ) → i < length xs → get_or (xs ++ y ∷ []) i d ≡ get_or xs i d

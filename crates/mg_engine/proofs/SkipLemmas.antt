@@ -1,25 +1,10 @@
 -- Ticks at once are ticks one after another, while no play list has a frame.
-use Rattle.mg_engine.proofs.Common.{◌≡◌, ℕ, zero, suc, ◌+◌, ◌*◌, ◌%◌, ◌^◌, ◌<◌, Bool, true, false, cond, List, ℤ, [], ◌∷◌, map, get_or, Option, Some, None, refl, sym, ap, subst, ◌∙◌, arith, count_by, option_map, sum_by-cons, is_concealed, PlayList, Record, record_at, silence, Config, Gateway, ContextEdit, TerminationMedia, media_of, may_hear, HasPassed, IsIdleEngine, EngineState, StandsFor, IsMediaOf, media_at, played, sent, sends_at, after_ticks, concealed_in_ticks}
-use Rattle.std.specs.Prelude.{IsTrue}
+use Rattle.mg_engine.proofs.Common.{◌≡◌, ℕ, zero, suc, ◌+◌, ◌*◌, ◌%◌, ◌^◌, ◌<◌, Bool, true, false, cond, List, ℤ, [], ◌∷◌, map, get_or, Option, Some, None, refl, sym, ap, subst, ◌∙◌, arith, count_by, option_map, sum_by-cons, is_concealed, PlayList, Record, record_at, silence, Config, Gateway, ContextEdit, TerminationMedia, media_of, may_hear, HasPassed, IsIdleEngine, EngineState, StandsFor, IsMediaOf, media_at, played, sent, sends_at, after_ticks, concealed_in_ticks, IsTrue, Registry, counted_up, SlotMedia, slot_sends, option_map_or, map-map, sound_of, ticked, ticked_in, is_idle, frame_or_silence, numbers_of, frame_played, slot_ended, slot_played, slot_ticked, slot_passed, after_tick, conceals, concealed_in_tick}
 use Rattle.std.specs.Fn.{iterate}
-use Rattle.std.specs.Option.{option_map_or}
-use Rattle.std.proofs.lemmas.Simd.{map-map}
 use Rattle.mg_playout.specs.declared.phase.Phase.{Phase}
 use Rattle.mg_playout.specs.declared.phase.Phase.TheVariants.{Idle, Wait, Run}
 use Rattle.mg_playout.specs.declared.played.Played.{Played}
 use Rattle.mg_playout.specs.declared.played.Played.TheVariants.{Silence}
-use Rattle.mg_playout.specs.Played.{sound_of}
-use Rattle.mg_playout.specs.Playout as play_lists
-use Rattle.mg_playout.specs.Playout.{is_idle}
-use Rattle.mg_rooms.specs.Registry as rooms
-use Rattle.mg_sums.specs.Samples.{frame_or_silence}
-use Rattle.mg_engine.specs.Gateway.{numbers_of}
-use Rattle.mg_engine.specs.Media.{SlotMedia}
-use Rattle.mg_engine.specs.Steps.{counted_up}
-use Rattle.mg_engine.specs.aids.MediaSteps as media_steps
-use Rattle.mg_engine.specs.aids.MediaSteps.{slot_ended, slot_played, slot_ticked, slot_passed}
-use Rattle.mg_engine.specs.aids.Sending.{slot_sends}
-use Rattle.mg_engine.specs.Tick.{after_tick, conceals, concealed_in_tick}
 use Rattle.mg_engine.proofs.GatewayLemmas.{found_in_map, found_key, found_too}
 use Rattle.mg_engine.proofs.TickLemmas.{BySlot, ended_is, from_mapped, numbers_kept, played_is, same_sender, sent_number, with_media}
 
@@ -53,12 +38,12 @@ module _ {A : Type 0} (h : A → A) where
 -- ## An idle play list
 
 in_idle : (phase : Phase) (list : PlayList) → IsTrue (is_idle phase) →
-    play_lists.ticked_in phase list ≡ (list, Silence)
+    ticked_in phase list ≡ (list, Silence)
 in_idle Idle list idle = refl
 in_idle (Wait ticks) list idle = absurd (cc idle)
 in_idle Run list idle = absurd (cc idle)
 
-pub idle_ticks : (list : PlayList) → IsTrue (is_idle list.phase) → play_lists.ticked list ≡ (list, Silence)
+pub idle_ticks : (list : PlayList) → IsTrue (is_idle list.phase) → ticked list ≡ (list, Silence)
 idle_ticks list idle = in_idle list.phase list idle
 
 -- ## The media of a slot
@@ -74,7 +59,7 @@ idle_played : (m : SlotMedia) → IsIdleMedia m → slot_played m ≡ later m
 idle_played m idle = ap (λ (p : PlayList × Played). record m { play = p.0; timestamp = (m.timestamp + 160) % 2 ^ 32 })
     (idle_ticks m.play idle)
 
-idle_frame : (m : SlotMedia) → IsIdleMedia m → media_steps.frame_played m ≡ silence
+idle_frame : (m : SlotMedia) → IsIdleMedia m → frame_played m ≡ silence
 idle_frame m idle = ap (λ (p : PlayList × Played). frame_or_silence (sound_of p.1)) (idle_ticks m.play idle)
 
 idle_ended : (b : Bool) (m : SlotMedia) → (slot_ended b m).play ≡ m.play
@@ -141,7 +126,7 @@ passed_by b (suc n) m some idle = sym (passed_is b n m idle)
 -- ## The gateway after ticks
 
 -- the media of a termination after a tick
-abbrev ticked_media : rooms.Registry → TerminationMedia → TerminationMedia
+abbrev ticked_media : Registry → TerminationMedia → TerminationMedia
 ticked_media w s = sent (sends_at w s.number) (played s)
 
 config_kept : (n : ℕ) (w : Gateway) → (after_ticks n w).config ≡ w.config
@@ -199,7 +184,7 @@ ticks_found (suc n) w k =
 
 -- ## What is stored after ticks at once
 
-module _ (config : Config) (w : rooms.Registry) (b : Bool) (row : List ℤ) (silent : row ≡ silence) where
+module _ (config : Config) (w : Registry) (b : Bool) (row : List ℤ) (silent : row ≡ silence) where
   one_stands : (m : SlotMedia) (s : TerminationMedia) → IsIdleMedia m → sends_at w s.number ≡ b →
       IsMediaOf config m row s → IsMediaOf config (slot_ticked b m) row (ticked_media w s)
   one_stands m s idle sends h =
@@ -216,7 +201,7 @@ module _ (config : Config) (w : rooms.Registry) (b : Bool) (row : List ℤ) (sil
       (ap (sends_at w) (sent_number (sends_at w s.number) (played s)) ∙ sends) (one_stands m s idle sends h)
 
 -- ticks were counted for the slot of each termination
-abbrev pub HavePassed : rooms.Registry → ℕ → List SlotMedia → List SlotMedia → Type 0
+abbrev pub HavePassed : Registry → ℕ → List SlotMedia → List SlotMedia → Type 0
 HavePassed w count old new = (n : ℕ) (r : Record) → record_at w n ≡ Some r → HasPassed w count old new r.slot
 
 pub passed_stands : (k : EngineState) (w : Gateway) (count : ℕ) (new : List SlotMedia) → BySlot k.rooms →
@@ -233,7 +218,7 @@ passed_stands k w count new by_slot some idle passed h = record {
       (media_of w n) s (sym (ticks_found count w n) ∙ there)
       (λ t was.
       let sends : sends_at w.rooms t.number ≡ b = sym (same_sender k.rooms n r found (by_slot n r found) ∙
-      ap (λ (x : rooms.Registry). sends_at x n) (sym h.rooms) ∙
+      ap (λ (x : Registry). sends_at x n) (sym h.rooms) ∙
       ap (sends_at w.rooms) (sym (found_key (λ x. x.number) n w.media t was))) in
       subst (λ (x : SlotMedia). IsMediaOf k.config x row (iterate (ticked_media w.rooms) count t))
       (sym (passed n r found ∙ passed_by b count (media_at k.media r.slot) some (idle n r found).idle))
@@ -263,7 +248,7 @@ idle_after w idle n s there =
 
 idle_conceals : (o : Option TerminationMedia) →
     ((s : TerminationMedia) → o ≡ Some s → IsTrue (is_idle s.play.phase)) →
-    option_map_or (λ s. is_concealed ((play_lists.ticked s.play).1)) o false ≡ false
+    option_map_or (λ s. is_concealed ((ticked s.play).1)) o false ≡ false
 idle_conceals None idle = refl
 idle_conceals (Some s) idle = ap (λ (p : PlayList × Played). is_concealed p.1) (idle_ticks s.play (idle s refl))
 

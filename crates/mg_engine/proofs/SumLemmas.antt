@@ -1,9 +1,6 @@
 -- Sums over lists, one part more at a time.
 use Rattle.mg_sums.specs.Samples.{sum_of}
-use Rattle.mg_engine.proofs.Common.{◌≡◌, ℕ, suc, ◌<◌, ℤ, ◌+ℤ◌, List, [], ◌∷◌, length, get_or, map, refl, sym, ap, ◌∙◌, arith}
-use Rattle.std.specs.List.{range_with_len}
-use Rattle.std.proofs.lemmas.List.{get_or_default, same_lists}
-use Rattle.std.proofs.lemmas.List.FromFn.{get_or-map-range_with_len, length-map-range_with_len}
+use Rattle.mg_engine.proofs.Common.{◌≡◌, ℕ, suc, ◌<◌, ℤ, ◌+ℤ◌, List, [], ◌∷◌, length, get_or, map, refl, sym, ap, ◌∙◌, arith, range_with_len, get_or_default, same_lists, get_or-map-range_with_len, length-map-range_with_len}
 
 pub sum-cong : {A : Type 0} (f g : A → ℤ) (xs : List A) (d : A) →
     ((i : ℕ) → i < length xs → f (get_or xs i d) ≡ g (get_or xs i d)) → sum_of f xs ≡ sum_of g xs

@@ -1,15 +1,7 @@
 -- The totals that are kept are those of the world.
-use Rattle.mg_engine.proofs.Common.{◌≡◌, ℕ, zero, suc, ◌+◌, ◌<◌, ◌≤◌, ◌&&◌, ◌||◌, eqb, Bool, true, false, cond, ℤ, pos, List, [], ◌∷◌, length, get_or, Option, Some, None, refl, sym, ap, ◌∙◌, nat_lt, arith, is_some, list_any, range_with_len, option_map, eqb-true, eq-eqb, ne_eqb, same_Some, sum_by-cons, Context, Record, Mode, talks, termination_limit, IsTermination, IsSound, record_at, context_at, members_at, Place, total_of, Gateway, played_sample, IsOnPlace, EngineState, StandsFor, AreJoined, sample_at}
-use Rattle.std.specs.Prelude.{IsTrue, ◌↔◌}
-use Rattle.std.specs.List.{count_by}
-use Rattle.std.proofs.lemmas.Bool.{lt-ltb, or_right}
-use Rattle.mg_words.specs.Limits.{last_termination}
-use Rattle.mg_rooms.specs.Registry as rooms
-use Rattle.mg_rooms.specs.Registry.{IsMember}
+use Rattle.mg_engine.proofs.Common.{◌≡◌, ℕ, zero, suc, ◌+◌, ◌<◌, ◌≤◌, ◌&&◌, ◌||◌, eqb, Bool, true, false, cond, ℤ, pos, List, [], ◌∷◌, length, get_or, Option, Some, None, refl, sym, ap, ◌∙◌, nat_lt, arith, is_some, list_any, range_with_len, option_map, eqb-true, eq-eqb, ne_eqb, same_Some, sum_by-cons, Context, Record, Mode, talks, termination_limit, IsTermination, IsSound, record_at, context_at, members_at, Place, total_of, Gateway, played_sample, IsOnPlace, EngineState, StandsFor, AreJoined, sample_at, IsTrue, ◌↔◌, count_by, lt-ltb, or_right, last_termination, Registry, IsMember, part_of_total, total, total_at, find-none}
 use Rattle.mg_sums.specs.Samples.{sum_of}
-use Rattle.mg_engine.specs.Mix.{part_of_total, total, total_at}
 use Rattle.mg_engine.proofs.FlowLemmas.{mode_found}
-use Rattle.mg_rooms.proofs.CountLemmas.{find-none}
 use Rattle.mg_engine.proofs.MemberLemmas.{unequal}
 use Rattle.mg_engine.proofs.PlaceLemmas.{ByNumber, HaveContexts, OneRoom, at, on_place}
 use Rattle.mg_engine.proofs.RowSums.{Spots, joined_is, joined_part, total_by_terminations}
@@ -50,14 +42,14 @@ member_of : (c : ℕ) (o : Option Record) → in_context c o ≡ true → (r : R
 member_of c (Some r) e = (r, refl, eqb-true r.context c e)
 member_of c None e = absurd (cc e)
 
-abbrev pub Members : rooms.Registry → ℕ → Type 0
+abbrev pub Members : Registry → ℕ → Type 0
 Members w c = (n : ℕ) → IsTrue (list_any (λ m. eqb m n) (members_at w c)) ↔ IsMember w c n
 
-abbrev pub Limited : rooms.Registry → Type 0
+abbrev pub Limited : Registry → Type 0
 Limited w = (n : ℕ) (r : Record) → record_at w n ≡ Some r → (r.number ≡ n) × IsTermination w.limits w.next_termination r
 
 -- a sum over the members of a context is one over the terminations in it
-module _ (w : rooms.Registry) (c : ℕ) (f : ℕ → ℤ) (sound : IsSound w) (by_number : ByNumber w) (limited : Limited w)
+module _ (w : Registry) (c : ℕ) (f : ℕ → ℤ) (sound : IsSound w) (by_number : ByNumber w) (limited : Limited w)
     (members : Members w c) (once : (n : ℕ) → count_by (λ m. eqb m n) (members_at w c) ≤ 1) where
   abbrev numbers : ℕ
   numbers = last_termination + 1
@@ -150,7 +142,7 @@ module _ (k : EngineState) (w : Gateway) (c i : ℕ) (x : Context) (sound : IsSo
       (λ (t : Record). cond (eqb t.context c) (part_of_total w i t.number) (pos 0)) k.rooms.terminations nobody
       (λ j lt. part_is (get_or k.rooms.terminations j nobody) (by_number j nobody lt))
       ∙ sym (sum_of_members k.rooms c (part_of_total w i) sound by_number limited members once)
-      ∙ ap (λ (y : rooms.Registry). sum_of (part_of_total w i) (members_at y c)) (sym h.rooms)
+      ∙ ap (λ (y : Registry). sum_of (part_of_total w i) (members_at y c)) (sym h.rooms)
 
 -- ## What is asked for
 
@@ -167,5 +159,5 @@ pub total_there : (k : EngineState) (w : Gateway) (c i : ℕ) (x : Context) → 
 total_there k w c i x h lt found =
     ap (λ (b : Bool). cond b (some (total w c i)) None) (sym (lt-ltb i 160 lt))
     ∙ ap (λ (b : Bool). cond (b && nat_lt i 160) (some (total w c i)) None) (sym (ap is_some found))
-    ∙ ap (λ (y : rooms.Registry). cond (is_some (context_at y c) && nat_lt i 160) (some (total w c i)) None)
+    ∙ ap (λ (y : Registry). cond (is_some (context_at y c) && nat_lt i 160) (some (total w c i)) None)
     (sym h.rooms)

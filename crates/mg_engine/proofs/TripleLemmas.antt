@@ -1,25 +1,10 @@
 -- Triples by the seats of the members that their terms match.
-use Rattle.mg_engine.proofs.Common.{◌≡◌, ℕ, zero, suc, ◌+◌, ◌<◌, eqb, ◌&&◌, ◌||◌, Bool, true, false, cond, List, [], ◌∷◌, ◌++◌, ◌==◌, length, get_or, take, drop, Option, Some, None, Result, Ok, Err, refl, sym, ap, subst, ◌∙◌, arith, Any, list_any, option_map, eqb-true, eq-eqb, same_Some, take_more, Triple, has_seat, Overlaps, Context, Record, Registry, record_at, context_at, members_at, Place, RoomFlows, hears, Target, Gateway, ContextEdit, Apply, may_hear, existing_context, EngineState, StandsFor, ShareContext, has, place_of, IsOnPlace, HasMembers, ErrorNumber, TopologyTriple, with_triples, check_triples, AreMatched}
-use Rattle.std.proofs.lemmas.Bool.Decides.{nat_tests}
-use Rattle.std.specs.Prelude.{IsTrue, ◌↔◌}
+use Rattle.mg_engine.proofs.Common.{◌≡◌, ℕ, zero, suc, ◌+◌, ◌<◌, eqb, ◌&&◌, ◌||◌, Bool, true, false, cond, List, [], ◌∷◌, ◌++◌, ◌==◌, length, get_or, take, drop, Option, Some, None, Result, Ok, Err, refl, sym, ap, subst, ◌∙◌, arith, Any, list_any, option_map, eqb-true, eq-eqb, same_Some, take_more, Triple, has_seat, Overlaps, Context, Record, Registry, record_at, context_at, members_at, Place, RoomFlows, hears, Target, Gateway, ContextEdit, Apply, may_hear, existing_context, EngineState, StandsFor, ShareContext, has, place_of, IsOnPlace, HasMembers, ErrorNumber, TopologyTriple, with_triples, check_triples, AreMatched, IsTrue, ◌↔◌, IsMember, nat_tests, are_together, holds, hears_after, KeepsPlaces, KeepsOthers, drop_more, IllegalCombination, matched, is_barred, names_others, check_triple, overlaps, mentions, word_of, permits, is_oneway, Isolate, Oneway, Bothway, IsOutcome, IsRoomOf, IsSeated, Matches, IsMatched}
 use Rattle.std.specs.Cmp.{both_ways}
-use Rattle.std.proofs.lemmas.List.{drop_more}
-use Rattle.mg_topology.specs.Triple.{overlaps}
-use Rattle.mg_rooms.specs.Registry.{IsMember}
-use Rattle.mg_flow.specs.Place.{are_together}
-use Rattle.mg_flow.specs.Table.{holds, hears_after, KeepsPlaces, KeepsOthers}
 use Rattle.mg_topology.specs.Topology as topology
-use Rattle.mg_topology.specs.Triple as seats
-use Rattle.mg_topology.specs.Triple.{permits}
 use Rattle.mg_engine.specs.Outcome.{apply_triples}
-use Rattle.mg_engine.specs.Stands.{IsOutcome}
 use Rattle.mg_words.specs.declared.association.Association.{Association}
-use Rattle.mg_words.specs.declared.association.Association.TheVariants.{Isolate, Oneway, Bothway}
-use Rattle.mg_words.specs.declared.error_number.ErrorNumber.TheVariants as errors
-use Rattle.mg_topology.specs.Triple.{is_oneway}
 use Rattle.mg_engine.specs.Triples as terms
-use Rattle.mg_engine.specs.Triples.{matched, is_barred, names_others, check_triple}
-use Rattle.mg_engine.specs.aids.Triples.{IsRoomOf, IsSeated, Matches, IsMatched}
 use Rattle.mg_engine.proofs.MemberLemmas.{Hears, seats_differ, unequal}
 use Rattle.mg_engine.proofs.PlaceLemmas.{HaveContexts, OneSeat, OneRoom, at, on_place, one_record, in_one_room, both}
 
@@ -152,7 +137,7 @@ module _ (w : Registry) (c : ℕ) (members : List ℕ) (x : TopologyTriple) (y :
 pub not_barred : (members : List ℕ) (x : TopologyTriple) → is_barred x.first ≡ false → is_barred x.second ≡ false →
     names_others members x.first ≡ false → names_others members x.second ≡ false
     → (b : Bool) → terms.overlaps members x ≡ b →
-    check_triple members x ≡ cond b (Err errors.IllegalCombination) (Ok tt)
+    check_triple members x ≡ cond b (Err IllegalCombination) (Ok tt)
 not_barred members x one two three four true five = rw (one, two, three, four, five) refl
 not_barred members x one two three four false five = rw (one, two, three, four, five) refl
 
@@ -208,7 +193,7 @@ module _ (w : Registry) (c : ℕ) (members : List ℕ) (talker listener : ℕ) (
   -- one triple, of two in its context: whether it speaks of them, and what it says
   one_word : (x : TopologyTriple) (y : Triple) (es : List ContextEdit) (b : Bool) → t.context ≡ c → l.context ≡ c →
       IsMatched w c members x y → b ≡ may_hear es talker listener
-      → cond (seats.mentions y p.seat q.seat) (seats.word_of y p.seat q.seat) b ≡
+      → cond (mentions y p.seat q.seat) (word_of y p.seat q.seat) b ≡
       may_hear (Apply (matched members x.first) (matched members x.second) x.association ∷ es) talker listener
   one_word x y es b here there m e =
       rw (

@@ -1,12 +1,7 @@
 -- What an edit and an RTP datagram leave alone.
-use Rattle.mg_engine.proofs.Common.{◌≡◌, ℕ, ℤ, pos, eqb, not, ◌&&◌, ◌||◌, Bool, true, false, cond, List, [], ◌∷◌, Option, Some, None, Result, Ok, Err, refl, sym, ap, subst, ◌∙◌, IsSome, is_some, eq-eqb, ne_eqb, same_Some, talks, ErrorNumber, Header, Reading, Context, Record, Settings, Target, is_number, record_at, context_at, members_at, passes, IsSound, Taken, TopologyTriple, Arrived, Takes, arrived, at_port, taken_at, frame_placed_at, taken_by, has, may_hear, Gateway, TerminationMedia, ContextEdit, Apply, Enter, media_of, new_media, frame_in, added, modified, moved, subtracted, existing_context, done_with, tuned, EngineState, StandsFor, check_triples, with_triples, sum_of-cons}
-use Rattle.std.specs.Prelude.{slice_index_or}
-use Rattle.std.proofs.lemmas.Bool.{or_right}
-use Rattle.mg_words.specs.Mode.{listens}
-use Rattle.mg_words.specs.declared.error_number.ErrorNumber.TheVariants.{IdentifierNotAllowed, NotInContext}
+use Rattle.mg_engine.proofs.Common.{◌≡◌, ℕ, ℤ, pos, eqb, not, ◌&&◌, ◌||◌, Bool, true, false, cond, List, [], ◌∷◌, Option, Some, None, Result, Ok, Err, refl, sym, ap, subst, ◌∙◌, IsSome, is_some, eq-eqb, ne_eqb, same_Some, talks, ErrorNumber, Header, Reading, Context, Record, Settings, Target, is_number, record_at, context_at, members_at, passes, IsSound, Taken, TopologyTriple, Arrived, Takes, arrived, at_port, taken_at, frame_placed_at, taken_by, has, may_hear, Gateway, TerminationMedia, ContextEdit, Apply, Enter, media_of, new_media, frame_in, added, modified, moved, subtracted, existing_context, done_with, tuned, EngineState, StandsFor, check_triples, with_triples, sum_of-cons, slice_index_or, or_right, Registry, total, part_of_total, find-change_other, find-push_other, listens, IdentifierNotAllowed, NotInContext, context_in, mode_or_inactive, check_triple, is_barred, matched, names_others, bind_ok}
 use Rattle.mg_rooms.specs.declared.target.Target.TheVariants.{Null, New, Number}
 use Rattle.mg_rooms.specs.Outcome as commands
-use Rattle.mg_rooms.specs.Registry as rooms
 use Rattle.mg_rooms.specs.aids.Found.{members_of}
 use Rattle.mg_sums.specs.Samples.{sum_of}
 use Rattle.mg_engine.specs.declared.done.Done.{Done}
@@ -16,15 +11,9 @@ use Rattle.mg_engine.specs.declared.edit.Edit.TheVariants as edits
 use Rattle.mg_engine.specs.declared.triple_term.TripleTerm.{TripleTerm}
 use Rattle.mg_engine.specs.declared.triple_term.TripleTerm.TheVariants as terms
 use Rattle.mg_engine.specs.Flow.{flow, hears}
-use Rattle.mg_engine.specs.aids.Found.{context_in}
-use Rattle.mg_engine.specs.aids.Found.{mode_or_inactive}
 use Rattle.mg_engine.specs.Unaffected.{IsUnaffected, IsEditElsewhere, IsPortElsewhere, is_member}
-use Rattle.mg_engine.specs.Mix.{total, part_of_total}
 use Rattle.mg_engine.specs.Outcome.{add, modify, move_to, subtract, apply_triples, done_as, outcome}
-use Rattle.mg_engine.specs.Triples.{check_triple, is_barred, matched, names_others}
 use Rattle.mg_engine.proofs.ElsewhereLemmas.{Spares, add_spares, modify_spares, move_spares, subtract_spares}
-use Rattle.mg_rooms.proofs.CountLemmas.{find-change_other, find-push_other}
-use Rattle.mg_rooms.proofs.OutcomeLemmas.{bind_ok}
 use Rattle.mg_engine.proofs.MemberLemmas.{neither, not_so}
 use Rattle.mg_engine.proofs.OrderLemmas.{done_is, other_media}
 
@@ -110,7 +99,7 @@ entry_elsewhere : (w : Gateway) (c n : ℕ) (es : List ContextEdit) → is_membe
 entry_elsewhere w c n es out a b one two =
     rw (turned_from w c n a out one, turned_from w c n b out two) refl
 
-module _ (w : Gateway) (z : rooms.Registry) (d : Record) (c : ℕ) (s : Spares w.rooms z c d.number) where
+module _ (w : Gateway) (z : Registry) (d : Record) (c : ℕ) (s : Spares w.rooms z c d.number) where
   kept : (n : ℕ) → is_member w c n ≡ true → record_at z n ≡ record_at w.rooms n
   kept n there = s.records n (apart_from w c d.number n s.apart there)
 
@@ -143,9 +132,9 @@ module _ (w : Gateway) (z : rooms.Registry) (d : Record) (c : ℕ) (s : Spares w
       (λ a b one two. refl)
 
 -- a command leaves what its outcome leaves
-command_alone : (w next : Gateway) (f : rooms.Registry → Record → Gateway)
-    (o : Result (rooms.Registry × Record) ErrorNumber) (r : Record) (c : ℕ) → done_with f o ≡ Ok (next, r) →
-    ((z : rooms.Registry) → o ≡ Ok (z, r) → IsUnaffected w (f z r) c) → IsUnaffected w next c
+command_alone : (w next : Gateway) (f : Registry → Record → Gateway)
+    (o : Result (Registry × Record) ErrorNumber) (r : Record) (c : ℕ) → done_with f o ≡ Ok (next, r) →
+    ((z : Registry) → o ≡ Ok (z, r) → IsUnaffected w (f z r) c) → IsUnaffected w next c
 command_alone w next f o r c done leaves =
     let (z, is, represents) = done_is f o next r done in
     subst (λ (g : Gateway). IsUnaffected w g c) (sym represents) (leaves z is)
@@ -204,7 +193,7 @@ one_context w c t n h apart within = not_so (is_member w t n) (λ e.
     let is = same_Some r q (sym found ∙ also) in
     neither (sym (eq-eqb t c (sym too ∙ ap (λ (x : Record). x.context) (sym is) ∙ here)) ∙ apart))
 
-another_target : (w : rooms.Registry) (target : Target) (t c : ℕ) → existing_context w target ≡ Ok t →
+another_target : (w : Registry) (target : Target) (t c : ℕ) → existing_context w target ≡ Ok t →
     is_number target c ≡ false → eqb t c ≡ false
 another_target w Null t c e apart = absurd (cc e)
 another_target w New t c e apart = absurd (cc e)

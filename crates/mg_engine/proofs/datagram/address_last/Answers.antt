@@ -1,7 +1,4 @@
-use Rattle.mg_engine.proofs.Common.{◌≡◌, ℕ, ◌-◌, ◌++◌, ◌∷◌, [], List, length, length-append, get_or, ap, ◌∙◌, arith, refill, Datagram}
-use Rattle.std.proofs.Math.ListN.{set}
-use Rattle.std.proofs.Math.Seq.{get_or-append_seam}
-use Rattle.mg_engine.specs.aids.Sending.{addressed}
+use Rattle.mg_engine.proofs.Common.{◌≡◌, ℕ, ◌-◌, ◌++◌, ◌∷◌, [], List, length, length-append, get_or, ap, ◌∙◌, arith, refill, Datagram, get_or-append_seam, addressed, set}
 use Rattle.mg_engine.proofs.OutboxLemmas.{refilled, last_set}
 use Rattle.mg_engine.proofs.datagram.address_last.Goals as goal
 

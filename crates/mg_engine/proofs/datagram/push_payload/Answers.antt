@@ -1,5 +1,4 @@
-use Rattle.mg_engine.proofs.Common.{◌≡◌, ◌-◌, ◌∷◌, [], List, length, length-append, get_or, ap, ◌∙◌, arith, refill, Datagram}
-use Rattle.std.proofs.Math.ListN.{set}
+use Rattle.mg_engine.proofs.Common.{◌≡◌, ◌-◌, ◌∷◌, [], List, length, length-append, get_or, ap, ◌∙◌, arith, refill, Datagram, set}
 use Rattle.mg_engine.proofs.OutboxLemmas.{refilled, last_set}
 use Rattle.mg_engine.proofs.datagram.push_payload.Goals as goal
 

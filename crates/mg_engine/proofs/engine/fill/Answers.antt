@@ -1,6 +1,4 @@
-use Rattle.mg_engine.proofs.Common.{◌≡◌, ◌<◌, ◌+◌, ℕ, List, ◌++◌, length, get_or, map, take, refl, sym, ap, subst, ◌∙◌, arith, option_to_list, sum_by, option_map, get_or-map, Record, holder_of, Datagram, EngineState, sent_to, RisesAtMost, packet_now, sending_work_now, with_mixes}
-use Rattle.std.proofs.lemmas.List.Sums.{sum_by_more}
-use Rattle.mg_rooms.specs.Registry as rooms
+use Rattle.mg_engine.proofs.Common.{◌≡◌, ◌<◌, ◌+◌, ℕ, List, ◌++◌, length, get_or, map, take, refl, sym, ap, subst, ◌∙◌, arith, option_to_list, sum_by, option_map, get_or-map, Record, holder_of, Datagram, EngineState, sent_to, RisesAtMost, packet_now, sending_work_now, with_mixes, Registry, sum_by_more}
 use Rattle.mg_engine.proofs.SendingLemmas.{nobody, one_more}
 use Rattle.mg_engine.proofs.ShareLemmas.{none_shared}
 use Rattle.mg_engine.proofs.WorkLemmas.{rises_twice, stays}
@@ -38,9 +36,9 @@ loop-i-preserved c =
     let same = c.loop-i.invariant.same in
     let there : now.rooms ≡ k.rooms = ap (λ (x : EngineState). x.rooms) same in
     let slot = c.held_at-slot.ensures.value ∙
-    ap (λ (x : rooms.Registry). get_or (map (λ r. r.slot) x.terminations) i 0) there ∙
+    ap (λ (x : Registry). get_or (map (λ r. r.slot) x.terminations) i 0) there ∙
     get_or-map (λ r. r.slot) rs i nobody 0 within in
-    let holder = ap (λ (x : rooms.Registry). holder_of x c.held_at-slot.result) there ∙ ap (holder_of k.rooms) slot ∙
+    let holder = ap (λ (x : Registry). holder_of x c.held_at-slot.result) there ∙ ap (holder_of k.rooms) slot ∙
     c.requires.sound.by_slot i nobody within in
     let put = subst (λ (m : ℕ). RisesAtMost m now.sums.work after.sums.work)
     (ap (λ (x : EngineState). sending_work_now x r) same) (c.put_packet.ensures.work r holder) in

@@ -1,5 +1,4 @@
-use Rattle.mg_engine.proofs.Common.{◌≡◌, replicate}
-use Rattle.mg_engine.specs.Media.{idle}
+use Rattle.mg_engine.proofs.Common.{◌≡◌, replicate, idle}
 use Rattle.mg_engine.proofs.engine.idle_media.Given as goal
 
 abbrev pub invariant-loop : goal.invariant-loop

@@ -1,7 +1,4 @@
-use Rattle.mg_engine.proofs.Common.{◌≢◌, ℕ, ◌<◌, ◌+◌, ◌*◌, get_or, length, inl, inr, refl, ap, ◌∙◌, arith}
-use Rattle.std.specs.Int.{from_bool}
-use Rattle.std.proofs.lemmas.Bool.{cases_eq}
-use Rattle.mg_engine.specs.aids.MediaSteps as media_steps
+use Rattle.mg_engine.proofs.Common.{◌≢◌, ℕ, ◌<◌, ◌+◌, ◌*◌, get_or, length, inl, inr, refl, ap, ◌∙◌, arith, cases_eq, frame_played, is_concealing, slot_played, from_bool}
 use Rattle.mg_engine.proofs.ConcealLemmas.{counted_more}
 use Rattle.mg_engine.proofs.WorkLemmas.{rises_twice, stays}
 use Rattle.mg_engine.proofs.engine.play_slots.Goals as goal
@@ -34,9 +31,9 @@ loop-slot-preserved c =
       long = c.play.ensures.long ∙ c.loop-slot.invariant.long;
       done = λ j lt. elim (cases_eq j i) [
         | inl same ↦ rw same (record {
-          ticked = played.ticked ∙ ap media_steps.slot_played old;
+          ticked = played.ticked ∙ ap slot_played old;
           frame = played.frame ∙
-              ap media_steps.frame_played old;
+              ap frame_played old;
         })
         | inr other ↦
             (let less : j < i = omega (arith, lt, other) in
@@ -49,7 +46,7 @@ loop-slot-preserved c =
       rooms = c.play.ensures.rooms ∙ c.loop-slot.invariant.rooms;
       concealed = ap (λ (n : ℕ). c.loop-slot.concealed + n) c.from-concealed.ensures
           ∙ ap (λ (n : ℕ). n + from_bool c.play.result) c.loop-slot.invariant.concealed
-          ∙ counted_more first held i c.play.result here (c.play.ensures.concealed ∙ ap media_steps.is_concealing old);
+          ∙ counted_more first held i c.play.result here (c.play.ensures.concealed ∙ ap is_concealing old);
       work = rises_twice (2 * i) 2 (2 * (i + 1)) c.args.sums.now.work c.loop-slot.sums.work c.play.new.sums.work
           (omega arith) c.loop-slot.invariant.work c.play.ensures.work;
     }

@@ -1,5 +1,4 @@
-use Rattle.mg_engine.proofs.Common.{◌≡◌, ℕ, ◌+◌, ◌-◌, refl, sym, ap, subst, ◌∙◌, arith, Gateway, StandsFor, after_ticks, concealed_in_ticks}
-use Rattle.mg_engine.specs.Tick.{after_tick}
+use Rattle.mg_engine.proofs.Common.{◌≡◌, ℕ, ◌+◌, ◌-◌, refl, sym, ap, subst, ◌∙◌, arith, Gateway, StandsFor, after_ticks, concealed_in_ticks, after_tick}
 use Rattle.mg_engine.proofs.SkipLemmas.{concealed_both, concealed_last, iterate_both, iterate_last}
 use Rattle.mg_engine.proofs.engine.skip.Goals as goal
 

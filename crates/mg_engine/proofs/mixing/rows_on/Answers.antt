@@ -1,8 +1,6 @@
-use Rattle.mg_engine.proofs.Common.{ℕ, List, length, map, sym, ap, ◌∙◌, arith}
-use Rattle.std.proofs.lemmas.List.{length-map, map-id}
+use Rattle.mg_engine.proofs.Common.{ℕ, List, length, map, sym, ap, ◌∙◌, arith, length-map, map-id, slot_at}
 use Rattle.std.proofs.lemmas.Iterator.Consumers.{YieldsList-from_first, YieldsList-turn, YieldsList-end}
 use Rattle.mg_topology.specs.Mask.{seats_of}
-use Rattle.mg_engine.specs.aids.Seating.{slot_at}
 use Rattle.mg_engine.proofs.mixing.rows_on.Goals as goal
 
 pub push-requires : goal.push-requires

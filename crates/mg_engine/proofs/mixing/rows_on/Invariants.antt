@@ -1,5 +1,4 @@
-use Rattle.mg_engine.proofs.Common.{◌≡◌, map}
-use Rattle.mg_engine.specs.aids.Seating.{slot_at}
+use Rattle.mg_engine.proofs.Common.{◌≡◌, map, slot_at}
 use Rattle.mg_engine.proofs.mixing.rows_on.Given as goal
 
 abbrev pub invariant-loop-seat : goal.invariant-loop-seat

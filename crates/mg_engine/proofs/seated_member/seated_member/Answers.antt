@@ -1,7 +1,4 @@
-use Rattle.mg_engine.proofs.Common.{Option, subst}
-use Rattle.std.specs.Prelude.{IfSome}
-use Rattle.mg_rooms.specs.declared.member.Member.{Member}
-use Rattle.mg_rooms.specs.Member.{ExistsAs}
+use Rattle.mg_engine.proofs.Common.{Option, subst, IfSome, Member, ExistsAs}
 use Rattle.mg_engine.proofs.PlaceLemmas.{on_its_place}
 use Rattle.mg_engine.proofs.seated_member.seated_member.Goals as goal
 

@@ -1,5 +1,4 @@
-use Rattle.mg_engine.proofs.Common.{ℕ, List, [], ◌∷◌, ◌++◌, map, take, sym, ap, subst, ◌∙◌, All, map-append, take_more, IsOnSeat}
-use Rattle.std.proofs.lemmas.List.Elements.{All-push}
+use Rattle.mg_engine.proofs.Common.{ℕ, List, [], ◌∷◌, ◌++◌, map, take, sym, ap, subst, ◌∙◌, All, map-append, take_more, IsOnSeat, All-push}
 use Rattle.mg_engine.specs.declared.seated_member.SeatedMember.{SeatedMember}
 use Rattle.mg_engine.proofs.seated_member.seated_members.Goals as goal
 

@@ -1,5 +1,4 @@
-use Rattle.mg_engine.proofs.Common.{◌≤◌, [], length, replicate, sym, ◌∙◌, arith}
-use Rattle.std.proofs.lemmas.List.{get_or-replicate, get_or_default, length-replicate, same_lists}
+use Rattle.mg_engine.proofs.Common.{◌≤◌, [], length, replicate, sym, ◌∙◌, arith, get_or-replicate, get_or_default, length-replicate, same_lists}
 use Rattle.mg_engine.proofs.shares.clear_all.Goals as goal
 
 pub returns : goal.returns

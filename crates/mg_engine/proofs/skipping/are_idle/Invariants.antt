@@ -1,5 +1,4 @@
-use Rattle.mg_engine.proofs.Common.{ℕ, ◌<◌, get_or}
-use Rattle.mg_engine.specs.aids.Playing.{IsIdleSlot}
+use Rattle.mg_engine.proofs.Common.{ℕ, ◌<◌, get_or, IsIdleSlot}
 use Rattle.mg_engine.proofs.skipping.are_idle.Given as goal
 
 abbrev pub invariant-loop-slot : goal.invariant-loop-slot

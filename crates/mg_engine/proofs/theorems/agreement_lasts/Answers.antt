@@ -1,8 +1,4 @@
-use Rattle.mg_engine.proofs.Common.{◌≡◌, ℕ, List, ap, subst, ◌∙◌, Reading, Taken, Gateway}
-use Rattle.mg_rtp.specs.Reading.{IsPacketReading}
-use Rattle.mg_engine.specs.Apart.{AgreeOutside}
-use Rattle.mg_engine.specs.aids.Agreement.{SameArrivalKeepsAgreement, OneArrivalKeepsAgreement}
-use Rattle.mg_engine.specs.Arrival.{taken}
+use Rattle.mg_engine.proofs.Common.{◌≡◌, ℕ, List, ap, subst, ◌∙◌, Reading, Taken, Gateway, AgreeOutside, SameArrivalKeepsAgreement, OneArrivalKeepsAgreement, IsPacketReading, taken}
 use Rattle.mg_engine.proofs.ApartLemmas as apart
 use Rattle.mg_engine.proofs.theorems.agreement_lasts.Goals as goal
 

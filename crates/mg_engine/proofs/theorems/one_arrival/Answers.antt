@@ -1,6 +1,4 @@
-use Rattle.mg_engine.proofs.Common.{◌≡◌, ℕ, List, refl, sym, ap, ◌∙◌, Reading, Taken, Takes, Gateway}
-use Rattle.mg_rtp.specs.Reading.{IsPacketReading}
-use Rattle.mg_engine.specs.Arrival.{taken}
+use Rattle.mg_engine.proofs.Common.{◌≡◌, ℕ, List, refl, sym, ap, ◌∙◌, Reading, Taken, Takes, Gateway, IsPacketReading, taken}
 use Rattle.mg_engine.proofs.theorems.one_arrival.Goals as goal
 
 one_way : ((list : List ℕ) (a b : Reading) → IsPacketReading list a → IsPacketReading list b → a ≡ b) →

@@ -1,4 +1,4 @@
-use Rattle.mg_rooms.proofs.SoundLemmas.{sound_if}
+use Rattle.mg_engine.proofs.Common.{sound_if}
 use Rattle.mg_engine.proofs.UnaffectedLemmas.{edit_alone, datagram_alone}
 use Rattle.mg_engine.proofs.theorems.other_contexts_are_unaffected.Goals as goal
 

@@ -1,5 +1,4 @@
-use Rattle.mg_engine.proofs.Common.{sym, ◌∙◌, refl, Triple, members_at}
-use Rattle.mg_engine.specs.aids.Triples.{IsMatched}
+use Rattle.mg_engine.proofs.Common.{sym, ◌∙◌, refl, Triple, members_at, IsMatched}
 use Rattle.mg_engine.proofs.MemberLemmas.{neither}
 use Rattle.mg_engine.proofs.TripleLemmas.{overlaps_are, not_barred}
 use Rattle.mg_engine.proofs.triples.triple_of.Goals as goal

@@ -1,7 +1,4 @@
-use Rattle.mg_engine.proofs.Common.{◌≡◌, ◌≢◌, ℕ, ◌<◌, Bool, true, false, not, Option, Some, None, refl, sym, arith, is_some, IsTrue, slot_port}
-use Rattle.std.specs.Prelude.{◌↔◌, IfSome}
-use Rattle.mg_engine.specs.declared.config.Config.{Config}
-use Rattle.mg_engine.specs.Config.{HasControlPort, limits_of}
+use Rattle.mg_engine.proofs.Common.{◌≡◌, ◌≢◌, ℕ, ◌<◌, Bool, true, false, not, Option, Some, None, refl, sym, arith, is_some, IsTrue, slot_port, ◌↔◌, IfSome, Config, HasControlPort, limits_of}
 use Rattle.mg_engine.proofs.config.Config.has_control_port.Goals as goal
 
 -- the control port is apart where no slot has it

@@ -1,7 +1,4 @@
-use Rattle.mg_engine.proofs.Common.{◌<◌, ℕ, List, Option, length, sym, ap, subst, ◌∙◌, arith, length-set, view, added, done_with, member_place, EngineState, StandsFor, sound_if, RisesAtMost, SetsRow, room_for}
-use Rattle.mg_rooms.specs.Outcome as commands
-use Rattle.mg_rooms.specs.Registry as rooms
-use Rattle.mg_engine.specs.aids.MediaSteps as media_steps
+use Rattle.mg_engine.proofs.Common.{◌<◌, ℕ, List, Option, length, sym, ap, subst, ◌∙◌, arith, length-set, view, added, done_with, member_place, EngineState, StandsFor, sound_if, RisesAtMost, SetsRow, room_for, Registry, initial_media, add}
 use Rattle.mg_engine.proofs.OutcomeLemmas.{add_adds}
 use Rattle.mg_engine.proofs.EditLemmas.{slots_kept, room_left, held_added, unknown_before, begun_tuned, added_stands}
 use Rattle.mg_engine.proofs.MemberLemmas.{no_record, same_others, carry, hears_carry, unknown, hears_some, free_place, has_entered, hears_entered}
@@ -128,7 +125,7 @@ returns-clause-outcome c w h =
     omega (arith, is.slot, sound.consistent.limits.0.few_slots, c.begin.ensures.rows) in
     let silent = c.enter.ensures.frames ∙ c.begin.ensures.silent in
     let others = c.in_ok-made.ensures.others.termination in
-    let set_to = begun_tuned k.media c.begin.new.media.items c.tune.new.media.items d.slot (media_steps.initial_media k.config)
+    let set_to = begun_tuned k.media c.begin.new.media.items c.tune.new.media.items d.slot (initial_media k.config)
     settings.depth lt c.begin.ensures.initial_media c.tune.ensures.tuned in
     let stands = subst (λ (x : EngineState). StandsFor x w) (sym c.self.view_is) h in
     let same = same_others old new n before.there sound.there c.add.ensures.lasts.room others in
@@ -137,7 +134,7 @@ returns-clause-outcome c w h =
     let hears = hears_entered new n d p k.flows c.enter.new.flows sound.one_room sound.one_seat on
     c.enter.ensures.entered has w.edits
     (hears_carry old new n k.flows w.edits same (hears_some old n k.flows w.edits stands.hears)) in
-    let here = ap (λ (x : rooms.Registry). done_with (added w settings) (commands.add x c.args.target settings))
+    let here = ap (λ (x : Registry). done_with (added w settings) (add x c.args.target settings))
     stands.rooms ∙ ap (done_with (added w settings)) done in (
       added w settings new d,
       here,

@@ -1,7 +1,4 @@
-use Rattle.mg_engine.proofs.Common.{map, ℕ, ◌+◌, ◌%◌, ◌^◌, ◌<◌, ◌++◌, ◌∷◌, [], length, List, get_or, refl, sym, ap, ◌∙◌, arith, header_bytes, plain, view, Datagram, get_or_default, byte_of, Limits, slot_port, record_at, idle, mixed_now, packet_now, EngineState}
-use Rattle.mg_engine.specs.aids.Shares.{payload_of}
-use Rattle.mg_engine.specs.Media as media
-use Rattle.mg_engine.specs.aids.MediaSteps as media_steps
+use Rattle.mg_engine.proofs.Common.{map, ℕ, ◌+◌, ◌%◌, ◌^◌, ◌<◌, ◌++◌, ◌∷◌, [], length, List, get_or, refl, sym, ap, ◌∙◌, arith, header_bytes, plain, view, Datagram, get_or_default, byte_of, Limits, slot_port, record_at, idle, mixed_now, packet_now, EngineState, SlotMedia, payload_of, header}
 use Rattle.mg_engine.proofs.SendingLemmas.{packet_is}
 use Rattle.mg_engine.proofs.engine.Engine.address.Goals as goal
 
@@ -17,13 +14,13 @@ returns-clause-put c before last was body =
     let within : r.slot < length k.media = omega (arith, is.slot, slots, c.self.invariant.media) in
     let place = c.index-media-from.is
     ∙ ap (λ (n : ℕ). get_or c.as_slice-media.result.now n c.index-media-from.result) c.from.ensures
-    ∙ ap (λ (ms : List media.SlotMedia). get_or ms r.slot c.index-media-from.result) all
+    ∙ ap (λ (ms : List SlotMedia). get_or ms r.slot c.index-media-from.result) all
     ∙ get_or_default k.media r.slot c.index-media-from.result idle within in
     let port = c.slot_port-from.ensures.value ∙
     ap (λ (l : Limits). slot_port l r.slot) (c.limits.ensures.value ∙ sym c.self.invariant.limits) in
     let payload = body ∙ ap (λ (x : EngineState). map (byte_of to.law) (mixed_now x r)) (sym c.self.view_is) in
     let head = c.header-header.ensures.value ∙
-    ap (λ (t : ℕ). media_steps.header c.index-media-from.result t ((k.config.ssrc + r.number) % 2 ^ 32))
+    ap (λ (t : ℕ). header c.index-media-from.result t ((k.config.ssrc + r.number) % 2 ^ 32))
     c.payload_type.ensures.value in
     let made = packet_is k r to c.slot_port-from.result (header_bytes plain c.header-header.result ++ payload_of last)
     (payload_of last) c.header-header.result c.index-media-from.result port refl payload head place in

@@ -1,5 +1,4 @@
-use Rattle.mg_engine.proofs.Common.{rules, ◌≡◌, List, Ok, refl, sym, ap, subst, ◌∙◌, Any, Triple, Overlaps, hears, members_at, view, check_triples, with_triples, AreMatched, EngineState, StandsFor}
-use Rattle.mg_flow.specs.Table.{hears_after}
+use Rattle.mg_engine.proofs.Common.{rules, ◌≡◌, List, Ok, refl, sym, ap, subst, ◌∙◌, Any, Triple, Overlaps, hears, members_at, view, check_triples, with_triples, AreMatched, EngineState, StandsFor, hears_after}
 use Rattle.mg_engine.proofs.TripleLemmas.{refused_there, refused_triples, done_triples, err_is, ok_is, has_still, hears_triples, words_stand}
 use Rattle.mg_engine.proofs.engine.Engine.apply_up_to.Goals.{in-Ok, in-Err}
 use Rattle.mg_engine.proofs.engine.Engine.apply_up_to.Goals as goal

@@ -1,8 +1,4 @@
-use Rattle.mg_engine.proofs.Common.{ℕ, List, refl, sym, ap, subst, ◌∙◌, is_concealed, record_at, view, media_of, EngineState, StandsFor, media_at}
-use Rattle.mg_playout.specs.Playout as play_lists
-use Rattle.mg_engine.specs.Media as media
-use Rattle.mg_engine.specs.aids.Found.{conceals_in}
-use Rattle.mg_engine.specs.aids.MediaSteps.{is_concealing}
+use Rattle.mg_engine.proofs.Common.{ℕ, List, refl, sym, ap, subst, ◌∙◌, is_concealed, record_at, view, media_of, EngineState, StandsFor, media_at, SlotMedia, conceals_in, PlayList, ticked, is_concealing}
 use Rattle.mg_engine.proofs.EditLemmas.{none_too}
 use Rattle.mg_engine.proofs.GatewayLemmas.{has_media, with_slot, with_no_slot}
 use Rattle.mg_engine.proofs.engine.Engine.conceals.Goals as goal
@@ -16,9 +12,9 @@ returns-in-Some c = record {
       (sym c.slot_of.ensures.value ∙ c.in-Some.is) in
       let (s, found, is) = has_media k w c.args.number r stands there in
       c.conceals_in.ensures.value
-      ∙ ap (λ (ms : List media.SlotMedia). is_concealing (media_at ms c.in-Some.slot)) c.as_slice.ensures.value
+      ∙ ap (λ (ms : List SlotMedia). is_concealing (media_at ms c.in-Some.slot)) c.as_slice.ensures.value
       ∙ ap (λ (n : ℕ). is_concealing (media_at k.media n)) (sym slot)
-      ∙ ap (λ (list : play_lists.PlayList). is_concealed ((play_lists.ticked list).1)) is.play
+      ∙ ap (λ (list : PlayList). is_concealed ((ticked list).1)) is.play
       ∙ ap conceals_in (sym found);
 }
 

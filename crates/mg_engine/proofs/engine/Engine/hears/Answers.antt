@@ -1,5 +1,4 @@
-use Rattle.mg_engine.proofs.Common.{sym, ap, subst, ◌∙◌, Place, view, member_place, EngineState, StandsFor}
-use Rattle.mg_flow.specs.Table as table
+use Rattle.mg_engine.proofs.Common.{sym, ap, subst, ◌∙◌, Place, view, member_place, EngineState, StandsFor, hears}
 use Rattle.mg_engine.proofs.FlowLemmas.{hears_places}
 use Rattle.mg_engine.proofs.PlaceLemmas.{on_its_place}
 use Rattle.mg_engine.proofs.engine.Engine.hears.Goals as goal
@@ -12,8 +11,8 @@ returns-in-Some-Some c = record {
       let t = c.in-Some-Some.speaking in
       let l = c.in-Some-Some.hearing in
       c.hears.ensures.kept
-      ∙ ap (λ (p : Place). table.hears k.flows p c.member_place-to.result) c.member_place-from.ensures.value
-      ∙ ap (table.hears k.flows (member_place t)) c.member_place-to.ensures.value
+      ∙ ap (λ (p : Place). hears k.flows p c.member_place-to.result) c.member_place-from.ensures.value
+      ∙ ap (hears k.flows (member_place t)) c.member_place-to.ensures.value
       ∙ hears_places k w c.self.invariant.sound.one_room c.self.invariant.members stands c.args.talker c.args.listener
       t.record l.record (member_place t) (member_place l)
       (on_its_place k.rooms c.args.talker t c.in-Some-Some.ensures.some)

@@ -1,6 +1,4 @@
-use Rattle.mg_engine.proofs.Common.{sym, ap, subst, ◌∙◌, Place, view, IsOnSeat, EngineState, StandsFor}
-use Rattle.mg_flow.specs.Table as table
-use Rattle.mg_engine.specs.Place.{seated_place}
+use Rattle.mg_engine.proofs.Common.{sym, ap, subst, ◌∙◌, Place, view, IsOnSeat, EngineState, StandsFor, hears, seated_place}
 use Rattle.mg_engine.proofs.FlowLemmas.{hears_places}
 use Rattle.mg_engine.proofs.engine.Engine.hears_seated.Goals as goal
 
@@ -14,8 +12,8 @@ returns c = record {
       let (a, first) = subst (λ (x : EngineState). IsOnSeat x.rooms t) (sym c.self.view_is) c.requires.talker in
       let (b, second) = subst (λ (x : EngineState). IsOnSeat x.rooms l) (sym c.self.view_is) c.requires.listener in
       c.hears.ensures.kept
-      ∙ ap (λ (p : Place). table.hears k.flows p c.place-to.result) c.place-from.ensures.value
-      ∙ ap (table.hears k.flows (seated_place t)) c.place-to.ensures.value
+      ∙ ap (λ (p : Place). hears k.flows p c.place-to.result) c.place-from.ensures.value
+      ∙ ap (hears k.flows (seated_place t)) c.place-to.ensures.value
       ∙ hears_places k w c.self.invariant.sound.one_room c.self.invariant.members stands t.number l.number a b
       (seated_place t) (seated_place l) first second;
 }

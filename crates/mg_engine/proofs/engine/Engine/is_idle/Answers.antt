@@ -1,6 +1,4 @@
-use Rattle.mg_engine.proofs.Common.{ℕ, List, length, ap, subst, ◌∙◌, arith, Limits, view, IsIdleEngine}
-use Rattle.mg_engine.specs.Media.{SlotMedia}
-use Rattle.mg_engine.specs.aids.Playing.{IsIdleSlot}
+use Rattle.mg_engine.proofs.Common.{ℕ, List, length, ap, subst, ◌∙◌, arith, Limits, view, IsIdleEngine, SlotMedia, IsIdleSlot}
 use Rattle.mg_engine.proofs.HeldLemmas.{held_below, held_at}
 use Rattle.mg_engine.proofs.engine.Engine.is_idle.Goals as goal
 

@@ -1,5 +1,4 @@
-use Rattle.mg_engine.proofs.Common.{Option, refl, sym, ap, subst, ◌∙◌, Record, SumsState, arrived, at_port, taken_by, EngineState, StandsFor}
-use Rattle.mg_rooms.specs.Registry as rooms
+use Rattle.mg_engine.proofs.Common.{Option, refl, sym, ap, subst, ◌∙◌, Record, SumsState, arrived, at_port, taken_by, EngineState, StandsFor, Registry}
 use Rattle.mg_rtp.specs.aids.Read.{reading_of}
 use Rattle.mg_rtp.proofs.Once.{is_reading}
 use Rattle.mg_engine.proofs.ArrivalLemmas.{media_alone, took_stands}
@@ -10,7 +9,7 @@ returns-in-None c = record {
   work = refl;
   taken = λ w h.
       let reading = reading_of c.read-packet.result in
-      let none = ap (λ (x : rooms.Registry). at_port x c.args.port) h.rooms ∙ sym c.at_port.ensures.value ∙
+      let none = ap (λ (x : Registry). at_port x c.args.port) h.rooms ∙ sym c.at_port.ensures.value ∙
       c.in-None.is in (
         w,
         (
@@ -33,7 +32,7 @@ returns-in-Some c = record {
       let brought = arrived r c.args.source.address reading in
       let (now, represents, stands) = took_stands k w r c.place.new.self.media brought c.place.result
       c.at_port.ensures.sound.one_slot c.in-Some.ensures.found c.in-Some.ensures.slot c.place.ensures.taken h in
-      let here = ap (λ (x : rooms.Registry). at_port x c.args.port) h.rooms ∙ sym c.at_port.ensures.value ∙
+      let here = ap (λ (x : Registry). at_port x c.args.port) h.rooms ∙ sym c.at_port.ensures.value ∙
       c.in-Some.is in (
         now,
         (

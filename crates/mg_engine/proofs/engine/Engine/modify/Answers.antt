@@ -1,6 +1,4 @@
-use Rattle.mg_engine.proofs.Common.{◌<◌, length, refl, sym, ap, subst, ◌∙◌, arith, length-set, same_Some, Record, view, modified, media_with, done_with, member_place, EngineState, StandsFor, RisesAtMost, sound_if}
-use Rattle.mg_rooms.specs.Outcome as commands
-use Rattle.mg_rooms.specs.Registry as rooms
+use Rattle.mg_engine.proofs.Common.{◌<◌, length, refl, sym, ap, subst, ◌∙◌, arith, length-set, same_Some, Record, view, modified, media_with, done_with, member_place, EngineState, StandsFor, RisesAtMost, sound_if, Registry, modify}
 use Rattle.mg_engine.proofs.OutcomeLemmas.{modify_changes}
 use Rattle.mg_engine.proofs.EditLemmas.{slots_kept, held_changed, changed_at, changed_stands}
 use Rattle.mg_engine.proofs.MemberLemmas.{same_others, stayed_at, has_mode, hears_mode}
@@ -111,8 +109,8 @@ returns-clause-outcome c w h =
     let stands = subst (λ (x : EngineState). StandsFor x w) (sym c.self.view_is) h in
     let hears = hears_mode old new n a.was d p k.flows c.take_mode.new.flows sound.one_room sound.one_seat same was on
     (sym context) c.take_mode.ensures.taken w.edits stands.hears in
-    let here = ap (λ (x : rooms.Registry). done_with (modified w settings)
-    (commands.modify x c.args.target n settings)) stands.rooms ∙ ap (done_with (modified w settings)) done in (
+    let here = ap (λ (x : Registry). done_with (modified w settings)
+    (modify x c.args.target n settings)) stands.rooms ∙ ap (done_with (modified w settings)) done in (
       modified w settings new d,
       here,
       changed_stands k new c.tune.new.media.items c.take_mode.new.flows

@@ -1,6 +1,4 @@
-use Rattle.mg_engine.proofs.Common.{◌<◌, ◌∷◌, length, refl, sym, ap, subst, ◌∙◌, arith, length-set, same_Some, Record, view, Enter, Leave, moved, media_with, done_with, member_place, EngineState, StandsFor, RisesAtMost, sound_if}
-use Rattle.mg_rooms.specs.Outcome as commands
-use Rattle.mg_rooms.specs.Registry as rooms
+use Rattle.mg_engine.proofs.Common.{◌<◌, ◌∷◌, length, refl, sym, ap, subst, ◌∙◌, arith, length-set, same_Some, Record, view, Enter, Leave, moved, media_with, done_with, member_place, EngineState, StandsFor, RisesAtMost, sound_if, Registry, move_to}
 use Rattle.mg_engine.proofs.OutcomeLemmas.{move_changes}
 use Rattle.mg_engine.proofs.EditLemmas.{slots_kept, held_changed, changed_at, changed_stands}
 use Rattle.mg_engine.proofs.MemberLemmas.{Hears, same_others, carry, hears_carry, has_left, hears_left, free_place, has_entered, hears_entered}
@@ -145,7 +143,7 @@ returns-clause-outcome c w h =
     c.enter.ensures.entered without (Leave n ∷ w.edits) apart in
     let hears = subst (λ (m : _). Hears new c.enter.new.flows (Enter m ∷ Leave m ∷ w.edits))
     (sym (changed_at k new n d a)) entered in
-    let here = ap (λ (x : rooms.Registry). done_with (moved w settings) (commands.move_to x c.args.target n settings))
+    let here = ap (λ (x : Registry). done_with (moved w settings) (move_to x c.args.target n settings))
     stands.rooms ∙ ap (done_with (moved w settings)) done in (
       moved w settings new d,
       here,

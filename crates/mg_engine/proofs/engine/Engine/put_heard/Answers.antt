@@ -1,6 +1,4 @@
-use Rattle.mg_engine.proofs.Common.{◌+◌, ◌∷◌, ◌++◌, [], List, map, sym, ap, subst, ◌∙◌, range_with_len, byte_of, nearest_sample, view, Share, IsOnPlace, EngineState, heard_now, silenced_now, with_mixes, AreShared, RisesAtMost}
-use Rattle.std.proofs.lemmas.List.Elements.{All-contains}
-use Rattle.mg_engine.specs.aids.Shares.{IsShared, packet_at, shares_in}
+use Rattle.mg_engine.proofs.Common.{◌+◌, ◌∷◌, ◌++◌, [], List, map, sym, ap, subst, ◌∙◌, range_with_len, byte_of, nearest_sample, view, Share, IsOnPlace, EngineState, heard_now, silenced_now, with_mixes, AreShared, RisesAtMost, All-contains, IsShared, packet_at, shares_in}
 use Rattle.mg_engine.proofs.MaskLemmas.{payload_is_on}
 use Rattle.mg_engine.proofs.ShareLemmas.{still_shared, now_shared}
 use Rattle.mg_engine.proofs.engine.Engine.put_heard.Goals as goal

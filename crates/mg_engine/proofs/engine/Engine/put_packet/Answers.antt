@@ -1,5 +1,4 @@
-use Rattle.mg_engine.proofs.Common.{◌≡◌, ℕ, List, [], ◌∷◌, ◌++◌, cond, map, length, length-append, Option, sym, ap, subst, ◌∙◌, arith, option_to_list, is_some, option_map, byte_of, Chosen, Record, holder_of, Datagram, EngineState, sent_to, RisesAtMost, mixed_now, packet_now, sending_work_now, AreShared}
-use Rattle.mg_engine.specs.aids.Sending.{mix_work_now}
+use Rattle.mg_engine.proofs.Common.{◌≡◌, ℕ, List, [], ◌∷◌, ◌++◌, cond, map, length, length-append, Option, sym, ap, subst, ◌∙◌, arith, option_to_list, is_some, option_map, byte_of, Chosen, Record, holder_of, Datagram, EngineState, sent_to, RisesAtMost, mixed_now, packet_now, sending_work_now, AreShared, mix_work_now}
 use Rattle.mg_engine.proofs.SendingLemmas.{found_is}
 use Rattle.mg_engine.proofs.engine.Engine.put_packet.Goals as goal
 

@@ -1,6 +1,4 @@
-use Rattle.mg_engine.proofs.Common.{ℕ, List, get_or, eqb, refl, subst, list_any, eq-eqb}
-use Rattle.std.specs.Prelude.{IsTrue}
-use Rattle.std.proofs.lemmas.List.Folds.{list_any_at}
+use Rattle.mg_engine.proofs.Common.{ℕ, List, get_or, eqb, refl, subst, list_any, eq-eqb, IsTrue, list_any_at}
 use Rattle.mg_engine.proofs.engine.Engine.seated.Goals as goal
 
 pub seated_members-requires-clause-there : goal.seated_members-requires-clause-there

@@ -1,6 +1,5 @@
-use Rattle.mg_engine.proofs.Common.{ℕ, List, Some, refl, sym, ap, subst, ◌∙◌, option_map, record_at, view, TerminationMedia, media_of, EngineState, StandsFor, media_at}
+use Rattle.mg_engine.proofs.Common.{ℕ, List, Some, refl, sym, ap, subst, ◌∙◌, option_map, record_at, view, TerminationMedia, media_of, EngineState, StandsFor, media_at, SlotMedia}
 use Rattle.mg_words.specs.declared.stats.Stats.{Stats}
-use Rattle.mg_engine.specs.Media as media
 use Rattle.mg_engine.proofs.EditLemmas.{none_too}
 use Rattle.mg_engine.proofs.GatewayLemmas.{has_media, with_slot, with_no_slot}
 use Rattle.mg_engine.proofs.engine.Engine.stats.Goals as goal
@@ -14,7 +13,7 @@ returns-in-Some c = record {
       (sym c.slot_of.ensures.value ∙ c.in-Some.is) in
       let (s, found, is) = has_media k w c.args.number r stands there in
       let stats = c.stats_in.ensures.value
-      ∙ ap (λ (ms : List media.SlotMedia). (media_at ms c.in-Some.slot).stats) c.as_slice.ensures.value
+      ∙ ap (λ (ms : List SlotMedia). (media_at ms c.in-Some.slot).stats) c.as_slice.ensures.value
       ∙ ap (λ (n : ℕ). (media_at k.media n).stats) (sym slot)
       ∙ is.stats in
       ap (λ (x : Stats). Some x) stats ∙ ap (option_map (λ (x : TerminationMedia). x.stats)) (sym found);

@@ -1,6 +1,4 @@
-use Rattle.mg_engine.proofs.Common.{ℕ, None, arith, sym, ap, subst, ◌∙◌, view, subtracted, done_with, member_place, EngineState, StandsFor, RisesAtMost, SetsRow, sound_if}
-use Rattle.mg_rooms.specs.Outcome as commands
-use Rattle.mg_rooms.specs.Registry as rooms
+use Rattle.mg_engine.proofs.Common.{ℕ, None, arith, sym, ap, subst, ◌∙◌, view, subtracted, done_with, member_place, EngineState, StandsFor, RisesAtMost, SetsRow, sound_if, Registry, subtract}
 use Rattle.mg_engine.proofs.OutcomeLemmas.{subtract_removes}
 use Rattle.mg_engine.proofs.EditLemmas.{held_removed, removed_stands, gone}
 use Rattle.mg_engine.proofs.MemberLemmas.{same_others, carry, hears_carry, has_left, hears_left, members_all, hears_all}
@@ -82,7 +80,7 @@ returns-clause-outcome c w h =
     (hears_carry old new n c.vacate.new.flows w.edits same
     (hears_left old n d p k.flows c.vacate.new.flows before.one_room before.one_seat was left w.edits
     stands.hears)) in
-    let here = ap (λ (x : rooms.Registry). done_with (subtracted w) (commands.subtract x c.args.target n))
+    let here = ap (λ (x : Registry). done_with (subtracted w) (subtract x c.args.target n))
     stands.rooms ∙ ap (done_with (subtracted w)) done in (
       subtracted w new d,
       here,

@@ -1,5 +1,4 @@
-use Rattle.mg_engine.proofs.Common.{Option, get_or, sym, ap, subst, ◌∙◌, arith, record_at, context_at, view, TerminationMedia, frame_in, EngineState, StandsFor}
-use Rattle.mg_rooms.specs.Registry as rooms
+use Rattle.mg_engine.proofs.Common.{Option, get_or, sym, ap, subst, ◌∙◌, arith, record_at, context_at, view, TerminationMedia, frame_in, EngineState, StandsFor, Registry}
 use Rattle.mg_engine.proofs.GatewayLemmas.{has_media}
 use Rattle.mg_engine.proofs.TotalLemmas.{total_is}
 use Rattle.mg_engine.proofs.engine.Engine.sums.Goals as goal
@@ -12,7 +11,7 @@ returns-clause-represented c w h =
     record {
       frames = λ n r found.
           let (s, there, is) = has_media k w n r stands
-          (ap (λ (x : rooms.Registry). record_at x n) (sym stands.rooms) ∙ found) in
+          (ap (λ (x : Registry). record_at x n) (sym stands.rooms) ∙ found) in
           is.frame ∙ sym (ap (λ (o : Option TerminationMedia). frame_in o) there);
       totals = λ context i x found lt.
           total_is k w context i x sound c.self.invariant.joined sound.by_number
@@ -24,6 +23,6 @@ returns-clause-represented c w h =
           (λ j d lt. let (number, limited) = sound.termination (get_or k.rooms.terminations j d).number
           (get_or k.rooms.terminations j d) (sound.by_number j d lt) in
           omega (arith, limited.slot, sound.consistent.limits.0.few_slots))
-          c.self.invariant.row_count stands (ap (λ (y : rooms.Registry). context_at y context) (sym stands.rooms) ∙
+          c.self.invariant.row_count stands (ap (λ (y : Registry). context_at y context) (sym stands.rooms) ∙
           found);
     }

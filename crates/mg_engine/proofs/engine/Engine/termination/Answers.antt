@@ -1,6 +1,4 @@
-use Rattle.mg_engine.proofs.Common.{◌≡◌, ◌<◌, ◌∙◌, ℕ, length, get_or, map, refl, sym, ap, arith, get_or-map, Registry, holder_of, IsSound, EngineState}
-use Rattle.std.proofs.lemmas.Option.{slice_get-get_or}
-use Rattle.std.specs.List.{slice_get}
+use Rattle.mg_engine.proofs.Common.{◌≡◌, ◌<◌, ◌∙◌, ℕ, length, get_or, map, refl, sym, ap, arith, get_or-map, Registry, holder_of, IsSound, EngineState, slice_get, slice_get-get_or}
 use Rattle.mg_engine.proofs.SendingLemmas.{nobody}
 use Rattle.mg_engine.proofs.engine.Engine.termination.Goals as goal
 

@@ -1,4 +1,4 @@
-use Rattle.mg_engine.specs.Tick.{all_played}
+use Rattle.mg_engine.proofs.Common.{all_played}
 use Rattle.mg_engine.proofs.engine.Engine.tick_without_packets.Goals as goal
 
 pub returns-clause-concealed : goal.returns-clause-concealed

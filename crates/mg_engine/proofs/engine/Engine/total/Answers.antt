@@ -1,5 +1,4 @@
-use Rattle.mg_engine.proofs.Common.{◌<◌, ℕ, ℤ, Some, get_or, w32, sym, ap, subst, ◌∙◌, arith, rules, context_at, total_of, view, EngineState, StandsFor}
-use Rattle.std.proofs.lemmas.Int.{to_z-of_z}
+use Rattle.mg_engine.proofs.Common.{◌<◌, ℕ, ℤ, Some, get_or, w32, sym, ap, subst, ◌∙◌, arith, rules, context_at, total_of, view, EngineState, StandsFor, to_z-of_z}
 use Rattle.mg_engine.proofs.TotalLemmas.{context_with, total_is, total_there}
 use Rattle.mg_engine.proofs.engine.Engine.total.Goals as goal
 

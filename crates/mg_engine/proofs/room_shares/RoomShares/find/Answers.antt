@@ -1,8 +1,4 @@
-use Rattle.mg_engine.proofs.Common.{◌∙◌, ◌-◌, ℕ, List, drop, length, subst, take, take-append-drop}
-use Rattle.std.specs.Prelude.{Contains}
-use Rattle.std.proofs.lemmas.List.Elements.{Contains-append_left, Contains-append_right}
-use Rattle.std.proofs.lemmas.Option.{IfSome_then}
-use Rattle.mg_engine.specs.declared.share.Share.{Share}
+use Rattle.mg_engine.proofs.Common.{◌∙◌, ◌-◌, ℕ, List, drop, length, subst, take, take-append-drop, Contains, Contains-append_left, Contains-append_right, IfSome_then, Share}
 use Rattle.mg_engine.proofs.room_shares.RoomShares.find.Goals as goal
 
 -- what is in a part of a list is in the list

@@ -1,5 +1,4 @@
-use Rattle.mg_engine.proofs.Common.{◌≡◌, ℕ, replicate, ap, ◌∙◌, arith}
-use Rattle.mg_engine.specs.aids.Seating.{place_count}
+use Rattle.mg_engine.proofs.Common.{◌≡◌, ℕ, replicate, ap, ◌∙◌, arith, place_count}
 use Rattle.mg_engine.proofs.seating.Seating.new.Goals as goal
 
 pub returns : goal.returns

@@ -1,8 +1,7 @@
 -- What keeps two gateways in agreement outside some terminations.
-use Rattle.mg_engine.proofs.Common.{◌≡◌, ℕ, ℤ, ◌+◌, eqb, Bool, true, false, cond, ◌&&◌, List, [], ◌∷◌, ◌++◌, map, find, Option, Some, None, Result, Ok, Err, refl, sym, ap, subst, ◌∙◌, eqb-true, option_to_list, option_map, ◌>>=◌, ErrorNumber, Header, Reading, Record, Settings, Target, change, members_at, silence, TopologyTriple, Arrived, arrived, at_port, frame_placed, taken_at, frame_placed_at, taken_by, has, Gateway, TerminationMedia, ContextEdit, Enter, Leave, media_of, new_media, frame_in, added, modified, moved, subtracted, existing_context, done_with, tuned, all_played, played, sends_at, sent, check_triples, with_triples, true≢false, Registry, map-append, counted_up, first_list, frame_of, all_ended, AgreeOutside, IsPortAmong, SamePackets, but_received, unless_among, without_arrivals, EndsAlike, SameEditsKeepAgreement, AgreementIsMutual, SameStatsButReceived, SameTickKeepsAgreement, hears_itself, progress_of}
+use Rattle.mg_engine.proofs.Common.{◌≡◌, ℕ, ℤ, eqb, Bool, true, false, cond, ◌&&◌, List, [], ◌∷◌, ◌++◌, map, find, Option, Some, None, Result, Ok, Err, refl, sym, ap, subst, ◌∙◌, eqb-true, option_to_list, option_map, ◌>>=◌, ErrorNumber, Header, Reading, Record, Settings, Target, change, members_at, TopologyTriple, Arrived, arrived, at_port, frame_placed, taken_at, frame_placed_at, taken_by, has, Gateway, TerminationMedia, ContextEdit, Enter, Leave, media_of, new_media, frame_in, added, modified, moved, subtracted, existing_context, done_with, tuned, all_played, played, sends_at, sent, check_triples, true≢false, Registry, map-append, all_ended, AgreeOutside, IsPortAmong, SamePackets, but_received, unless_among, without_arrivals, EndsAlike, SameEditsKeepAgreement, AgreementIsMutual, SameStatsButReceived, SameTickKeepsAgreement, hears_itself, progress_of, false_from_ne_true}
 use Rattle.mg_rooms.specs.Outcome as commands
 use Rattle.mg_engine.specs.Outcome.{apply_triples}
-use Rattle.mg_engine.proofs.MemberLemmas.{not_so}
 use Rattle.mg_engine.proofs.IsolationLemmas.{packets_depend_on_heard}
 use Rattle.mg_engine.proofs.OrderLemmas.{found_passes}
 
@@ -161,40 +160,16 @@ module _ (some : List ℕ) where
   tuned_media settings n a b h = changes n (λ s. Some (tuned settings s)) (λ s. ap Some (tuned_blind settings s)) a.media
       b.media h.media
 
-  -- triples applied to the members of these rooms, after these edits
-  abbrev applied : Target → List TopologyTriple → Registry → List ContextEdit → Gateway →
-      Result (Gateway × ℕ) ErrorNumber
-  applied target xs z es w = existing_context z target >>=
-      (λ c. check_triples (members_at z c) xs >>=
-      (λ _. Ok (record w { edits = with_triples (members_at z c) xs es }, c)))
-
-  ends_checked : (c : ℕ) (check : Result (Unit {0}) ErrorNumber) (es : List ContextEdit) (a b : Gateway) →
-      AgreeOutside some a b → EndsAlike some (check >>= (λ _. Ok (record a { edits = es }, c)))
-      (check >>= (λ _. Ok (record b { edits = es }, c)))
-  ends_checked c (Ok u) es a b h = (record { config = h.config; rooms = h.rooms; edits = refl; media = h.media }, refl)
-  ends_checked c (Err e) es a b h = refl
-
-  ends_there : (o : Result ℕ ErrorNumber) (check : ℕ → Result (Unit {0}) ErrorNumber) (es : ℕ → List ContextEdit)
-      (a b : Gateway) → AgreeOutside some a b →
-      EndsAlike some (o >>= (λ c. check c >>= (λ _. Ok (record a { edits = es c }, c))))
-      (o >>= (λ c. check c >>= (λ _. Ok (record b { edits = es c }, c))))
-  ends_there (Ok c) check es a b h = ends_checked c (check c) (es c) a b h
-  ends_there (Err e) check es a b h = refl
-
-  ends_applied : (target : Target) (xs : List TopologyTriple) (a b : Gateway) → AgreeOutside some a b →
-      EndsAlike some (applied target xs a.rooms a.edits a) (applied target xs b.rooms b.edits b)
-  ends_applied target xs a b h =
-      let same = ends_there (existing_context a.rooms target) (λ c. check_triples (members_at a.rooms c) xs)
-      (λ c. with_triples (members_at a.rooms c) xs a.edits) a b h in
-      let on_rooms = subst (λ (z : Registry). EndsAlike some (applied target xs a.rooms a.edits a)
-      (applied target xs z a.edits b)) h.rooms same in
-      subst (λ (es : List ContextEdit). EndsAlike some (applied target xs a.rooms a.edits a)
-      (applied target xs b.rooms es b)) h.edits on_rooms
+  bound : {A : Type 0} (o : Result A ErrorNumber) (f g : A → Result (Gateway × ℕ) ErrorNumber) →
+      ((x : A) → EndsAlike some (f x) (g x)) → EndsAlike some (o >>= f) (o >>= g)
+  bound (Ok x) f g h = h x
+  bound (Err e) f g h = refl
 
   ends_triples : (target : Target) (xs : List TopologyTriple) (a b : Gateway) → AgreeOutside some a b →
       EndsAlike some (apply_triples a target xs) (apply_triples b target xs)
   unfolding apply_triples
-  ends_triples target xs a b h = ends_applied target xs a b h
+  ends_triples target xs a b h = rw (sym h.rooms, sym h.edits) (bound (existing_context a.rooms target) _ _
+      (λ c. bound (check_triples (members_at a.rooms c) xs) _ _ (λ _. (assumption h, refl))))
 
   -- ## Arrivals
 
@@ -204,15 +179,9 @@ module _ (some : List ℕ) where
   places : (n : ℕ) (p : Header × List ℤ) (a b : Gateway) (o k : Option TerminationMedia) → AreBothLike o k →
       AgreeOutside some a b → AgreeOutside some (place n p a o) (place n p b k)
   places n p a b None None one h = h
-  places n p a b None (Some t) one h = absurd (cc one)
-  places n p a b (Some s) None one h = absurd (cc one)
   places n p a b (Some s) (Some t) one h =
-      record {
-        config = h.config;
-        rooms = h.rooms;
-        edits = h.edits;
-        media = changes n (λ m. Some (frame_placed p.0 p.1 m)) (λ s. ap Some (placed_blind p s)) a.media b.media h.media;
-      }
+      assumption (changes n (λ m. Some (frame_placed p.0 p.1 m)) (λ s. ap Some (placed_blind p s)) a.media b.media h.media)
+  places n p a b o k one h = absurd (cc one)
 
   arrives : (n : ℕ) (x : Arrived) (a b : Gateway) → AgreeOutside some a b →
       AgreeOutside some (taken_at a n x).0 (taken_at b n x).0
@@ -238,12 +207,7 @@ module _ (some : List ℕ) where
   one_places : (n : ℕ) (p : Header × List ℤ) (a b : Gateway) (o : Option TerminationMedia) → has some n ≡ true →
       AgreeOutside some a b → AgreeOutside some (place n p a o) b
   one_places n p a b None is_one h = h
-  one_places n p a b (Some s) is_one h = record {
-    config = h.config;
-    rooms = h.rooms;
-    edits = h.edits;
-    media = one_changes n p a.media is_one ∙ h.media;
-  }
+  one_places n p a b (Some s) is_one h = assumption (one_changes n p a.media is_one ∙ h.media)
 
   one_arrives : (n : ℕ) (x : Arrived) (a b : Gateway) → has some n ≡ true → AgreeOutside some a b →
       AgreeOutside some (taken_at a n x).0 b
@@ -253,22 +217,13 @@ module _ (some : List ℕ) where
   -- ## Ticks
 
   all_play : (a b : Gateway) → AgreeOutside some a b → AgreeOutside some (all_played a) (all_played b)
-  all_play a b h = record {
-    config = h.config;
-    rooms = h.rooms;
-    edits = h.edits;
-    media = mapped played played_blind a.media b.media h.media;
-  }
+  all_play a b h = assumption (mapped played played_blind a.media b.media h.media)
 
   all_end : (a b : Gateway) → AgreeOutside some a b → AgreeOutside some (all_ended a) (all_ended b)
-  all_end a b h = record {
-    config = h.config;
-    rooms = h.rooms;
-    edits = h.edits;
-    media = subst (λ (z : Registry). AreLike (map (λ s. sent (sends_at a.rooms s.number) s) a.media)
-        (map (λ s. sent (sends_at z s.number) s) b.media)) h.rooms
-        (mapped (λ s. sent (sends_at a.rooms s.number) s) (ended_blind a.rooms) a.media b.media h.media);
-  }
+  all_end a b h = assumption
+      (subst (λ (z : Registry). AreLike (map (λ s. sent (sends_at a.rooms s.number) s) a.media)
+      (map (λ s. sent (sends_at z s.number) s) b.media)) h.rooms
+      (mapped (λ s. sent (sends_at a.rooms s.number) s) (ended_blind a.rooms) a.media b.media h.media))
 
 -- ## The theorems
 
@@ -276,40 +231,27 @@ pub edits_keep : SameEditsKeepAgreement
 edits_keep = record {
   add = λ some a b target settings h.
       ends_on some (added a settings) (added b settings) (λ z. commands.add z target settings) a.rooms b.rooms h.rooms
-      (λ z r. record {
-        config = h.config;
-        rooms = refl;
-        edits = ap (λ es. Enter r.number ∷ es) h.edits;
-        media = map-append (unless_among some) a.media (tuned settings (new_media r.number) ∷ [])
+      (λ z r. assumption (
+        ap (λ (es : List ContextEdit). Enter r.number ∷ es) h.edits,
+        map-append (unless_among some) a.media (tuned settings (new_media r.number) ∷ [])
             ∙ ap (λ ms. ms ++ unless_among some (tuned settings (new_media r.number)) ∷ []) h.media
-            ∙ sym (map-append (unless_among some) b.media (tuned settings (new_media r.number) ∷ []));
-      });
+            ∙ sym (map-append (unless_among some) b.media (tuned settings (new_media r.number) ∷ [])),
+      ));
   modify = λ some a b target n settings h.
       ends_on some (modified a settings) (modified b settings) (λ z. commands.modify z target n settings) a.rooms
-      b.rooms h.rooms
-      (λ z r. record {
-        config = h.config;
-        rooms = refl;
-        edits = h.edits;
-        media = tuned_media some settings r.number a b h;
-      });
+      b.rooms h.rooms (λ z r. assumption (tuned_media some settings r.number a b h));
   move_to = λ some a b target n settings h.
       ends_on some (moved a settings) (moved b settings) (λ z. commands.move_to z target n settings) a.rooms b.rooms
-      h.rooms
-      (λ z r. record {
-        config = h.config;
-        rooms = refl;
-        edits = ap (λ es. Enter r.number ∷ Leave r.number ∷ es) h.edits;
-        media = tuned_media some settings r.number a b h;
-      });
+      h.rooms (λ z r. assumption (
+        ap (λ (es : List ContextEdit). Enter r.number ∷ Leave r.number ∷ es) h.edits,
+        tuned_media some settings r.number a b h,
+      ));
   subtract = λ some a b target n h.
       ends_on some (subtracted a) (subtracted b) (λ z. commands.subtract z target n) a.rooms b.rooms h.rooms
-      (λ z r. record {
-        config = h.config;
-        rooms = refl;
-        edits = ap (λ es. Leave r.number ∷ es) h.edits;
-        media = changes some r.number (λ _. None) (λ s. refl) a.media b.media h.media;
-      });
+      (λ z r. assumption (
+        ap (λ (es : List ContextEdit). Leave r.number ∷ es) h.edits,
+        changes some r.number (λ _. None) (λ s. refl) a.media b.media h.media,
+      ));
   triples = λ some a b target xs h. ends_triples some target xs a b h;
 }
 
@@ -359,10 +301,10 @@ same_packets some a b r h none =
     (seen some progress_of (λ s. refl) (media_of first r.number) (media_of second r.number)
     (found some r.number first.media second.media after.media))
     (λ talker flows. ap frame_in (media_same some first second talker after
-    (not_so (has some talker)
+    (false_from_ne_true (has some talker)
     (λ among. true≢false (sym flows ∙ none.others talker among)))))
     (λ own. ap frame_in (media_same some first second r.number after
-    (not_so (has some r.number)
+    (false_from_ne_true (has some r.number)
     (λ among. true≢false (sym (ap (λ (x : Bool). x && hears_itself a r.number) among ∙ own) ∙ none.own)))))
 
 pub same_stats : SameStatsButReceived

@@ -1,5 +1,5 @@
 -- The names that most proofs of this crate cite, passed on from one place. Declares nothing.
-pub use Rattle.std.proofs.Common.{Bool, Err, IsTrue, List, None, Ok, Option, Result, Some, [], ap, arith, cond, drop, eqb, false, find, get_or, if◌then◌else◌, inl, inr, length, length-append, map, min, nat_eq, nat_le, nat_lt, not, pos, refl, replicate, rules, set, subst, suc, sym, take, take-append-drop, true, w32, zero, ℕ, ℤ, ◌%◌, ◌&&◌, ◌*◌, ◌++◌, ◌+ℤ◌, ◌+◌, ◌-◌, ◌/◌, ◌<◌, ◌==◌, ◌^◌, ◌||◌, ◌∙◌, ◌∷◌, ◌≡◌, ◌≢◌, ◌≤◌, ◌⊎◌}
+pub use Rattle.std.proofs.Common.{Bool, Err, IsTrue, List, None, Ok, Option, Result, Some, [], ap, arith, cond, drop, eqb, false, find, get_or, if◌then◌else◌, inl, inr, length, length-append, map, min, nat_lt, not, pos, refl, replicate, rules, set, subst, suc, sym, take, take-append-drop, true, w32, zero, ℕ, ℤ, ◌%◌, ◌&&◌, ◌*◌, ◌++◌, ◌+ℤ◌, ◌+◌, ◌-◌, ◌<◌, ◌==◌, ◌^◌, ◌||◌, ◌∙◌, ◌∷◌, ◌≡◌, ◌≢◌, ◌≤◌}
 pub use Rattle.mg_engine.specs.Apart.{AgreeOutside, IsPortAmong, SamePackets, but_received, unless_among, without_arrivals}
 pub use Rattle.mg_engine.specs.Arrival.{Arrived, Takes, arrived, at_port, frame_placed, taken, taken_at}
 pub use Rattle.mg_engine.specs.Config.{HasControlPort, limits_of}
@@ -18,7 +18,7 @@ pub use Rattle.mg_engine.specs.Work.{RisesAtMost, sending_work, silenced_for, ti
 pub use Rattle.mg_engine.specs.aids.Agreement.{AgreementIsMutual, EndsAlike, OneArrivalKeepsAgreement, SameArrivalKeepsAgreement, SameEditsKeepAgreement, SameStatsButReceived, SameTickKeepsAgreement}
 pub use Rattle.mg_engine.specs.aids.Found.{conceals_in, context_in, frame_in, has_destination, mode_or_inactive, packet_to, taken_by}
 pub use Rattle.mg_engine.specs.aids.Joined.{AreJoined, SetsRow, room_for, room_of_row}
-pub use Rattle.mg_engine.specs.aids.MediaSteps.{frame_played, header, initial_media, is_concealing, slot_ended, slot_passed, slot_placed, slot_played, slot_ticked}
+pub use Rattle.mg_engine.specs.aids.MediaSteps.{frame_played, header, initial_media, is_concealing, slot_ended, slot_passed, slot_placed, slot_played, slot_ticked, slot_tuned}
 pub use Rattle.mg_engine.specs.aids.Members.{HasMembers}
 pub use Rattle.mg_engine.specs.aids.Placing.{frame_placed_at}
 pub use Rattle.mg_engine.specs.aids.Playing.{AreApart, HasPassed, HaveTicked, IsIdleEngine, IsIdleSlot, IsPlayed}
@@ -37,13 +37,13 @@ pub use Rattle.mg_flow.specs.Table.{KeepsOthers, KeepsPlaces, RoomFlows, SetsPla
 pub use Rattle.mg_flow.specs.declared.place.Place.{Place}
 pub use Rattle.mg_g711.specs.Law.{byte_of}
 pub use Rattle.mg_playout.specs.Played.{is_concealed, sound_of}
-pub use Rattle.mg_playout.specs.Playout.{PlayList, first_list, is_idle, placed, ticked, ticked_in}
-pub use Rattle.mg_rooms.proofs.CountLemmas.{count-cons, count-found, count-push, counted_any, find-change_other, find-found, find-none, find-push_none, find-push_other, one}
+pub use Rattle.mg_playout.specs.Playout.{PlayList, is_idle, placed, ticked, ticked_in}
+pub use Rattle.mg_rooms.proofs.CountLemmas.{count-cons, count-found, count-push, counted_any, find-change_other, find-found, find-none, find-push_none, find-push_other, one, count-zero}
 pub use Rattle.mg_rooms.proofs.LastLemmas.{add_lasts, entered_terminations, move_lasts, next_is_new, record_replaced, subtract_lasts}
 pub use Rattle.mg_rooms.proofs.OutcomeLemmas.{Enters, add_done, bind_ok, modify_done, move_done, subtract_done}
 pub use Rattle.mg_rooms.proofs.SoundLemmas.{sound_if}
 pub use Rattle.mg_rooms.specs.Changes.{change, inserted, replaced}
-pub use Rattle.mg_rooms.specs.Consistent.{IsConsistent, IsContext, IsTermination}
+pub use Rattle.mg_rooms.specs.Consistent.{IsConsistent, IsTermination}
 pub use Rattle.mg_rooms.specs.Lasting.{Lasts, LeavesOthers}
 pub use Rattle.mg_rooms.specs.Limits.{slot_port}
 pub use Rattle.mg_rooms.specs.Member.{ExistsAs}
@@ -62,7 +62,7 @@ pub use Rattle.mg_rtp.specs.Reading.{IsPacketReading, Reading}
 pub use Rattle.mg_rtp.specs.declared.header.Header.{Header}
 pub use Rattle.mg_sdp.specs.declared.chosen.Chosen.{Chosen}
 pub use Rattle.mg_sums.proofs.HeardLemmas.{map_agree}
-pub use Rattle.mg_sums.proofs.SumLemmas.{sum_of-cons, sum_of-filter, sum_of-map, sum_of-nil, sum_of-none, sum_of-plus, sum_of-same}
+pub use Rattle.mg_sums.proofs.SumLemmas.{sum_of-cons, sum_of-filter, sum_of-map, sum_of-nil, sum_of-none, sum_of-plus, sum_of-same, sum_of-ones, sum_of-agree}
 pub use Rattle.mg_sums.specs.Samples.{frame_or_silence, nearest_sample, silence}
 pub use Rattle.mg_sums.specs.Sums.{SumsState, frame_of_row, total_of}
 pub use Rattle.mg_topology.specs.Mask.{has_seat, seat_limit}
@@ -76,17 +76,20 @@ pub use Rattle.mg_words.specs.declared.error_number.ErrorNumber.{ErrorNumber}
 pub use Rattle.mg_words.specs.declared.error_number.ErrorNumber.TheVariants.{IdentifierNotAllowed, IllegalCombination, NotInContext}
 pub use Rattle.mg_words.specs.declared.mode.Mode.{Mode}
 pub use Rattle.std.proofs.Math.Seq.{get_or-append_seam, set-append_seam, take-append_seam}
-pub use Rattle.std.proofs.lemmas.Bool.{and_from, and_parts, cases_Bool, cases_eq, eq-eqb, eqb-false, eqb-true, lt-ltb, ne_eqb, not-true, or_right, true≢false}
+pub use Rattle.std.proofs.lemmas.Bool.{and_from, and_parts, and_right, cases_Bool, cases_eq, eq-eqb, eqb-false, eqb-true, false_from_ne_true, lt-ltb, ne_eqb, not-true, true≢false, not-false}
 pub use Rattle.std.proofs.lemmas.Bool.Decides.{nat_tests}
 pub use Rattle.std.proofs.lemmas.Int.{ints, to_z-of_z}
-pub use Rattle.std.proofs.lemmas.List.{drop_more, get_or-append-add, get_or-map, get_or-replicate, get_or-set_other, get_or-set_same, get_or_default, length-map, length-replicate, length-set, length_push, map-append, map-id, same_lists, set-set, take_more}
-pub use Rattle.std.proofs.lemmas.List.Elements.{All-cons, All-contains, All-map, All-nil, All-push, All-weaker, Contains-append_left, Contains-append_right, filter_map-append, filter_passes}
+pub use Rattle.std.proofs.lemmas.List.{drop_more, get_or-append-add, get_or-map, get_or-replicate, get_or-set_other, get_or-set_same, get_or_default, length-map, length-replicate, length-set, length_push, map-append, map-id, same_lists, set-set, take_more, get_or_append_left}
+pub use Rattle.std.proofs.lemmas.List.Elements.{All-cons, All-contains, All-map, All-nil, All-push, All-weaker, Contains-append_left, Contains-append_right, filter_map-append, filter_passes, All-head, All-tail}
 pub use Rattle.std.proofs.lemmas.List.Folds.{list_any_at}
 pub use Rattle.std.proofs.lemmas.List.FromFn.{get_or-map-range_with_len, get_or-range_with_len, length-map-range_with_len, length-range_with_len}
 pub use Rattle.std.proofs.lemmas.List.Sums.{sum_by-cons, sum_by_more}
 pub use Rattle.std.proofs.lemmas.Option.{IfSome_then, same_Some, slice_get-get_or}
 pub use Rattle.std.proofs.lemmas.Simd.{map-map}
 pub use Rattle.std.specs.Int.{from_bool}
-pub use Rattle.std.specs.List.{AllByRecursion, cons_option, list_all, list_any, range_with_len, refill, slice_get}
+pub use Rattle.std.specs.List.{cons_option, list_all, list_any, range_with_len, refill, slice_get}
 pub use Rattle.std.specs.Option.{option_map, option_map_or}
 pub use Rattle.std.specs.Prelude.{All, AllPairs, Any, Contains, IfSome, IsFalse, IsSome, count_by, filter, filter_map, is_some, option_to_list, slice_index_or, sum_by, ◌↔◌}
+pub use Rattle.std.proofs.Math.Bool.{and-false, or_comm}
+pub use Rattle.mg_engine.specs.declared.engine.Engine.TheInside.{Inside}
+pub use Rattle.mg_engine.specs.aids.Whole.{IsWholeEngine}

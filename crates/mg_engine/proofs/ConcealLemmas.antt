@@ -1,8 +1,7 @@
 -- How many frames of a tick are concealed, by slots and by terminations.
-use Rattle.mg_engine.proofs.Common.{◌≡◌, ℕ, suc, ◌+◌, ◌<◌, Bool, true, false, cond, List, [], ◌∷◌, length, map, get_or, take, Some, refl, sym, ap, ◌∙◌, arith, count_by, sum_by-cons, is_concealed, PlayList, Record, Gateway, EngineState, StandsFor, media_at, Registry, record_at, SlotMedia, conceals_in, ticked, is_concealing, conceals, concealed_in_tick, from_bool, sum_by_more}
+use Rattle.mg_engine.proofs.Common.{◌≡◌, ℕ, ◌+◌, ◌<◌, Bool, true, false, cond, List, length, map, get_or, take, Some, refl, sym, ap, ◌∙◌, arith, count_by, is_concealed, PlayList, Record, Gateway, EngineState, StandsFor, media_at, Registry, record_at, SlotMedia, conceals_in, ticked, is_concealing, conceals, concealed_in_tick, from_bool, sum_by_more, IsSound}
 use Rattle.mg_engine.proofs.GatewayLemmas.{has_media}
-use Rattle.mg_engine.proofs.PlaceLemmas.{ByNumber}
-use Rattle.mg_engine.proofs.SendingLemmas.{nobody}
+use Rattle.mg_engine.proofs.SumLemmas.{sum_by-agree, sum_by-map}
 
 abbrev pub conceals_slot : List SlotMedia → ℕ → Bool
 conceals_slot kept slot = is_concealing (media_at kept slot)
@@ -21,20 +20,6 @@ pub counted_more : (kept : List SlotMedia) (slots : List ℕ) (i : ℕ) (b : Boo
 counted_more kept slots i b within is =
     omega (arith, byte_is b, ap one is, sum_by_more (λ slot. cond (conceals_slot kept slot) 1 0) slots i 0 within)
 
--- two counts over one list that agree on each of it
-counts_agree : {A : Type 0} (f g : A → ℕ) (p q : ℕ → Bool) (xs : List A) (d : A) →
-    ((i : ℕ) → i < length xs → p (f (get_or xs i d)) ≡ q (g (get_or xs i d))) →
-    count_by p (map f xs) ≡ count_by q (map g xs)
-counts_agree f g p q [] d same = refl
-counts_agree f g p q (x ∷ xs) d same =
-    omega (
-      arith,
-      sum_by-cons (λ y. cond (p y) 1 0) (f x) (map f xs),
-      sum_by-cons (λ y. cond (q y) 1 0) (g x) (map g xs),
-      ap one (same 0 (omega arith)),
-      counts_agree f g p q xs d (λ i within. same (suc i) (omega (arith, within))),
-    )
-
 -- a termination's play list conceals a frame where its slot's does
 same_concealing : (k : EngineState) (w : Gateway) → StandsFor k w → (n : ℕ) (r : Record) →
     record_at k.rooms n ≡ Some r → conceals_slot k.media r.slot ≡ conceals w n
@@ -42,12 +27,13 @@ same_concealing k w h n r found =
     let (s, there, is) = has_media k w n r h found in
     ap (λ (list : PlayList). is_concealed ((ticked list).1)) is.play ∙ ap conceals_in (sym there)
 
-pub concealed_is : (k : EngineState) (w : Gateway) (slots : List ℕ) → StandsFor k w → ByNumber k.rooms →
+pub concealed_is : (k : EngineState) (w : Gateway) (slots : List ℕ) → StandsFor k w → IsSound k.rooms →
     slots ≡ map (λ r. r.slot) k.rooms.terminations → count_by (conceals_slot k.media) slots ≡ concealed_in_tick w
-concealed_is k w slots h by_number held =
+concealed_is k w slots h sound held =
+    let rs = k.rooms.terminations in
     ap (count_by (conceals_slot k.media)) held
-    ∙ counts_agree (λ (r : Record). r.slot) (λ (r : Record). r.number) (conceals_slot k.media) (conceals w)
-    k.rooms.terminations nobody
-    (λ i within. same_concealing k w h (get_or k.rooms.terminations i nobody).number
-    (get_or k.rooms.terminations i nobody) (by_number i nobody within))
+    ∙ sum_by-map (λ slot. one (conceals_slot k.media slot)) (λ (r : Record). r.slot) rs
+    ∙ sum_by-agree (λ r. one (conceals_slot k.media r.slot)) (λ r. one (conceals w r.number)) rs
+    (λ i d lt. let r = get_or rs i d in ap one (same_concealing k w h r.number r (sound.by_number i d lt)))
+    ∙ sym (sum_by-map (λ n. one (conceals w n)) (λ (r : Record). r.number) rs)
     ∙ ap (λ (x : Registry). count_by (conceals w) (map (λ (r : Record). r.number) x.terminations)) (sym h.rooms)

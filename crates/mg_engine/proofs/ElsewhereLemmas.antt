@@ -1,15 +1,15 @@
 -- What a command on a termination leaves of a context that it isn't about.
-use Rattle.mg_engine.proofs.Common.{◌≡◌, ◌≢◌, ℕ, ◌<◌, eqb, Bool, true, false, Some, Ok, refl, sym, ap, subst, ◌∙◌, arith, IsSome, ne_eqb, Record, Settings, Target, is_number, Registry, record_at, context_at, members_at, IsSound, has, eqb-false, Enters, add_done, modify_done, move_done, subtract_done, next_is_new, record_replaced, add_lasts, move_lasts, subtract_lasts, add, modify, move_to, subtract, LeavesOthers}
-use Rattle.mg_engine.proofs.MemberLemmas.{neither, not_so, some_context}
+use Rattle.mg_engine.proofs.Common.{◌≡◌, ◌≢◌, ℕ, ◌<◌, eqb, false, Some, Ok, refl, sym, ap, subst, ◌∙◌, arith, IsSome, Record, Settings, Target, is_number, Registry, record_at, context_at, members_at, IsSound, has, eqb-false, Enters, add_done, modify_done, move_done, subtract_done, next_is_new, record_replaced, add_lasts, move_lasts, subtract_lasts, add, modify, move_to, subtract, LeavesOthers, false_from_ne_true, true≢false}
+use Rattle.mg_engine.proofs.MemberLemmas.{some_context}
 
 -- a termination that is no member of a context is in another
 in_another : (w : Registry) (c n : ℕ) (r : Record) → IsSound w → record_at w n ≡ Some r →
     has (members_at w c) n ≡ false → c ≢ r.context
-in_another w c n r h found out same = neither (sym ((h.members c n).1 (r, found, sym same)) ∙ out)
+in_another w c n r h found out same = true≢false (sym ((h.members c n).1 (r, found, sym same)) ∙ out)
 
 -- the termination that is made next is no member of any context before
 newcomer : (w : Registry) (c n : ℕ) → IsSound w → n ≡ w.next_termination → has (members_at w c) n ≡ false
-newcomer w c n h next = not_so (has (members_at w c) n) (λ e.
+newcomer w c n h next = false_from_ne_true (has (members_at w c) n) (λ e.
     let (r, found, _) = (h.members c n).0 e in
     let none = ap (record_at w) next ∙ next_is_new w h.consistent in absurd (cc))
 

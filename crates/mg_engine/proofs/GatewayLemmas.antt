@@ -1,5 +1,5 @@
 -- What is looked up in a world that an engine stands for.
-use Rattle.mg_engine.proofs.Common.{inl, inr, ◌≡◌, ℕ, suc, ◌<◌, eqb, Bool, true, false, cond, ℤ, length, get_or, subst, arith, List, [], ◌∷◌, map, Option, Some, None, refl, sym, ap, ◌∙◌, option_map, eqb-true, same_Some, Record, record_at, Gateway, TerminationMedia, media_of, Config, EngineState, StandsFor, IsMediaOf, media_at, find, cases_Bool, nat_tests, SlotMedia, frame_of_row}
+use Rattle.mg_engine.proofs.Common.{inl, inr, ◌≡◌, ℕ, suc, ◌<◌, eqb, Bool, ℤ, length, get_or, subst, arith, List, [], ◌∷◌, map, Option, Some, None, refl, sym, option_map, eqb-true, same_Some, Record, record_at, Gateway, TerminationMedia, media_of, Config, EngineState, StandsFor, IsMediaOf, media_at, find, cases_Bool, nat_tests, SlotMedia, frame_of_row}
 use Rattle.mg_rooms.proofs.OrderLemmas as orders
 
 abbrev some : {A : Type 0} → A → Option A

@@ -1,34 +1,24 @@
 -- Who isn't heard.
-use Rattle.mg_engine.proofs.Common.{◌≡◌, ℕ, ℤ, pos, ◌+◌, ◌-◌, ◌*◌, ◌%◌, ◌^◌, ◌<◌, eqb, not, ◌&&◌, ◌||◌, Bool, true, false, List, [], ◌∷◌, ◌++◌, length, map, get_or, find, Option, Some, None, refl, sym, ap, ◌∙◌, arith, if◌then◌else◌, range_with_len, option_map, same_Some, eqb-true, eq-eqb, byte_of, header_bytes, plain, Chosen, talks, Record, slot_port, nearest_sample, map_agree, sum_of-same, Datagram, Gateway, TerminationMedia, ContextEdit, Enter, Leave, Apply, media_of, frame_in, may_hear, played_sample, is_loopback, sent_to, type_of, slice_index_or, list_all, not-true, and_parts, Registry, part_of_mix, heard, mix, mixed, get_or-append-add, get_or-map-range_with_len, listens, packet_to, frame_of, mode_of, context_of, numbers_of, packet, header_of, NoneHearsItself, leaves_isolated, IsolatedAreNotHeard, replayed, with_frame, hears_itself, progress_of, PacketsDependOnHeard, OwnSpeechChangesNoPacket, UnheardChangesNoPacket, PayloadsAreMixes, permits, Isolate}
+use Rattle.mg_engine.proofs.Common.{◌≡◌, ℕ, ℤ, pos, ◌+◌, ◌-◌, ◌*◌, ◌%◌, ◌^◌, ◌<◌, eqb, not, ◌&&◌, ◌||◌, Bool, true, false, List, [], ◌∷◌, ◌++◌, length, map, get_or, Option, Some, None, refl, sym, ap, ◌∙◌, arith, if◌then◌else◌, range_with_len, option_map, same_Some, eq-eqb, byte_of, header_bytes, plain, Chosen, talks, Record, slot_port, nearest_sample, map_agree, sum_of-same, Datagram, Gateway, TerminationMedia, ContextEdit, Enter, Leave, Apply, media_of, frame_in, may_hear, played_sample, is_loopback, sent_to, type_of, slice_index_or, list_all, not-true, and_parts, Registry, part_of_mix, heard, mix, mixed, get_or-append-add, get_or-map-range_with_len, listens, packet_to, frame_of, mode_of, context_of, numbers_of, packet, header_of, NoneHearsItself, leaves_isolated, IsolatedAreNotHeard, replayed, with_frame, hears_itself, progress_of, PacketsDependOnHeard, OwnSpeechChangesNoPacket, UnheardChangesNoPacket, PayloadsAreMixes, permits, Isolate, map-map, or_comm, and_right, ne_eqb, true≢false}
+use Rattle.mg_engine.proofs.GatewayLemmas.{found_in_map, found_key}
 use Rattle.mg_sums.specs.Samples.{sum_of}
 use Rattle.mg_engine.specs.Flow.{flow, is_forward, mentions}
-
-and_none : (x y : Bool) → y ≡ false → (x && y) ≡ false
-and_none true y h = h
-and_none false y h = refl
 
 pub none_hears_itself : NoneHearsItself
 none_hears_itself w n =
     let rest = talks (mode_of w n) && (listens (mode_of w n) && may_hear w.edits n n) in
-    and_none (eqb (context_of w n) (context_of w n)) (not (eqb n n) && rest)
+    and_right (eqb (context_of w n) (context_of w n)) (not (eqb n n) && rest)
     (ap (λ (b : Bool). not b && rest) (eq-eqb n n refl))
 
 -- ## Isolated
-
-or_other : (x y : Bool) → (x || y) ≡ (y || x)
-or_other true true = refl
-or_other true false = refl
-or_other false true = refl
-or_other false false = refl
 
 not_heard : (since : List ContextEdit) (first second : List ℕ) (before : List ContextEdit) (a b : ℕ) →
     mentions first second a b ≡ true → list_all (leaves_isolated a b) since ≡ true
     → may_hear (since ++ Apply first second Isolate ∷ before) a b ≡ false
 not_heard [] first second before a b on left = ap (λ (x : Bool). if x then false else may_hear before a b) on
 not_heard (Enter n ∷ since) first second before a b on left =
-    let rest = may_hear (since ++ Apply first second Isolate ∷ before) a b in
     let all = list_all (leaves_isolated a b) since in
-    ap (λ (x : Bool). if x then true else rest)
+    ap (λ (x : Bool). if x then true else (may_hear (since ++ Apply first second Isolate ∷ before) a b))
     (not-true (eqb a n || eqb b n) (and_parts (not (eqb a n || eqb b n)) all left).0)
     ∙ not_heard since first second before a b on (and_parts (not (eqb a n || eqb b n)) all left).1
 not_heard (Leave n ∷ since) first second before a b on left = not_heard since first second before a b on left
@@ -40,9 +30,9 @@ not_heard (Apply f s association ∷ since) first second before a b on left =
     ∙ not_heard since first second before a b on (and_parts (not (mentions f s a b)) all left).1
 
 leaves_both : (a b : ℕ) (e : ContextEdit) → leaves_isolated b a e ≡ leaves_isolated a b e
-leaves_both a b (Enter n) = ap not (or_other (eqb b n) (eqb a n))
+leaves_both a b (Enter n) = ap not (or_comm (eqb b n) (eqb a n))
 leaves_both a b (Leave n) = refl
-leaves_both a b (Apply first second association) = ap not (or_other (is_forward first second b a) (is_forward first second a b))
+leaves_both a b (Apply first second association) = ap not (or_comm (is_forward first second b a) (is_forward first second a b))
 
 all_leave : (a b : ℕ) (es : List ContextEdit) → list_all (leaves_isolated b a) es ≡ list_all (leaves_isolated a b) es
 all_leave a b [] = refl
@@ -51,11 +41,10 @@ all_leave a b (e ∷ es) = ap (λ (x : Bool). x && list_all (leaves_isolated b a
 
 no_flow : (w : Gateway) (a b : ℕ) → may_hear w.edits a b ≡ false → flow w a b ≡ false
 no_flow w a b h =
-    let heard = and_none (listens (mode_of w b)) (may_hear w.edits a b) h in
-    let talked = and_none (talks (mode_of w a)) (listens (mode_of w b) && may_hear w.edits a b) heard in
-    let apart = and_none (not (eqb a b)) (talks (mode_of w a) && (listens (mode_of w b) && may_hear w.edits a b))
-    talked in
-    and_none (eqb (context_of w a) (context_of w b))
+    let heard = and_right (listens (mode_of w b)) (may_hear w.edits a b) h in
+    let apart = and_right (not (eqb a b)) (talks (mode_of w a) && (listens (mode_of w b) && may_hear w.edits a b))
+    (and_right (talks (mode_of w a)) (listens (mode_of w b) && may_hear w.edits a b) heard) in
+    and_right (eqb (context_of w a) (context_of w b))
     (not (eqb a b) && (talks (mode_of w a) && (listens (mode_of w b) && may_hear w.edits a b))) apart
 
 pub isolated_are_not_heard : IsolatedAreNotHeard
@@ -64,7 +53,7 @@ isolated_are_not_heard w a b h = (
       not_heard h.since h.first h.second h.before a b h.isolated h.left),
   no_flow w b a (ap (λ (es : List ContextEdit). may_hear es b a) h.edits
       ∙ not_heard h.since h.first h.second h.before b a
-      (or_other (is_forward h.first h.second b a) (is_forward h.first h.second a b) ∙ h.isolated)
+      (or_comm (is_forward h.first h.second b a) (is_forward h.first h.second a b) ∙ h.isolated)
       (all_leave a b h.since ∙ h.left)),
 )
 
@@ -130,11 +119,10 @@ module _ (a b : Gateway) (same_rooms : a.rooms ≡ b.rooms) (same_edits : a.edit
       option_map progress_of o ≡ option_map progress_of k → mixed a r.number ≡ mixed b r.number →
       option_map (packet a r to) o ≡ option_map (packet b r to) k
   sent_same r to None None same e samples = refl
-  sent_same r to None (Some t) same e samples = absurd (cc e)
-  sent_same r to (Some s) None same e samples = absurd (cc e)
   sent_same r to (Some s) (Some t) same e samples =
       ap (λ (d : Datagram). let o : Option Datagram = Some d in o)
       (packet_same r to s t (header_same to s t same (same_Some (progress_of s) (progress_of t) e)) samples)
+  sent_same r to o k same e samples = absurd (cc e)
 
   packet_to_same : (r : Record) (to : Option Chosen) → a.config ≡ b.config →
       option_map progress_of (media_of a r.number) ≡ option_map progress_of (media_of b r.number) →
@@ -157,47 +145,25 @@ module _ (t : ℕ) (frame : List ℤ) where
     cases true = refl
     cases false = refl
 
-  media_stays : (n : ℕ) (xs : List TerminationMedia) →
-      find (λ s. eqb s.number n) (map (replayed t frame) xs) ≡
-      option_map (replayed t frame) (find (λ s. eqb s.number n) xs)
-  media_stays n [] = refl
-  media_stays n (s ∷ xs) = rw (number_stays s)
-      (step (eqb s.number n) (find (λ s. eqb s.number n) (map (replayed t frame) xs)) (find (λ s. eqb s.number n) xs)
-      (media_stays n xs)) where
-        step : (b : Bool) (rest kept : Option TerminationMedia) → rest ≡ option_map (replayed t frame) kept →
-            (if b then Some (replayed t frame s) else rest) ≡ option_map (replayed t frame) (if b then Some s else kept)
-        step true rest kept e = refl
-        step false rest kept e = e
+  media_stays : (w : Gateway) (n : ℕ) → media_of (with_frame w t frame) n ≡ option_map (replayed t frame) (media_of w n)
+  media_stays w n = found_in_map (λ s. s.number) (replayed t frame) n w.media number_stays
 
   -- another's frame stays
-  frame_by : (s : TerminationMedia) → eqb s.number t ≡ false → (replayed t frame s).frame ≡ s.frame
-  frame_by s e = ap (λ (b : Bool). (if b then record s { frame = frame } else s).frame) e
-
-  frame_found : (n : ℕ) → eqb n t ≡ false → (xs : List TerminationMedia) →
-      frame_in (option_map (replayed t frame) (find (λ s. eqb s.number n) xs)) ≡
-      frame_in (find (λ s. eqb s.number n) xs)
-  frame_found n apart [] = refl
-  frame_found n apart (s ∷ xs) = step (eqb s.number n) refl (frame_found n apart xs) where
-    step : (b : Bool) → eqb s.number n ≡ b → frame_in (option_map (replayed t frame) (find (λ s. eqb s.number n) xs))
-        ≡ frame_in (find (λ s. eqb s.number n) xs)
-        → frame_in (option_map (replayed t frame) (if b then Some s else find (λ s. eqb s.number n) xs)) ≡
-        frame_in (if b then Some s else find (λ s. eqb s.number n) xs)
-    step true e rest = frame_by s (ap (λ (k : ℕ). eqb k t) (eqb-true s.number n e) ∙ apart)
-    step false e rest = rest
-
   frame_stays : (w : Gateway) (n : ℕ) → eqb n t ≡ false → frame_of (with_frame w t frame) n ≡ frame_of w n
-  frame_stays w n apart = ap frame_in (media_stays n w.media) ∙ frame_found n apart w.media
+  frame_stays w n apart = ap frame_in (media_stays w n) ∙ kept (media_of w n) refl where
+    kept : (o : Option TerminationMedia) → media_of w n ≡ o → frame_in (option_map (replayed t frame) o) ≡ frame_in o
+    kept None e = refl
+    kept (Some s) e = ap (λ (b : Bool). (if b then record s { frame = frame } else s).frame)
+        (ap (λ (k : ℕ). eqb k t) (found_key (λ x. x.number) n w.media s e) ∙ apart)
 
   -- whoever flows to one to whom t doesn't isn't t
   not_it : (w : Gateway) (listener k : ℕ) → flow w t listener ≡ false → flow w k listener ≡ true → eqb k t ≡ false
-  not_it w listener k none some = cases (eqb k t) refl where
-    cases : (b : Bool) → eqb k t ≡ b → b ≡ false
-    cases true e = sym some ∙ ap (λ (x : ℕ). flow w x listener) (eqb-true k t e) ∙ none
-    cases false e = refl
+  not_it w listener k none some =
+      ne_eqb k t (λ same. true≢false (sym some ∙ ap (λ (x : ℕ). flow w x listener) same ∙ none))
 
   progress_stays : (w : Gateway) (n : ℕ) → option_map progress_of (media_of (with_frame w t frame) n) ≡
       option_map progress_of (media_of w n)
-  progress_stays w n = ap (option_map progress_of) (media_stays n w.media) ∙ each (media_of w n) where
+  progress_stays w n = ap (option_map progress_of) (media_stays w n) ∙ each (media_of w n) where
     one : (s : TerminationMedia) (b : Bool) → progress_of (if b then record s { frame = frame } else s) ≡ progress_of s
     one s true = refl
     one s false = refl
@@ -222,7 +188,7 @@ unheard_changes_no_packet w t frame r none other =
 pub own_speech_changes_no_packet : OwnSpeechChangesNoPacket
 own_speech_changes_no_packet w frame r h =
     unheard_changes_no_packet w r.number frame r (none_hears_itself w r.number)
-    (and_none (eqb r.number r.number) (hears_itself w r.number) h)
+    (and_right (eqb r.number r.number) (hears_itself w r.number) h)
 
 -- ## Payloads
 
@@ -230,11 +196,8 @@ payload_at : (head : List ℕ) (f : ℤ → ℕ) (g : ℕ → ℤ) (i : ℕ) →
     get_or (head ++ map f (map g (range_with_len 0 160))) (12 + i) 0 ≡ f (g i)
 payload_at head f g i long lt = ap (λ (n : ℕ). get_or (head ++ map f (map g (range_with_len 0 160))) (n + i) 0)
     (sym long) ∙ get_or-append-add head (map f (map g (range_with_len 0 160))) i 0
-    ∙ ap (λ (xs : List ℕ). get_or xs i 0) (map_map (range_with_len 0 160)) ∙
-    get_or-map-range_with_len (λ k. f (g k)) 0 160 i i 0 lt (omega arith) where
-      map_map : (xs : List ℕ) → map f (map g xs) ≡ map (λ k. f (g k)) xs
-      map_map [] = refl
-      map_map (x ∷ xs) = ap (λ (ys : List ℕ). f (g x) ∷ ys) (map_map xs)
+    ∙ ap (λ (xs : List ℕ). get_or xs i 0) (map-map f g (range_with_len 0 160)) ∙
+    get_or-map-range_with_len (λ k. f (g k)) 0 160 i i 0 lt (omega arith)
 
 pub payloads_are_mixes : PayloadsAreMixes
 payloads_are_mixes w r to s i lt = payload_at (header_bytes plain (header_of w to s)) (byte_of to.law)

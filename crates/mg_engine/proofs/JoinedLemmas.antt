@@ -1,17 +1,13 @@
 -- The rooms that the rows of terminations are joined to, when one of them changes.
-use Rattle.mg_engine.proofs.Common.{◌≡◌, ◌≢◌, ℕ, eqb, Bool, true, false, cond, List, Option, Some, None, refl, sym, ap, ◌∙◌, eqb-true, eq-eqb, ne_eqb, Limits, Record, Registry, record_at, Place, IsOnPlace, AreJoined, SetsRow, room_for, start_of, room_of_row}
-use Rattle.mg_engine.proofs.MemberLemmas.{SameOthers, no_record, unequal}
+use Rattle.mg_engine.proofs.Common.{◌≡◌, ◌≢◌, ℕ, eqb, Bool, true, false, cond, List, Option, Some, None, refl, sym, ap, ◌∙◌, eqb-true, eq-eqb, ne_eqb, IsSound, Limits, Record, Registry, record_at, Place, IsOnPlace, AreJoined, SetsRow, room_for, start_of, room_of_row}
+use Rattle.mg_engine.proofs.MemberLemmas.{SameOthers, no_record, another, unequal}
 use Rattle.mg_engine.proofs.PlaceLemmas.{one_record, one_place}
-
--- no two terminations have one slot
-abbrev pub Slots : Registry → Type 0
-Slots w = (a b : ℕ) (r s : Record) → record_at w a ≡ Some r → record_at w b ≡ Some s → r.slot ≡ s.slot → a ≡ b
 
 no_room : (room : ℕ) → Option.Some room ≡ None → ⊥
 no_room room h = cc h
 
 -- one is on a place, with the slot that it had if it was there before
-module _ (old new : Registry) (n : ℕ) (r : Record) (p : Place) (before after : List (Option ℕ)) (slots : Slots new)
+module _ (old new : Registry) (n : ℕ) (r : Record) (p : Place) (before after : List (Option ℕ)) (sound : IsSound new)
     (same : SameOthers old new n) (on : IsOnPlace new n r p)
     (mine : (was : Record) → record_at old n ≡ Some was → was.slot ≡ r.slot)
     (set : SetsRow before after r.slot (room_for r.mode p.room)) (h : AreJoined old before) where
@@ -30,16 +26,15 @@ module _ (old new : Registry) (n : ℕ) (r : Record) (p : Place) (before after :
       let apart = unequal m n e in
       set x.slot
       ∙ ap (λ (b : Bool). cond b (room_for r.mode p.room) (room_of_row before x.slot))
-      (ne_eqb x.slot r.slot (λ equal. apart (slots m n x r there.found on.found equal)))
+      (ne_eqb x.slot r.slot (λ equal. apart (sound.one_slot m n x r there.found on.found equal)))
       ∙ h.each m x q ((same m x q apart).1 there)
 
   nobody_case : (row room : ℕ) → room_of_row after row ≡ Some room → (b : Bool) → eqb row r.slot ≡ b → (m : ℕ) ×
       (x : Record) × (q : Place) × IsOnPlace new m x q × (x.slot ≡ row)
   nobody_case row room joined true e = (n, r, p, on, sym (eqb-true row r.slot e))
   nobody_case row room joined false e =
-      let was = sym (set row ∙ ap (λ (b : Bool). cond b (room_for r.mode p.room) (room_of_row before row)) e)
-      ∙ joined in
-      let (m, x, q, there, slot) = h.nobody row room was in
+      let (m, x, q, there, slot) = h.nobody row room
+      (sym (set row ∙ ap (λ (b : Bool). cond b (room_for r.mode p.room) (room_of_row before row)) e) ∙ joined) in
       let apart : m ≢ n = λ (equal : m ≡ n). unequal row r.slot e
       (sym slot ∙ mine x (ap (record_at old) (sym equal) ∙ there.found)) in
       (m, x, q, (same m x q apart).0 there, slot)
@@ -51,16 +46,16 @@ module _ (old new : Registry) (n : ℕ) (r : Record) (p : Place) (before after :
   }
 
 -- one is there no longer
-module _ (old new : Registry) (n : ℕ) (was : Record) (before after : List (Option ℕ)) (slots : Slots old)
+module _ (old new : Registry) (n : ℕ) (was : Record) (before after : List (Option ℕ)) (sound : IsSound old)
     (same : SameOthers old new n) (there : record_at old n ≡ Some was) (gone : record_at new n ≡ None)
     (set : SetsRow before after was.slot None) (h : AreJoined old before) where
   each_left : (m : ℕ) (x : Record) (q : Place) → IsOnPlace new m x q → room_of_row after x.slot ≡ room_for x.mode q.room
   each_left m x q on =
-      let apart : m ≢ n = λ (equal : m ≡ n). no_record x (sym on.found ∙ ap (record_at new) equal ∙ gone) in
+      let apart = another new m n x on.found gone in
       let at_first = (same m x q apart).1 on in
       set x.slot
       ∙ ap (λ (b : Bool). cond b None (room_of_row before x.slot))
-      (ne_eqb x.slot was.slot (λ equal. apart (slots m n x was at_first.found there equal)))
+      (ne_eqb x.slot was.slot (λ equal. apart (sound.one_slot m n x was at_first.found there equal)))
       ∙ h.each m x q at_first
 
   nobody_left : (row room : ℕ) → room_of_row after row ≡ Some room → (b : Bool) → eqb row was.slot ≡ b → (m : ℕ) ×

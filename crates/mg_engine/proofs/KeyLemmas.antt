@@ -1,5 +1,5 @@
 -- Lists that are changed at a key, and what is found in them.
-use Rattle.mg_engine.proofs.Common.{◌≡◌, ℕ, zero, suc, ◌+◌, ◌<◌, ◌≤◌, length, get_or, eqb, not, Bool, true, false, cond, List, [], ◌∷◌, ◌++◌, map, Option, Some, None, refl, sym, ap, ◌∙◌, arith, count_by, option_to_list, option_map, eq-eqb, map-append, change, find, filter, one, count-cons, count-found, count-push, counted_any, find-none, find-push_none, nat_tests, list_any_at}
+use Rattle.mg_engine.proofs.Common.{◌≡◌, ℕ, zero, suc, ◌<◌, ◌≤◌, length, get_or, eqb, not, Bool, true, List, [], ◌∷◌, ◌++◌, map, Option, Some, None, refl, ap, ◌∙◌, arith, count_by, option_to_list, option_map, map-append, change, find, filter, one, count-cons, count-found, count-push, counted_any, find-none, find-push_none, nat_tests, list_any_at}
 
 -- where one passes at most, and the last does, none before it does
 pub none_before_last : {A : Type 0} (p : A → Bool) (xs : List A) (x : A) → p x ≡ true → count_by p (xs ++ x ∷ []) ≤ 1 →

@@ -1,41 +1,20 @@
 -- Sums over the seats of a mask, as sums over the terminations that are on them.
-use Rattle.mg_engine.proofs.Common.{◌≡◌, ℕ, ◌<◌, ◌≤◌, ◌&&◌, eqb, Bool, true, false, cond, ℤ, pos, List, map, get_or, inl, inr, Option, Some, None, refl, sym, ap, ◌∙◌, arith, IsSome, range_with_len, option_map, cases_eq, eqb-true, eq-eqb, seat_limit, has_seat, Record, Context, record_at, context_at, IsSound, Place, sibling_place, nearest_sample, sum_of-same, place_of, IsOnPlace, slot_at, AreSeated, sample_at, flows_between, heard_now, byte_of, map_agree, EngineState, IsTrue, count_by, and_from, Registry, nat_tests, RoomFlows, flows, is_seated_in, sits_among, heard_on, payload_on}
+use Rattle.mg_engine.proofs.Common.{◌≡◌, ℕ, ◌≤◌, ◌&&◌, eqb, Bool, true, false, cond, ℤ, pos, List, map, get_or, Option, Some, None, refl, sym, ap, ◌∙◌, arith, range_with_len, option_map, eqb-true, eq-eqb, ne_eqb, seat_limit, has_seat, Record, record_at, context_at, IsSound, Place, sibling_place, nearest_sample, sum_of-same, place_of, IsOnPlace, slot_at, AreSeated, sample_at, flows_between, heard_now, byte_of, map_agree, EngineState, IsTrue, count_by, and_from, Registry, RoomFlows, flows, is_seated_in, sits_among, heard_on, payload_on, count-found}
 use Rattle.mg_topology.specs.Mask.{seats_of}
 use Rattle.mg_sums.specs.Samples.{sum_of}
 use Rattle.mg_g711.specs.declared.law.Law.{Law}
-use Rattle.mg_engine.proofs.SendingLemmas.{nobody}
-use Rattle.mg_engine.proofs.PlaceLemmas.{ByNumber, HaveContexts, OneRoom, seated, place, hears_apart, no_hearing}
-use Rattle.mg_engine.proofs.SeatSums.{sum-seats_of, found_counts, seat_sums}
-
--- ## Places
-
--- a context in which somebody with this seat is on a place
-abbrev Seats : ℕ → Option Context → Place → Type 0
-Seats seat o p = (x : Context) × (o ≡ Some x) × (seated seat x ≡ p)
-
-pub seats_there : (seat : ℕ) (o : Option Context) (p : Place) → option_map (seated seat) o ≡ Some p → Seats seat o p
-seats_there seat (Some x) p e = (x, refl, cc e)
-seats_there seat None p e = absurd (cc e)
-
-there_is : (o : Option Context) → IsSome o → (x : Context) × (o ≡ Some x)
-there_is (Some x) h = (x, refl)
-there_is None h = absurd (cc h)
-
-pub somewhere : (seat : ℕ) (o : Option Context) → IsSome o → option_map (seated seat) o ≡ None → ⊥
-somewhere seat (Some x) h e = absurd (cc e)
-somewhere seat None h e = absurd (cc h)
+use Rattle.mg_engine.proofs.MemberLemmas.{unequal}
+use Rattle.mg_engine.proofs.PlaceLemmas.{seated, place, at, on_place, in_one_context, hears_apart, no_hearing}
+use Rattle.mg_engine.proofs.SeatSums.{sum-seats_of, seat_sums}
 
 -- ## Who sits on the seats of a mask
 
 -- a test tells the seats of the mask, and nobody in another room
 module _ (p : Place) (mask : ℕ) (test : Place → Bool) (kept : (seat : ℕ) → has_seat mask seat ≡ test (sibling_place p seat))
     (apart : (q : Place) → eqb q.room p.room ≡ false → test q ≡ false) where
-  here : (q : Place) → q.room ≡ p.room → sibling_place p q.seat ≡ q
-  here q same = ap (λ (r : ℕ). let x : Place = record { room = r; seat = q.seat } in x) (sym same)
-
   seated_by : (q : Place) (b : Bool) → eqb q.room p.room ≡ b → (eqb q.room p.room && has_seat mask q.seat) ≡ test q
   seated_by q true e = ap (λ (b : Bool). b && has_seat mask q.seat) e ∙ kept q.seat ∙
-      ap test (here q (eqb-true q.room p.room e))
+      ap (λ (r : ℕ). test (record { room = r; seat = q.seat })) (sym (eqb-true q.room p.room e))
   seated_by q false e = ap (λ (b : Bool). b && has_seat mask q.seat) e ∙ sym (apart q e)
 
   pub seated_is : (q : Place) → is_seated_in p.room mask (Some q) ≡ test q
@@ -68,12 +47,8 @@ module _ (k : EngineState) (l : Record) (p : Place) (mask : ℕ) (on : place_of 
 
 -- ## Sums over seats
 
-abbrev pub SeatWithin : Registry → Type 0
-SeatWithin w = (n : ℕ) (r : Record) → record_at w n ≡ Some r → r.seat < seat_limit
-
-module _ (w : Registry) (seating : List ℕ) (l : Record) (p : Place) (y : Context) (mask : ℕ) (sound : IsSound w)
-    (seats : AreSeated w seating) (by_number : ByNumber w) (there : HaveContexts w) (one_room : OneRoom w)
-    (within : SeatWithin w) (context : context_at w l.context ≡ Some y) (is : seated l.seat y ≡ p)
+module _ (w : Registry) (seating : List ℕ) (l : Record) (p : Place) (mask : ℕ) (sound : IsSound w)
+    (seats : AreSeated w seating) (here : place_of w l ≡ Some p)
     (held : (seat : ℕ) → IsTrue (has_seat mask seat) → (n : ℕ) × (r : Record) × IsOnPlace w n r (sibling_place p seat))
     (f : ℕ → ℤ) where
   abbrev on_seat : ℕ → ℤ
@@ -82,21 +57,15 @@ module _ (w : Registry) (seating : List ℕ) (l : Record) (p : Place) (y : Conte
   abbrev seat_part : ℕ → ℤ
   seat_part seat = cond (has_seat mask seat) (on_seat seat) (pos 0)
 
-  abbrev is_in : Record → Bool
-  is_in t = eqb t.context l.context
-
   abbrev pub seated_part : Record → ℤ
   seated_part t = cond (sits_among w p.room mask t) (f t.slot) (pos 0)
-
-  room_is : y.room ≡ p.room
-  room_is = ap (λ (x : Place). x.room) is
 
   -- one in the listener's context is on a seat beside it
   beside_it : (t : Record) → t.context ≡ l.context → place_of w t ≡ Some (sibling_place p t.seat)
   beside_it t same =
-      ap (λ (c : ℕ). option_map (seated t.seat) (context_at w c)) same
-      ∙ ap (option_map (seated t.seat)) context
-      ∙ ap (λ (r : ℕ). place (record { room = r; seat = t.seat })) room_is
+      let a = at w l p here in
+      ap (λ (c : ℕ). option_map (seated t.seat) (context_at w c)) same ∙ ap (option_map (seated t.seat)) a.found ∙
+      ap (λ (r : ℕ). place (record { room = r; seat = t.seat })) (sym a.room)
 
   part_is : (t : Record) (b : Bool) → record_at w t.number ≡ Some t → eqb t.context l.context ≡ b →
       seated_part t ≡ cond b (seat_part t.seat) (pos 0)
@@ -108,29 +77,20 @@ module _ (w : Registry) (seating : List ℕ) (l : Record) (p : Place) (y : Conte
       ∙ ap (λ (b : Bool). cond (b && has_seat mask t.seat) (f t.slot) (pos 0)) (eq-eqb p.room p.room refl)
       ∙ ap (λ (s : ℕ). cond (has_seat mask t.seat) (f s) (pos 0)) (sym slot)
   part_is t false found e =
-      let (x, is_there) = there_is (context_at w t.context) (there t.number t found) in
-      let differ : eqb x.room p.room ≡ false = elim (cases_eq x.room p.room) [
-        | inl same ↦ absurd (let no : t.context ≡ l.context =
-            one_room t.context l.context x y is_there context (same ∙ sym room_is) in let yes =
-            eq-eqb t.context l.context no in cc (yes, e))
-        | inr other ↦ grind (arith, nat_tests)
-      ] in
-      ap (λ (o : Option Context). cond (is_seated_in p.room mask (option_map (seated t.seat) o)) (f t.slot) (pos 0))
-      is_there
-      ∙ ap (λ (b : Bool). cond (b && has_seat mask t.seat) (f t.slot) (pos 0)) differ
+      let (q, on) = on_place w t.number t sound found in
+      ap (λ (o : Option Place). cond (is_seated_in p.room mask o) (f t.slot) (pos 0)) on.place ∙
+      ap (λ (b : Bool). cond (b && has_seat mask q.seat) (f t.slot) (pos 0)) (ne_eqb q.room p.room
+      (λ same. unequal t.context l.context e (in_one_context w t l q p sound on.place here same)))
 
   -- a seat of the mask is that of a member of the listener's context
   counted : (seat : ℕ) → IsTrue (has_seat mask seat) →
       1 ≤ count_by (λ t. eqb t.context l.context && eqb t.seat seat) w.terminations
   counted seat h =
       let (n, r, on) = held seat h in
-      let (x, at, placed) = seats_there r.seat (context_at w r.context) (sibling_place p seat) on.place in
-      let same : r.context ≡ l.context = one_room r.context l.context x y at context
-      (ap (λ (q : Place). q.room) placed ∙ sym room_is) in
-      let sits : r.seat ≡ seat = ap (λ (q : Place). q.seat) placed in
-      found_counts (λ t. eqb t.number n) (λ t. eqb t.context l.context && eqb t.seat seat) r w.terminations on.found
+      let same = in_one_context w r l (sibling_place p seat) p sound on.place here refl in
+      count-found (λ t. eqb t.context l.context && eqb t.seat seat) (λ t. eqb t.number n) w.terminations r on.found
       (and_from (eqb r.context l.context) (eqb r.seat seat) (eq-eqb r.context l.context same)
-      (eq-eqb r.seat seat sits))
+      (eq-eqb r.seat seat (sym (at w r (sibling_place p seat) on.place).seat)))
 
   silent_at : (seat : ℕ) (b : Bool) → has_seat mask seat ≡ b →
       count_by (λ t. eqb t.context l.context && eqb t.seat seat) w.terminations ≡ 0 →
@@ -141,9 +101,10 @@ module _ (w : Registry) (seating : List ℕ) (l : Record) (p : Place) (y : Conte
   pub sum_on_seats : sum_of on_seat (seats_of mask) ≡ sum_of seated_part w.terminations
   sum_on_seats =
       sum-seats_of mask on_seat
-      ∙ seat_sums w.terminations is_in (λ t. t.seat) seat_limit seat_part seated_part nobody
-      (λ j lt. within (get_or w.terminations j nobody).number (get_or w.terminations j nobody) (by_number j nobody lt))
-      (λ j lt. part_is (get_or w.terminations j nobody) (eqb (get_or w.terminations j nobody).context l.context)
-      (by_number j nobody lt) refl)
+      ∙ seat_sums w.terminations (λ t. eqb t.context l.context) (λ t. t.seat) seat_limit seat_part seated_part
+      (λ j d lt. let r = get_or w.terminations j d in
+      omega (arith, (sound.termination r.number r (sound.by_number j d lt)).1.seat))
+      (λ j d lt. let r = get_or w.terminations j d in
+      part_is r (eqb r.context l.context) (sound.by_number j d lt) refl)
       (λ seat. sound.consistent.terminations.one_seat l.context seat)
       (λ seat none. silent_at seat (has_seat mask seat) refl none)

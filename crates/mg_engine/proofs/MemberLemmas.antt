@@ -1,31 +1,39 @@
 -- The table of who hears whom when one member enters, leaves or has another mode.
-use Rattle.mg_engine.proofs.Common.{◌≡◌, ◌≢◌, ℕ, eqb, ◌||◌, Bool, true, false, cond, List, [], ◌∷◌, Option, Some, None, refl, sym, ap, subst, ◌∙◌, is_some, option_map, eqb-true, eq-eqb, Context, Record, Limits, Registry, record_at, context_at, Place, RoomFlows, hears, ContextEdit, Enter, may_hear, place_of, IsOnPlace, ShareContext, AreSeated, HasMembers, IsTrue, IsFalse, start_of, is_same_place, are_together, holds, talks_at, listens_at, SetsPlace, Lasts}
+use Rattle.mg_engine.proofs.Common.{◌≡◌, ◌≢◌, ℕ, eqb, ◌||◌, Bool, true, false, cond, List, [], ◌∷◌, Option, Some, None, refl, sym, ap, subst, ◌∙◌, is_some, option_map, eqb-true, eq-eqb, ne_eqb, Context, Record, Limits, Registry, record_at, context_at, Place, RoomFlows, hears, ContextEdit, Enter, may_hear, IsOnPlace, ShareContext, AreSeated, HasMembers, IsSound, IsTrue, IsFalse, start_of, Lasts, is_same_place, are_together, holds, talks_at, listens_at, SetsPlace, talks, listens, and_parts, true≢false, false_from_ne_true}
 use Rattle.mg_flow.specs.Table as flow
 use Rattle.mg_engine.specs.aids.Members.{Enters, Leaves, TakesMode, SaysOf}
-use Rattle.mg_engine.proofs.PlaceLemmas.{HaveContexts, OneSeat, OneRoom, at, one_record, one_place, one_member, in_one_room, both, apart_places}
+use Rattle.mg_engine.proofs.PlaceLemmas.{at, seated, place, one_record, one_place, one_member, in_one_room, apart_places}
 
 same_is : (p : Place) → is_same_place p p ≡ true
 same_is p = rw (eq-eqb p.room p.room refl, eq-eqb p.seat p.seat refl) refl
 
 is_place : (p q : Place) → is_same_place p q ≡ true → p ≡ q
 is_place p q h =
-    let (room, seat) = both (eqb p.room q.room) (eqb p.seat q.seat) h in
-    ap (λ (x : ℕ). let y : Place = record { room = x; seat = p.seat } in y) (eqb-true p.room q.room room)
-    ∙ ap (λ (x : ℕ). let y : Place = record { room = q.room; seat = x } in y) (eqb-true p.seat q.seat seat)
-
-pub neither : true ≡ false → ⊥
-neither h = cc h
-
-pub not_so : (b : Bool) → (b ≡ true → ⊥) → b ≡ false
-not_so true h = absurd (h refl)
-not_so false h = refl
+    let (room, seat) = and_parts (eqb p.room q.room) (eqb p.seat q.seat) h in
+    λ i. record { room = eqb-true p.room q.room room i; seat = eqb-true p.seat q.seat seat i }
 
 -- two members of one context are on different seats
-pub seats_differ : (w : Registry) (talker listener : ℕ) (t l : Record) (a b : Place) → OneRoom w → OneSeat w →
+pub seats_differ : (w : Registry) (talker listener : ℕ) (t l : Record) (a b : Place) → IsSound w →
     ShareContext w talker listener t l a b → eqb a.seat b.seat ≡ false
-seats_differ w talker listener t l a b rooms seats s = not_so (eqb a.seat b.seat) (λ e.
-    s.apart (one_member w talker listener t l a b rooms seats s.first s.second
-    (in_one_room w t l a b s.first.place s.second.place s.same) (eqb-true a.seat b.seat e)))
+seats_differ w talker listener t l a b sound s = ne_eqb a.seat b.seat (λ same.
+    s.apart (one_member w talker listener t l a b sound s.first s.second
+    (in_one_room w t l a b s.first.place s.second.place s.same) same))
+
+pub unequal : (m n : ℕ) → eqb m n ≡ false → m ≢ n
+unequal m n e same = true≢false (sym (eq-eqb m n same) ∙ e)
+
+-- who is on another place is another
+unlike : (w : Registry) (m n : ℕ) (x r : Record) (q p : Place) → IsOnPlace w m x q → IsOnPlace w n r p →
+    is_same_place q p ≡ false → m ≢ n
+unlike w m n x r q p there on e same = true≢false
+    (sym (same_is p) ∙ ap (λ (z : Place). is_same_place z p) (sym (one_place w m n x r q p there on same)) ∙ e)
+
+pub no_record : (r : Record) → Option.Some r ≡ None → ⊥
+no_record r h = cc h
+
+-- one that is there is another than one that isn't
+pub another : (w : Registry) (m n : ℕ) (r : Record) → record_at w m ≡ Some r → record_at w n ≡ None → m ≢ n
+another w m n r found none same = no_record r (sym found ∙ ap (record_at w) same ∙ none)
 
 -- ## Others than one
 
@@ -44,51 +52,29 @@ pub some_context : (o : Option Context) → is_some o ≡ true → (x : Context)
 some_context (Some x) h = (x, refl)
 some_context None h = absurd (cc h)
 
-placed : (w : Registry) (r : Record) (p : Place) (y : Context) → context_at w r.context ≡ Some y → p.room ≡ y.room →
-    p.seat ≡ r.seat → place_of w r ≡ Some p
-placed w r p y there room seat =
-    ap (option_map (λ x. let z : Place = record { room = x.room; seat = r.seat } in z)) there
-    ∙ ap (λ (x : ℕ). let z : Option Place = Some (record { room = x; seat = r.seat }) in z) (sym room)
-    ∙ ap (λ (x : ℕ). let z : Option Place = Some (record { room = p.room; seat = x }) in z) (sym seat)
-
-stays : (old new : Registry) (m : ℕ) (r : Record) (p : Place) → HaveContexts new → KeepsRooms old new →
-    record_at new m ≡ record_at old m → IsOnPlace old m r p → IsOnPlace new m r p
-stays old new m r p there keeps same on =
+-- one on a place, perhaps with another record later, of the same context and seat
+carried : (old new : Registry) (m : ℕ) (r q : Record) (p : Place) → IsSound new → KeepsRooms old new →
+    record_at new m ≡ Some q → q.context ≡ r.context → q.seat ≡ r.seat → IsOnPlace old m r p → IsOnPlace new m q p
+carried old new m r q p sound keeps found context seat on =
     let a = at old r p on.place in
-    let (y, now) = some_context (context_at new r.context) (there m r (same ∙ on.found)) in
-    record {
-      found = same ∙ on.found;
-      place = placed new r p y now (a.room ∙ sym (keeps r.context a.context y a.found now)) a.seat;
-    }
+    let (y, there) = some_context (context_at new q.context) (sound.there m q found) in
+    let room = a.room ∙ sym (keeps r.context a.context y a.found (ap (context_at new) (sym context) ∙ there)) in
+    let is : seated q.seat y ≡ p = λ i. record { room = sym room i; seat = sym (a.seat ∙ sym seat) i } in
+    record { found = found; place = ap (option_map (seated q.seat)) there ∙ ap place is }
 
-stayed : (old new : Registry) (m : ℕ) (r : Record) (p : Place) → HaveContexts old → KeepsRooms old new →
-    record_at new m ≡ record_at old m → IsOnPlace new m r p → IsOnPlace old m r p
-stayed old new m r p there keeps same on =
-    let a = at new r p on.place in
-    let (x, was) = some_context (context_at old r.context) (there m r (sym same ∙ on.found)) in
-    record {
-      found = sym same ∙ on.found;
-      place = placed old r p x was (a.room ∙ keeps r.context x a.context was a.found) a.seat;
-    }
-
-pub same_others : (old new : Registry) (n : ℕ) → HaveContexts old → HaveContexts new → KeepsRooms old new →
+pub same_others : (old new : Registry) (n : ℕ) → IsSound old → IsSound new → KeepsRooms old new →
     Others old new n → SameOthers old new n
-same_others old new n before after keeps others m r p apart =
-    (stays old new m r p after keeps (others m apart), stayed old new m r p before keeps (others m apart))
+same_others old new n before after keeps others m r p apart = (
+  λ on. carried old new m r r p after keeps (others m apart ∙ on.found) refl refl on,
+  λ on. carried new old m r r p before (λ c x y a b. sym (keeps c y x b a)) (sym (others m apart) ∙ on.found) refl refl on,
+)
 
 -- one with another record, in the same context, was on the same place
-pub stayed_at : (old new : Registry) (n : ℕ) (r q : Record) (p : Place) → HaveContexts old → Lasts old new →
+pub stayed_at : (old new : Registry) (n : ℕ) (r q : Record) (p : Place) → IsSound old → Lasts old new →
     record_at old n ≡ Some r → q.context ≡ r.context → IsOnPlace new n q p → IsOnPlace old n r p
-stayed_at old new n r q p there lasts was context on =
-    let a = at new q p on.place in
-    let (x, is) = some_context (context_at old r.context) (there n r was) in
-    let seat = lasts.seat n r q was on.found context in
-    let now = ap (context_at new) (sym context) ∙ a.found in
-    record {
-      found = was;
-      place = placed old r p x is (a.room ∙ lasts.room r.context x a.context is now)
-          (a.seat ∙ seat);
-    }
+stayed_at old new n r q p sound lasts was context on =
+    carried new old n q r p sound (λ c x y a b. sym (lasts.room c y x b a)) was (sym context)
+    (sym (lasts.seat n r q was on.found context)) on
 
 -- the table has the members other than n, and nobody else
 pub record HasOthers (w : Registry) (n : ℕ) (table : List RoomFlows) : Type 0 where
@@ -120,16 +106,12 @@ hears_carry old new n table es same h talker listener t l p q one two s = h talk
   apart = s.apart;
 })
 
-pub no_record : (r : Record) → Option.Some r ≡ None → ⊥
-no_record r h = cc h
-
 -- one that isn't there is none of the members
 pub unknown : (w : Registry) (n : ℕ) (table : List RoomFlows) → record_at w n ≡ None → HasMembers w table →
     HasOthers w n table
 unknown w n table none h = record {
-  each = λ m r p apart on. h.each m r p on;
-  nobody = λ p held. let (m, r, on) = h.nobody p held in
-      (m, r, (λ same. no_record r (sym on.found ∙ ap (record_at w) same ∙ none)), on);
+  each = λ m r p on. h.each m r p;
+  nobody = λ p held. let (m, r, on) = h.nobody p held in (m, r, another w m n r on.found none, on);
 }
 
 pub hears_some : (w : Registry) (n : ℕ) (table : List RoomFlows) (es : List ContextEdit) → Hears w table es →
@@ -140,15 +122,14 @@ hears_some w n table es h talker listener t l p q one two s = h talker listener 
 pub members_all : (w : Registry) (n : ℕ) (table : List RoomFlows) → record_at w n ≡ None → HasOthers w n table →
     HasMembers w table
 members_all w n table none h = record {
-  each = λ m r p on. h.each m r p (λ same. no_record r (sym on.found ∙ ap (record_at w) same ∙ none)) on;
+  each = λ m r p on. h.each m r p (another w m n r on.found none) on;
   nobody = λ p held. let (m, r, apart, on) = h.nobody p held in (m, r, on);
 }
 
 pub hears_all : (w : Registry) (n : ℕ) (table : List RoomFlows) (es : List ContextEdit) → record_at w n ≡ None →
     HearsOthers w n table es → Hears w table es
-hears_all w n table es none h talker listener t l p q s =
-    h talker listener t l p q (λ same. no_record t (sym s.first.found ∙ ap (record_at w) same ∙ none))
-    (λ same. no_record l (sym s.second.found ∙ ap (record_at w) same ∙ none)) s
+hears_all w n table es none h talker listener t l p q s = h talker listener t l p q
+    (another w talker n t s.first.found none) (another w listener n l s.second.found none) s
 
 -- ## One place of a table
 
@@ -167,34 +148,52 @@ module _ (old new : List RoomFlows) (p : Place) (held does_talk does_listen : Bo
   held_here : holds new p ≡ held
   held_here = set.held p ∙ ap (λ (b : Bool). cond b held (holds old p)) (same_is p)
 
-  talks_here : talks_at new p ≡ does_talk
-  talks_here = set.talkers p ∙ ap (λ (b : Bool). cond b does_talk (talks_at old p)) (same_is p)
+-- one is on its place, with its mode, and the table has the others
+module _ (w : Registry) (n : ℕ) (r : Record) (p : Place) (old new : List RoomFlows) (sound : IsSound w)
+    (on : IsOnPlace w n r p) (set : SetsPlace old new p true (talks r.mode) (listens r.mode))
+    (each : (m : ℕ) (x : Record) (q : Place) → m ≢ n → IsOnPlace w m x q → SaysOf old x q)
+    (nobody : (q : Place) → is_same_place q p ≡ false → IsTrue (holds old q) →
+    (m : ℕ) × (x : Record) × IsOnPlace w m x q) where
+  set_says : (m : ℕ) (x : Record) (q : Place) → IsOnPlace w m x q → (b : Bool) → eqb m n ≡ b → SaysOf new x q
+  set_says m x q there true e =
+      let same = eqb-true m n e in
+      rw (one_place w m n x r q p there on same, one_record w m n x r there.found on.found same) (record {
+        held = held_here old new p true _ _ set;
+        talks = set.talkers p ∙ ap (λ (b : Bool). cond b (talks r.mode) (talks_at old p)) (same_is p);
+        listens = set.listeners p ∙ ap (λ (b : Bool). cond b (listens r.mode) (listens_at old p)) (same_is p);
+      })
+  set_says m x q there false e =
+      let apart = unequal m n e in
+      elsewhere old new p true _ _ set q x (apart_places w m n x r q p sound there on apart)
+      (each m x q apart there)
 
-  listens_here : listens_at new p ≡ does_listen
-  listens_here = set.listeners p ∙ ap (λ (b : Bool). cond b does_listen (listens_at old p)) (same_is p)
+  set_nobody : (q : Place) → IsTrue (holds new q) → (b : Bool) → is_same_place q p ≡ b →
+      (m : ℕ) × (x : Record) × IsOnPlace w m x q
+  set_nobody q held true e = (n, r, subst (λ (z : Place). IsOnPlace w n r z) (sym (is_place q p e)) on)
+  set_nobody q held false e = nobody q e (held_elsewhere old new p true _ _ set q e held)
+
+  has_set : HasMembers w new
+  has_set = record {
+    each = λ m x q there. set_says m x q there (eqb m n) refl;
+    nobody = λ q held. set_nobody q held (is_same_place q p) refl;
+  }
 
 -- ## One leaves
 
-module _ (w : Registry) (n : ℕ) (r : Record) (p : Place) (old new : List RoomFlows) (rooms : OneRoom w)
-    (seats : OneSeat w)
+module _ (w : Registry) (n : ℕ) (r : Record) (p : Place) (old new : List RoomFlows) (sound : IsSound w)
     (on : IsOnPlace w n r p) (left : Leaves old new p) where
-  left_nobody : HasMembers w old → (q : Place) → IsTrue (holds new q) → (b : Bool) → is_same_place q p ≡ b → (m : ℕ) ×
-      (x : Record) × (m ≢ n) × IsOnPlace w m x q
-  left_nobody h q held true e = absurd (neither
+  left_nobody : HasMembers w old → (q : Place) → IsTrue (holds new q) → (b : Bool) → is_same_place q p ≡ b →
+      (m : ℕ) × (x : Record) × (m ≢ n) × IsOnPlace w m x q
+  left_nobody h q held true e = absurd (true≢false
       (sym held ∙ ap (holds new) (is_place q p e) ∙ held_here old new p false false false left.place))
   left_nobody h q held false e =
-      let (m, x, there) = h.nobody q (held_elsewhere old new p false false false left.place q e held) in (
-        m,
-        x,
-        (λ same. neither (sym (same_is p) ∙
-            ap (λ (z : Place). is_same_place z p) (sym (one_place w m n x r q p there on same)) ∙ e)),
-        there,
-      )
+      let (m, x, there) = h.nobody q (held_elsewhere old new p false false false left.place q e held) in
+      (m, x, unlike w m n x r q p there on e, there)
 
   pub has_left : HasMembers w old → HasOthers w n new
   has_left h = record {
     each = λ m x q apart there. elsewhere old new p false false false left.place q x
-        (apart_places w m n x r q p rooms seats there on apart) (h.each m x q there);
+        (apart_places w m n x r q p sound there on apart) (h.each m x q there);
     nobody = λ q held. left_nobody h q held (is_same_place q p) refl;
   }
 
@@ -202,75 +201,44 @@ module _ (w : Registry) (n : ℕ) (r : Record) (p : Place) (old new : List RoomF
   hears_left es h talker listener t l a b one two s =
       left.hears a b
       ∙ ap (λ (x : Bool). cond (x || is_same_place b p) false (hears old a b))
-      (apart_places w talker n t r a p rooms seats s.first on one)
-      ∙ ap (λ (x : Bool). cond x false (hears old a b)) (apart_places w listener n l r b p rooms seats s.second on two)
+      (apart_places w talker n t r a p sound s.first on one)
+      ∙ ap (λ (x : Bool). cond x false (hears old a b))
+      (apart_places w listener n l r b p sound s.second on two)
       ∙ h talker listener t l a b s
 
 -- ## One enters
 
-pub free_place : (w : Registry) (n : ℕ) (r : Record) (p : Place) (table : List RoomFlows) → OneRoom w → OneSeat w →
+pub free_place : (w : Registry) (n : ℕ) (r : Record) (p : Place) (table : List RoomFlows) → IsSound w →
     HasOthers w n table → IsOnPlace w n r p → IsFalse (holds table p)
-free_place w n r p table rooms seats h on = not_so (holds table p) (λ e.
+free_place w n r p table sound h on = false_from_ne_true (holds table p) (λ e.
     let (m, x, apart, there) = h.nobody p e in
-    neither (sym (same_is p) ∙ apart_places w m n x r p p rooms seats there on apart))
+    true≢false (sym (same_is p) ∙ apart_places w m n x r p p sound there on apart))
 
-pub unequal : (m n : ℕ) → eqb m n ≡ false → m ≢ n
-unequal m n e same = neither (sym (eq-eqb m n same) ∙ e)
-
-module _ (w : Registry) (n : ℕ) (r : Record) (p : Place) (old new : List RoomFlows) (rooms : OneRoom w)
-    (seats : OneSeat w)
+module _ (w : Registry) (n : ℕ) (r : Record) (p : Place) (old new : List RoomFlows) (sound : IsSound w)
     (on : IsOnPlace w n r p) (represents : Enters old new p r.mode) (h : HasOthers w n old) where
-  entered_says : (m : ℕ) (x : Record) (q : Place) → IsOnPlace w m x q → (b : Bool) → eqb m n ≡ b → SaysOf new x q
-  entered_says m x q there true e =
-      let same = eqb-true m n e in
-      let mode = ap (λ (y : Record). y.mode) (one_record w m n x r there.found on.found same) in
-      rw (one_place w m n x r q p there on same, mode)
-      (record {
-        held = held_here old new p true _ _ represents.place;
-        talks = talks_here old new p true _ _ represents.place;
-        listens = listens_here old new p true _ _ represents.place;
-      })
-  entered_says m x q there false e =
-      let apart = unequal m n e in
-      elsewhere old new p true _ _ represents.place q x (apart_places w m n x r q p rooms seats there on apart)
-      (h.each m x q apart there)
-
-  entered_nobody : (q : Place) → IsTrue (holds new q) → (b : Bool) → is_same_place q p ≡ b → (m : ℕ) × (x : Record) ×
-      IsOnPlace w m x q
-  entered_nobody q held true e = (n, r, subst (λ (z : Place). IsOnPlace w n r z) (sym (is_place q p e)) on)
-  entered_nobody q held false e =
-      let (m, x, apart, there) = h.nobody q (held_elsewhere old new p true _ _ represents.place q e held) in
-      (m, x, there)
-
   pub has_entered : HasMembers w new
-  has_entered = record {
-    each = λ m x q there. entered_says m x q there (eqb m n) refl;
-    nobody = λ q held. entered_nobody q held (is_same_place q p) refl;
-  }
+  has_entered = has_set w n r p old new sound on represents.place h.each
+      (λ q e held. let (m, x, apart, there) = h.nobody q held in (m, x, there))
 
   together : (talker listener : ℕ) (t l : Record) (a b : Place) → ShareContext w talker listener t l a b →
       are_together (holds new) a b ≡ true
-  together talker listener t l a b s =
-      let room = in_one_room w t l a b s.first.place s.second.place s.same in
-      rw (
-        (has_entered.each talker t a s.first).held,
-        (has_entered.each listener l b s.second).held,
-        eq-eqb a.room b.room room,
-        seats_differ w talker listener t l a b rooms seats s,
-      ) refl
+  together talker listener t l a b s = rw (
+    (has_entered.each talker t a s.first).held,
+    (has_entered.each listener l b s.second).held,
+    eq-eqb a.room b.room (in_one_room w t l a b s.first.place s.second.place s.same),
+    seats_differ w talker listener t l a b sound s,
+  ) refl
 
   -- whether the place of one is the newcomer's
   is_newcomer : (m : ℕ) (x : Record) (q : Place) → IsOnPlace w m x q → (b : Bool) → eqb m n ≡ b → is_same_place q p ≡ b
   is_newcomer m x q there true e = rw (one_place w m n x r q p there on (eqb-true m n e)) (same_is p)
-  is_newcomer m x q there false e = apart_places w m n x r q p rooms seats there on (unequal m n e)
+  is_newcomer m x q there false e =
+      apart_places w m n x r q p sound there on (unequal m n e)
 
   pair : (es : List ContextEdit) → HearsOthers w n old es → (talker listener : ℕ) (t l : Record) (a b : Place) →
-      ShareContext w talker listener t l a b
-      → (x y : Bool) → eqb talker n ≡ x → eqb listener n ≡ y →
-      cond (x || y) (are_together (holds new) a b) (hears old a b) ≡
-      cond (x || y) true (may_hear es talker listener)
-  pair es k talker listener t l a b s true true e f = together talker listener t l a b s
-  pair es k talker listener t l a b s true false e f = together talker listener t l a b s
+      ShareContext w talker listener t l a b → (x y : Bool) → eqb talker n ≡ x → eqb listener n ≡ y →
+      cond (x || y) (are_together (holds new) a b) (hears old a b) ≡ cond (x || y) true (may_hear es talker listener)
+  pair es k talker listener t l a b s true y e f = together talker listener t l a b s
   pair es k talker listener t l a b s false true e f = together talker listener t l a b s
   pair es k talker listener t l a b s false false e f =
       k talker listener t l a b (unequal talker n e) (unequal listener n f) s
@@ -286,48 +254,18 @@ module _ (w : Registry) (n : ℕ) (r : Record) (p : Place) (old new : List RoomF
 
 -- ## One has another mode
 
--- each is on its place, and was there, perhaps with another record, in the same context
-abbrev pub StayOnPlaces : Registry → Registry → Type 0
-StayOnPlaces old new = (m : ℕ) (x : Record) (q : Place) → IsOnPlace new m x q → (y : Record) × IsOnPlace old m y q ×
-    (y.context ≡ x.context)
-
-module _ (old new : Registry) (n : ℕ) (was r : Record) (p : Place) (before after : List RoomFlows) (rooms : OneRoom new)
-    (seats : OneSeat new) (same : SameOthers old new n)
-    (there : IsOnPlace old n was p) (on : IsOnPlace new n r p) (context : was.context ≡ r.context)
-    (taken : TakesMode before after p r.mode) where
-  mode_says : HasMembers old before → (m : ℕ) (x : Record) (q : Place) → IsOnPlace new m x q → (b : Bool) →
-      eqb m n ≡ b → SaysOf after x q
-  mode_says h m x q is true e =
-      let mode = ap (λ (y : Record). y.mode) (one_record new m n x r is.found on.found (eqb-true m n e)) in
-      rw (one_place new m n x r q p is on (eqb-true m n e), mode)
-      (record {
-        held = held_here before after p true _ _ taken.place;
-        talks = talks_here before after p true _ _ taken.place;
-        listens = listens_here before after p true _ _ taken.place;
-      })
-  mode_says h m x q is false e =
-      let apart = unequal m n e in
-      elsewhere before after p true _ _ taken.place q x (apart_places new m n x r q p rooms seats is on apart)
-      (h.each m x q ((same m x q apart).1 is))
-
-  mode_nobody : HasMembers old before → (q : Place) → IsTrue (holds after q) → (b : Bool) → is_same_place q p ≡ b →
-      (m : ℕ) × (x : Record) × IsOnPlace new m x q
-  mode_nobody h q held true e = (n, r, subst (λ (z : Place). IsOnPlace new n r z) (sym (is_place q p e)) on)
-  mode_nobody h q held false e =
-      let (m, x, is) = h.nobody q (held_elsewhere before after p true _ _ taken.place q e held) in
-      let apart : m ≢ n = λ (e2 : m ≡ n). neither
-      (sym (same_is p) ∙ ap (λ (z : Place). is_same_place z p) (sym (one_place old m n x was q p is there e2)) ∙
-      e) in
-      (m, x, (same m x q apart).0 is)
-
+module _ (old new : Registry) (n : ℕ) (was r : Record) (p : Place) (before after : List RoomFlows) (sound : IsSound new)
+    (same : SameOthers old new n) (there : IsOnPlace old n was p) (on : IsOnPlace new n r p)
+    (context : was.context ≡ r.context) (taken : TakesMode before after p r.mode) where
   pub has_mode : HasMembers old before → HasMembers new after
-  has_mode h = record {
-    each = λ m x q is. mode_says h m x q is (eqb m n) refl;
-    nobody = λ q held. mode_nobody h q held (is_same_place q p) refl;
-  }
+  has_mode h = has_set new n r p before after sound on taken.place
+      (λ m x q apart is. h.each m x q ((same m x q apart).1 is))
+      (λ q e held. let (m, x, is) = h.nobody q held in
+      (m, x, (same m x q (unlike old m n x was q p is there e)).0 is))
 
-  stayed_by : (m : ℕ) (x : Record) (q : Place) → IsOnPlace new m x q → (b : Bool) → eqb m n ≡ b → (y : Record) ×
-      IsOnPlace old m y q × (y.context ≡ x.context)
+  -- each is on its place, and was there, perhaps with another record, in the same context
+  stayed_by : (m : ℕ) (x : Record) (q : Place) → IsOnPlace new m x q → (b : Bool) → eqb m n ≡ b →
+      (y : Record) × IsOnPlace old m y q × (y.context ≡ x.context)
   stayed_by m x q is true e =
       let at_n = eqb-true m n e in (
         was,
@@ -336,19 +274,12 @@ module _ (old new : Registry) (n : ℕ) (was r : Record) (p : Place) (before aft
       )
   stayed_by m x q is false e = (x, (same m x q (unequal m n e)).1 is, refl)
 
-  pub all_stay : StayOnPlaces old new
-  all_stay m x q is = stayed_by m x q is (eqb m n) refl
-
   pub hears_mode : (es : List ContextEdit) → Hears old before es → Hears new after es
   hears_mode es h talker listener t l a b s =
-      let (x, first, from) = all_stay talker t a s.first in
-      let (y, second, to) = all_stay listener l b s.second in
-      taken.hears a b ∙ h talker listener x y a b (record {
-        first = first;
-        second = second;
-        same = from ∙ s.same ∙ sym to;
-        apart = s.apart;
-      })
+      let (x, first, from) = stayed_by talker t a s.first (eqb talker n) refl in
+      let (y, second, to) = stayed_by listener l b s.second (eqb listener n) refl in
+      taken.hears a b ∙ h talker listener x y a b
+      (record { first = first; second = second; same = from ∙ s.same ∙ sym to; apart = s.apart })
 
 -- ## Nobody is there
 
@@ -359,7 +290,7 @@ pub has_nobody : (w : Registry) (limits : Limits) (table : List RoomFlows) → w
     flow.StandsFor table [] → HasMembers w table
 has_nobody w limits table e stands = record {
   each = λ n r p on. absurd (none_found w limits n r e on.found);
-  nobody = λ p held. absurd (neither (sym held ∙ (stands.topologies p.room).seats p.seat));
+  nobody = λ p held. absurd (true≢false (sym held ∙ (stands.topologies p.room).seats p.seat));
 }
 
 pub nobody_seated : (w : Registry) (limits : Limits) (seating : List ℕ) → w ≡ start_of limits → AreSeated w seating

@@ -1,19 +1,16 @@
 -- A total without the listener itself and those silenced for it is what the listener hears.
-use Rattle.mg_engine.proofs.Common.{◌≡◌, ◌≢◌, ℕ, ◌+◌, ◌<◌, ◌&&◌, not, eqb, Bool, true, false, cond, ℤ, pos, ◌+ℤ◌, List, [], ◌∷◌, length, map, get_or, Option, Some, None, refl, sym, ap, ◌∙◌, arith, All, range_with_len, eqb-true, eq-eqb, get_or-map, length-map, sum_by-cons, termination_limit, seat_limit, has_seat, Context, Record, IsSound, record_at, context_at, Place, sibling_place, SumsState, total_of, nearest_sample, sum_of-cons, sum_of-same, place_of, IsOnPlace, EngineState, ShareContext, AreJoined, HasMembers, slot_at, AreSeated, sample_at, flows_between, heard_now, silenced_now, map_agree, IsTrue, AllPairs, count_by, All-cons, All-map, filter_passes, All-weaker, sits_among, is_seated_in, ints, length-range_with_len, get_or-range_with_len, sum_of-map, sum_of-nil, sum_of-none, sum_of-plus, is_silenced_between, part_now}
+use Rattle.mg_engine.proofs.Common.{◌≡◌, ◌≢◌, ℕ, ◌+◌, ◌<◌, ◌&&◌, not, eqb, Bool, true, false, cond, ℤ, pos, ◌+ℤ◌, List, [], ◌∷◌, length, map, get_or, Option, Some, None, refl, sym, ap, ◌∙◌, arith, All, range_with_len, eqb-true, eq-eqb, get_or-map, length-map, sum_by-cons, seat_limit, has_seat, Record, record_at, Place, sibling_place, SumsState, total_of, nearest_sample, sum_of-cons, sum_of-same, place_of, IsOnPlace, EngineState, Inside, IsWholeEngine, view, talks, listens, ShareContext, slot_at, sample_at, flows_between, heard_now, silenced_now, map_agree, IsTrue, AllPairs, count_by, All-cons, All-map, filter_passes, All-weaker, sits_among, is_seated_in, ints, length-range_with_len, get_or-range_with_len, sum_of-map, sum_of-nil, sum_of-none, sum_of-plus, is_silenced_between, part_now, and-false, and_parts, count-found, sum_of-ones, sum_of-agree}
 use Rattle.std.proofs.lemmas.List.Kept.{AllPairs-cons, AllPairs-filter}
-use Rattle.mg_words.specs.Mode as mode
 use Rattle.mg_topology.specs.Mask.{seats_of}
 use Rattle.mg_flow.specs.Table as flow
 use Rattle.mg_sums.specs.Sums.{AreOfRoom, sample_in, is_joined, heard_of, left_out_by, mix_of}
 use Rattle.mg_sums.specs.Samples.{sum_of}
 use Rattle.mg_engine.proofs.FlowLemmas.{nobody_hears_itself, silenced_apart, not_itself}
-use Rattle.mg_engine.proofs.MaskLemmas.{SeatWithin, flows_apart, seated_is, sum_on_seats}
+use Rattle.mg_engine.proofs.MaskLemmas.{flows_apart, seated_is, sum_on_seats}
 use Rattle.mg_engine.proofs.MemberLemmas.{seats_differ, unequal}
-use Rattle.mg_engine.proofs.PlaceLemmas.{ByNumber, HaveContexts, OneRoom, OneSeat, seated, no_hearing, one_record, one_place, on_place, in_one_context}
-use Rattle.mg_engine.proofs.RowSums.{Spots, joined_is, total_by_terminations}
-use Rattle.mg_engine.proofs.SeatSums.{one_passes, found_counts}
-use Rattle.mg_engine.proofs.SendingLemmas.{nobody}
-use Rattle.mg_engine.proofs.SumLemmas.{sum-cong}
+use Rattle.mg_engine.proofs.PlaceLemmas.{no_hearing, one_record, one_place, on_place, in_one_context}
+use Rattle.mg_engine.proofs.RowSums.{joined_is, total_by_terminations}
+use Rattle.mg_engine.proofs.SeatSums.{one_passes}
 
 -- ## One part of a total
 
@@ -25,21 +22,17 @@ Splits z joined own silenced heard =
 splits : (z : ℤ) (j k o p s t f g : Bool) → j ≡ k → o ≡ p → s ≡ t → f ≡ g → Splits z k p t g → Splits z j o s f
 splits z j k o p s t f g a b c d h = rw (a, b, c, d) h
 
-own_splits : (z : ℤ) (talks : Bool) → Splits z (talks && true) (true && talks) false false
+own_splits : (z : ℤ) (b : Bool) → Splits z (b && true) (true && b) false false
 own_splits z true = omega (arith, ints)
 own_splits z false = omega (arith, ints)
 
 none_splits : (z : ℤ) → Splits z false false false false
 none_splits z = omega (arith, ints)
 
-other_splits : (z : ℤ) (talks hears : Bool) → Splits z (talks && true) false (talks && not hears) (talks && hears)
+other_splits : (z : ℤ) (a b : Bool) → Splits z (a && true) false (a && not b) (a && b)
 other_splits z true true = omega (arith, ints)
 other_splits z true false = omega (arith, ints)
-other_splits z false hears = omega (arith, ints)
-
-and_false : (b : Bool) → (b && false) ≡ false
-and_false true = refl
-and_false false = refl
+other_splits z false b = omega (arith, ints)
 
 -- ## Seats of a mask and their rows
 
@@ -72,11 +65,6 @@ mapped_apart f P xs all inj apart i j d lt within same =
     apart i j 0 lt below (inj (get_or xs i 0) (get_or xs j 0) (all i 0 (omega (arith, lt, below))) (all j 0 below)
     (sym first ∙ same ∙ second))
 
--- as many as there are
-ones : {A : Type 0} (xs : List A) → sum_of (λ x. pos 1) xs ≡ pos (length xs)
-ones [] = sum_of-nil (λ x. pos 1)
-ones (x ∷ xs) = sum_of-cons (λ y. pos 1) x xs ∙ omega (arith, ints, ones xs)
-
 one_more : (b : Bool) (n : ℕ) (rest : ℤ) → rest ≡ pos n → cond b (pos 1) (pos 0) +ℤ rest ≡ pos (cond b 1 0 + n)
 one_more true n rest e = omega (arith, ints, e)
 one_more false n rest e = omega (arith, ints, e)
@@ -99,29 +87,24 @@ abbrev pub IsLeftAndHeard : SumsState → ℕ → List ℕ → Type 0
 IsLeftAndHeard kept room out = (i : ℕ) → total_of kept room i ≡
     sum_of (sample_in kept.frames i) out +ℤ heard_of kept room out i
 
-module _ (k : EngineState) (seating : List ℕ) (l : Record) (p : Place) (y : Context) (mask : ℕ)
-    (sound : IsSound k.rooms) (members : HasMembers k.rooms k.flows) (joined : AreJoined k.rooms k.sums.rooms)
-    (seats : AreSeated k.rooms seating)
-    (by_number : ByNumber k.rooms) (there : HaveContexts k.rooms) (one_room : OneRoom k.rooms)
-    (one_seat : OneSeat k.rooms) (within : SeatWithin k.rooms) (spots : Spots k.rooms)
-    (long : length k.sums.rooms ≡ termination_limit)
-    (slots : (a b : ℕ) (r s : Record) → record_at k.rooms a ≡ Some r → record_at k.rooms b ≡ Some s →
-    r.slot ≡ s.slot → a ≡ b)
-    (context : context_at k.rooms l.context ≡ Some y) (is : seated l.seat y ≡ p) (on : IsOnPlace k.rooms l.number l p)
-    (listens : mode.listens l.mode ≡ true)
-    (kept : (seat : ℕ) → has_seat mask seat ≡ flow.is_silenced k.flows (sibling_place p seat) p)
-    (holds : (seat : ℕ) → IsTrue (has_seat mask seat) → IsTrue (flow.holds k.flows (sibling_place p seat))) where
+module _ (inside : Inside) (l : Record) (p : Place) (mask : ℕ) (whole : IsWholeEngine inside)
+    (on : IsOnPlace inside.rooms l.number l p) (listening : listens l.mode ≡ true)
+    (kept : (seat : ℕ) → has_seat mask seat ≡ flow.is_silenced inside.flows (sibling_place p seat) p)
+    (holds : (seat : ℕ) → IsTrue (has_seat mask seat) → IsTrue (flow.holds inside.flows (sibling_place p seat))) where
+  abbrev k : EngineState
+  k = view inside
+
   abbrev row_on : ℕ → ℕ
-  row_on seat = slot_at seating (record { room = p.room; seat = seat })
+  row_on seat = slot_at inside.seating (record { room = p.room; seat = seat })
 
   abbrev pub base : Option ℕ
-  base = cond (mode.talks l.mode) (Some l.slot) None
+  base = cond (talks l.mode) (Some l.slot) None
 
   abbrev pub minus : List ℕ
   minus = map row_on (seats_of mask)
 
   held : (seat : ℕ) → IsTrue (has_seat mask seat) → (n : ℕ) × (r : Record) × IsOnPlace k.rooms n r (sibling_place p seat)
-  held seat h = members.nobody (sibling_place p seat) (holds seat h)
+  held seat h = whole.members.nobody (sibling_place p seat) (holds seat h)
 
   silenced_is : (o : Option Place) → is_seated_in p.room mask o ≡ is_silenced_between k.flows o (Some p)
   silenced_is (Some q) = seated_is p mask (λ x. flow.is_silenced k.flows x p) kept
@@ -132,19 +115,16 @@ module _ (k : EngineState) (seating : List ℕ) (l : Record) (p : Place) (y : Co
 
   -- whose seat is silenced talks in the room
   talks_there : (seat : ℕ) (n : ℕ) (r : Record) → IsTrue (has_seat mask seat) →
-      IsOnPlace k.rooms n r (sibling_place p seat) → mode.talks r.mode ≡ true
+      IsOnPlace k.rooms n r (sibling_place p seat) → talks r.mode ≡ true
   talks_there seat n r h at =
-      sym (members.each n r (sibling_place p seat) at).talks
-      ∙ first_true (flow.talks_at k.flows (sibling_place p seat)) _ (sym (kept seat) ∙ h) where
-        first_true : (a b : Bool) → (a && b) ≡ true → a ≡ true
-        first_true true b e = refl
-        first_true false b e = absurd (cc e)
+      sym (whole.members.each n r (sibling_place p seat) at).talks
+      ∙ (and_parts (flow.talks_at k.flows (sibling_place p seat)) _ (sym (kept seat) ∙ h)).0
 
   row_joined : (seat : ℕ) → IsTrue (has_seat mask seat) → IsTrue (is_joined k.sums.rooms p.room (row_on seat))
   row_joined seat h =
       let (n, r, at) = held seat h in
-      ap (λ (row : ℕ). is_joined k.sums.rooms p.room row) (seats n r (sibling_place p seat) at)
-      ∙ joined_is k.sums.rooms r (sibling_place p seat) p.room (joined.each n r (sibling_place p seat) at)
+      ap (λ (row : ℕ). is_joined k.sums.rooms p.room row) (whole.seats n r (sibling_place p seat) at)
+      ∙ joined_is k.sums.rooms r (sibling_place p seat) p.room (whole.joined.each n r (sibling_place p seat) at)
       ∙ ap (λ (b : Bool). b && eqb p.room p.room) (talks_there seat n r h at)
       ∙ eq-eqb p.room p.room refl
 
@@ -152,7 +132,7 @@ module _ (k : EngineState) (seating : List ℕ) (l : Record) (p : Place) (y : Co
   rows_differ a b h g same =
       let (m, r, at) = held a h in
       let (n, s, to) = held b g in
-      let equal = slots m n r s at.found to.found (sym (seats m r (sibling_place p a) at) ∙ same ∙ seats n s (sibling_place p b) to)
+      let equal = whole.sound.one_slot m n r s at.found to.found (sym (whole.seats m r (sibling_place p a) at) ∙ same ∙ whole.seats n s (sibling_place p b) to)
       in
       ap (λ (x : Place). x.seat) (one_place k.rooms m n r s (sibling_place p a) (sibling_place p b) at to equal)
 
@@ -169,17 +149,17 @@ module _ (k : EngineState) (seating : List ℕ) (l : Record) (p : Place) (y : Co
   own_apart : (seat : ℕ) → IsTrue (has_seat mask seat) → l.slot ≢ row_on seat
   own_apart seat h same =
       let (n, r, at) = held seat h in
-      let equal = slots l.number n l r on.found at.found (same ∙ seats n r (sibling_place p seat) at) in
+      let equal = whole.sound.one_slot l.number n l r on.found at.found (same ∙ whole.seats n r (sibling_place p seat) at) in
       let here : p ≡ sibling_place p seat = one_place k.rooms l.number n l r p (sibling_place p seat) on at equal in
       let false_too = ap (λ (q : Place). flow.is_silenced k.flows q p) (sym here) ∙ not_itself k.flows p in
       let never : true ≡ false = sym h ∙ kept seat ∙ false_too in
       cc never
 
-  out_by : (b : Bool) → mode.talks l.mode ≡ b →
+  out_by : (b : Bool) → talks l.mode ≡ b →
       AreOfRoom k.sums.rooms p.room (left_out_by (cond b (Some l.slot) None) minus)
   out_by true e = record {
     joined = All-cons (λ row. IsTrue (is_joined k.sums.rooms p.room row)) l.slot minus
-        (joined_is k.sums.rooms l p p.room (joined.each l.number l p on) ∙
+        (joined_is k.sums.rooms l p p.room (whole.joined.each l.number l p on) ∙
         ap (λ (b : Bool). b && eqb p.room p.room) e ∙ eq-eqb p.room p.room refl) minus_joined;
     different = AllPairs-cons (λ a b. a ≢ b) l.slot minus
         (All-map (λ row. l.slot ≢ row) row_on (seats_of mask)
@@ -189,7 +169,7 @@ module _ (k : EngineState) (seating : List ℕ) (l : Record) (p : Place) (y : Co
   out_by false e = record { joined = minus_joined; different = minus_apart }
 
   pub left_out : AreOfRoom k.sums.rooms p.room (left_out_by base minus)
-  left_out = out_by (mode.talks l.mode) refl
+  left_out = out_by (talks l.mode) refl
 
   -- ## How many they are
 
@@ -197,8 +177,8 @@ module _ (k : EngineState) (seating : List ℕ) (l : Record) (p : Place) (y : Co
   how_many =
       length-map (seats_of mask) row_on
       ∙ same_number (length (seats_of mask)) (silenced_now k l)
-      (sym (ones (seats_of mask))
-      ∙ sum_on_seats k.rooms seating l p y mask sound seats by_number there one_room within context is held
+      (sym (sum_of-ones (seats_of mask))
+      ∙ sum_on_seats k.rooms inside.seating l p mask whole.sound whole.seats on.place held
       (λ slot. pos 1)
       ∙ sum_of-same (λ (t : Record). cond (sits_among k.rooms p.room mask t) (pos 1) (pos 0))
       (λ (t : Record). cond (is_silenced_between k.flows (place_of k.rooms t) (place_of k.rooms l)) (pos 1)
@@ -219,30 +199,30 @@ module _ (k : EngineState) (seating : List ℕ) (l : Record) (p : Place) (y : Co
     total_part t = cond (is_joined k.sums.rooms p.room t.slot) (sample_of t) (pos 0)
 
     abbrev own_part : Record → ℤ
-    own_part t = cond (eqb t.number l.number && mode.talks l.mode) (sample_of t) (pos 0)
+    own_part t = cond (eqb t.number l.number && talks l.mode) (sample_of t) (pos 0)
 
     abbrev silenced_part : Record → ℤ
     silenced_part t = cond (sits_among k.rooms p.room mask t) (sample_of t) (pos 0)
 
     split_at : (t : Record) (q : Place) → IsOnPlace k.rooms t.number t q → (b : Bool) → eqb t.number l.number ≡ b →
         (c : Bool) → eqb q.room p.room ≡ c
-        → Splits (sample_of t) (mode.talks t.mode && eqb q.room p.room) (b && mode.talks l.mode)
+        → Splits (sample_of t) (talks t.mode && eqb q.room p.room) (b && talks l.mode)
         (flow.is_silenced k.flows q p) (flow.flows k.flows q p)
     split_at t q at true e c f =
         let equal = eqb-true t.number l.number e in
         let r : t ≡ l = one_record k.rooms t.number l.number t l at.found on.found equal in
         let here : q ≡ p = one_place k.rooms t.number l.number t l q p at on equal in
-        splits (sample_of t) _ (mode.talks l.mode && true) _ (true && mode.talks l.mode) _ false _ false
-        (ap (λ (x : Record). mode.talks x.mode && eqb q.room p.room) r ∙
-        ap (λ (b : Bool). mode.talks l.mode && b)
+        splits (sample_of t) _ (talks l.mode && true) _ (true && talks l.mode) _ false _ false
+        (ap (λ (x : Record). talks x.mode && eqb q.room p.room) r ∙
+        ap (λ (b : Bool). talks l.mode && b)
         (ap (λ (x : Place). eqb x.room p.room) here ∙ eq-eqb p.room p.room refl))
         refl
         (ap (λ (x : Place). flow.is_silenced k.flows x p) here ∙ not_itself k.flows p)
         (ap (λ (x : Place). flow.flows k.flows x p) here ∙ no_hearing k.flows p p (nobody_hears_itself k.flows p))
-        (own_splits (sample_of t) (mode.talks l.mode))
+        (own_splits (sample_of t) (talks l.mode))
     split_at t q at false e false f =
         splits (sample_of t) _ false _ false _ false _ false
-        (ap (λ (b : Bool). mode.talks t.mode && b) f ∙ and_false (mode.talks t.mode))
+        (ap (λ (b : Bool). talks t.mode && b) f ∙ and-false (talks t.mode))
         refl
         (silenced_apart k.flows q p f)
         (flows_apart k.flows q p f)
@@ -254,35 +234,35 @@ module _ (k : EngineState) (seating : List ℕ) (l : Record) (p : Place) (y : Co
         record {
           first = at;
           second = on;
-          same = in_one_context k.rooms t l q p one_room at.place on.place same;
+          same = in_one_context k.rooms t l q p whole.sound at.place on.place same;
           apart = apart;
         } in
-        let seat = seats_differ k.rooms t.number l.number t l q p one_room one_seat share in
-        let from = members.each t.number t q at in
-        let to = members.each l.number l p on in
-        let quiet : flow.is_silenced k.flows q p ≡ (mode.talks t.mode && not (flow.hears k.flows q p)) =
+        let seat = seats_differ k.rooms t.number l.number t l q p whole.sound share in
+        let from = whole.members.each t.number t q at in
+        let to = whole.members.each l.number l p on in
+        let quiet : flow.is_silenced k.flows q p ≡ (talks t.mode && not (flow.hears k.flows q p)) =
         rw (from.talks, from.held, to.held, f, seat) refl in
-        let loud : flow.flows k.flows q p ≡ (mode.talks t.mode && flow.hears k.flows q p) =
-        rw (from.talks, to.listens, listens) refl in
-        splits (sample_of t) _ (mode.talks t.mode && true) _ false _
-        (mode.talks t.mode && not (flow.hears k.flows q p)) _ (mode.talks t.mode && flow.hears k.flows q p)
-        (ap (λ (b : Bool). mode.talks t.mode && b) f)
+        let loud : flow.flows k.flows q p ≡ (talks t.mode && flow.hears k.flows q p) =
+        rw (from.talks, to.listens, listening) refl in
+        splits (sample_of t) _ (talks t.mode && true) _ false _
+        (talks t.mode && not (flow.hears k.flows q p)) _ (talks t.mode && flow.hears k.flows q p)
+        (ap (λ (b : Bool). talks t.mode && b) f)
         refl
         quiet
         loud
-        (other_splits (sample_of t) (mode.talks t.mode) (flow.hears k.flows q p))
+        (other_splits (sample_of t) (talks t.mode) (flow.hears k.flows q p))
 
     split : (t : Record) → record_at k.rooms t.number ≡ Some t →
         total_part t ≡ (own_part t +ℤ silenced_part t) +ℤ part_now k l i t
     split t found =
-        let (q, at) = on_place k.rooms t.number t there found in
+        let (q, at) = on_place k.rooms t.number t whole.sound found in
         let z = sample_of t in
         let heard : flows_between k.flows (place_of k.rooms t) (place_of k.rooms l) ≡ flow.flows k.flows q p =
         ap (λ (o : Option Place). flows_between k.flows o (place_of k.rooms l)) at.place ∙
         ap (λ (o : Option Place). flows_between k.flows (Some q) o) on.place in
-        splits z _ (mode.talks t.mode && eqb q.room p.room) _ (eqb t.number l.number && mode.talks l.mode) _
+        splits z _ (talks t.mode && eqb q.room p.room) _ (eqb t.number l.number && talks l.mode) _
         (flow.is_silenced k.flows q p) _ (flow.flows k.flows q p)
-        (joined_is k.sums.rooms t q p.room (joined.each t.number t q at))
+        (joined_is k.sums.rooms t q p.room (whole.joined.each t.number t q at))
         refl
         (ap (λ (o : Option Place). is_seated_in p.room mask o) at.place ∙ silenced_is (Some q))
         heard
@@ -295,14 +275,13 @@ module _ (k : EngineState) (seating : List ℕ) (l : Record) (p : Place) (y : Co
     own_by true =
         let rs = k.rooms.terminations in
         let z = sample_at k.sums.frames l.slot i in
-        let least = found_counts (λ (t : Record). eqb t.number l.number) (λ (t : Record). eqb t.number l.number) l rs
+        let least = count-found (λ (t : Record). eqb t.number l.number) (λ (t : Record). eqb t.number l.number) rs l
         on.found (eq-eqb l.number l.number refl) in
-        let most = sound.consistent.terminations.one_number l.number in
+        let most = whole.sound.consistent.terminations.one_number l.number in
         let once : count_by (λ (t : Record). eqb t.number l.number) rs ≡ 1 = omega (arith, least, most) in
-        sum-cong (λ (t : Record). cond (eqb t.number l.number && true) (sample_of t) (pos 0))
-        (λ (t : Record). cond (eqb t.number l.number) z (pos 0)) rs nobody
-        (λ j lt. own_at (get_or rs j nobody) (by_number j nobody lt) (eqb (get_or rs j nobody).number l.number)
-        refl)
+        sum_of-agree (λ (t : Record). cond (eqb t.number l.number && true) (sample_of t) (pos 0))
+        (λ (t : Record). cond (eqb t.number l.number) z (pos 0)) rs
+        (λ j d lt. let t = get_or rs j d in own_at t (whole.sound.by_number j d lt) (eqb t.number l.number) refl)
         ∙ one_passes (λ (t : Record). eqb t.number l.number) z rs once where
           own_at : (t : Record) → record_at k.rooms t.number ≡ Some t → (b : Bool) → eqb t.number l.number ≡ b →
               cond (b && true) (sample_of t) (pos 0) ≡ cond b (sample_at k.sums.frames l.slot i) (pos 0)
@@ -310,7 +289,7 @@ module _ (k : EngineState) (seating : List ℕ) (l : Record) (p : Place) (y : Co
               (one_record k.rooms t.number l.number t l found on.found (eqb-true t.number l.number e))
           own_at t found false e = refl
     own_by false = sum_of-none (λ (t : Record). cond (eqb t.number l.number && false) (sample_of t) (pos 0))
-        k.rooms.terminations (λ t. ap (λ (b : Bool). cond b (sample_of t) (pos 0)) (and_false (eqb t.number l.number)))
+        k.rooms.terminations (λ t. ap (λ (b : Bool). cond b (sample_of t) (pos 0)) (and-false (eqb t.number l.number)))
 
     out_sum : (b : Bool) → sum_of (sample_in k.sums.frames i) (left_out_by (cond b (Some l.slot) None) minus) ≡
         cond b (sample_at k.sums.frames l.slot i) (pos 0) +ℤ sum_of (sample_in k.sums.frames i) minus
@@ -320,26 +299,24 @@ module _ (k : EngineState) (seating : List ℕ) (l : Record) (p : Place) (y : Co
     silenced_sum : sum_of (sample_in k.sums.frames i) minus ≡ sum_of silenced_part k.rooms.terminations
     silenced_sum =
         sum_of-map (sample_in k.sums.frames i) row_on (seats_of mask)
-        ∙ sum_on_seats k.rooms seating l p y mask sound seats by_number there one_room within context is held
+        ∙ sum_on_seats k.rooms inside.seating l p mask whole.sound whole.seats on.place held
         (λ slot. sample_at k.sums.frames slot i)
 
     total_splits : total_of k.sums p.room i ≡
         sum_of (sample_in k.sums.frames i) (left_out_by base minus) +ℤ heard_now k l i
     total_splits =
         let rs = k.rooms.terminations in
-        let all = total_by_terminations k.rooms k.sums p.room i sound joined spots long in
-        let parted = sum-cong total_part (λ (t : Record). (own_part t +ℤ silenced_part t) +ℤ part_now k l i t) rs
-        nobody (λ j lt. split (get_or rs j nobody) (by_number j nobody lt)) in
+        let parted = sum_of-agree total_part (λ (t : Record). (own_part t +ℤ silenced_part t) +ℤ part_now k l i t) rs
+        (λ j d lt. split (get_or rs j d) (whole.sound.by_number j d lt)) in
         let first = sum_of-plus (λ (t : Record). (own_part t +ℤ silenced_part t) +ℤ part_now k l i t)
         (λ (t : Record). own_part t +ℤ silenced_part t) (part_now k l i) rs (λ t. refl) in
         let second = sum_of-plus (λ (t : Record). own_part t +ℤ silenced_part t) own_part silenced_part rs (λ t. refl)
         in
-        let own = own_by (mode.talks l.mode) in
-        let out = out_sum (mode.talks l.mode) in
-        all ∙ parted ∙ first
+        let own = own_by (talks l.mode) in
+        total_by_terminations k.rooms k.sums p.room i whole.sound whole.joined whole.row_count ∙ parted ∙ first
         ∙ ap (λ (z : ℤ). z +ℤ heard_now k l i) (second ∙ ap (λ (z : ℤ). z +ℤ sum_of silenced_part rs) own ∙
-        ap (λ (z : ℤ). cond (mode.talks l.mode) (sample_at k.sums.frames l.slot i) (pos 0) +ℤ z)
-        (sym silenced_sum) ∙ sym out)
+        ap (λ (z : ℤ). cond (talks l.mode) (sample_at k.sums.frames l.slot i) (pos 0) +ℤ z)
+        (sym silenced_sum) ∙ sym (out_sum (talks l.mode)))
 
   same_rest : (a b c d : ℤ) → a ≡ b +ℤ c → a ≡ b +ℤ d → c ≡ d
   same_rest a b c d e f = omega (arith, ints, e, f)

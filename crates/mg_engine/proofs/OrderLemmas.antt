@@ -1,5 +1,5 @@
 -- Packets at two ports, in one order and in the other; and what holds of the terminations in any world.
-use Rattle.mg_engine.proofs.Common.{ne_eqb, ◌≡◌, ◌≢◌, ℕ, ◌+◌, ◌≤◌, eqb, Bool, true, false, cond, ℤ, List, [], ◌∷◌, Option, Some, None, Result, Ok, Err, refl, sym, ap, ◌∙◌, arith, count_by, eqb-true, eq-eqb, same_Some, sum_by-cons, ◌>>=◌, ErrorNumber, Header, Reading, Record, Target, change, slot_port, members_at, Taken, TopologyTriple, Arrived, Takes, arrived, at_port, frame_placed, taken_at, frame_placed_at, taken_by, Gateway, TerminationMedia, media_of, existing_context, done_with, check_triples, with_triples, find, eqb-false, Registry, find-change_other, find-found, nat_tests, IsConsistent, bind_ok}
+use Rattle.mg_engine.proofs.Common.{ne_eqb, ◌≡◌, ◌≢◌, ℕ, eqb, Bool, true, false, ℤ, List, [], ◌∷◌, Option, Some, None, Result, Ok, Err, refl, sym, ap, ◌∙◌, arith, eqb-true, eq-eqb, same_Some, ErrorNumber, Header, Reading, Record, Target, change, slot_port, Taken, TopologyTriple, Arrived, Takes, arrived, at_port, frame_placed, taken_at, frame_placed_at, taken_by, Gateway, TerminationMedia, media_of, done_with, find, eqb-false, Registry, find-change_other, find-found, nat_tests, IsConsistent}
 use Rattle.mg_engine.specs.aids.Order.{ArrivalOrderIsIrrelevant}
 use Rattle.mg_engine.specs.Outcome.{apply_triples}
 use Rattle.mg_rooms.proofs.OrderLemmas.{found_key}

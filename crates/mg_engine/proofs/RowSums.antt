@@ -1,9 +1,8 @@
 -- Sums over rows that are joined to a room, as sums over terminations.
-use Rattle.mg_engine.proofs.Common.{◌≡◌, ℕ, ◌<◌, ◌&&◌, eqb, Bool, true, false, cond, ℤ, pos, List, length, get_or, Option, Some, None, refl, ap, ◌∙◌, arith, range_with_len, eq-eqb, Mode, talks, termination_limit, Record, IsSound, Registry, Place, SumsState, total_of, AreJoined, room_for, sample_at, count_by, sum_of-filter, room_of_row}
+use Rattle.mg_engine.proofs.Common.{◌≡◌, ℕ, ◌&&◌, eqb, Bool, true, false, cond, ℤ, pos, List, length, get_or, Option, Some, None, refl, ap, ◌∙◌, arith, range_with_len, eq-eqb, Mode, talks, termination_limit, Record, IsSound, Registry, Place, SumsState, total_of, AreJoined, room_for, sample_at, count_by, sum_of-filter, room_of_row, count-found}
 use Rattle.mg_sums.specs.Sums.{sample_in, is_room, is_joined, joined_rows}
 use Rattle.mg_sums.specs.Samples.{sum_of}
-use Rattle.mg_engine.proofs.SendingLemmas.{nobody}
-use Rattle.mg_engine.proofs.SeatSums.{found_counts, seat_sums}
+use Rattle.mg_engine.proofs.SeatSums.{seat_sums}
 
 -- ## Rows that are joined to a room
 
@@ -22,11 +21,8 @@ some_room : (o : Option ℕ) (room : ℕ) → is_room o room ≡ true → (at : 
 some_room (Some at) room h = (at, refl)
 some_room None room h = absurd (cc h)
 
-abbrev pub Spots : Registry → Type 0
-Spots w = (i : ℕ) (d : Record) → i < length w.terminations → (get_or w.terminations i d).slot < termination_limit
-
 module _ (w : Registry) (kept : SumsState) (room i : ℕ) (sound : IsSound w) (joined : AreJoined w kept.rooms)
-    (spots : Spots w) (long : length kept.rooms ≡ termination_limit) where
+    (long : length kept.rooms ≡ termination_limit) where
   abbrev row_part : ℕ → ℤ
   row_part row = cond (is_joined kept.rooms room row) (sample_at kept.frames row i) (pos 0)
 
@@ -42,8 +38,7 @@ module _ (w : Registry) (kept : SumsState) (room i : ℕ) (sound : IsSound w) (j
       absurd (omega (
         arith,
         none,
-        found_counts (λ t. eqb t.number n) (λ t. eqb t.slot row) r w.terminations on.found
-            (eq-eqb r.slot row slot),
+        count-found (λ t. eqb t.slot row) (λ t. eqb t.number n) w.terminations r on.found (eq-eqb r.slot row slot),
       ))
   silent_row row false e none = refl
 
@@ -57,8 +52,9 @@ module _ (w : Registry) (kept : SumsState) (room i : ℕ) (sound : IsSound w) (j
   pub total_by_terminations : total_of kept room i ≡ sum_of joined_part w.terminations
   total_by_terminations =
       total_by_rows
-      ∙ seat_sums w.terminations (λ t. true) (λ t. t.slot) termination_limit row_part joined_part nobody
-      (λ j lt. spots j nobody lt)
-      (λ j lt. refl)
+      ∙ seat_sums w.terminations (λ t. true) (λ t. t.slot) termination_limit row_part joined_part
+      (λ j d lt. let r = get_or w.terminations j d in
+      omega (arith, (sound.termination r.number r (sound.by_number j d lt)).1.slot, sound.consistent.limits.0.few_slots))
+      (λ j d lt. refl)
       (λ row. sound.consistent.terminations.one_slot row)
       (λ row none. silent_row row (is_joined kept.rooms room row) refl none)

@@ -1,8 +1,7 @@
 -- Sums over the seats of a room, and over the terminations that are on them.
-use Rattle.mg_engine.proofs.Common.{◌≡◌, ℕ, zero, suc, ◌+◌, ◌<◌, ◌≤◌, ◌&&◌, eqb, Bool, true, false, cond, ℤ, pos, ◌+ℤ◌, List, [], ◌∷◌, inl, inr, length, get_or, Option, Some, refl, sym, ap, ◌∙◌, arith, range_with_len, cases_eq, eq-eqb, sum_by-cons, seat_limit, has_seat, sum_of-cons, sum_of-same, find, count_by, nat_tests, ints, sum_of-filter, sum_of-nil, sum_of-none, sum_of-plus}
+use Rattle.mg_engine.proofs.Common.{◌≡◌, ℕ, zero, suc, ◌+◌, ◌<◌, ◌≤◌, ◌&&◌, eqb, Bool, true, false, cond, ℤ, pos, ◌+ℤ◌, List, [], ◌∷◌, inl, inr, get_or, refl, sym, ap, ◌∙◌, arith, range_with_len, cases_eq, eq-eqb, sum_by-cons, seat_limit, has_seat, sum_of-cons, sum_of-same, count_by, nat_tests, ints, sum_of-filter, sum_of-nil, sum_of-none, sum_of-plus, All, sum_of-agree}
 use Rattle.mg_topology.specs.Mask.{seats_of}
 use Rattle.mg_sums.specs.Samples.{sum_of}
-use Rattle.mg_engine.proofs.SumLemmas.{sum-cong}
 
 -- ## Sums of sums
 
@@ -88,40 +87,20 @@ module _ {A : Type 0} (p : A → Bool) (z : ℤ) where
   by_count rs zero e few none = none refl ∙ sym (none_pass rs e)
   by_count rs (suc n) e few none = sym (one_passes rs (e ∙ omega (arith, few)))
 
-counts_first : {A : Type 0} (p : A → Bool) (y : A) (xs : List A) → p y ≡ true → 1 ≤ count_by p (y ∷ xs)
-counts_first p y xs e = omega (arith, sum_by-cons (λ x. cond (p x) 1 0) y xs, ap {B = ℕ} (λ (b : Bool). cond b 1 0) e)
-
-counts_later : {A : Type 0} (p : A → Bool) (y : A) (xs : List A) → 1 ≤ count_by p xs → 1 ≤ count_by p (y ∷ xs)
-counts_later p y xs h = omega (arith, sum_by-cons (λ x. cond (p x) 1 0) y xs, h)
-
-found_at : {A : Type 0} (p : A → Bool) (b : Bool) (x y : A) (xs : List A) (later : Option A) →
-    cond b (Some y) later ≡ Some x → p x ≡ true → (later ≡ Some x → 1 ≤ count_by p xs) → 1 ≤ count_by p (y ∷ xs)
-found_at p true x y xs later e h rest =
-    let same : y ≡ x = cc e in
-    counts_first p y xs (ap p same ∙ h)
-found_at p false x y xs later e h rest = counts_later p y xs (rest e)
-
--- what is found is counted by a test that it passes
-pub found_counts : {A : Type 0} (q p : A → Bool) (x : A) (xs : List A) → find q xs ≡ Some x → p x ≡ true →
-    1 ≤ count_by p xs
-found_counts q p x [] e h = absurd (cc e)
-found_counts q p x (y ∷ ys) e h = found_at p (q y) x y ys (find q ys) e h (λ later. found_counts q p x ys later h)
-
 -- ## Seats and those who are on them
 
 -- Each of those that are in has a seat below n, no two have the same, and a seat that nobody is on
 -- adds nothing.
-pub seat_sums : {A : Type 0} (rs : List A) (is_in : A → Bool) (seat : A → ℕ) (n : ℕ) (h : ℕ → ℤ) (g : A → ℤ) (d : A)
-    → ((i : ℕ) → i < length rs → seat (get_or rs i d) < n)
-    → ((i : ℕ) → i < length rs → g (get_or rs i d) ≡ cond (is_in (get_or rs i d)) (h (seat (get_or rs i d))) (pos 0))
+pub seat_sums : {A : Type 0} (rs : List A) (is_in : A → Bool) (seat : A → ℕ) (n : ℕ) (h : ℕ → ℤ) (g : A → ℤ)
+    → All (λ t. seat t < n) rs → All (λ t. g t ≡ cond (is_in t) (h (seat t)) (pos 0)) rs
     → ((s : ℕ) → count_by (λ t. is_in t && eqb (seat t) s) rs ≤ 1)
     → ((s : ℕ) → count_by (λ t. is_in t && eqb (seat t) s) rs ≡ 0 → h s ≡ pos 0)
     → sum_of h (range_with_len 0 n) ≡ sum_of g rs
-seat_sums {A} rs is_in seat n h g d below parts once none =
+seat_sums {A} rs is_in seat n h g below parts once none =
     let part = λ (t : A). λ (k : ℕ). cond (is_in t && eqb (seat t) k) (h k) (pos 0) in
     sum_of-same h (λ k. sum_of (λ t. part t k) rs) (range_with_len 0 n)
     (λ k. by_count (λ t. is_in t && eqb (seat t) k) (h k) rs (count_by (λ t. is_in t && eqb (seat t) k) rs) refl
     (once k) (none k))
     ∙ swapped part rs (range_with_len 0 n)
-    ∙ sum-cong (λ t. sum_of (part t) (range_with_len 0 n)) g rs d
-    (λ i lt. let t = get_or rs i d in part_among (is_in t) h (seat t) n (below i lt) ∙ sym (parts i lt))
+    ∙ sum_of-agree (λ t. sum_of (part t) (range_with_len 0 n)) g rs
+    (λ i d lt. let t = get_or rs i d in part_among (is_in t) h (seat t) n (below i d lt) ∙ sym (parts i d lt))

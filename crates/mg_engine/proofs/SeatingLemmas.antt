@@ -1,10 +1,7 @@
 -- The slots of members by their places.
-use Rattle.mg_engine.proofs.Common.{arith, ◌≡◌, ◌≢◌, ℕ, ◌<◌, eqb, Bool, true, false, List, length, set, None, refl, sym, ap, ◌∙◌, eqb-true, get_or-set_same, get_or-set_other, Record, Registry, record_at, Place, IsOnPlace, place_count, slot_at, AreSeated, IsWithinLimits, index_of}
-use Rattle.mg_engine.proofs.PlaceLemmas.{OneRoom, OneSeat, one_member, one_place, one_record}
-use Rattle.mg_engine.proofs.MemberLemmas.{SameOthers, no_record, unequal}
-
-abbrev pub AreWithin : Registry → Type 0
-AreWithin w = (n : ℕ) (r : Record) (p : Place) → IsOnPlace w n r p → IsWithinLimits p
+use Rattle.mg_engine.proofs.Common.{arith, ◌≡◌, ◌≢◌, ℕ, ◌<◌, eqb, Bool, true, false, List, length, set, None, refl, sym, ap, ◌∙◌, eqb-true, get_or-set_same, get_or-set_other, Record, IsSound, Registry, record_at, Place, IsOnPlace, place_count, slot_at, AreSeated, index_of}
+use Rattle.mg_engine.proofs.PlaceLemmas.{within, one_member, one_place, one_record}
+use Rattle.mg_engine.proofs.MemberLemmas.{SameOthers, another, unequal}
 
 -- the others have the slots that they had
 abbrev pub OthersSeated : Registry → ℕ → List ℕ → Type 0
@@ -15,23 +12,23 @@ pub carry_seats : (old new : Registry) (n : ℕ) (seating : List ℕ) → SameOt
 carry_seats old new n seating same h m x q apart on = h m x q ((same m x q apart).1 on)
 
 module _ (w : Registry) (n : ℕ) (r : Record) (p : Place) (seating : List ℕ) (long : length seating ≡ place_count)
-    (rooms : OneRoom w) (seats : OneSeat w) (within : AreWithin w) (on : IsOnPlace w n r p) where
+    (sound : IsSound w) (on : IsOnPlace w n r p) where
   put_case : OthersSeated w n seating → (m : ℕ) (x : Record) (q : Place) → IsOnPlace w m x q → (b : Bool) →
       eqb m n ≡ b → slot_at (set seating (index_of p) r.slot) q ≡ x.slot
   put_case h m x q there true e =
       let same = eqb-true m n e in
-      let inside = within n r p on in
+      let inside = within w n r p sound on in
       let lt : index_of p < length seating = omega (arith, inside.room, inside.seat, long) in
       ap (slot_at (set seating (index_of p) r.slot)) (one_place w m n x r q p there on same)
       ∙ get_or-set_same seating (index_of p) r.slot 0 lt
       ∙ ap (λ (y : Record). y.slot) (sym (one_record w m n x r there.found on.found same))
   put_case h m x q there false e =
-      let a = within n r p on in
-      let b = within m x q there in
+      let a = within w n r p sound on in
+      let b = within w m x q sound there in
       get_or-set_other seating (index_of p) (index_of q) r.slot 0 (λ same.
       let room : q.room ≡ p.room = omega (arith, same, a.seat, b.seat) in
       let seat : q.seat ≡ p.seat = omega (arith, same, a.seat, b.seat) in
-      unequal m n e (one_member w m n x r q p rooms seats there on room seat))
+      unequal m n e (one_member w m n x r q p sound there on room seat))
       ∙ h m x q (unequal m n e) there
 
   pub seated_put : OthersSeated w n seating → AreSeated w (set seating (index_of p) r.slot)
@@ -40,7 +37,7 @@ module _ (w : Registry) (n : ℕ) (r : Record) (p : Place) (seating : List ℕ) 
 -- where one isn't there, the others are all
 pub seated_all : (w : Registry) (n : ℕ) (seating : List ℕ) → record_at w n ≡ None → OthersSeated w n seating →
     AreSeated w seating
-seated_all w n seating none h m x q on = h m x q (λ same. no_record x (sym on.found ∙ ap (record_at w) same ∙ none)) on
+seated_all w n seating none h m x q on = h m x q (another w m n x on.found none) on
 
 -- one has another record, with the same slot
 module _ (old new : Registry) (n : ℕ) (was r : Record) (p : Place) (seating : List ℕ) (same : SameOthers old new n)

@@ -1,12 +1,7 @@
 -- Packets that lend their payloads keep them.
-use Rattle.mg_engine.proofs.Common.{◌≡◌, ℕ, zero, suc, ◌<◌, eqb, Bool, true, false, cond, List, [], ◌∷◌, ◌++◌, length, get_or, replicate, refl, sym, ap, subst, ◌∙◌, arith, nat_lt, All, eqb-true, get_or-set_same, get_or-set_other, Datagram, Share, EngineState, with_mixes, AreShared, context_limit, member_limit, length_push, get_or-append_seam, All-nil, All-weaker, All-push, IsShared, one_more, packet_at, payload_of, payload_on, shares_in, with_share}
+use Rattle.mg_engine.proofs.Common.{◌≡◌, ℕ, zero, suc, ◌<◌, eqb, Bool, true, false, cond, List, [], ◌∷◌, ◌++◌, length, replicate, refl, sym, ap, subst, ◌∙◌, arith, nat_lt, All, eqb-true, get_or-set_same, get_or-set_other, Datagram, Share, EngineState, with_mixes, AreShared, context_limit, member_limit, length_push, get_or-append_seam, All-nil, All-weaker, All-push, IsShared, one_more, packet_at, payload_of, payload_on, shares_in, with_share, get_or_append_left}
 use Rattle.mg_engine.specs.Datagram.{blank}
 use Rattle.mg_engine.proofs.MemberLemmas.{unequal}
-
-before : {A : Type 0} (xs : List A) (y d : A) (i : ℕ) → i < length xs → get_or (xs ++ y ∷ []) i d ≡ get_or xs i d
-before [] y d i lt = absurd (omega (arith, lt))
-before (x ∷ xs) y d zero lt = refl
-before (x ∷ xs) y d (suc i) lt = before xs y d i (omega (arith, lt))
 
 -- one packet more
 module _ (k : EngineState) (outbox : List Datagram) (sent : Datagram) (work : ℕ) (shares : List (List Share)) where
@@ -16,7 +11,7 @@ module _ (k : EngineState) (outbox : List Datagram) (sent : Datagram) (work : �
   still : (room : ℕ) (share : Share) → IsShared k outbox room share → IsShared now (outbox ++ sent ∷ []) room share
   still room share h = record {
     sent = omega (arith, h.sent, length_push outbox sent);
-    payload = ap payload_of (before outbox sent blank share.packet h.sent) ∙ h.payload;
+    payload = ap payload_of (get_or_append_left outbox (sent ∷ []) blank share.packet h.sent) ∙ h.payload;
   }
 
   pub all_still : (room : ℕ) (list : List Share) → All (IsShared k outbox room) list →
@@ -59,8 +54,7 @@ module _ (k : EngineState) (outbox : List Datagram) (sent : Datagram) (work at :
       subst (λ (r : ℕ). All (IsShared after (outbox ++ sent ∷ []) r) (shares_in (with_share k.shares at share) r))
       (sym (eqb-true room at e)) here
   shared_at room false e =
-      let apart = unequal room at e in
-      let is = get_or-set_other k.shares at room (one_more (shares_in k.shares at) share) [] (λ same. apart same) in
+      let is = get_or-set_other k.shares at room (one_more (shares_in k.shares at) share) [] (unequal room at e) in
       subst (λ (xs : List Share). All (IsShared after (outbox ++ sent ∷ []) room) xs) (sym is)
       (all_still k outbox sent work (with_share k.shares at share) room (shares_in k.shares room) (h room))
 

@@ -2,7 +2,7 @@
 use Rattle.mg_engine.proofs.Common.{◌≡◌, ℕ, zero, suc, ◌+◌, ◌*◌, ◌%◌, ◌^◌, ◌<◌, Bool, true, false, cond, List, ℤ, [], ◌∷◌, map, get_or, Option, Some, None, refl, sym, ap, subst, ◌∙◌, arith, count_by, option_map, sum_by-cons, is_concealed, PlayList, Record, record_at, silence, Config, Gateway, ContextEdit, TerminationMedia, media_of, may_hear, HasPassed, IsIdleEngine, EngineState, StandsFor, IsMediaOf, media_at, played, sent, sends_at, after_ticks, concealed_in_ticks, IsTrue, Registry, counted_up, SlotMedia, slot_sends, option_map_or, map-map, sound_of, ticked, ticked_in, is_idle, frame_or_silence, numbers_of, frame_played, slot_ended, slot_played, slot_ticked, slot_passed, after_tick, conceals, concealed_in_tick}
 use Rattle.std.specs.Fn.{iterate}
 use Rattle.mg_playout.specs.declared.phase.Phase.{Phase}
-use Rattle.mg_playout.specs.declared.phase.Phase.TheVariants.{Idle, Wait, Run}
+use Rattle.mg_playout.specs.declared.phase.Phase.TheVariants.{Idle}
 use Rattle.mg_playout.specs.declared.played.Played.{Played}
 use Rattle.mg_playout.specs.declared.played.Played.TheVariants.{Silence}
 use Rattle.mg_engine.proofs.GatewayLemmas.{found_in_map, found_key, found_too}
@@ -16,32 +16,19 @@ module _ {A : Type 0} (h : A → A) where
   last_step (suc n) x = last_step n (h x)
 
   pub iterate_last : (n : ℕ) (x : A) → iterate h (n + 1) x ≡ h (iterate h n x)
-  iterate_last n x = ap (λ (k : ℕ). iterate h k x) one ∙ last_step n x
-    where
-      one : n + 1 ≡ suc n
-      one = omega arith
+  iterate_last n x = let one : n + 1 ≡ suc n = omega arith in ap (λ (k : ℕ). iterate h k x) one ∙ last_step n x
 
   pub iterate_both : (n m : ℕ) (x : A) → iterate h (n + m) x ≡ iterate h m (iterate h n x)
-  iterate_both zero m x = ap (λ (k : ℕ). iterate h k x) none
-    where
-      none : 0 + m ≡ m
-      none = omega arith
-  iterate_both (suc n) m x = ap (λ (k : ℕ). iterate h k x) one ∙ iterate_both n m (h x)
-    where
-      one : suc n + m ≡ suc (n + m)
-      one = omega arith
-
-  iterate_keeps : (P : A → Type 0) → ((x : A) → P x → P (h x)) → (n : ℕ) (x : A) → P x → P (iterate h n x)
-  iterate_keeps P keeps zero x p = p
-  iterate_keeps P keeps (suc n) x p = iterate_keeps P keeps n (h x) (keeps x p)
+  iterate_both zero m x = let none : 0 + m ≡ m = omega arith in ap (λ (k : ℕ). iterate h k x) none
+  iterate_both (suc n) m x =
+      let one : suc n + m ≡ suc (n + m) = omega arith in ap (λ (k : ℕ). iterate h k x) one ∙ iterate_both n m (h x)
 
 -- ## An idle play list
 
 in_idle : (phase : Phase) (list : PlayList) → IsTrue (is_idle phase) →
     ticked_in phase list ≡ (list, Silence)
 in_idle Idle list idle = refl
-in_idle (Wait ticks) list idle = absurd (cc idle)
-in_idle Run list idle = absurd (cc idle)
+in_idle phase list idle = absurd (cc idle)
 
 pub idle_ticks : (list : PlayList) → IsTrue (is_idle list.phase) → ticked list ≡ (list, Silence)
 idle_ticks list idle = in_idle list.phase list idle
@@ -78,14 +65,16 @@ idle_passed : (b : Bool) (n : ℕ) (m : SlotMedia) → (slot_passed b n m).play 
 idle_passed true n m = refl
 idle_passed false n m = refl
 
+more_time : (n t : ℕ) → ((t + 160 * 1) % 2 ^ 32 + 160 * suc n) % 2 ^ 32 ≡ (t + 160 * suc (suc n)) % 2 ^ 32
+more_time n t = omega arith
+
 more_passed : (b : Bool) (n : ℕ) (m : SlotMedia) →
     slot_passed b (suc n) (slot_passed b 1 m) ≡ slot_passed b (suc (suc n)) m
 more_passed true n m =
     let ps : counted_up (suc n) (counted_up 1 m.stats.ps) ≡ counted_up (suc (suc n)) m.stats.ps = omega arith in
     let os : counted_up (160 * suc n) (counted_up (160 * 1) m.stats.os) ≡ counted_up (160 * suc (suc n)) m.stats.os =
     omega arith in
-    let timestamp : ((m.timestamp + 160 * 1) % 2 ^ 32 + 160 * suc n) % 2 ^ 32 ≡
-    (m.timestamp + 160 * suc (suc n)) % 2 ^ 32 = omega arith in
+    let timestamp = more_time n m.timestamp in
     let sequence : ((m.sequence + 1) % 2 ^ 16 + suc n) % 2 ^ 16 ≡ (m.sequence + suc (suc n)) % 2 ^ 16 = omega arith in
     λ i. record {
       play = m.play;
@@ -94,16 +83,7 @@ more_passed true n m =
       sequence = sequence i;
       is_sending = true;
     }
-more_passed false n m =
-    let timestamp : ((m.timestamp + 160 * 1) % 2 ^ 32 + 160 * suc n) % 2 ^ 32 ≡
-    (m.timestamp + 160 * suc (suc n)) % 2 ^ 32 = omega arith in
-    λ i. record {
-      play = m.play;
-      stats = m.stats;
-      timestamp = timestamp i;
-      sequence = m.sequence;
-      is_sending = false;
-    }
+more_passed false n m = λ i. record m { timestamp = more_time n m.timestamp i; is_sending = false }
 
 ticked_once : (b : Bool) (m : SlotMedia) → IsIdleMedia m → slot_ticked b m ≡ slot_passed b 1 m
 ticked_once b m idle = ap (slot_ended b) (idle_played m idle) ∙ one_passed b m
@@ -129,17 +109,12 @@ passed_by b (suc n) m some idle = sym (passed_is b n m idle)
 abbrev ticked_media : Registry → TerminationMedia → TerminationMedia
 ticked_media w s = sent (sends_at w s.number) (played s)
 
-config_kept : (n : ℕ) (w : Gateway) → (after_ticks n w).config ≡ w.config
-config_kept zero w = refl
-config_kept (suc n) w = config_kept n (after_tick w)
+abbrev Keeps : Gateway → Gateway → Type 0
+Keeps w v = (v.config ≡ w.config) × (v.rooms ≡ w.rooms) × (v.edits ≡ w.edits)
 
-rooms_kept : (n : ℕ) (w : Gateway) → (after_ticks n w).rooms ≡ w.rooms
-rooms_kept zero w = refl
-rooms_kept (suc n) w = rooms_kept n (after_tick w)
-
-edits_kept : (n : ℕ) (w : Gateway) → (after_ticks n w).edits ≡ w.edits
-edits_kept zero w = refl
-edits_kept (suc n) w = edits_kept n (after_tick w)
+kept : (n : ℕ) (w : Gateway) → Keeps w (after_ticks n w)
+kept zero w = (refl, refl, refl)
+kept (suc n) w = kept n (after_tick w)
 
 one_tick_numbers : (w : Gateway) → map (λ s. s.number) (after_tick w).media ≡ map (λ s. s.number) w.media
 one_tick_numbers w =
@@ -151,18 +126,18 @@ numbers_stay : (n : ℕ) (w : Gateway) → map (λ s. s.number) (after_ticks n w
 numbers_stay zero w = refl
 numbers_stay (suc n) w = numbers_stay n (after_tick w) ∙ one_tick_numbers w
 
+twice : (f g : TerminationMedia → TerminationMedia) (o : Option TerminationMedia) →
+    option_map f (option_map g o) ≡ option_map (λ s. f (g s)) o
+twice f g None = refl
+twice f g (Some s) = refl
+
 tick_found : (w : Gateway) (k : ℕ) → media_of (after_tick w) k ≡ option_map (ticked_media w.rooms) (media_of w k)
 tick_found w k =
     found_in_map (λ s. s.number) (λ s. sent (sends_at w.rooms s.number) s) k (map played w.media)
     (λ s. sent_number (sends_at w.rooms s.number) s)
     ∙ ap (option_map (λ s. sent (sends_at w.rooms s.number) s))
     (found_in_map (λ s. s.number) played k w.media (λ s. refl))
-    ∙ twice (media_of w k)
-  where
-    twice : (o : Option TerminationMedia) →
-        option_map (λ s. sent (sends_at w.rooms s.number) s) (option_map played o) ≡ option_map (ticked_media w.rooms) o
-    twice None = refl
-    twice (Some s) = refl
+    ∙ twice (λ s. sent (sends_at w.rooms s.number) s) played (media_of w k)
 
 ticks_found : (n : ℕ) (w : Gateway) (k : ℕ) →
     media_of (after_ticks n w) k ≡ option_map (iterate (ticked_media w.rooms) n) (media_of w k)
@@ -171,16 +146,9 @@ ticks_found zero w k = same (media_of w k)
     same : (o : Option TerminationMedia) → o ≡ option_map (iterate (ticked_media w.rooms) 0) o
     same None = refl
     same (Some s) = refl
-ticks_found (suc n) w k =
-    ticks_found n (after_tick w) k
-    ∙ ap (option_map (iterate (ticked_media w.rooms) n)) (tick_found w k)
-    ∙ twice (media_of w k)
-  where
-    twice : (o : Option TerminationMedia) →
-        option_map (iterate (ticked_media w.rooms) n) (option_map (ticked_media w.rooms) o) ≡
-        option_map (iterate (ticked_media w.rooms) (suc n)) o
-    twice None = refl
-    twice (Some s) = refl
+ticks_found (suc n) w k = ticks_found n (after_tick w) k ∙
+    ap (option_map (iterate (ticked_media w.rooms) n)) (tick_found w k) ∙
+    twice (iterate (ticked_media w.rooms) n) (ticked_media w.rooms) (media_of w k)
 
 -- ## What is stored after ticks at once
 
@@ -208,8 +176,8 @@ pub passed_stands : (k : EngineState) (w : Gateway) (count : ℕ) (new : List Sl
     0 < count → IsIdleEngine k → HavePassed k.rooms count k.media new → StandsFor k w →
     StandsFor (with_media k new) (after_ticks count w)
 passed_stands k w count new by_slot some idle passed h = record {
-  config = config_kept count w ∙ h.config;
-  rooms = rooms_kept count w ∙ h.rooms;
+  config = (kept count w).0 ∙ h.config;
+  rooms = (kept count w).1 ∙ h.rooms;
   numbers = numbers_stay count w ∙ h.numbers;
   media = λ n r s found there.
       let row = get_or k.sums.frames r.slot [] in
@@ -225,7 +193,7 @@ passed_stands k w count new by_slot some idle passed h = record {
       (many_stand k.config w.rooms b row (idle n r found).silent count (media_at k.media r.slot) t (idle n r found).idle
       sends (h.media n r t found was)));
   hears = λ talker listener t l p q share. h.hears talker listener t l p q share ∙
-      ap (λ (es : List ContextEdit). may_hear es talker listener) (sym (edits_kept count w));
+      ap (λ (es : List ContextEdit). may_hear es talker listener) (sym (kept count w).2);
 }
 
 -- ## Nothing is concealed
@@ -285,30 +253,20 @@ passed_conceals k w count idle h = none_concealed count w (idle_gateway k w idle
 
 -- ## One tick more
 
+last_concealed : (n : ℕ) (w : Gateway) →
+    concealed_in_ticks (suc n) w ≡ concealed_in_ticks n w + concealed_in_tick (after_ticks n w)
+last_concealed zero w = omega arith
+last_concealed (suc n) w = omega (arith, last_concealed n (after_tick w))
+
 pub concealed_last : (n : ℕ) (w : Gateway) →
     concealed_in_ticks (n + 1) w ≡ concealed_in_ticks n w + concealed_in_tick (after_ticks n w)
-concealed_last n w = ap (λ (k : ℕ). concealed_in_ticks k w) one ∙ last_concealed n w
-  where
-    one : n + 1 ≡ suc n
-    one = omega arith
-
-    last_concealed : (n : ℕ) (w : Gateway) →
-        concealed_in_ticks (suc n) w ≡ concealed_in_ticks n w + concealed_in_tick (after_ticks n w)
-    last_concealed zero w = omega arith
-    last_concealed (suc n) w = omega (arith, last_concealed n (after_tick w))
+concealed_last n w =
+    let one : n + 1 ≡ suc n = omega arith in ap (λ (k : ℕ). concealed_in_ticks k w) one ∙ last_concealed n w
 
 pub concealed_both : (n m : ℕ) (w : Gateway) →
     concealed_in_ticks (n + m) w ≡ concealed_in_ticks n w + concealed_in_ticks m (after_ticks n w)
-concealed_both zero m w = ap (λ (k : ℕ). concealed_in_ticks k w) none ∙ zero_more (concealed_in_ticks m w)
-  where
-    none : 0 + m ≡ m
-    none = omega arith
-
-    zero_more : (n : ℕ) → n ≡ 0 + n
-    zero_more n = omega arith
+concealed_both zero m w =
+    let none : 0 + m ≡ m = omega arith in omega (arith, ap (λ (k : ℕ). concealed_in_ticks k w) none)
 concealed_both (suc n) m w =
-    ap (λ (k : ℕ). concealed_in_ticks k w) one
-    ∙ omega (arith, concealed_both n m (after_tick w))
-  where
-    one : suc n + m ≡ suc (n + m)
-    one = omega arith
+    let one : suc n + m ≡ suc (n + m) = omega arith in
+    ap (λ (k : ℕ). concealed_in_ticks k w) one ∙ omega (arith, concealed_both n m (after_tick w))

@@ -1,14 +1,20 @@
 -- Sums over lists, one part more at a time.
-use Rattle.mg_sums.specs.Samples.{sum_of}
-use Rattle.mg_engine.proofs.Common.{◌≡◌, ℕ, suc, ◌<◌, ℤ, ◌+ℤ◌, List, [], ◌∷◌, length, get_or, map, refl, sym, ap, ◌∙◌, arith, range_with_len, get_or_default, same_lists, get_or-map-range_with_len, length-map-range_with_len}
+use Rattle.mg_engine.proofs.Common.{◌≡◌, ℕ, ◌<◌, List, [], ◌∷◌, length, get_or, map, refl, sym, ◌∙◌, arith, range_with_len, get_or_default, same_lists, get_or-map-range_with_len, length-map-range_with_len, All, All-head, All-tail, sum_by, sum_by-cons}
 
-pub sum-cong : {A : Type 0} (f g : A → ℤ) (xs : List A) (d : A) →
-    ((i : ℕ) → i < length xs → f (get_or xs i d) ≡ g (get_or xs i d)) → sum_of f xs ≡ sum_of g xs
-unfolding sum_of
-sum-cong f g [] d h = refl
-sum-cong f g (x ∷ xs) d h =
-    ap (λ (z : ℤ). z +ℤ sum_of f xs) (h 0 (omega arith))
-    ∙ ap (λ (z : ℤ). g x +ℤ z) (sum-cong f g xs d (λ i lt. h (suc i) (omega (arith, lt))))
+pub sum_by-map : {A B : Type 0} (f : B → ℕ) (g : A → B) (xs : List A) → sum_by f (map g xs) ≡ sum_by (λ x. f (g x)) xs
+sum_by-map f g [] = refl
+sum_by-map f g (x ∷ xs) = omega (arith, sum_by-cons f (g x) (map g xs), sum_by-map f g xs, sum_by-cons (λ y. f (g y)) x xs)
+
+-- two functions that agree at each element
+pub sum_by-agree : {A : Type 0} (f g : A → ℕ) (xs : List A) → All (λ x. f x ≡ g x) xs → sum_by f xs ≡ sum_by g xs
+sum_by-agree f g [] h = refl
+sum_by-agree f g (x ∷ xs) h = omega (
+  arith,
+  sum_by-cons f x xs,
+  sum_by-cons g x xs,
+  All-head (λ y. f y ≡ g y) x xs h,
+  sum_by-agree f g xs (All-tail (λ y. f y ≡ g y) x xs h),
+)
 
 -- a list of n parts is what it has at each place
 pub list_is : {A : Type 0} (f : ℕ → A) (xs : List A) (n : ℕ) (d : A) → length xs ≡ n →

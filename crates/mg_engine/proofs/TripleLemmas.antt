@@ -1,46 +1,36 @@
 -- Triples by the seats of the members that their terms match.
-use Rattle.mg_engine.proofs.Common.{◌≡◌, ℕ, zero, suc, ◌+◌, ◌<◌, eqb, ◌&&◌, ◌||◌, Bool, true, false, cond, List, [], ◌∷◌, ◌++◌, ◌==◌, length, get_or, take, drop, Option, Some, None, Result, Ok, Err, refl, sym, ap, subst, ◌∙◌, arith, Any, list_any, option_map, eqb-true, eq-eqb, same_Some, take_more, Triple, has_seat, Overlaps, Context, Record, Registry, record_at, context_at, members_at, Place, RoomFlows, hears, Target, Gateway, ContextEdit, Apply, may_hear, existing_context, EngineState, StandsFor, ShareContext, has, place_of, IsOnPlace, HasMembers, ErrorNumber, TopologyTriple, with_triples, check_triples, AreMatched, IsTrue, ◌↔◌, IsMember, nat_tests, are_together, holds, hears_after, KeepsPlaces, KeepsOthers, drop_more, IllegalCombination, matched, is_barred, names_others, check_triple, overlaps, mentions, word_of, permits, is_oneway, Isolate, Oneway, Bothway, IsOutcome, IsRoomOf, IsSeated, Matches, IsMatched}
+use Rattle.mg_engine.proofs.Common.{IsSound, ne_eqb, and_parts, and-false, false_from_ne_true, ◌≡◌, ℕ, zero, suc, ◌+◌, ◌<◌, eqb, ◌&&◌, ◌||◌, Bool, true, false, cond, List, [], ◌∷◌, ◌++◌, ◌==◌, length, get_or, take, drop, Some, Result, Ok, Err, refl, sym, ap, subst, ◌∙◌, arith, Any, list_any, eqb-true, eq-eqb, take_more, Triple, has_seat, Overlaps, Context, Record, Registry, record_at, context_at, members_at, Place, RoomFlows, hears, Target, Gateway, ContextEdit, Apply, may_hear, existing_context, EngineState, StandsFor, ShareContext, has, place_of, HasMembers, ErrorNumber, TopologyTriple, with_triples, check_triples, AreMatched, IsTrue, ◌↔◌, nat_tests, are_together, holds, hears_after, KeepsPlaces, KeepsOthers, drop_more, IllegalCombination, matched, is_barred, names_others, check_triple, overlaps, mentions, word_of, is_oneway, Isolate, Oneway, Bothway, IsOutcome, IsRoomOf, IsSeated, Matches, IsMatched}
 use Rattle.std.specs.Cmp.{both_ways}
 use Rattle.mg_topology.specs.Topology as topology
 use Rattle.mg_engine.specs.Outcome.{apply_triples}
 use Rattle.mg_words.specs.declared.association.Association.{Association}
 use Rattle.mg_engine.specs.Triples as terms
 use Rattle.mg_engine.proofs.MemberLemmas.{Hears, seats_differ, unequal}
-use Rattle.mg_engine.proofs.PlaceLemmas.{HaveContexts, OneSeat, OneRoom, at, on_place, one_record, in_one_room, both}
+use Rattle.mg_engine.proofs.PlaceLemmas.{at, on_place, one_record, in_one_room}
 
-abbrev pub AreMembers : Registry → ℕ → Type 0
-AreMembers w c = (n : ℕ) → IsTrue (list_any (λ m. eqb m n) (members_at w c)) ↔ IsMember w c n
-
-seated : (w : Registry) (c n : ℕ) (r : Record) → HaveContexts w → record_at w n ≡ Some r → r.context ≡ c →
+seated : (w : Registry) (c n : ℕ) (r : Record) → IsSound w → record_at w n ≡ Some r → r.context ≡ c →
     IsSeated w c n r.seat
-seated w c n r there found context =
-    grind (arith, nat_tests, on_place w n r there found)
+seated w c n r sound found context =
+    let (p, on) = on_place w n r sound found in (r, p, on, context, (at w r p on.place).seat)
 
 -- ## One termination by its number
 
-module _ (w : Registry) (c number mask : ℕ) (r : Record) (seats : OneSeat w) (found : record_at w number ≡ Some r)
+module _ (w : Registry) (c number mask : ℕ) (r : Record) (sound : IsSound w) (found : record_at w number ≡ Some r)
     (context : r.context ≡ c) (of_seat : (s : ℕ) → has_seat mask s ≡ eqb s r.seat) where
-  same_seat : (n seat : ℕ) (q : Record) (p : Place) → IsOnPlace w n q p → q.context ≡ c → p.seat ≡ seat → (b : Bool) →
-      eqb number n ≡ b → eqb seat r.seat ≡ (b || false)
-  same_seat n seat q p on here is true e =
-      grind (arith, nat_tests)
-  same_seat n seat q p on here is false e =
-      grind (arith, nat_tests)
+  same_seat : (n seat : ℕ) → IsSeated w c n seat → (b : Bool) → eqb number n ≡ b → eqb seat r.seat ≡ (b || false)
+  same_seat n seat (q, p, on, here, is) true e = eq-eqb seat r.seat (sym is ∙ (at w q p on.place).seat ∙
+      ap (λ (x : Record). x.seat) (one_record w n number q r on.found found (sym (eqb-true number n e))))
+  same_seat n seat (q, p, on, here, is) false e = ne_eqb seat r.seat (λ same. unequal number n e
+      (sound.one_seat number n r q found on.found (context ∙ sym here) (sym same ∙ sym is ∙ (at w q p on.place).seat)))
 
-  pub matches_number : HaveContexts w → Matches w c (number ∷ []) mask
-  matches_number there = record {
-    same = λ n seat s. let (q, p, on, here, is) = s in of_seat seat ∙
-        same_seat n seat q p on here is (eqb number n) refl;
+  pub matches_number : Matches w c (number ∷ []) mask
+  matches_number = record {
+    same = λ n seat s. of_seat seat ∙ same_seat n seat s (eqb number n) refl;
     seats = λ seat h. (
       number,
-      rw (eqb-true seat r.seat (sym (of_seat seat) ∙ h))
-          (seated w c number r there found context),
+      rw (eqb-true seat r.seat (sym (of_seat seat) ∙ h)) (seated w c number r sound found context),
     );
-    named = λ n h. (
-      r.seat,
-      rw (sym (eqb-true number n (only (eqb number n) h)))
-          (seated w c number r there found context),
-    );
+    named = λ n h. (r.seat, rw (sym (eqb-true number n (only (eqb number n) h))) (seated w c number r sound found context));
   } where
     only : (b : Bool) → (b || false) ≡ true → b ≡ true
     only true h = refl
@@ -50,38 +40,31 @@ module _ (w : Registry) (c number mask : ℕ) (r : Record) (seats : OneSeat w) (
 
 room_is : (w : Registry) (c room : ℕ) (r : Record) (p : Place) → IsRoomOf w c room → place_of w r ≡ Some p →
     r.context ≡ c → p.room ≡ room
-room_is w c room r p is place here =
-    grind (arith, nat_tests)
+room_is w c room r p is place here = grind (arith, nat_tests)
 
-context_is : (w : Registry) (c room : ℕ) (r : Record) (p : Place) → OneRoom w → IsRoomOf w c room →
-    place_of w r ≡ Some p → p.room ≡ room → r.context ≡ c
-context_is w c room r p rooms is place here =
-    grind (arith, nat_tests, rooms r.context c)
+context_is : (w : Registry) (c room : ℕ) (r : Record) (p : Place) → ((x y : Context) → context_at w r.context ≡ Some x →
+    context_at w c ≡ Some y → x.room ≡ y.room → r.context ≡ c) → IsRoomOf w c room → place_of w r ≡ Some p →
+    p.room ≡ room → r.context ≡ c
+context_is w c room r p one is place here = grind (arith, nat_tests, one)
 
-pub matches_every : (w : Registry) (c room mask : ℕ) (table : List RoomFlows) → HaveContexts w → OneRoom w →
-    AreMembers w c → IsRoomOf w c room → HasMembers w table
-    → ((seat : ℕ) → has_seat mask seat ≡ holds table (record { room = room; seat = seat })) →
+pub matches_every : (w : Registry) (c room mask : ℕ) (table : List RoomFlows) → IsSound w → IsRoomOf w c room →
+    HasMembers w table → ((seat : ℕ) → has_seat mask seat ≡ holds table (record { room = room; seat = seat })) →
     Matches w c (members_at w c) mask
-matches_every w c room mask table there rooms members is all held = record {
+matches_every w c room mask table sound is all held = record {
   same = λ n seat s.
       let (q, p, on, here, at_seat) = s in
       let place : p ≡ record { room = room; seat = seat } =
-      ap (λ (x : ℕ). let y : Place = record { room = x; seat = p.seat } in y)
-      (room_is w c room q p is on.place here) ∙
-      ap (λ (x : ℕ). let y : Place = record { room = room; seat = x } in y) at_seat in
-      held seat ∙ ap (holds table) (sym place) ∙ (all.each n q p on).held ∙ sym ((members n).1 (q, on.found, here));
+      λ i. record { room = room_is w c room q p is on.place here i; seat = at_seat i } in
+      held seat ∙ ap (holds table) (sym place) ∙ (all.each n q p on).held ∙
+      sym ((sound.members c n).1 (q, on.found, here));
   seats = λ seat h.
       let p : Place = record { room = room; seat = seat } in
       let (n, q, on) = all.nobody p (sym (held seat) ∙ h) in
-      (n, (q, p, on, context_is w c room q p rooms is on.place refl, refl));
-  named = λ n h. let (r, found, here) = (members n).0 h in (r.seat, seated w c n r there found here);
+      (n, (q, p, on, context_is w c room q p (sound.one_room q.context c) is on.place refl, refl));
+  named = λ n h. let (r, found, here) = (sound.members c n).0 h in (r.seat, seated w c n r sound found here);
 }
 
 -- ## Overlaps
-
-or_true : (b : Bool) → (b || true) ≡ true
-or_true true = refl
-or_true false = refl
 
 any_named : (xs ys : List ℕ) (n : ℕ) → has xs n ≡ true → has ys n ≡ true → list_any (has ys) xs ≡ true
 any_named [] ys n one two = absurd (cc one)
@@ -106,7 +89,7 @@ module _ (w : Registry) (c : ℕ) (members : List ℕ) (x : TopologyTriple) (y :
     (law : IsTrue (overlaps y) ↔ Overlaps y) (m : IsMatched w c members x y) where
   by_terms : terms.overlaps members x ≡ true → overlaps y ≡ true
   by_terms h =
-      let (oneway, some) = both (is_oneway x.association)
+      let (oneway, some) = and_parts (is_oneway x.association)
       (list_any (has (matched members x.second)) (matched members x.first)) h in
       let (n, a, b) = some_named (matched members x.first) (matched members x.second) some in
       let (seat, is) = m.first.named n a in
@@ -153,9 +136,8 @@ pub matched_push : (w : Registry) (c : ℕ) (members : List ℕ) (xs : List Topo
     (x : TopologyTriple) (y : Triple) → AreMatched w c members xs ys → IsMatched w c members x y →
     AreMatched w c members (xs ++ x ∷ []) (ys ++ y ∷ [])
 matched_push w c members [] [] x y h m = (m, tt)
-matched_push w c members [] (b ∷ ys) x y h m = absurd h
-matched_push w c members (a ∷ xs) [] x y h m = absurd h
 matched_push w c members (a ∷ xs) (b ∷ ys) x y h m = (h.0, matched_push w c members xs ys x y h.1 m)
+matched_push w c members xs ys x y h m = absurd h
 
 pub matched_to : (w : Registry) (c : ℕ) (members : List ℕ) (xs : List TopologyTriple) (ys : List Triple) (i : ℕ)
     (x d : TopologyTriple) (y : Triple) → i < length xs → x ≡ get_or xs i d → AreMatched w c members (take i xs) ys →
@@ -184,12 +166,6 @@ has_still w old new keeps h = record {
 
 module _ (w : Registry) (c : ℕ) (members : List ℕ) (talker listener : ℕ) (t l : Record) (p q : Place)
     (s : ShareContext w talker listener t l p q) where
-  from_seat : t.context ≡ c → IsSeated w c talker p.seat
-  from_seat here = (t, p, s.first, here, refl)
-
-  to_seat : l.context ≡ c → IsSeated w c listener q.seat
-  to_seat here = (l, q, s.second, here, refl)
-
   -- one triple, of two in its context: whether it speaks of them, and what it says
   one_word : (x : TopologyTriple) (y : Triple) (es : List ContextEdit) (b : Bool) → t.context ≡ c → l.context ≡ c →
       IsMatched w c members x y → b ≡ may_hear es talker listener
@@ -197,10 +173,10 @@ module _ (w : Registry) (c : ℕ) (members : List ℕ) (talker listener : ℕ) (
       may_hear (Apply (matched members x.first) (matched members x.second) x.association ∷ es) talker listener
   one_word x y es b here there m e =
       rw (
-        m.first.same talker p.seat (from_seat here),
-        m.second.same listener q.seat (to_seat there),
-        m.first.same listener q.seat (to_seat there),
-        m.second.same talker p.seat (from_seat here),
+        m.first.same talker p.seat (t, p, s.first, here, refl),
+        m.second.same listener q.seat (l, q, s.second, there, refl),
+        m.first.same listener q.seat (l, q, s.second, there, refl),
+        m.second.same talker p.seat (t, p, s.first, here, refl),
         m.association,
         e,
       ) refl
@@ -209,79 +185,58 @@ module _ (w : Registry) (c : ℕ) (members : List ℕ) (talker listener : ℕ) (
       l.context ≡ c → AreMatched w c members xs ys → b ≡ may_hear es talker listener
       → hears_after ys p.seat q.seat b ≡ may_hear (with_triples members xs es) talker listener
   all_words [] [] es b here there m e = e
-  all_words [] (y ∷ ys) es b here there m e = absurd m
-  all_words (x ∷ xs) [] es b here there m e = absurd m
   all_words (x ∷ xs) (y ∷ ys) es b here there m e =
       all_words xs ys (Apply (matched members x.first) (matched members x.second) x.association ∷ es) _ here there m.1
       (one_word x y es b here there m.0 e)
+  all_words xs ys es b here there m e = absurd m
 
 -- a triple of another context says nothing of one
 not_named : (w : Registry) (c : ℕ) (names : List ℕ) (mask n : ℕ) (r : Record) → Matches w c names mask →
-    record_at w n ≡ Some r → (r.context ≡ c → ⊥) → (b : Bool) → has names n ≡ b → b ≡ false
-not_named w c names mask n r m found elsewhere true e =
-    grind (arith, nat_tests, m.named n e)
-not_named w c names mask n r m found elsewhere false e = refl
-
-nowhere : (a b c d : Bool) → a ≡ false → d ≡ false → ((a && b) || (c && d)) ≡ false
-nowhere a b true d h k = rw (h, k) refl
-nowhere a b false d h k = rw h refl
+    record_at w n ≡ Some r → (r.context ≡ c → ⊥) → has names n ≡ false
+not_named w c names mask n r m found elsewhere = false_from_ne_true (has names n) (λ e.
+    let (seat, is) = m.named n e in
+    let (q, p, on, here, at) = is in
+    elsewhere (ap (λ (x : Record). x.context) (one_record w n n r q found on.found refl) ∙ here))
 
 pub other_words : (w : Registry) (c : ℕ) (members : List ℕ) (talker listener : ℕ) (t : Record) →
     record_at w talker ≡ Some t → (t.context ≡ c → ⊥) →
     (xs : List TopologyTriple) (ys : List Triple) (es : List ContextEdit) → AreMatched w c members xs ys
     → may_hear (with_triples members xs es) talker listener ≡ may_hear es talker listener
 other_words w c members talker listener t found elsewhere [] [] es m = refl
-other_words w c members talker listener t found elsewhere [] (y ∷ ys) es m = absurd m
-other_words w c members talker listener t found elsewhere (x ∷ xs) [] es m = absurd m
 other_words w c members talker listener t found elsewhere (x ∷ xs) (y ∷ ys) es m =
-    let first = not_named w c (matched members x.first) y.first talker t m.0.first found elsewhere
-    (has (matched members x.first) talker) refl in
-    let second = not_named w c (matched members x.second) y.second talker t m.0.second found elsewhere
-    (has (matched members x.second) talker) refl in
+    let first = not_named w c (matched members x.first) y.first talker t m.0.first found elsewhere in
+    let second = not_named w c (matched members x.second) y.second talker t m.0.second found elsewhere in
     other_words w c members talker listener t found elsewhere xs ys
     (Apply (matched members x.first) (matched members x.second) x.association ∷ es) m.1
-    ∙ ap (λ (b : Bool). cond b (permits x.association
-    (has (matched members x.first) talker && has (matched members x.second) listener))
-    (may_hear es talker listener))
-    (nowhere (has (matched members x.first) talker) (has (matched members x.second) listener)
-    (has (matched members x.first) listener) (has (matched members x.second) talker) first second)
+    ∙ rw (first, second, and-false (has (matched members x.first) listener)) refl
+other_words w c members talker listener t found elsewhere xs ys es m = absurd m
 
 module _ (w : Registry) (c room : ℕ) (old new : List RoomFlows) (xs : List TopologyTriple) (ys : List Triple)
-    (es : List ContextEdit) (one_room : OneRoom w) (one_seat : OneSeat w) (is : IsRoomOf w c room)
+    (es : List ContextEdit) (sound : IsSound w) (is : IsRoomOf w c room)
     (m : AreMatched w c (members_at w c) xs ys) (members : HasMembers w old)
     (others : KeepsOthers old new room) (after : (t l : Place) → t.room ≡ room →
     IsTrue (are_together (holds old) t l) → hears new t l ≡ hears_after ys t.seat l.seat (hears old t l)) where
-  in_context : Hears w old es → (talker listener : ℕ) (t l : Record) (p q : Place) →
-      ShareContext w talker listener t l p q → t.context ≡ c →
+  triples_case : Hears w old es → (talker listener : ℕ) (t l : Record) (p q : Place) →
+      ShareContext w talker listener t l p q → (b : Bool) → eqb t.context c ≡ b →
       hears new p q ≡ may_hear (with_triples (members_at w c) xs es) talker listener
-  in_context h talker listener t l p q s here =
-      let there = sym s.same ∙ here in
-      let same_room = in_one_room w t l p q s.first.place s.second.place s.same in
+  triples_case h talker listener t l p q s true e =
+      let here = eqb-true t.context c e in
       let together : are_together (holds old) p q ≡ true =
       rw (
         (members.each talker t p s.first).held,
         (members.each listener l q s.second).held,
-        eq-eqb p.room q.room same_room,
-        seats_differ w talker listener t l p q one_room one_seat s,
+        eq-eqb p.room q.room (in_one_room w t l p q s.first.place s.second.place s.same),
+        seats_differ w talker listener t l p q sound s,
       ) refl in
       after p q (room_is w c room t p is s.first.place here) together
-      ∙ all_words w c (members_at w c) talker listener t l p q s xs ys es (hears old p q) here there m
+      ∙ all_words w c (members_at w c) talker listener t l p q s xs ys es (hears old p q) here (sym s.same ∙ here) m
       (h talker listener t l p q s)
-
-  elsewhere : Hears w old es → (talker listener : ℕ) (t l : Record) (p q : Place) →
-      ShareContext w talker listener t l p q → (t.context ≡ c → ⊥) →
-      hears new p q ≡ may_hear (with_triples (members_at w c) xs es) talker listener
-  elsewhere h talker listener t l p q s away =
-      let apart : p.room ≡ room → ⊥ = λ e. away (context_is w c room t p one_room is s.first.place e) in
-      ap (λ (r : _). (p.room == q.room) && topology.hears r.topology p.seat q.seat) (others p.room apart)
+  triples_case h talker listener t l p q s false e =
+      let away = unequal t.context c e in
+      ap (λ (r : _). (p.room == q.room) && topology.hears r.topology p.seat q.seat) (others p.room
+      (λ same. away (context_is w c room t p (sound.one_room t.context c) is s.first.place same)))
       ∙ h talker listener t l p q s
       ∙ sym (other_words w c (members_at w c) talker listener t s.first.found away xs ys es m)
-
-  triples_case : Hears w old es → (talker listener : ℕ) (t l : Record) (p q : Place) →
-      ShareContext w talker listener t l p q → (b : Bool) → eqb t.context c ≡ b →
-      hears new p q ≡ may_hear (with_triples (members_at w c) xs es) talker listener
-  triples_case h talker listener t l p q s true e = in_context h talker listener t l p q s (eqb-true t.context c e)
-  triples_case h talker listener t l p q s false e = elsewhere h talker listener t l p q s (unequal t.context c e)
 
   pub hears_triples : Hears w old es → Hears w new (with_triples (members_at w c) xs es)
   hears_triples h talker listener t l p q s = triples_case h talker listener t l p q s (eqb t.context c) refl
@@ -320,5 +275,4 @@ with_words w es = record w { edits = es }
 
 pub words_stand : (k : EngineState) (flows : List RoomFlows) (w : Gateway) (es : List ContextEdit) → StandsFor k w →
     Hears k.rooms flows es → StandsFor (record k { flows = flows }) (with_words w es)
-words_stand k flows w es h hears =
-    grind (arith, nat_tests, h.config, h.rooms, h.numbers, h.media)
+words_stand k flows w es h hears = assumption

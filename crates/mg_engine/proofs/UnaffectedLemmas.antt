@@ -1,5 +1,5 @@
 -- What an edit and an RTP datagram leave alone.
-use Rattle.mg_engine.proofs.Common.{◌≡◌, ℕ, ℤ, pos, eqb, not, ◌&&◌, ◌||◌, Bool, true, false, cond, List, [], ◌∷◌, Option, Some, None, Result, Ok, Err, refl, sym, ap, subst, ◌∙◌, IsSome, is_some, eq-eqb, ne_eqb, same_Some, talks, ErrorNumber, Header, Reading, Context, Record, Settings, Target, is_number, record_at, context_at, members_at, passes, IsSound, Taken, TopologyTriple, Arrived, Takes, arrived, at_port, taken_at, frame_placed_at, taken_by, has, may_hear, Gateway, TerminationMedia, ContextEdit, Apply, Enter, media_of, new_media, frame_in, added, modified, moved, subtracted, existing_context, done_with, tuned, EngineState, StandsFor, check_triples, with_triples, sum_of-cons, slice_index_or, or_right, Registry, total, part_of_total, find-change_other, find-push_other, listens, IdentifierNotAllowed, NotInContext, context_in, mode_or_inactive, check_triple, is_barred, matched, names_others, bind_ok}
+use Rattle.mg_engine.proofs.Common.{◌≡◌, ℕ, ℤ, pos, eqb, not, ◌&&◌, ◌||◌, Bool, true, false, cond, List, [], ◌∷◌, Option, Some, None, Result, Ok, Err, refl, sym, ap, subst, ◌∙◌, IsSome, is_some, eq-eqb, ne_eqb, same_Some, talks, ErrorNumber, Header, Reading, Context, Record, Settings, Target, is_number, record_at, context_at, members_at, passes, IsSound, Taken, TopologyTriple, Arrived, Takes, arrived, at_port, taken_at, frame_placed_at, taken_by, has, may_hear, Gateway, TerminationMedia, ContextEdit, Apply, Enter, media_of, new_media, frame_in, added, modified, moved, subtracted, existing_context, done_with, tuned, EngineState, StandsFor, check_triples, with_triples, slice_index_or, Registry, total, part_of_total, find-change_other, find-push_other, listens, IdentifierNotAllowed, NotInContext, context_in, mode_or_inactive, check_triple, is_barred, matched, names_others, bind_ok, false_from_ne_true, not-false, true≢false, get_or, list_any_at, sum_of-agree}
 use Rattle.mg_rooms.specs.declared.target.Target.TheVariants.{Null, New, Number}
 use Rattle.mg_rooms.specs.Outcome as commands
 use Rattle.mg_rooms.specs.aids.Found.{members_of}
@@ -14,7 +14,6 @@ use Rattle.mg_engine.specs.Flow.{flow, hears}
 use Rattle.mg_engine.specs.Unaffected.{IsUnaffected, IsEditElsewhere, IsPortElsewhere, is_member}
 use Rattle.mg_engine.specs.Outcome.{add, modify, move_to, subtract, apply_triples, done_as, outcome}
 use Rattle.mg_engine.proofs.ElsewhereLemmas.{Spares, add_spares, modify_spares, move_spares, subtract_spares}
-use Rattle.mg_engine.proofs.MemberLemmas.{neither, not_so}
 use Rattle.mg_engine.proofs.OrderLemmas.{done_is, other_media}
 
 -- ## A context of which each record and each stream is as it was
@@ -31,17 +30,9 @@ flow_by r q word a b =
 abbrev part : Option Record → Option TerminationMedia → ℕ → ℤ
 part r s i = cond (talks (mode_or_inactive r)) (slice_index_or (frame_in s) i (pos 0)) (pos 0)
 
-first_in : (b : Bool) (k : ℕ) (ns : List ℕ) → eqb k k ≡ b → has (k ∷ ns) k ≡ true
-first_in b k ns e = rw (eq-eqb k k refl) refl
-
 sums_agree : (f g : ℕ → ℤ) (ns : List ℕ) → ((n : ℕ) → has ns n ≡ true → f n ≡ g n) → sum_of f ns ≡ sum_of g ns
-unfolding sum_of
-sums_agree f g [] same = refl
-sums_agree f g (k ∷ ns) same =
-    let rest = sums_agree f g ns (λ n there. same n (or_right (eqb k n) (has ns n) there)) in
-    sum_of-cons f k ns
-    ∙ rw (same k (first_in true k ns (eq-eqb k k refl)), rest) refl
-    ∙ sym (sum_of-cons g k ns)
+sums_agree f g ns same = sum_of-agree f g ns (λ i d lt. let n = get_or ns i d in
+    same n (list_any_at (λ m. eqb m n) ns i d lt (eq-eqb n n refl)))
 
 module _ (w next : Gateway) (c : ℕ) (context : context_at next.rooms c ≡ context_at w.rooms c)
     (records : (n : ℕ) → is_member w c n ≡ true → record_at next.rooms n ≡ record_at w.rooms n)
@@ -49,21 +40,13 @@ module _ (w next : Gateway) (c : ℕ) (context : context_at next.rooms c ≡ con
     (words : (a b : ℕ) → is_member w c a ≡ true → is_member w c b ≡ true →
     may_hear next.edits a b ≡ may_hear w.edits a b) where
   hears_same : (a b : ℕ) → is_member w c a ≡ true → is_member w c b ≡ true → hears next a b ≡ hears w a b
-  hears_same a b one two =
-      ap (λ (o : Option Record). share o (record_at next.rooms b) a b && may_hear next.edits a b) (records a one)
-      ∙ ap (λ (o : Option Record). share (record_at w.rooms a) o a b && may_hear next.edits a b) (records b two)
-      ∙ ap (λ (x : Bool). share (record_at w.rooms a) (record_at w.rooms b) a b && x) (words a b one two)
+  hears_same a b one two = λ i. share (records a one i) (records b two i) a b && words a b one two i
 
   flows_same : (a b : ℕ) → is_member w c a ≡ true → is_member w c b ≡ true → flow next a b ≡ flow w a b
-  flows_same a b one two =
-      ap (λ (o : Option Record). flow_by o (record_at next.rooms b) (may_hear next.edits a b) a b) (records a one)
-      ∙ ap (λ (o : Option Record). flow_by (record_at w.rooms a) o (may_hear next.edits a b) a b) (records b two)
-      ∙ ap (λ (x : Bool). flow_by (record_at w.rooms a) (record_at w.rooms b) x a b) (words a b one two)
+  flows_same a b one two = λ i. flow_by (records a one i) (records b two i) (words a b one two i) a b
 
   part_same : (i n : ℕ) → is_member w c n ≡ true → part_of_total next i n ≡ part_of_total w i n
-  part_same i n there =
-      ap (λ (o : Option Record). part o (media_of next n) i) (records n there)
-      ∙ ap (λ (o : Option TerminationMedia). part (record_at w.rooms n) o i) (media n there)
+  part_same i n there = λ j. part (records n there j) (media n there j) i
 
   total_same : (i : ℕ) → total next c i ≡ total w c i
   total_same i =
@@ -71,14 +54,7 @@ module _ (w next : Gateway) (c : ℕ) (context : context_at next.rooms c ≡ con
       ∙ sums_agree (part_of_total next i) (part_of_total w i) (members_at w.rooms c) (part_same i)
 
   alone : IsUnaffected w next c
-  alone = record {
-    context = context;
-    records = records;
-    media = media;
-    hears = hears_same;
-    flows = flows_same;
-    totals = total_same;
-  }
+  alone = assumption (hears_same, flows_same, total_same)
 
 -- a gateway that hasn't changed
 same_alone : (w : Gateway) (c : ℕ) → IsUnaffected w w c
@@ -88,10 +64,10 @@ same_alone w c = alone w w c refl (λ n there. refl) (λ n there. refl) (λ a b 
 
 -- a member is another than one that is no member
 apart_from : (w : Gateway) (c n m : ℕ) → is_member w c n ≡ false → is_member w c m ≡ true → eqb n m ≡ false
-apart_from w c n m out within = ne_eqb n m (λ same. neither (sym within ∙ ap (is_member w c) (sym same) ∙ out))
+apart_from w c n m out within = ne_eqb n m (λ same. true≢false (sym within ∙ ap (is_member w c) (sym same) ∙ out))
 
 turned_from : (w : Gateway) (c n m : ℕ) → is_member w c n ≡ false → is_member w c m ≡ true → eqb m n ≡ false
-turned_from w c n m out within = ne_eqb m n (λ same. neither (sym within ∙ ap (is_member w c) same ∙ out))
+turned_from w c n m out within = ne_eqb m n (λ same. true≢false (sym within ∙ ap (is_member w c) same ∙ out))
 
 -- the last word on two looks at no entry of a third one
 entry_elsewhere : (w : Gateway) (c n : ℕ) (es : List ContextEdit) → is_member w c n ≡ false → (a b : ℕ) →
@@ -141,16 +117,12 @@ command_alone w next f o r c done leaves =
 
 -- ## Triples
 
-is_there : (b : Bool) → not b ≡ false → b ≡ true
-is_there true e = refl
-is_there false e = absurd (cc e)
-
 -- a term that names nobody but members matches nobody but members
 unmatched : (members : List ℕ) (term : TripleTerm) (a : ℕ) → names_others members term ≡ false →
     has members a ≡ false → has (matched members term) a ≡ false
 unmatched members terms.Every a names out = out
 unmatched members (terms.Number k) a names out =
-    rw (ne_eqb k a (λ same. neither (sym (is_there (has members k) names) ∙ ap (has members) same ∙ out))) refl
+    rw (ne_eqb k a (λ same. true≢false (sym (not-false (has members k) names) ∙ ap (has members) same ∙ out))) refl
 unmatched members terms.Barred a names out = refl
 unmatched members terms.Stranger a names out = refl
 
@@ -161,9 +133,8 @@ first_names false b e u h = refl
 named_members : (members : List ℕ) (x : TopologyTriple) (u : Unit {0}) → check_triple members x ≡ Ok u →
     names_others members x.first ≡ false
 named_members members x u e =
-    let barred = passes (not (is_barred x.first || is_barred x.second)) IdentifierNotAllowed in
     let others = passes (not (names_others members x.first || names_others members x.second)) NotInContext in
-    let (_, _, one) = bind_ok barred _ u e in
+    let (_, _, one) = bind_ok (passes (not (is_barred x.first || is_barred x.second)) IdentifierNotAllowed) _ u e in
     let (v, passed, _) = bind_ok others _ u one in
     first_names (names_others members x.first) (names_others members x.second) NotInContext v passed
 
@@ -187,11 +158,11 @@ words_elsewhere members (x ∷ xs) es a b u e one two =
 -- a member of one context is none of another
 one_context : (w : Gateway) (c t n : ℕ) → IsSound w.rooms → eqb t c ≡ false → is_member w c n ≡ true →
     is_member w t n ≡ false
-one_context w c t n h apart within = not_so (is_member w t n) (λ e.
+one_context w c t n h apart within = false_from_ne_true (is_member w t n) (λ e.
     let (r, found, here) = (h.members c n).0 within in
     let (q, also, too) = (h.members t n).0 e in
     let is = same_Some r q (sym found ∙ also) in
-    neither (sym (eq-eqb t c (sym too ∙ ap (λ (x : Record). x.context) (sym is) ∙ here)) ∙ apart))
+    true≢false (sym (eq-eqb t c (sym too ∙ ap (λ (x : Record). x.context) (sym is) ∙ here)) ∙ apart))
 
 another_target : (w : Registry) (target : Target) (t c : ℕ) → existing_context w target ≡ Ok t →
     is_number target c ≡ false → eqb t c ≡ false

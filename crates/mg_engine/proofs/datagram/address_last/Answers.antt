@@ -11,9 +11,6 @@ returns c = record {
   value = λ before last was.
       let items = c.args.outbox.now.items in
       let i = c.len-last.result - 1 in
-      let from = c.args.from in
-      let to = c.args.to in
-      let header = c.args.header in
       let at : i ≡ length before = omega (
         arith,
         c.len-last.ensures.value,
@@ -22,7 +19,7 @@ returns c = record {
       ) in
       let there = ap (λ (xs : List Datagram). get_or xs i none) (c.deref_mut.ensures.value ∙ was) ∙
       ap (λ (n : ℕ). get_or (before ++ last ∷ []) n none) at ∙ get_or-append_seam before last [] none in
-      let now = c.address.ensures.value ∙ ap (addressed from to header) there in
+      let now = c.address.ensures.value ∙ ap (addressed c.args.from c.args.to c.args.header) there in
       ap (λ (xs : List Datagram). refill (length items) items (set xs i c.address.new.self)) c.deref_mut.ensures.value
       ∙ refilled items i c.address.new.self
       ∙ last_set before last c.address.new.self items i was at

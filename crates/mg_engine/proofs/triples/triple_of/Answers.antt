@@ -1,5 +1,4 @@
-use Rattle.mg_engine.proofs.Common.{sym, ◌∙◌, refl, Triple, members_at, IsMatched}
-use Rattle.mg_engine.proofs.MemberLemmas.{neither}
+use Rattle.mg_engine.proofs.Common.{sym, ◌∙◌, refl, Triple, members_at, IsMatched, true≢false}
 use Rattle.mg_engine.proofs.TripleLemmas.{overlaps_are, not_barred}
 use Rattle.mg_engine.proofs.triples.triple_of.Goals as goal
 
@@ -46,6 +45,6 @@ returns c =
             (sym c.is_barred-else-is_barred.ensures.value ∙ c.if-is_barred-2.false) c.in-Some.ensures.some.0
             c.in-Some-seats_of.ensures.some.0 _ (same ∙ sym c.overlaps.ensures.value ∙ c.if-overlaps.false),
         is,
-        λ some. neither (sym (c.overlaps.ensures.common.1 some) ∙ sym c.overlaps.ensures.value ∙ c.if-overlaps.false),
+        λ some. true≢false (sym (c.overlaps.ensures.common.1 some) ∙ sym c.overlaps.ensures.value ∙ c.if-overlaps.false),
       );
     }

@@ -1,33 +1,36 @@
 use Rattle.mg_engine.proofs.Common.{◌<◌, ℕ, List, Option, length, sym, ap, subst, ◌∙◌, arith, length-set, view, added, done_with, member_place, EngineState, StandsFor, sound_if, RisesAtMost, SetsRow, room_for, Registry, initial_media, add}
 use Rattle.mg_engine.proofs.OutcomeLemmas.{add_adds}
-use Rattle.mg_engine.proofs.EditLemmas.{slots_kept, room_left, held_added, unknown_before, begun_tuned, added_stands}
+use Rattle.mg_engine.proofs.EditLemmas.{slot_fits, room_left, held_added, unknown_before, begun_tuned, added_stands}
 use Rattle.mg_engine.proofs.MemberLemmas.{no_record, same_others, carry, hears_carry, unknown, hears_some, free_place, has_entered, hears_entered}
 use Rattle.mg_engine.proofs.JoinedLemmas.{joined_changed}
 use Rattle.mg_engine.proofs.WorkLemmas.{rises_twice}
-use Rattle.mg_engine.proofs.PlaceLemmas.{on_its_place, member_within, within}
+use Rattle.mg_engine.proofs.PlaceLemmas.{on_its_place, member_within}
 use Rattle.mg_engine.proofs.SeatingLemmas.{carry_seats, seated_put}
 use Rattle.mg_engine.proofs.engine.Engine.add.Goals as goal
 
 pub begin-requires : goal.begin-requires
 begin-requires c =
+    let new = c.add.new.self in
+    let d = c.in_ok-made.made.record in
     let sound = sound_if _ c.add.ensures.consistent in
-    let at = c.in_ok-made.ensures.member in
-    let a = add_adds c.self.inside.rooms c.args.target c.args.settings.now c.add.new.self c.in_ok-made.made.record
-    c.in_ok-made.ensures.outcome in
-    let slots = slots_kept c.self.inside c.add.new.self c.self.invariant a.limits in
-    let is = (sound.termination c.in_ok-made.made.record.number c.in_ok-made.made.record at.found).1 in
-    record { slot = (omega (arith, is.slot, slots), omega (arith, is.slot, sound.consistent.limits.0.few_slots)) }
+    let found = c.in_ok-made.ensures.member.found in
+    let a = add_adds c.self.inside.rooms c.args.target c.args.settings.now new d c.in_ok-made.ensures.outcome in
+    record {
+      slot = (
+        slot_fits c.self.inside new d.number d c.self.invariant sound a.limits found,
+        omega (arith, (sound.termination d.number d found).1.slot, sound.consistent.limits.0.few_slots),
+      );
+    }
 
 pub tune-requires : goal.tune-requires
 tune-requires c =
+    let new = c.add.new.self in
+    let d = c.in_ok-made.made.record in
     let sound = sound_if _ c.add.ensures.consistent in
-    let at = c.in_ok-made.ensures.member in
-    let a = add_adds c.self.inside.rooms c.args.target c.args.settings.now c.add.new.self c.in_ok-made.made.record
-    c.in_ok-made.ensures.outcome in
-    let slots = slots_kept c.self.inside c.add.new.self c.self.invariant a.limits in
-    let is = (sound.termination c.in_ok-made.made.record.number c.in_ok-made.made.record at.found).1 in
+    let a = add_adds c.self.inside.rooms c.args.target c.args.settings.now new d c.in_ok-made.ensures.outcome in
+    let lt = slot_fits c.self.inside new d.number d c.self.invariant sound a.limits c.in_ok-made.ensures.member.found in
     let long = ap length c.begin.ensures.initial_media ∙ length-set c.self.inside.media.items _ _ in
-    record { slot = omega (arith, is.slot, slots, long) }
+    record { slot = omega (arith, lt, long) }
 
 pub push-requires : goal.push-requires
 push-requires c =
@@ -44,12 +47,11 @@ enter-requires c =
     let new = c.add.new.self in
     let m = c.in_ok-made.made in
     let d = m.record in
-    let before = c.self.invariant.sound in
     let sound = sound_if _ c.add.ensures.consistent in
     let at = c.in_ok-made.ensures.member in
     let on = on_its_place new d.number m at in
     let a = add_adds old c.args.target c.args.settings.now new d c.in_ok-made.ensures.outcome in
-    let same = same_others old new d.number before.there sound.there c.add.ensures.lasts.room
+    let same = same_others old new d.number c.self.invariant.sound sound c.add.ensures.lasts.room
     c.in_ok-made.ensures.others.termination in
     let has = carry old new d.number c.self.inside.flows same
     (unknown old d.number c.self.inside.flows (unknown_before old new d a sound) c.self.invariant.members) in
@@ -57,7 +59,7 @@ enter-requires c =
     record {
       within = member_within new d.number m sound at;
       slot = omega (arith, is.slot, sound.consistent.limits.0.few_slots);
-      free = free_place new d.number d (member_place m) c.self.inside.flows sound.one_room sound.one_seat has on;
+      free = free_place new d.number d (member_place m) c.self.inside.flows sound has on;
     }
 
 pub invariant_of-self-2 : goal.invariant_of-self-2
@@ -68,24 +70,21 @@ invariant_of-self-2 c =
     let d = m.record in
     let n = d.number in
     let p = member_place m in
-    let before = c.self.invariant.sound in
     let sound = sound_if _ c.add.ensures.consistent in
     let on = on_its_place new n m c.in_ok-made.ensures.member in
     let a = add_adds old c.args.target c.args.settings.now new d c.in_ok-made.ensures.outcome in
-    let same = same_others old new n before.there sound.there c.add.ensures.lasts.room
+    let same = same_others old new n c.self.invariant.sound sound c.add.ensures.lasts.room
     c.in_ok-made.ensures.others.termination in
     let none = unknown_before old new d a sound in
-    let has = carry old new n c.self.inside.flows same
-    (unknown old n c.self.inside.flows none c.self.invariant.members) in
-    let members = has_entered new n d p c.self.inside.flows c.enter.new.flows sound.one_room sound.one_seat on
-    c.enter.ensures.entered has in
-    let seats = seated_put new n d p c.self.inside.seating c.self.invariant.places sound.one_room sound.one_seat
-    (λ x y q here. within new x y q here sound.termination sound.context) on
+    let members = has_entered new n d p c.self.inside.flows c.enter.new.flows sound on
+    c.enter.ensures.entered
+    (carry old new n c.self.inside.flows same (unknown old n c.self.inside.flows none c.self.invariant.members)) in
+    let seats = seated_put new n d p c.self.inside.seating c.self.invariant.places sound on
     (carry_seats old new n c.self.inside.seating same c.self.invariant.seats) in
     let put = c.enter.ensures.seated in
     let rows = subst (λ (rows : List (Option ℕ)). SetsRow rows c.enter.new.sums.rooms d.slot (room_for d.mode m.room))
     c.begin.ensures.joined c.enter.ensures.joined in
-    let joined = joined_changed old new n d p c.self.inside.sums.rooms c.enter.new.sums.rooms sound.one_slot same on
+    let joined = joined_changed old new n d p c.self.inside.sums.rooms c.enter.new.sums.rooms sound same on
     (λ was there. absurd (no_record was (sym there ∙ none))) rows c.self.invariant.joined in
     let tuned = ap length c.tune.ensures.tuned ∙ length-set c.begin.new.media.items _ _ in
     let long = tuned ∙ ap length c.begin.ensures.initial_media ∙ length-set c.self.inside.media.items _ _ in
@@ -113,14 +112,12 @@ returns-clause-outcome c w h =
     let settings = c.args.settings.now in
     let done = c.in_ok-made.ensures.outcome in
     let k = view c.self.inside in
-    let before = c.self.invariant.sound in
     let sound = sound_if _ c.add.ensures.consistent in
     let at = c.in_ok-made.ensures.member in
     let on = on_its_place new n m at in
     let a = add_adds old c.args.target settings new d done in
     let is = (sound.termination n d at.found).1 in
-    let slots = slots_kept c.self.inside new c.self.invariant a.limits in
-    let lt : d.slot < length k.media = omega (arith, is.slot, slots) in
+    let lt = slot_fits c.self.inside new n d c.self.invariant sound a.limits at.found in
     let in_rows : d.slot < length k.sums.frames =
     omega (arith, is.slot, sound.consistent.limits.0.few_slots, c.begin.ensures.rows) in
     let silent = c.enter.ensures.frames ∙ c.begin.ensures.silent in
@@ -128,18 +125,18 @@ returns-clause-outcome c w h =
     let set_to = begun_tuned k.media c.begin.new.media.items c.tune.new.media.items d.slot (initial_media k.config)
     settings.depth lt c.begin.ensures.initial_media c.tune.ensures.tuned in
     let stands = subst (λ (x : EngineState). StandsFor x w) (sym c.self.view_is) h in
-    let same = same_others old new n before.there sound.there c.add.ensures.lasts.room others in
+    let same = same_others old new n c.self.invariant.sound sound c.add.ensures.lasts.room others in
     let has = carry old new n k.flows same (unknown old n k.flows (unknown_before old new d a sound)
     c.self.invariant.members) in
-    let hears = hears_entered new n d p k.flows c.enter.new.flows sound.one_room sound.one_seat on
+    let hears = hears_entered new n d p k.flows c.enter.new.flows sound on
     c.enter.ensures.entered has w.edits
     (hears_carry old new n k.flows w.edits same (hears_some old n k.flows w.edits stands.hears)) in
     let here = ap (λ (x : Registry). done_with (added w settings) (add x c.args.target settings))
     stands.rooms ∙ ap (done_with (added w settings)) done in (
       added w settings new d,
       here,
-      added_stands k new c.tune.new.media.items c.enter.new.flows c.enter.new.sums w
-          settings d d a sound sound.one_slot others at.found lt in_rows set_to silent hears stands,
+      rw set_to (added_stands k new c.enter.new.flows c.enter.new.sums w settings d a sound others at.found lt in_rows
+          silent hears stands),
     )
 
 pub returns-clause-work : goal.returns-clause-work

@@ -7,14 +7,13 @@ returns-clause-put c before last was body =
     let k = view c.self.inside in
     let r = c.args.sender.now in
     let to = c.args.to in
-    let all = c.as_slice-media.ensures.value in
     let slots = ap (λ (l : Limits). l.slots) c.self.invariant.limits in
     let found = ap (λ (x : EngineState). record_at x.rooms r.number) c.self.view_is ∙ c.requires.member in
     let (number, is) = c.self.invariant.sound.termination r.number r found in
     let within : r.slot < length k.media = omega (arith, is.slot, slots, c.self.invariant.media) in
     let place = c.index-media-from.is
     ∙ ap (λ (n : ℕ). get_or c.as_slice-media.result.now n c.index-media-from.result) c.from.ensures
-    ∙ ap (λ (ms : List SlotMedia). get_or ms r.slot c.index-media-from.result) all
+    ∙ ap (λ (ms : List SlotMedia). get_or ms r.slot c.index-media-from.result) c.as_slice-media.ensures.value
     ∙ get_or_default k.media r.slot c.index-media-from.result idle within in
     let port = c.slot_port-from.ensures.value ∙
     ap (λ (l : Limits). slot_port l r.slot) (c.limits.ensures.value ∙ sym c.self.invariant.limits) in
@@ -32,7 +31,6 @@ returns-clause-payload c = refl
 
 pub slot_port-from-requires-clause-slot : goal.slot_port-from-requires-clause-slot
 slot_port-from-requires-clause-slot c =
-    let w = c.self.inside.rooms in
     let r = c.args.sender.now in
     let found = ap (λ (x : EngineState). record_at x.rooms r.number) c.self.view_is ∙ c.requires.member in
     let (number, is) = c.self.invariant.sound.termination r.number r found in

@@ -20,18 +20,11 @@ returns-in_err-by_seats-clause-outcome g c w h =
     stands c.in_ok-at.ensures.value.0 (c.in_err-by_seats.ensures.value))
 
 pub invariant_of-self : goal.invariant_of-self
-invariant_of-self g c = record {
-  sound = c.self.invariant.sound;
-  limits = c.self.invariant.limits;
-  media = c.self.invariant.media;
-  held = c.self.invariant.held;
-  members = has_still c.self.inside.rooms c.self.inside.flows c.on_triples.new.self c.on_triples.ensures.places
-      c.self.invariant.members;
-  seats = c.self.invariant.seats;
-  places = c.self.invariant.places;
-  row_count = c.self.invariant.row_count;
-  joined = c.self.invariant.joined;
-}
+invariant_of-self g c = assumption (
+  has_still c.self.inside.rooms c.self.inside.flows c.on_triples.new.self
+      c.on_triples.ensures.places c.self.invariant.members,
+  c.self.invariant,
+)
 
 pub returns-clause-outcome : goal.returns-clause-outcome
 returns-clause-outcome g c w h =
@@ -48,7 +41,7 @@ returns-clause-outcome g c w h =
     elim c.match-on_triples.branch [
       | in-Ok b ↦
           (let heard = hears_triples k.rooms at.context at.room k.flows c.on_triples.new.self xs ys w.edits
-          c.self.invariant.sound.one_room c.self.invariant.sound.one_seat c.in_ok-at.ensures.value.1 matched
+          c.self.invariant.sound c.in_ok-at.ensures.value.1 matched
           c.self.invariant.members c.on_triples.ensures.others
           (λ t l same together. b.in-Ok.ensures.hears t l same together ∙
           ap (λ (zs : List Triple). hears_after zs t.seat l.seat (hears k.flows t l)) c.as_slice.ensures.value)

@@ -11,21 +11,16 @@ end_slots-requires c =
     let held = c.as_slice.ensures.value ∙ c.self.invariant.held in
     let limit = ap (λ (l : Limits). l.slots) c.self.invariant.limits in
     record {
-      slots = held_below w slots held (length c.self.inside.media.items) sound.by_number
-          (λ n r found. let (number, is) = sound.termination n r found in
-          omega (arith, is.slot, limit, c.self.invariant.media));
-      apart = held_apart w slots held sound.by_number sound.one_slot sound.consistent.terminations.one_number;
+      slots = held_below w slots held (length c.self.inside.media.items) sound (omega (arith, limit, c.self.invariant.media));
+      apart = held_apart w slots held sound;
     }
 
 pub returns-clause-after : goal.returns-clause-after
 returns-clause-after c w h =
     let k = view c.self.inside in
-    let sound = c.self.invariant.sound in
-    let slots = c.as_slice.result.now in
-    let held = c.as_slice.ensures.value ∙ c.self.invariant.held in
     let stands = subst (λ (x : EngineState). StandsFor x w) (sym c.self.view_is) h in
     let all : AreEnded k.rooms k.media c.end_slots.new.media.items = λ n r found.
-    let at = held_at k.rooms slots held n r found in
+    let at = held_at k.rooms c.as_slice.result.now (c.as_slice.ensures.value ∙ c.self.invariant.held) n r found in
     subst (λ (s : ℕ). IsEnded k.rooms k.media c.end_slots.new.media.items s) at.is
     (c.end_slots.ensures.each at.at at.within) in
-    ended_stands k w c.end_slots.new.media.items sound.holder all stands
+    ended_stands k w c.end_slots.new.media.items c.self.invariant.sound.holder all stands

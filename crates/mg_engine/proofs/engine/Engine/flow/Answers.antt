@@ -20,7 +20,7 @@ returns-then-from-to c = record {
       let l = c.in-Some-Some.hearing in
       let from = c.member_place-from.result in
       let to = c.member_place-to.result in
-      let flows = flow_places k w c.self.invariant.sound.one_room c.self.invariant.members stands c.args.talker
+      let flows = flow_places k w c.self.invariant.sound c.self.invariant.members stands c.args.talker
       c.args.listener t.record l.record (member_place t) (member_place l)
       (on_its_place k.rooms c.args.talker t c.in-Some-Some.ensures.some)
       (on_its_place k.rooms c.args.listener l c.in-Some-Some.ensures'.some) in
@@ -31,5 +31,5 @@ returns-then-from-to c = record {
       (sym c.if-from-to.true)
       ∙ ap (λ (p : Place). table.flows k.flows p to) c.member_place-from.ensures.value
       ∙ ap (table.flows k.flows (member_place t)) c.member_place-to.ensures.value
-      ∙ sym flows;
+      ∙ flows;
 }

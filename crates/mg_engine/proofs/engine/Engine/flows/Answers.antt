@@ -6,4 +6,4 @@ pub returns-clause-represented : goal.returns-clause-represented
 returns-clause-represented c w h =
     let k = view c.self.inside in
     let stands = subst (λ (x : EngineState). StandsFor x w) (sym c.self.view_is) h in
-    tells k w c.self.invariant.sound.one_room c.self.invariant.members stands c.self.invariant.sound.one_seat
+    tells k w c.self.invariant.sound c.self.invariant.members stands

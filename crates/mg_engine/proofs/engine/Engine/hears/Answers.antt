@@ -13,7 +13,7 @@ returns-in-Some-Some c = record {
       c.hears.ensures.kept
       ∙ ap (λ (p : Place). hears k.flows p c.member_place-to.result) c.member_place-from.ensures.value
       ∙ ap (hears k.flows (member_place t)) c.member_place-to.ensures.value
-      ∙ hears_places k w c.self.invariant.sound.one_room c.self.invariant.members stands c.args.talker c.args.listener
+      ∙ hears_places k w c.self.invariant.sound c.self.invariant.members stands c.args.talker c.args.listener
       t.record l.record (member_place t) (member_place l)
       (on_its_place k.rooms c.args.talker t c.in-Some-Some.ensures.some)
       (on_its_place k.rooms c.args.listener l c.in-Some-Some.ensures'.some);

@@ -14,6 +14,6 @@ returns c = record {
       c.hears.ensures.kept
       ∙ ap (λ (p : Place). hears k.flows p c.place-to.result) c.place-from.ensures.value
       ∙ ap (hears k.flows (seated_place t)) c.place-to.ensures.value
-      ∙ hears_places k w c.self.invariant.sound.one_room c.self.invariant.members stands t.number l.number a b
+      ∙ hears_places k w c.self.invariant.sound c.self.invariant.members stands t.number l.number a b
       (seated_place t) (seated_place l) first second;
 }

@@ -31,7 +31,7 @@ returns-in-Some c = record {
       let reading = reading_of c.read-packet.result in
       let brought = arrived r c.args.source.address reading in
       let (now, represents, stands) = took_stands k w r c.place.new.self.media brought c.place.result
-      c.at_port.ensures.sound.one_slot c.in-Some.ensures.found c.in-Some.ensures.slot c.place.ensures.taken h in
+      c.at_port.ensures.sound c.in-Some.ensures.found c.in-Some.ensures.slot c.place.ensures.taken h in
       let here = ap (λ (x : Registry). at_port x c.args.port) h.rooms ∙ sym c.at_port.ensures.value ∙
       c.in-Some.is in (
         now,

@@ -1,22 +1,18 @@
-use Rattle.mg_engine.proofs.Common.{ℕ, ◌+◌, ℤ, cond, List, length, map, get_or, Option, Some, None, sym, ap, subst, ◌∙◌, arith, range_with_len, byte_of, talks, context_at, sibling_place, SumsState, nearest_sample, view, IsOnPlace, EngineState, heard_now, silenced_now}
+use Rattle.mg_engine.proofs.Common.{ℕ, ◌+◌, ℤ, cond, List, length, map, Option, Some, None, sym, ap, subst, ◌∙◌, arith, range_with_len, byte_of, talks, sibling_place, SumsState, nearest_sample, view, IsOnPlace, EngineState, heard_now, silenced_now}
 use Rattle.mg_sums.specs.Sums.{AreOfRoom, left_out_by, mix_of}
-use Rattle.mg_engine.proofs.MaskLemmas.{seats_there}
 use Rattle.mg_engine.proofs.MixLemmas.{IsLeftAndHeard, left_out, how_many, mix_is}
 use Rattle.mg_engine.proofs.engine.Engine.mix.Goals as goal
 
 pub silenced-requires : goal.silenced-requires
 silenced-requires c =
-    let k = view c.self.inside in
     let l = c.args.listener.now in
     let p = c.args.place in
-    let sound = c.self.invariant.sound in
-    let on : IsOnPlace k.rooms l.number l p =
+    let on : IsOnPlace (view c.self.inside).rooms l.number l p =
     subst (λ (x : EngineState). IsOnPlace x.rooms l.number l p) (sym c.self.view_is) c.requires.place in
     (c.self.invariant.members.each l.number l p on).held
 
 pub rows_on-silenced-requires-clause-slots : goal.rows_on-silenced-requires-clause-slots
 rows_on-silenced-requires-clause-slots c seat h =
-    let w = c.self.inside.rooms in
     let p = c.args.place in
     let sound = c.self.invariant.sound in
     let (n, r, on) = c.self.invariant.members.nobody (sibling_place p seat) (c.silenced.ensures.held seat h) in
@@ -28,31 +24,16 @@ mix-requires c =
     let k = view c.self.inside in
     let l = c.args.listener.now in
     let p = c.args.place in
-    let sound = c.self.invariant.sound in
     let on : IsOnPlace k.rooms l.number l p =
     subst (λ (x : EngineState). IsOnPlace x.rooms l.number l p) (sym c.self.view_is) c.requires.place in
-    let mask = c.silenced.result.now in
-    let (y, context, is) = seats_there l.seat (context_at k.rooms l.context) p on.place in
-    let own = c.own_row.ensures.value in
     let rows = c.as_slice.ensures.value ∙ c.rows_on-silenced.ensures.value in
-    let out = left_out k c.self.inside.seating l p y mask sound c.self.invariant.members c.self.invariant.joined
-    c.self.invariant.seats
-    sound.by_number
-    sound.there
-    sound.one_room
-    sound.one_seat
-    (λ n r found. omega (arith, (sound.termination n r found).1.seat))
-    (λ i d lt. let (number, limited) = sound.termination (get_or k.rooms.terminations i d).number
-    (get_or k.rooms.terminations i d) (sound.by_number i d lt) in
-    omega (arith, limited.slot, sound.consistent.limits.0.few_slots))
-    c.self.invariant.row_count
-    sound.one_slot
-    context is on c.requires.listens c.silenced.ensures.kept c.silenced.ensures.held in
+    let out = left_out c.self.inside l p c.silenced.result.now c.self.invariant on c.requires.listens
+    c.silenced.ensures.kept c.silenced.ensures.held in
     record {
       rows = subst (λ (room : ℕ). AreOfRoom k.sums.rooms room (left_out_by c.own_row.result c.as_slice.result.now))
           (sym c.new.ensures)
-          (subst (λ (b : Option ℕ). AreOfRoom k.sums.rooms p.room (left_out_by b c.as_slice.result.now)) (sym own)
-          (subst (λ (m : List ℕ). AreOfRoom k.sums.rooms p.room
+          (subst (λ (b : Option ℕ). AreOfRoom k.sums.rooms p.room (left_out_by b c.as_slice.result.now))
+          (sym c.own_row.ensures.value) (subst (λ (m : List ℕ). AreOfRoom k.sums.rooms p.room
           (left_out_by (cond (talks l.mode) (Some l.slot) None) m)) (sym rows) out));
     }
 
@@ -61,44 +42,15 @@ returns-clause-value c =
     let k = view c.self.inside in
     let l = c.args.listener.now in
     let p = c.args.place in
-    let sound = c.self.invariant.sound in
     let on : IsOnPlace k.rooms l.number l p =
     subst (λ (x : EngineState). IsOnPlace x.rooms l.number l p) (sym c.self.view_is) c.requires.place in
-    let mask = c.silenced.result.now in
-    let (y, context, is) = seats_there l.seat (context_at k.rooms l.context) p on.place in
     let own = c.own_row.ensures.value in
     let rows = c.as_slice.ensures.value ∙ c.rows_on-silenced.ensures.value in
-    let out = left_out k c.self.inside.seating l p y mask sound c.self.invariant.members c.self.invariant.joined
-    c.self.invariant.seats
-    sound.by_number
-    sound.there
-    sound.one_room
-    sound.one_seat
-    (λ n r found. omega (arith, (sound.termination n r found).1.seat))
-    (λ i d lt. let (number, limited) = sound.termination (get_or k.rooms.terminations i d).number
-    (get_or k.rooms.terminations i d) (sound.by_number i d lt) in
-    omega (arith, limited.slot, sound.consistent.limits.0.few_slots))
-    c.self.invariant.row_count
-    sound.one_slot
-    context is on c.requires.listens c.silenced.ensures.kept c.silenced.ensures.held in
     let heard = subst (λ (m : List ℕ). IsLeftAndHeard k.sums p.room
     (left_out_by (cond (talks l.mode) (Some l.slot) None) m)) rows
     (subst (λ (b : Option ℕ). IsLeftAndHeard k.sums p.room (left_out_by b c.as_slice.result.now)) own
     (subst (λ (room : ℕ). IsLeftAndHeard k.sums room (left_out_by c.own_row.result c.as_slice.result.now))
     c.new.ensures c.mix.ensures.heard)) in
-    let mixed = mix_is k c.self.inside.seating l p y mask sound c.self.invariant.members c.self.invariant.joined
-    c.self.invariant.seats
-    sound.by_number
-    sound.there
-    sound.one_room
-    sound.one_seat
-    (λ n r found. omega (arith, (sound.termination n r found).1.seat))
-    (λ i d lt. let (number, limited) = sound.termination (get_or k.rooms.terminations i d).number
-    (get_or k.rooms.terminations i d) (sound.by_number i d lt) in
-    omega (arith, limited.slot, sound.consistent.limits.0.few_slots))
-    c.self.invariant.row_count
-    sound.one_slot
-    context is on c.requires.listens c.silenced.ensures.kept c.silenced.ensures.held heard in
     let law = c.args.law in
     c.mix.ensures.mix
     ∙ ap (λ (room : ℕ). map (byte_of law) (mix_of k.sums room (left_out_by c.own_row.result c.as_slice.result.now)))
@@ -106,37 +58,20 @@ returns-clause-value c =
     ∙ ap (λ (b : Option ℕ). map (byte_of law) (mix_of k.sums p.room (left_out_by b c.as_slice.result.now))) own
     ∙ ap (λ (m : List ℕ). map (byte_of law) (mix_of k.sums p.room
     (left_out_by (cond (talks l.mode) (Some l.slot) None) m))) rows
-    ∙ ap (λ (xs : List ℤ). map (byte_of law) xs) mixed
+    ∙ ap (λ (xs : List ℤ). map (byte_of law) xs) (mix_is c.self.inside l p c.silenced.result.now c.self.invariant on
+    c.requires.listens c.silenced.ensures.kept c.silenced.ensures.held heard)
     ∙ ap (λ (x : EngineState). map (byte_of law) (map (λ i. nearest_sample (heard_now x l i)) (range_with_len 0 160)))
     c.self.view_is
 
 pub returns-clause-work : goal.returns-clause-work
 returns-clause-work c =
-    let k = view c.self.inside in
     let l = c.args.listener.now in
     let p = c.args.place in
-    let sound = c.self.invariant.sound in
-    let on : IsOnPlace k.rooms l.number l p =
+    let on : IsOnPlace c.self.inside.rooms l.number l p =
     subst (λ (x : EngineState). IsOnPlace x.rooms l.number l p) (sym c.self.view_is) c.requires.place in
-    let mask = c.silenced.result.now in
-    let (y, context, is) = seats_there l.seat (context_at k.rooms l.context) p on.place in
-    let own = c.own_row.ensures.value in
-    let rows = c.as_slice.ensures.value ∙ c.rows_on-silenced.ensures.value in
-    let many = how_many k c.self.inside.seating l p y mask sound c.self.invariant.members c.self.invariant.joined
-    c.self.invariant.seats
-    sound.by_number
-    sound.there
-    sound.one_room
-    sound.one_seat
-    (λ n r found. omega (arith, (sound.termination n r found).1.seat))
-    (λ i d lt. let (number, limited) = sound.termination (get_or k.rooms.terminations i d).number
-    (get_or k.rooms.terminations i d) (sound.by_number i d lt) in
-    omega (arith, limited.slot, sound.consistent.limits.0.few_slots))
-    c.self.invariant.row_count
-    sound.one_slot
-    context is on c.requires.listens c.silenced.ensures.kept c.silenced.ensures.held in
-    let count = ap (λ (xs : List ℕ). length xs) rows ∙ many ∙
-    ap (λ (x : EngineState). silenced_now x l) c.self.view_is in
+    let count = ap (λ (xs : List ℕ). length xs) (c.as_slice.ensures.value ∙ c.rows_on-silenced.ensures.value) ∙
+    how_many c.self.inside l p c.silenced.result.now c.self.invariant on c.requires.listens c.silenced.ensures.kept
+    c.silenced.ensures.held ∙ ap (λ (x : EngineState). silenced_now x l) c.self.view_is in
     let old = ap (λ (x : EngineState). x.sums.work) c.self.view_is in
     let now = ap (λ (s : SumsState). s.work) c.mix.ensures.kept in
     (1 + length c.as_slice.result.now, omega (arith, count), omega (arith, old, now))

@@ -1,6 +1,6 @@
-use Rattle.mg_engine.proofs.Common.{◌<◌, length, refl, sym, ap, subst, ◌∙◌, arith, length-set, same_Some, Record, view, modified, media_with, done_with, member_place, EngineState, StandsFor, RisesAtMost, sound_if, Registry, modify}
+use Rattle.mg_engine.proofs.Common.{length, sym, ap, subst, ◌∙◌, arith, length-set, same_Some, Record, view, modified, done_with, member_place, EngineState, StandsFor, RisesAtMost, sound_if, Registry, modify}
 use Rattle.mg_engine.proofs.OutcomeLemmas.{modify_changes}
-use Rattle.mg_engine.proofs.EditLemmas.{slots_kept, held_changed, changed_at, changed_stands}
+use Rattle.mg_engine.proofs.EditLemmas.{slot_fits, held_changed, changed_stands}
 use Rattle.mg_engine.proofs.MemberLemmas.{same_others, stayed_at, has_mode, hears_mode}
 use Rattle.mg_engine.proofs.JoinedLemmas.{joined_changed}
 use Rattle.mg_engine.proofs.WorkLemmas.{rises_less}
@@ -13,14 +13,10 @@ tune-requires c =
     let old = c.self.inside.rooms in
     let new = c.modify.new.self in
     let n = c.args.number in
-    let m = c.in_ok-changed.changed in
-    let d = m.record in
-    let before = c.self.invariant.sound in
+    let d = c.in_ok-changed.changed.record in
     let sound = sound_if _ c.modify.ensures.consistent in
-    let at = c.in_ok-changed.ensures.member in
     let (a, _) = modify_changes old c.args.target n c.args.settings.now new d c.in_ok-changed.ensures.outcome in
-    let slots = slots_kept c.self.inside new c.self.invariant a.limits in
-    record { slot = omega (arith, (sound.termination n d at.found).1.slot, slots) }
+    record { slot = slot_fits c.self.inside new n d c.self.invariant sound a.limits c.in_ok-changed.ensures.member.found }
 
 pub take_mode-requires : goal.take_mode-requires
 take_mode-requires c =
@@ -33,14 +29,13 @@ take_mode-requires c =
     let sound = sound_if _ c.modify.ensures.consistent in
     let at = c.in_ok-changed.ensures.member in
     let p = member_place m in
-    let settings = c.args.settings.now in
     let done = c.in_ok-changed.ensures.outcome in
     let k = view c.self.inside in
     let others = c.in_ok-changed.ensures.others.termination in
     let on = on_its_place new n m at in
-    let (a, context) = modify_changes old c.args.target n settings new d done in
-    let same = same_others old new n before.there sound.there c.modify.ensures.lasts.room others in
-    let was = stayed_at old new n a.was d p before.there c.modify.ensures.lasts a.there context on in
+    let (a, context) = modify_changes old c.args.target n c.args.settings.now new d done in
+    let same = same_others old new n before sound c.modify.ensures.lasts.room others in
+    let was = stayed_at old new n a.was d p before c.modify.ensures.lasts a.there context on in
     record {
       within = member_within new n m sound at;
       slot = omega (arith, (sound.termination n d at.found).1.slot, sound.consistent.limits.0.few_slots);
@@ -56,28 +51,24 @@ invariant_of-self-2 c =
     let d = m.record in
     let before = c.self.invariant.sound in
     let sound = sound_if _ c.modify.ensures.consistent in
-    let at = c.in_ok-changed.ensures.member in
     let p = member_place m in
-    let settings = c.args.settings.now in
     let done = c.in_ok-changed.ensures.outcome in
-    let k = view c.self.inside in
     let others = c.in_ok-changed.ensures.others.termination in
-    let on = on_its_place new n m at in
-    let (a, context) = modify_changes old c.args.target n settings new d done in
-    let same = same_others old new n before.there sound.there c.modify.ensures.lasts.room others in
-    let was = stayed_at old new n a.was d p before.there c.modify.ensures.lasts a.there context on in
-    let members = has_mode old new n a.was d p c.self.inside.flows c.take_mode.new.flows sound.one_room sound.one_seat
+    let on = on_its_place new n m c.in_ok-changed.ensures.member in
+    let (a, context) = modify_changes old c.args.target n c.args.settings.now new d done in
+    let same = same_others old new n before sound c.modify.ensures.lasts.room others in
+    let was = stayed_at old new n a.was d p before c.modify.ensures.lasts a.there context on in
+    let members = has_mode old new n a.was d p c.self.inside.flows c.take_mode.new.flows sound
     same was on (sym context) c.take_mode.ensures.taken c.self.invariant.members in
     let seats = seated_mode old new n a.was d p c.self.inside.seating same was on a.slot c.self.invariant.seats in
-    let joined = joined_changed old new n d p c.self.inside.sums.rooms c.take_mode.new.sums.rooms sound.one_slot same
+    let joined = joined_changed old new n d p c.self.inside.sums.rooms c.take_mode.new.sums.rooms sound same
     on (λ x there. ap (λ (y : Record). y.slot) (same_Some x a.was (sym there ∙ a.there)) ∙ sym a.slot)
     c.take_mode.ensures.joined c.self.invariant.joined in
-    let long = ap length c.tune.ensures.tuned ∙ length-set c.self.inside.media.items _ _ in
     record {
       sound = sound;
       limits = a.limits ∙ c.self.invariant.limits;
-      media = long ∙ c.self.invariant.media;
-      held = held_changed k new n d c.self.inside.held.items a c.self.invariant.held;
+      media = ap length c.tune.ensures.tuned ∙ length-set c.self.inside.media.items _ _ ∙ c.self.invariant.media;
+      held = held_changed (view c.self.inside) new n d c.self.inside.held.items a c.self.invariant.held;
       members = members;
       seats = seats;
       places = c.self.invariant.places;
@@ -102,21 +93,18 @@ returns-clause-outcome c w h =
     let others = c.in_ok-changed.ensures.others.termination in
     let on = on_its_place new n m at in
     let (a, context) = modify_changes old c.args.target n settings new d done in
-    let same = same_others old new n before.there sound.there c.modify.ensures.lasts.room others in
-    let was = stayed_at old new n a.was d p before.there c.modify.ensures.lasts a.there context on in
-    let slots = slots_kept c.self.inside new c.self.invariant a.limits in
-    let lt : d.slot < length k.media = omega (arith, (sound.termination n d at.found).1.slot, slots) in
+    let same = same_others old new n before sound c.modify.ensures.lasts.room others in
+    let was = stayed_at old new n a.was d p before c.modify.ensures.lasts a.there context on in
+    let lt = slot_fits c.self.inside new n d c.self.invariant sound a.limits at.found in
     let stands = subst (λ (x : EngineState). StandsFor x w) (sym c.self.view_is) h in
-    let hears = hears_mode old new n a.was d p k.flows c.take_mode.new.flows sound.one_room sound.one_seat same was on
+    let hears = hears_mode old new n a.was d p k.flows c.take_mode.new.flows sound same was on
     (sym context) c.take_mode.ensures.taken w.edits stands.hears in
     let here = ap (λ (x : Registry). done_with (modified w settings)
     (modify x c.args.target n settings)) stands.rooms ∙ ap (done_with (modified w settings)) done in (
       modified w settings new d,
       here,
-      changed_stands k new c.tune.new.media.items c.take_mode.new.flows
-          c.take_mode.new.sums w (modified w settings new d) settings n d a sound.one_slot others lt
-          c.tune.ensures.tuned c.take_mode.ensures.frames stands refl refl
-          (ap (λ (m : _). media_with settings m w.media) (changed_at k new n d a)) hears,
+      rw c.tune.ensures.tuned (changed_stands k new c.take_mode.new.flows c.take_mode.new.sums w settings n d w.edits a
+          sound others lt c.take_mode.ensures.frames hears stands),
     )
 
 pub returns-clause-work : goal.returns-clause-work

@@ -1,10 +1,10 @@
-use Rattle.mg_engine.proofs.Common.{◌<◌, ◌∷◌, length, refl, sym, ap, subst, ◌∙◌, arith, length-set, same_Some, Record, view, Enter, Leave, moved, media_with, done_with, member_place, EngineState, StandsFor, RisesAtMost, sound_if, Registry, move_to}
+use Rattle.mg_engine.proofs.Common.{◌∷◌, length, sym, ap, subst, ◌∙◌, arith, length-set, same_Some, Record, view, Enter, Leave, moved, done_with, member_place, EngineState, StandsFor, RisesAtMost, sound_if, Registry, move_to}
 use Rattle.mg_engine.proofs.OutcomeLemmas.{move_changes}
-use Rattle.mg_engine.proofs.EditLemmas.{slots_kept, held_changed, changed_at, changed_stands}
+use Rattle.mg_engine.proofs.EditLemmas.{slot_fits, held_changed, changed_at, changed_stands}
 use Rattle.mg_engine.proofs.MemberLemmas.{Hears, same_others, carry, hears_carry, has_left, hears_left, free_place, has_entered, hears_entered}
 use Rattle.mg_engine.proofs.JoinedLemmas.{joined_changed}
 use Rattle.mg_engine.proofs.WorkLemmas.{rises_less}
-use Rattle.mg_engine.proofs.PlaceLemmas.{on_its_place, member_within, within}
+use Rattle.mg_engine.proofs.PlaceLemmas.{on_its_place, member_within}
 use Rattle.mg_engine.proofs.SeatingLemmas.{carry_seats, seated_put}
 use Rattle.mg_engine.proofs.engine.Engine.move_to.Goals as goal
 
@@ -13,14 +13,10 @@ tune-requires c =
     let old = c.self.inside.rooms in
     let new = c.move_to.new.self in
     let n = c.args.number in
-    let m = c.in_ok-moved.moved.to in
-    let d = m.record in
-    let before = c.self.invariant.sound in
+    let d = c.in_ok-moved.moved.to.record in
     let sound = sound_if _ c.move_to.ensures.consistent in
-    let at = c.in_ok-moved.ensures.to in
     let a = move_changes old c.args.target n c.args.settings.now new d c.in_ok-moved.ensures.outcome in
-    let slots = slots_kept c.self.inside new c.self.invariant a.limits in
-    record { slot = omega (arith, (sound.termination n d at.found).1.slot, slots) }
+    record { slot = slot_fits c.self.inside new n d c.self.invariant sound a.limits c.in_ok-moved.ensures.to.found }
 
 pub vacate-requires : goal.vacate-requires
 vacate-requires c =
@@ -43,22 +39,20 @@ enter-requires c =
     let p = member_place m in
     let r = c.in_ok-moved.moved.from.record in
     let from = member_place c.in_ok-moved.moved.from in
-    let settings = c.args.settings.now in
-    let done = c.in_ok-moved.ensures.outcome in
     let k = view c.self.inside in
     let others = c.in_ok-moved.ensures.others.termination in
     let was = on_its_place old n c.in_ok-moved.moved.from c.in_ok-moved.ensures.from in
     let on = on_its_place new n m at in
-    let a = move_changes old c.args.target n settings new d done in
-    let same = same_others old new n before.there sound.there c.move_to.ensures.lasts.room others in
+    let a = move_changes old c.args.target n c.args.settings.now new d c.in_ok-moved.ensures.outcome in
+    let same = same_others old new n before sound c.move_to.ensures.lasts.room others in
     let left = c.vacate.ensures.left in
     let without = carry old new n c.vacate.new.flows same
-    (has_left old n r from c.self.inside.flows c.vacate.new.flows before.one_room before.one_seat was left
+    (has_left old n r from c.self.inside.flows c.vacate.new.flows before was left
     c.self.invariant.members) in
     record {
       within = member_within new n m sound at;
       slot = omega (arith, (sound.termination n d at.found).1.slot, sound.consistent.limits.0.few_slots);
-      free = free_place new n d p c.vacate.new.flows sound.one_room sound.one_seat without on;
+      free = free_place new n d p c.vacate.new.flows sound without on;
     }
 
 pub invariant_of-self-2 : goal.invariant_of-self-2
@@ -70,37 +64,31 @@ invariant_of-self-2 c =
     let d = m.record in
     let before = c.self.invariant.sound in
     let sound = sound_if _ c.move_to.ensures.consistent in
-    let at = c.in_ok-moved.ensures.to in
     let p = member_place m in
     let r = c.in_ok-moved.moved.from.record in
     let from = member_place c.in_ok-moved.moved.from in
-    let settings = c.args.settings.now in
-    let done = c.in_ok-moved.ensures.outcome in
-    let k = view c.self.inside in
     let others = c.in_ok-moved.ensures.others.termination in
     let was = on_its_place old n c.in_ok-moved.moved.from c.in_ok-moved.ensures.from in
-    let on = on_its_place new n m at in
-    let a = move_changes old c.args.target n settings new d done in
-    let same = same_others old new n before.there sound.there c.move_to.ensures.lasts.room others in
+    let on = on_its_place new n m c.in_ok-moved.ensures.to in
+    let a = move_changes old c.args.target n c.args.settings.now new d c.in_ok-moved.ensures.outcome in
+    let same = same_others old new n before sound c.move_to.ensures.lasts.room others in
     let left = c.vacate.ensures.left in
     let without = carry old new n c.vacate.new.flows same
-    (has_left old n r from c.self.inside.flows c.vacate.new.flows before.one_room before.one_seat was left
+    (has_left old n r from c.self.inside.flows c.vacate.new.flows before was left
     c.self.invariant.members) in
-    let members = has_entered new n d p c.vacate.new.flows c.enter.new.flows sound.one_room sound.one_seat on
+    let members = has_entered new n d p c.vacate.new.flows c.enter.new.flows sound on
     c.enter.ensures.entered without in
-    let seats = seated_put new n d p c.self.inside.seating c.self.invariant.places sound.one_room sound.one_seat
-    (λ x y q here. within new x y q here sound.termination sound.context) on
+    let seats = seated_put new n d p c.self.inside.seating c.self.invariant.places sound on
     (carry_seats old new n c.self.inside.seating same c.self.invariant.seats) in
     let put = c.enter.ensures.seated in
-    let joined = joined_changed old new n d p c.self.inside.sums.rooms c.enter.new.sums.rooms sound.one_slot same on
+    let joined = joined_changed old new n d p c.self.inside.sums.rooms c.enter.new.sums.rooms sound same on
     (λ x there. ap (λ (y : Record). y.slot) (same_Some x a.was (sym there ∙ a.there)) ∙ sym a.slot)
     c.enter.ensures.joined c.self.invariant.joined in
-    let long = ap length c.tune.ensures.tuned ∙ length-set c.self.inside.media.items _ _ in
     record {
       sound = sound;
       limits = a.limits ∙ c.self.invariant.limits;
-      media = long ∙ c.self.invariant.media;
-      held = held_changed k new n d c.self.inside.held.items a c.self.invariant.held;
+      media = ap length c.tune.ensures.tuned ∙ length-set c.self.inside.media.items _ _ ∙ c.self.invariant.media;
+      held = held_changed (view c.self.inside) new n d c.self.inside.held.items a c.self.invariant.held;
       members = members;
       seats = rw put seats;
       places = ap length put ∙ length-set c.self.inside.seating _ _ ∙ c.self.invariant.places;
@@ -128,18 +116,17 @@ returns-clause-outcome c w h =
     let was = on_its_place old n c.in_ok-moved.moved.from c.in_ok-moved.ensures.from in
     let on = on_its_place new n m at in
     let a = move_changes old c.args.target n settings new d done in
-    let same = same_others old new n before.there sound.there c.move_to.ensures.lasts.room others in
+    let same = same_others old new n before sound c.move_to.ensures.lasts.room others in
     let left = c.vacate.ensures.left in
     let without = carry old new n c.vacate.new.flows same
-    (has_left old n r from c.self.inside.flows c.vacate.new.flows before.one_room before.one_seat was left
+    (has_left old n r from c.self.inside.flows c.vacate.new.flows before was left
     c.self.invariant.members) in
-    let slots = slots_kept c.self.inside new c.self.invariant a.limits in
-    let lt : d.slot < length k.media = omega (arith, (sound.termination n d at.found).1.slot, slots) in
+    let lt = slot_fits c.self.inside new n d c.self.invariant sound a.limits at.found in
     let stands = subst (λ (x : EngineState). StandsFor x w) (sym c.self.view_is) h in
     let apart = hears_carry old new n c.vacate.new.flows w.edits same
-    (hears_left old n r from k.flows c.vacate.new.flows before.one_room before.one_seat was left w.edits
+    (hears_left old n r from k.flows c.vacate.new.flows before was left w.edits
     stands.hears) in
-    let entered = hears_entered new n d p c.vacate.new.flows c.enter.new.flows sound.one_room sound.one_seat on
+    let entered = hears_entered new n d p c.vacate.new.flows c.enter.new.flows sound on
     c.enter.ensures.entered without (Leave n ∷ w.edits) apart in
     let hears = subst (λ (m : _). Hears new c.enter.new.flows (Enter m ∷ Leave m ∷ w.edits))
     (sym (changed_at k new n d a)) entered in
@@ -147,9 +134,8 @@ returns-clause-outcome c w h =
     stands.rooms ∙ ap (done_with (moved w settings)) done in (
       moved w settings new d,
       here,
-      changed_stands k new c.tune.new.media.items c.enter.new.flows c.enter.new.sums w
-          (moved w settings new d) settings n d a sound.one_slot others lt c.tune.ensures.tuned c.enter.ensures.frames
-          stands refl refl (ap (λ (m : _). media_with settings m w.media) (changed_at k new n d a)) hears,
+      rw c.tune.ensures.tuned (changed_stands k new c.enter.new.flows c.enter.new.sums w settings n d
+          (Enter d.number ∷ Leave d.number ∷ w.edits) a sound others lt c.enter.ensures.frames hears stands),
     )
 
 pub returns-clause-work : goal.returns-clause-work

@@ -12,21 +12,17 @@ play_slots-requires c =
     let held = c.as_slice.ensures.value ∙ c.self.invariant.held in
     let limit = ap (λ (l : Limits). l.slots) c.self.invariant.limits in
     record {
-      slots = held_below w slots held (length c.self.inside.media.items) sound.by_number
-          (λ n r found. let (number, is) = sound.termination n r found in
-          omega (arith, is.slot, limit, c.self.invariant.media));
+      slots = held_below w slots held (length c.self.inside.media.items) sound (omega (arith, limit, c.self.invariant.media));
       few = omega (arith, limit, c.self.invariant.media, sound.consistent.limits.0.few_slots);
-      apart = held_apart w slots held sound.by_number sound.one_slot sound.consistent.terminations.one_number;
+      apart = held_apart w slots held sound;
     }
 
 pub returns-clause-after : goal.returns-clause-after
 returns-clause-after c w h =
     let k = view c.self.inside in
-    let slots = c.as_slice.result.now in
-    let held = c.as_slice.ensures.value ∙ c.self.invariant.held in
     let stands = subst (λ (x : EngineState). StandsFor x w) (sym c.self.view_is) h in
     let all : ArePlayed k c.play_slots.new.media.items c.play_slots.new.sums.frames = λ n r found.
-    let at = held_at k.rooms slots held n r found in
+    let at = held_at k.rooms c.as_slice.result.now (c.as_slice.ensures.value ∙ c.self.invariant.held) n r found in
     subst (λ (s : ℕ). IsPlayed k.media c.play_slots.new.media.items c.play_slots.new.sums.frames s) at.is
     (c.play_slots.ensures.each at.at at.within) in
     played_stands k w c.play_slots.new.media.items c.play_slots.new.sums all stands
@@ -36,7 +32,7 @@ returns-clause-concealed c w h =
     let k = view c.self.inside in
     let held = c.as_slice.ensures.value ∙ c.self.invariant.held in
     let stands = subst (λ (x : EngineState). StandsFor x w) (sym c.self.view_is) h in
-    c.play_slots.ensures.concealed ∙ concealed_is k w c.as_slice.result.now stands c.self.invariant.sound.by_number held
+    c.play_slots.ensures.concealed ∙ concealed_is k w c.as_slice.result.now stands c.self.invariant.sound held
 
 pub returns-clause-work : goal.returns-clause-work
 returns-clause-work c =

@@ -1,34 +1,22 @@
-use Rattle.mg_engine.proofs.Common.{◌+◌, ◌∷◌, ◌++◌, [], List, map, sym, ap, subst, ◌∙◌, range_with_len, byte_of, nearest_sample, view, Share, IsOnPlace, EngineState, heard_now, silenced_now, with_mixes, AreShared, RisesAtMost, All-contains, IsShared, packet_at, shares_in}
+use Rattle.mg_engine.proofs.Common.{◌+◌, ◌∷◌, ◌++◌, [], List, map, sym, ap, subst, ◌∙◌, range_with_len, byte_of, nearest_sample, view, Share, IsOnPlace, EngineState, heard_now, silenced_now, with_mixes, AreShared, RisesAtMost, All-contains, IsShared, packet_at, shares_in, place_of}
 use Rattle.mg_engine.proofs.MaskLemmas.{payload_is_on}
 use Rattle.mg_engine.proofs.ShareLemmas.{still_shared, now_shared}
 use Rattle.mg_engine.proofs.engine.Engine.put_heard.Goals as goal
 
 pub open-talkers-requires : goal.open-talkers-requires
 open-talkers-requires c =
-    let k = view c.self.inside in
     let l = c.args.listener.now in
-    let p = c.args.place in
-    let outbox = c.args.outbox.now.items in
-    let on : IsOnPlace k.rooms l.number l p =
-    subst (λ (x : EngineState). IsOnPlace x.rooms l.number l p) (sym c.self.view_is) c.requires.place in
-    let lent : AreShared k outbox = subst (λ (x : EngineState). AreShared x outbox) (sym c.self.view_is)
-    c.requires.shared in
-    (c.self.invariant.members.each l.number l p on).held
+    (c.self.invariant.members.each l.number l c.args.place
+    (subst (λ (x : EngineState). IsOnPlace x.rooms l.number l c.args.place) (sym c.self.view_is) c.requires.place)).held
 
 pub lend-requires-clause-there : goal.lend-requires-clause-there
 lend-requires-clause-there c =
     let k = view c.self.inside in
-    let l = c.args.listener.now in
-    let p = c.args.place in
+    let room = c.args.place.room in
     let outbox = c.args.outbox.now.items in
-    let on : IsOnPlace k.rooms l.number l p =
-    subst (λ (x : EngineState). IsOnPlace x.rooms l.number l p) (sym c.self.view_is) c.requires.place in
-    let lent : AreShared k outbox = subst (λ (x : EngineState). AreShared x outbox) (sym c.self.view_is)
-    c.requires.shared in
     let share : Share = record { talkers = c.open-talkers.result.now; law = c.args.law; packet = c.in-Some.packet } in
-    let is = All-contains (IsShared k outbox p.room) (shares_in k.shares p.room) share (lent p.room)
-    c.in-Some.ensures.found in
-    is.sent
+    let lent = subst (λ (x : EngineState). AreShared x outbox) (sym c.self.view_is) c.requires.shared in
+    (All-contains (IsShared k outbox room) (shares_in k.shares room) share (lent room) c.in-Some.ensures.found).sent
 
 pub returns-in-Some-clause-put : goal.returns-in-Some-clause-put
 returns-in-Some-clause-put c =
@@ -36,18 +24,16 @@ returns-in-Some-clause-put c =
     let l = c.args.listener.now in
     let p = c.args.place in
     let outbox = c.args.outbox.now.items in
-    let on : IsOnPlace k.rooms l.number l p =
-    subst (λ (x : EngineState). IsOnPlace x.rooms l.number l p) (sym c.self.view_is) c.requires.place in
-    let lent : AreShared k outbox = subst (λ (x : EngineState). AreShared x outbox) (sym c.self.view_is)
-    c.requires.shared in
+    let here = ap (λ (x : EngineState). place_of x.rooms l) c.self.view_is ∙ c.requires.place.place in
     let share : Share = record { talkers = c.open-talkers.result.now; law = c.args.law; packet = c.in-Some.packet } in
+    let lent = subst (λ (x : EngineState). AreShared x outbox) (sym c.self.view_is) c.requires.shared in
     let is = All-contains (IsShared k outbox p.room) (shares_in k.shares p.room) share (lent p.room)
     c.in-Some.ensures.found in
     record {
       last = packet_at outbox c.in-Some.packet;
       all = c.lend.ensures.value;
       same = is.payload
-          ∙ sym (payload_is_on k l p c.open-talkers.result.now on.place c.open-talkers.ensures.kept c.args.law)
+          ∙ sym (payload_is_on k l p c.open-talkers.result.now here c.open-talkers.ensures.kept c.args.law)
           ∙ ap (λ (x : EngineState). map (byte_of c.args.law)
           (map (λ i. nearest_sample (heard_now x l i)) (range_with_len 0 160))) c.self.view_is;
     }
@@ -57,14 +43,13 @@ returns-in-Some-clause-shared c sent e = still_shared c.args.self.now c.args.out
 
 pub returns-clause-put : goal.returns-clause-put
 returns-clause-put c =
-    let l = c.args.listener.now in
     let put = c.push_payload.ensures.put in
     record {
       last = put.last;
       all = put.all;
       same = put.same ∙ c.mix-payload.ensures.value
           ∙ ap (λ (x : EngineState). map (byte_of c.args.law)
-          (map (λ i. nearest_sample (heard_now x l i)) (range_with_len 0 160))) c.self.view_is;
+          (map (λ i. nearest_sample (heard_now x c.args.listener.now i)) (range_with_len 0 160))) c.self.view_is;
     }
 
 pub returns-clause-shared : goal.returns-clause-shared
@@ -73,16 +58,13 @@ returns-clause-shared c sent e =
     let l = c.args.listener.now in
     let p = c.args.place in
     let outbox = c.args.outbox.now.items in
-    let on : IsOnPlace k.rooms l.number l p =
-    subst (λ (x : EngineState). IsOnPlace x.rooms l.number l p) (sym c.self.view_is) c.requires.place in
-    let lent : AreShared k outbox = subst (λ (x : EngineState). AreShared x outbox) (sym c.self.view_is)
-    c.requires.shared in
-    let share : Share = record { talkers = c.open-talkers.result.now; law = c.args.law; packet = c.len-packet.result }
-    in
+    let here = ap (λ (x : EngineState). place_of x.rooms l) c.self.view_is ∙ c.requires.place.place in
+    let lent = subst (λ (x : EngineState). AreShared x outbox) (sym c.self.view_is) c.requires.shared in
+    let share : Share = record { talkers = c.open-talkers.result.now; law = c.args.law; packet = c.len-packet.result } in
     let work = c.mix-payload.new.self.sums.work in
     let payload = e ∙ sym (ap (λ (x : EngineState). map (byte_of c.args.law)
     (map (λ i. nearest_sample (heard_now x l i)) (range_with_len 0 160))) c.self.view_is) ∙
-    payload_is_on k l p c.open-talkers.result.now on.place c.open-talkers.ensures.kept c.args.law in
+    payload_is_on k l p c.open-talkers.result.now here c.open-talkers.ensures.kept c.args.law in
     let now = now_shared k outbox sent work p.room share c.put.ensures.there c.len-packet.ensures.value payload lent in
     subst (λ (x : EngineState). AreShared x (outbox ++ sent ∷ [])) (sym c.mix-payload.ensures.same)
     (subst (λ (s : List (List Share)). AreShared (with_mixes k work s) (outbox ++ sent ∷ []))

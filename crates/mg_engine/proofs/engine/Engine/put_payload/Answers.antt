@@ -1,5 +1,5 @@
-use Rattle.mg_engine.proofs.Common.{ℕ, ℤ, Bool, cond, List, [], map, pos, get_or, sym, ap, ◌∙◌, range_with_len, byte_of, record_at, context_at, nearest_sample, view, EngineState, sample_at, heard_now, mixed_now}
-use Rattle.mg_engine.proofs.MaskLemmas.{somewhere}
+use Rattle.mg_engine.proofs.Common.{ℕ, ℤ, Bool, cond, List, [], map, pos, get_or, sym, ap, ◌∙◌, range_with_len, byte_of, record_at, nearest_sample, view, EngineState, sample_at, heard_now, mixed_now}
+use Rattle.mg_engine.proofs.PlaceLemmas.{has_place}
 use Rattle.mg_engine.proofs.ShareLemmas.{still_shared}
 use Rattle.mg_engine.proofs.SumLemmas.{list_is}
 use Rattle.mg_engine.proofs.engine.Engine.put_payload.Goals as goal
@@ -37,10 +37,9 @@ returns-in-Some-clause-shared c sent e =
 pub returns-in-None-clause-put : goal.returns-in-None-clause-put
 returns-in-None-clause-put c =
     let l = c.args.sender.now in
-    let w = c.self.inside.rooms in
     let found = ap (λ (x : EngineState). record_at x.rooms l.number) c.self.view_is ∙ c.requires.member in
-    let there = c.self.invariant.sound.there l.number l found in
-    absurd (somewhere l.seat (context_at w l.context) there (sym c.place_of.ensures.value ∙ c.in-None.is))
+    absurd (has_place c.self.inside.rooms l (c.self.invariant.sound.there l.number l found)
+    (sym c.place_of.ensures.value ∙ c.in-None.is))
 
 pub returns-in-None-clause-shared : goal.returns-in-None-clause-shared
 returns-in-None-clause-shared c sent e = still_shared c.args.self.now c.args.outbox.now.items sent c.requires.shared

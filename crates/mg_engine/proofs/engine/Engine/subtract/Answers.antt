@@ -24,25 +24,24 @@ invariant_of-self-2 c =
     let m = c.in_ok-gone.gone in
     let d = m.record in
     let p = member_place m in
-    let done = c.in_ok-gone.ensures.outcome in
     let k = view c.self.inside in
     let before = c.self.invariant.sound in
     let sound = sound_if _ c.subtract.ensures.consistent in
-    let a = subtract_removes old c.args.target n new d done in
+    let a = subtract_removes old c.args.target n new d c.in_ok-gone.ensures.outcome in
     let others = c.in_ok-gone.ensures.others.termination in
     let was = on_its_place old n m c.in_ok-gone.ensures.member in
     let none = gone k new n d a before in
-    let same = same_others old new n before.there sound.there c.subtract.ensures.lasts.room others in
+    let same = same_others old new n before sound c.subtract.ensures.lasts.room others in
     let left = c.vacate.ensures.left in
     let members = members_all new n c.vacate.new.flows none
     (carry old new n c.vacate.new.flows same
-    (has_left old n d p c.self.inside.flows c.vacate.new.flows before.one_room before.one_seat was left
+    (has_left old n d p c.self.inside.flows c.vacate.new.flows before was left
     c.self.invariant.members)) in
     let seats = seated_all new n c.self.inside.seating none
     (carry_seats old new n c.self.inside.seating same c.self.invariant.seats) in
     let apart = subst (λ (row : ℕ). SetsRow c.self.inside.sums.rooms c.part.new.sums.rooms row None) c.new.ensures
     c.part.ensures.rooms in
-    let joined = joined_left old new n d c.self.inside.sums.rooms c.part.new.sums.rooms before.one_slot same was.found
+    let joined = joined_left old new n d c.self.inside.sums.rooms c.part.new.sums.rooms before same was.found
     none apart c.self.invariant.joined in
     record {
       sound = sound;
@@ -64,7 +63,6 @@ returns-clause-outcome c w h =
     let n = c.args.number in
     let m = c.in_ok-gone.gone in
     let d = m.record in
-    let p = member_place m in
     let done = c.in_ok-gone.ensures.outcome in
     let k = view c.self.inside in
     let before = c.self.invariant.sound in
@@ -72,13 +70,12 @@ returns-clause-outcome c w h =
     let a = subtract_removes old c.args.target n new d done in
     let others = c.in_ok-gone.ensures.others.termination in
     let was = on_its_place old n m c.in_ok-gone.ensures.member in
-    let none = gone k new n d a before in
-    let same = same_others old new n before.there sound.there c.subtract.ensures.lasts.room others in
+    let same = same_others old new n before sound c.subtract.ensures.lasts.room others in
     let left = c.vacate.ensures.left in
     let stands = subst (λ (x : EngineState). StandsFor x w) (sym c.self.view_is) h in
-    let hears = hears_all new n c.vacate.new.flows w.edits none
+    let hears = hears_all new n c.vacate.new.flows w.edits (gone k new n d a before)
     (hears_carry old new n c.vacate.new.flows w.edits same
-    (hears_left old n d p k.flows c.vacate.new.flows before.one_room before.one_seat was left w.edits
+    (hears_left old n d (member_place m) k.flows c.vacate.new.flows before was left w.edits
     stands.hears)) in
     let here = ap (λ (x : Registry). done_with (subtracted w) (subtract x c.args.target n))
     stands.rooms ∙ ap (done_with (subtracted w)) done in (

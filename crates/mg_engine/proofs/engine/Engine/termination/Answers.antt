@@ -15,9 +15,8 @@ held w u i slot sound same lt is =
 pub unwrap-requires : goal.unwrap-requires
 unwrap-requires c =
     let there = c.requires.there in
-    let same = ap (λ (x : EngineState). x.rooms) c.self.view_is in
     let is = held c.self.inside.rooms c.args.self.now.rooms c.args.place c.held_at-slot.result
-    c.self.invariant.sound same there c.held_at-slot.ensures.value in
+    c.self.invariant.sound (ap (λ (x : EngineState). x.rooms) c.self.view_is) there c.held_at-slot.ensures.value in
     rw (c.held.ensures.value, is, slice_get-get_or c.args.self.now.rooms.terminations c.args.place nobody there) refl
 
 pub returns-clause-value : goal.returns-clause-value

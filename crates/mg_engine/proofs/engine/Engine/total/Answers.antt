@@ -1,4 +1,4 @@
-use Rattle.mg_engine.proofs.Common.{◌<◌, ℕ, ℤ, Some, get_or, w32, sym, ap, subst, ◌∙◌, arith, rules, context_at, total_of, view, EngineState, StandsFor, to_z-of_z}
+use Rattle.mg_engine.proofs.Common.{◌<◌, ℕ, ℤ, Some, w32, sym, ap, subst, ◌∙◌, arith, rules, context_at, total_of, view, EngineState, StandsFor, to_z-of_z}
 use Rattle.mg_engine.proofs.TotalLemmas.{context_with, total_is, total_there}
 use Rattle.mg_engine.proofs.engine.Engine.total.Goals as goal
 
@@ -6,7 +6,6 @@ pub returns : goal.returns
 returns c = record {
   value = λ w h.
       let k = view c.self.inside in
-      let sound = c.self.invariant.sound in
       let stands = subst (λ (x : EngineState). StandsFor x w) (sym c.self.view_is) h in
       let lt : c.args.i < 160 = omega (arith, c.if-i-ge-SAMPLES.false) in
       let (x, found, room) = context_with (context_at k.rooms c.args.context) c.in_ok-room.room
@@ -15,15 +14,6 @@ returns c = record {
       (to_z-of_z w32 c.total.result.now (search rules)
       ∙ c.total.ensures.value
       ∙ ap (λ (at : ℕ). total_of k.sums at c.args.i) (c.new.ensures ∙ sym room)
-      ∙ total_is k w c.args.context c.args.i x sound c.self.invariant.joined sound.by_number
-      sound.there
-      sound.one_room
-      sound.termination
-      (sound.members c.args.context)
-      (sound.once c.args.context)
-      (λ j d lt. let (number, limited) = sound.termination (get_or k.rooms.terminations j d).number
-      (get_or k.rooms.terminations j d) (sound.by_number j d lt) in
-      omega (arith, limited.slot, sound.consistent.limits.0.few_slots))
-      c.self.invariant.row_count stands found)
+      ∙ total_is c.self.inside w c.args.context c.args.i x c.self.invariant stands found)
       ∙ total_there k w c.args.context c.args.i x stands lt found;
 }

@@ -1,7 +1,8 @@
 -- What keeps two gateways in agreement outside some terminations.
-use Rattle.mg_engine.proofs.Common.{◌≡◌, ℕ, ℤ, eqb, Bool, true, false, cond, ◌&&◌, List, [], ◌∷◌, ◌++◌, map, find, Option, Some, None, Result, Ok, Err, refl, sym, ap, subst, ◌∙◌, eqb-true, option_to_list, option_map, ◌>>=◌, ErrorNumber, Header, Reading, Record, Settings, Target, change, members_at, TopologyTriple, Arrived, arrived, at_port, frame_placed, taken_at, frame_placed_at, taken_by, has, Gateway, TerminationMedia, ContextEdit, Enter, Leave, media_of, new_media, frame_in, added, modified, moved, subtracted, existing_context, done_with, tuned, all_played, played, sends_at, sent, check_triples, true≢false, Registry, map-append, all_ended, AgreeOutside, IsPortAmong, SamePackets, but_received, unless_among, without_arrivals, EndsAlike, SameEditsKeepAgreement, AgreementIsMutual, SameStatsButReceived, SameTickKeepsAgreement, hears_itself, progress_of, false_from_ne_true}
+use Rattle.mg_engine.proofs.Common.{◌≡◌, ℕ, ℤ, eqb, Bool, true, false, cond, ◌&&◌, List, [], ◌∷◌, ◌++◌, map, find, Option, Some, None, Result, Ok, Err, refl, sym, ap, subst, ◌∙◌, eqb-true, option_to_list, option_map, ◌>>=◌, ErrorNumber, Header, Reading, Record, Settings, Target, change, members_at, TopologyTriple, Arrived, arrived, at_port, frame_placed, taken_at, frame_placed_at, taken_by, has, Gateway, TerminationMedia, ContextEdit, Enter, Leave, media_of, new_media, frame_in, added, modified, moved, subtracted, existing_context, done_with, tuned, all_played, played, sends_at, sent, check_triples, true≢false, Registry, map-append, all_ended, AgreeOutside, IsPortAmong, SamePackets, but_received, unless_among, without_arrivals, EndsAlike, SameEditsKeepAgreement, AgreementIsMutual, SameStatsButReceived, SameTickKeepsAgreement, hears_itself, progress_of, false_from_ne_true, arith, nat_tests}
 use Rattle.mg_rooms.specs.Outcome as commands
 use Rattle.mg_engine.specs.Outcome.{apply_triples}
+use Rattle.mg_engine.proofs.GatewayLemmas.{found_in_map}
 use Rattle.mg_engine.proofs.IsolationLemmas.{packets_depend_on_heard}
 use Rattle.mg_engine.proofs.OrderLemmas.{found_passes}
 
@@ -98,37 +99,17 @@ module _ (some : List ℕ) where
       in_front None xs = refl
       in_front (Some s) xs = refl
 
-      either : (b : Bool) (s : TerminationMedia) (xs : List TerminationMedia) →
-          map mask (changed n f xs) ≡ changed n (masked f) (map mask xs) →
-          map mask (cond b (option_to_list (f s) ++ xs) (s ∷ changed n f xs)) ≡
-          cond b (option_to_list (masked f (mask s)) ++ map mask xs) (mask s ∷ changed n (masked f) (map mask xs))
-      either true s xs rest = in_front (f s) xs ∙ ap (λ o. option_to_list o ++ map mask xs) (sym (h s))
-      either false s xs rest = ap (λ ms. mask s ∷ ms) rest
-
       each : (xs : List TerminationMedia) → map mask (changed n f xs) ≡ changed n (masked f) (map mask xs)
       each [] = refl
-      each (s ∷ xs) = either (eqb s.number n) s xs (each xs) ∙
-          ap (λ (k : ℕ). cond (eqb k n) (option_to_list (masked f (mask s)) ++ map mask xs)
-          (mask s ∷ changed n (masked f) (map mask xs))) (sym (number_stays s))
+      each (s ∷ xs) = grind (arith, nat_tests, each xs, h s, number_stays s, in_front (f s) xs)
 
   abbrev AreBothLike : Option TerminationMedia → Option TerminationMedia → Type 0
   AreBothLike o k = option_map mask o ≡ option_map mask k
 
   pub found : (n : ℕ) (xs ys : List TerminationMedia) → AreLike xs ys →
       AreBothLike (find (λ s. eqb s.number n) xs) (find (λ s. eqb s.number n) ys)
-  found n xs ys e = sym (each xs) ∙ ap (find (λ s. eqb s.number n)) e ∙ each ys
-    where
-      either : (b : Bool) (s : TerminationMedia) (o k : Option TerminationMedia) → o ≡ option_map mask k →
-          cond b (Some (mask s)) o ≡ option_map mask (cond b (Some s) k)
-      either true s o k rest = refl
-      either false s o k rest = rest
-
-      each : (xs : List TerminationMedia) →
-          find (λ s. eqb s.number n) (map mask xs) ≡ option_map mask (find (λ s. eqb s.number n) xs)
-      each [] = refl
-      each (s ∷ xs) = ap (λ (k : ℕ). cond (eqb k n) (Some (mask s)) (find (λ s. eqb s.number n) (map mask xs)))
-          (number_stays s) ∙ either (eqb s.number n) s (find (λ s. eqb s.number n) (map mask xs))
-          (find (λ s. eqb s.number n) xs) (each xs)
+  found n xs ys e = sym (found_in_map (λ s. s.number) mask n xs number_stays) ∙
+      ap (find (λ s. eqb s.number n)) e ∙ found_in_map (λ s. s.number) mask n ys number_stays
 
   -- what does not depend on arrivals is the same of both
   seen : {A : Type 0} (g : TerminationMedia → A) → ((s : TerminationMedia) → g (without_arrivals s) ≡ g s) →
@@ -196,12 +177,8 @@ module _ (some : List ℕ) where
   one_changes : (n : ℕ) (p : Header × List ℤ) (xs : List TerminationMedia) → has some n ≡ true →
       AreLike (changed n (λ m. Some (frame_placed p.0 p.1 m)) xs) xs
   one_changes n p [] is_one = refl
-  one_changes n p (s ∷ xs) is_one = at (eqb s.number n) refl (one_changes n p xs is_one)
-    where
-      at : (b : Bool) → eqb s.number n ≡ b → AreLike (changed n (λ m. Some (frame_placed p.0 p.1 m)) xs) xs →
-          AreLike (cond b (frame_placed p.0 p.1 s ∷ xs) (s ∷ changed n (λ m. Some (frame_placed p.0 p.1 m)) xs)) (s ∷ xs)
-      at true e rest = ap (λ m. m ∷ map mask xs) (one_placed p s (ap (has some) (eqb-true s.number n e) ∙ is_one))
-      at false e rest = ap (λ ms. mask s ∷ ms) rest
+  one_changes n p (s ∷ xs) is_one =
+      grind (arith, nat_tests, one_placed p s, one_changes n p xs is_one, eqb-true s.number n)
 
   -- the media of one of some changed in one of two that agree
   one_places : (n : ℕ) (p : Header × List ℤ) (a b : Gateway) (o : Option TerminationMedia) → has some n ≡ true →

@@ -1,5 +1,5 @@
 -- What mixes cost, by what an engine keeps and in the worlds that it stands for.
-use Rattle.mg_engine.proofs.Common.{◌≡◌, ℕ, ◌+◌, Bool, cond, map, get_or, Option, Some, sym, ap, ◌∙◌, count_by, sum_by, is_some, Record, record_at, Place, Gateway, is_loopback, place_of, EngineState, StandsFor, sent_to, sending_work, HasMembers, silenced_now, sending_work_now, Registry, is_silenced_between, silenced_for, IsSound}
+use Rattle.mg_engine.proofs.Common.{◌≡◌, ℕ, ◌+◌, Bool, cond, map, get_or, Some, sym, ap, ◌∙◌, count_by, sum_by, is_some, Record, record_at, Gateway, is_loopback, place_of, EngineState, StandsFor, sent_to, sending_work, HasMembers, silenced_now, sending_work_now, Registry, is_silenced_between, silenced_for, IsSound}
 use Rattle.mg_engine.specs.Flow.{is_silenced}
 use Rattle.mg_engine.proofs.FlowLemmas.{silenced_places}
 use Rattle.mg_engine.proofs.PlaceLemmas.{on_place}
@@ -12,9 +12,8 @@ module _ (k : EngineState) (w : Gateway) (sound : IsSound k.rooms) (members : Ha
   silenced_is t l first second =
       let (p, from) = on_place k.rooms t.number t sound first in
       let (q, to) = on_place k.rooms l.number l sound second in
-      sym (silenced_places k w sound members h t.number l.number t l p q from to)
-      ∙ ap (is_silenced_between k.flows (Some p)) (sym to.place)
-      ∙ ap (λ (o : Option Place). is_silenced_between k.flows o (place_of k.rooms l)) (sym from.place)
+      sym (silenced_places k w sound members h t.number l.number t l p q from to) ∙
+      λ i. is_silenced_between k.flows (sym from.place i) (sym to.place i)
 
   count_is : (l : Record) → record_at k.rooms l.number ≡ Some l → silenced_for w l.number ≡ silenced_now k l
   count_is l found =

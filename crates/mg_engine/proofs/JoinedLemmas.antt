@@ -15,13 +15,8 @@ module _ (old new : Registry) (n : ℕ) (r : Record) (p : Place) (before after :
       room_of_row after x.slot ≡ room_for x.mode q.room
   each_case m x q there true e =
       let at_n = eqb-true m n e in
-      let is : x ≡ r = one_record new m n x r there.found on.found at_n in
-      let here : q ≡ p = one_place new m n x r q p there on at_n in
-      ap (λ (y : Record). room_of_row after y.slot) is
-      ∙ set r.slot
-      ∙ ap (λ (b : Bool). cond b (room_for r.mode p.room) (room_of_row before r.slot)) (eq-eqb r.slot r.slot refl)
-      ∙ ap (λ (y : Record). room_for y.mode p.room) (sym is)
-      ∙ ap (λ (y : Place). room_for x.mode y.room) (sym here)
+      rw (one_record new m n x r there.found on.found at_n, one_place new m n x r q p there on at_n) (set r.slot ∙
+      ap (λ (b : Bool). cond b (room_for r.mode p.room) (room_of_row before r.slot)) (eq-eqb r.slot r.slot refl))
   each_case m x q there false e =
       let apart = unequal m n e in
       set x.slot

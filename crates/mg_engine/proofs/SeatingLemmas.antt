@@ -1,5 +1,5 @@
 -- The slots of members by their places.
-use Rattle.mg_engine.proofs.Common.{arith, ◌≡◌, ◌≢◌, ℕ, ◌<◌, eqb, Bool, true, false, List, length, set, None, refl, sym, ap, ◌∙◌, eqb-true, get_or-set_same, get_or-set_other, Record, IsSound, Registry, record_at, Place, IsOnPlace, place_count, slot_at, AreSeated, index_of}
+use Rattle.mg_engine.proofs.Common.{arith, ◌≡◌, ◌≢◌, ℕ, ◌<◌, eqb, Bool, true, false, List, length, set, None, refl, sym, ◌∙◌, eqb-true, get_or-set_same, get_or-set_other, Record, IsSound, Registry, record_at, Place, IsOnPlace, place_count, slot_at, AreSeated, index_of}
 use Rattle.mg_engine.proofs.PlaceLemmas.{within, one_member, one_place, one_record}
 use Rattle.mg_engine.proofs.MemberLemmas.{SameOthers, another, unequal}
 
@@ -19,9 +19,8 @@ module _ (w : Registry) (n : ℕ) (r : Record) (p : Place) (seating : List ℕ) 
       let same = eqb-true m n e in
       let inside = within w n r p sound on in
       let lt : index_of p < length seating = omega (arith, inside.room, inside.seat, long) in
-      ap (slot_at (set seating (index_of p) r.slot)) (one_place w m n x r q p there on same)
-      ∙ get_or-set_same seating (index_of p) r.slot 0 lt
-      ∙ ap (λ (y : Record). y.slot) (sym (one_record w m n x r there.found on.found same))
+      rw (one_place w m n x r q p there on same, one_record w m n x r there.found on.found same)
+      (get_or-set_same seating (index_of p) r.slot 0 lt)
   put_case h m x q there false e =
       let a = within w n r p sound on in
       let b = within w m x q sound there in
@@ -46,10 +45,7 @@ module _ (old new : Registry) (n : ℕ) (was r : Record) (p : Place) (seating : 
       eqb m n ≡ b → slot_at seating q ≡ x.slot
   mode_case h m x q at true e =
       let at_n = eqb-true m n e in
-      ap (slot_at seating) (one_place new m n x r q p at on at_n)
-      ∙ h n was p there
-      ∙ sym slot
-      ∙ ap (λ (y : Record). y.slot) (sym (one_record new m n x r at.found on.found at_n))
+      rw (one_place new m n x r q p at on at_n, one_record new m n x r at.found on.found at_n) (h n was p there ∙ sym slot)
   mode_case h m x q at false e = h m x q ((same m x q (unequal m n e)).1 at)
 
   pub seated_mode : AreSeated old seating → AreSeated new seating

@@ -17,12 +17,11 @@ pub packet_is : (k : EngineState) (r : Record) (to : Chosen) (from : ℕ) (bytes
     → datagram to from bytes ≡ packet_now k r to
 packet_is k r to from bytes payload header m port joined body headed kept =
     let head = headed ∙ ap (λ (x : SlotMedia). media_steps.header x (type_of to.law) (ssrc_of k r)) kept in
-    let whole = joined
-    ∙ ap (λ (h : Header). header_bytes plain h ++ payload) head
-    ∙ ap (λ (p : List ℕ).
-    header_bytes plain (media_steps.header (media_at k.media r.slot) (type_of to.law) (ssrc_of k r)) ++ p) body in
-    ap (λ (f : ℕ). datagram to f bytes) port ∙
-    ap (λ (b : List ℕ). datagram to (slot_port k.rooms.limits r.slot) b) whole
+    rw joined (λ i. record {
+      from = port i;
+      to = record { address = to.address; port = to.port };
+      bytes = header_bytes plain (head i) ++ body i;
+    })
 
 abbrev found : Record → Option Record
 found r = Some r

@@ -1,5 +1,5 @@
 -- The totals that are kept are those of the world.
-use Rattle.mg_engine.proofs.Common.{◌≡◌, ℕ, ◌+◌, ◌<◌, ◌&&◌, eqb, Bool, true, false, cond, ℤ, pos, get_or, Option, Some, None, refl, sym, ap, ◌∙◌, nat_lt, arith, is_some, range_with_len, option_map, eqb-true, eq-eqb, ne_eqb, same_Some, Context, Record, Mode, talks, IsSound, record_at, context_at, members_at, Place, total_of, Gateway, played_sample, IsOnPlace, EngineState, StandsFor, sample_at, count_by, lt-ltb, last_termination, Registry, IsMember, part_of_total, total, total_at, find-none, All, Inside, IsWholeEngine, list_any_at, sum_of-agree, view, counted_any}
+use Rattle.mg_engine.proofs.Common.{◌≡◌, ℕ, ◌+◌, ◌<◌, ◌&&◌, eqb, Bool, true, false, cond, ℤ, pos, get_or, Option, Some, None, refl, sym, ap, ◌∙◌, nat_lt, arith, is_some, range_with_len, option_map, eqb-true, eq-eqb, ne_eqb, same_Some, Context, Record, talks, IsSound, record_at, context_at, members_at, Place, total_of, Gateway, IsOnPlace, EngineState, StandsFor, sample_at, count_by, lt-ltb, last_termination, Registry, IsMember, part_of_total, total, total_at, find-none, All, Inside, IsWholeEngine, list_any_at, sum_of-agree, view, counted_any}
 use Rattle.mg_sums.specs.Samples.{sum_of}
 use Rattle.mg_engine.proofs.FlowLemmas.{mode_found}
 use Rattle.mg_engine.proofs.MemberLemmas.{unequal}
@@ -100,9 +100,8 @@ module _ (inside : Inside) (w : Gateway) (c i : ℕ) (x : Context) (whole : IsWh
       ap (λ (b : Bool). cond b z (pos 0)) (joined_is k.sums.rooms t q x.room (whole.joined.each t.number t q on) ∙
       ap (λ (b : Bool). talks t.mode && b) (same_room t q on (eqb t.context c) refl))
       ∙ talking_part (talks t.mode) (eqb t.context c) z
-      ∙ ap (λ (y : ℤ). cond (eqb t.context c) (cond (talks t.mode) y (pos 0)) (pos 0)) (sym (sample_is k w t i h found))
-      ∙ ap (λ (m : Mode). cond (eqb t.context c) (cond (talks m) (played_sample w t.number i) (pos 0)) (pos 0))
-      (sym (mode_found k w t.number t h found))
+      ∙ λ j. cond (eqb t.context c) (cond (talks (sym (mode_found k w t.number t h found) j))
+      (sym (sample_is k w t i h found) j) (pos 0)) (pos 0)
 
   pub total_is : total_of k.sums x.room i ≡ total w c i
   total_is =

@@ -49,7 +49,6 @@ pub use Rattle.mg_rooms.specs.Limits.{slot_port}
 pub use Rattle.mg_rooms.specs.Member.{ExistsAs}
 pub use Rattle.mg_rooms.specs.Outcome.{add, is_number, modify, move_to, subtract}
 pub use Rattle.mg_rooms.specs.Registry.{IsMember, Registry, context_at, holder_of, members_at, record_at, start_of}
-pub use Rattle.mg_rooms.specs.Results.{passes}
 pub use Rattle.mg_rooms.specs.aids.Sound.{IsSound}
 pub use Rattle.mg_rooms.specs.declared.context.Context.{Context}
 pub use Rattle.mg_rooms.specs.declared.limits.Limits.{Limits}
@@ -66,17 +65,16 @@ pub use Rattle.mg_sums.proofs.SumLemmas.{sum_of-cons, sum_of-filter, sum_of-map,
 pub use Rattle.mg_sums.specs.Samples.{frame_or_silence, nearest_sample, silence}
 pub use Rattle.mg_sums.specs.Sums.{SumsState, frame_of_row, total_of}
 pub use Rattle.mg_topology.specs.Mask.{has_seat, seat_limit}
-pub use Rattle.mg_topology.specs.Triple.{Overlaps, is_oneway, mentions, overlaps, permits, word_of}
+pub use Rattle.mg_topology.specs.Triple.{Overlaps, is_oneway, mentions, overlaps, word_of}
 pub use Rattle.mg_topology.specs.declared.triple.Triple.{Triple}
 pub use Rattle.mg_words.specs.Limits.{context_limit, last_termination, member_limit, termination_limit}
 pub use Rattle.mg_words.specs.Mode.{listens, talks}
 pub use Rattle.mg_words.specs.ResultSteps.{◌>>=◌}
 pub use Rattle.mg_words.specs.declared.association.Association.TheVariants.{Bothway, Isolate, Oneway}
 pub use Rattle.mg_words.specs.declared.error_number.ErrorNumber.{ErrorNumber}
-pub use Rattle.mg_words.specs.declared.error_number.ErrorNumber.TheVariants.{IdentifierNotAllowed, IllegalCombination, NotInContext}
-pub use Rattle.mg_words.specs.declared.mode.Mode.{Mode}
+pub use Rattle.mg_words.specs.declared.error_number.ErrorNumber.TheVariants.{IllegalCombination}
 pub use Rattle.std.proofs.Math.Seq.{get_or-append_seam, set-append_seam, take-append_seam}
-pub use Rattle.std.proofs.lemmas.Bool.{and_from, and_parts, and_right, cases_Bool, cases_eq, eq-eqb, eqb-false, eqb-true, false_from_ne_true, lt-ltb, ne_eqb, not-true, true≢false, not-false}
+pub use Rattle.std.proofs.lemmas.Bool.{and_from, and_parts, and_right, cases_Bool, cases_eq, eq-eqb, eqb-false, eqb-true, false_from_ne_true, lt-ltb, ne_eqb, true≢false, not-false}
 pub use Rattle.std.proofs.lemmas.Bool.Decides.{nat_tests}
 pub use Rattle.std.proofs.lemmas.Int.{ints, to_z-of_z}
 pub use Rattle.std.proofs.lemmas.List.{drop_more, get_or-append-add, get_or-map, get_or-replicate, get_or-set_other, get_or-set_same, get_or_default, length-map, length-replicate, length-set, length_push, map-append, map-id, same_lists, set-set, take_more, get_or_append_left}

@@ -1,5 +1,5 @@
 -- Who hears whom in the worlds that an engine stands for.
-use Rattle.mg_engine.proofs.Common.{◌≡◌, ℕ, ◌&&◌, not, eqb, Bool, true, false, List, Some, refl, sym, ap, subst, ◌∙◌, is_some, eqb-true, eq-eqb, ne_eqb, Record, record_at, Place, Gateway, IsOnPlace, EngineState, StandsFor, ShareContext, HasMembers, IsSound, flows_between, Registry, flows_now, context_in, mode_or_inactive, mode_of, context_of}
+use Rattle.mg_engine.proofs.Common.{◌≡◌, ℕ, ◌&&◌, not, eqb, Bool, true, false, List, Some, refl, sym, ap, subst, ◌∙◌, is_some, eqb-true, eq-eqb, ne_eqb, Record, record_at, Place, Gateway, IsOnPlace, EngineState, StandsFor, ShareContext, HasMembers, IsSound, flows_between, Registry, flows_now, context_in, mode_or_inactive, mode_of, context_of, arith, nat_tests}
 use Rattle.mg_flow.specs.Table as flow
 use Rattle.mg_engine.specs.Flow.{share_context, is_silenced}
 use Rattle.mg_engine.specs.Flow as worlds
@@ -20,36 +20,14 @@ context_found k w n r h found = ap (λ (x : Registry). context_in (record_at x n
 -- ## What a table says of two places
 
 pub nobody_hears_itself : (table : List flow.RoomFlows) (p : Place) → flow.hears table p p ≡ false
-nobody_hears_itself table p = rw (eq-eqb p.seat p.seat refl) (ends (eqb p.room p.room) (flow.holds table p)) where
-  ends : (a b : Bool) → (a && (b && (b && false))) ≡ false
-  ends true true = refl
-  ends true false = refl
-  ends false b = refl
-
-not_together : (a b c h : Bool) → (a && ((b && (c && false)) && h)) ≡ false
-not_together true true true h = refl
-not_together true true false h = refl
-not_together true false c h = refl
-not_together false b c h = refl
-
-not_apart : (a b c d h : Bool) → (a && ((b && (c && (d && false))) && h)) ≡ false
-not_apart a b c true h = not_together a b c h
-not_apart a b c false h = not_together a b c h
+nobody_hears_itself table p = grind (arith, nat_tests)
 
 pub silenced_apart : (table : List flow.RoomFlows) (p q : Place) → eqb p.room q.room ≡ false →
     flow.is_silenced table p q ≡ false
-silenced_apart table p q e =
-    ap (λ (b : Bool). flow.talks_at table p && ((flow.holds table p &&
-    (flow.holds table q && (b && not (eqb p.seat q.seat)))) && not (flow.hears table p q))) e
-    ∙ not_together (flow.talks_at table p) (flow.holds table p) (flow.holds table q) (not (flow.hears table p q))
+silenced_apart table p q e = grind (arith, nat_tests)
 
 pub not_itself : (table : List flow.RoomFlows) (p : Place) → flow.is_silenced table p p ≡ false
-not_itself table p =
-    ap (λ (b : Bool). flow.talks_at table p && ((flow.holds table p &&
-    (flow.holds table p && (eqb p.room p.room && not b))) && not (flow.hears table p p)))
-    (eq-eqb p.seat p.seat refl)
-    ∙ not_apart (flow.talks_at table p) (flow.holds table p) (flow.holds table p) (eqb p.room p.room)
-    (not (flow.hears table p p))
+not_itself table p = grind (arith, nat_tests)
 
 -- ## Flow by the places of both
 

@@ -1,14 +1,11 @@
 -- Who isn't heard.
-use Rattle.mg_engine.proofs.Common.{◌≡◌, ℕ, ℤ, pos, ◌+◌, ◌-◌, ◌*◌, ◌%◌, ◌^◌, ◌<◌, eqb, not, ◌&&◌, ◌||◌, Bool, true, false, List, [], ◌∷◌, ◌++◌, length, map, get_or, Option, Some, None, refl, sym, ap, ◌∙◌, arith, if◌then◌else◌, range_with_len, option_map, same_Some, eq-eqb, byte_of, header_bytes, plain, Chosen, talks, Record, slot_port, nearest_sample, map_agree, sum_of-same, Datagram, Gateway, TerminationMedia, ContextEdit, Enter, Leave, Apply, media_of, frame_in, may_hear, played_sample, is_loopback, sent_to, type_of, slice_index_or, list_all, not-true, and_parts, Registry, part_of_mix, heard, mix, mixed, get_or-append-add, get_or-map-range_with_len, listens, packet_to, frame_of, mode_of, context_of, numbers_of, packet, header_of, NoneHearsItself, leaves_isolated, IsolatedAreNotHeard, replayed, with_frame, hears_itself, progress_of, PacketsDependOnHeard, OwnSpeechChangesNoPacket, UnheardChangesNoPacket, PayloadsAreMixes, permits, Isolate, map-map, or_comm, and_right, ne_eqb, true≢false}
+use Rattle.mg_engine.proofs.Common.{◌≡◌, ℕ, ℤ, pos, ◌+◌, ◌-◌, ◌*◌, ◌%◌, ◌^◌, ◌<◌, eqb, not, ◌&&◌, Bool, true, false, List, [], ◌∷◌, ◌++◌, length, map, get_or, Option, Some, None, refl, sym, ap, ◌∙◌, arith, if◌then◌else◌, range_with_len, option_map, same_Some, byte_of, header_bytes, plain, Chosen, Record, slot_port, map_agree, sum_of-same, Datagram, Gateway, TerminationMedia, ContextEdit, Enter, Leave, Apply, media_of, frame_in, may_hear, played_sample, sent_to, type_of, slice_index_or, list_all, Registry, part_of_mix, heard, mix, mixed, get_or-append-add, get_or-map-range_with_len, packet_to, frame_of, mode_of, numbers_of, packet, header_of, NoneHearsItself, leaves_isolated, IsolatedAreNotHeard, replayed, with_frame, hears_itself, progress_of, PacketsDependOnHeard, OwnSpeechChangesNoPacket, UnheardChangesNoPacket, PayloadsAreMixes, Isolate, map-map, or_comm, and_right, ne_eqb, true≢false, nat_tests}
 use Rattle.mg_engine.proofs.GatewayLemmas.{found_in_map, found_key}
 use Rattle.mg_sums.specs.Samples.{sum_of}
 use Rattle.mg_engine.specs.Flow.{flow, is_forward, mentions}
 
 pub none_hears_itself : NoneHearsItself
-none_hears_itself w n =
-    let rest = talks (mode_of w n) && (listens (mode_of w n) && may_hear w.edits n n) in
-    and_right (eqb (context_of w n) (context_of w n)) (not (eqb n n) && rest)
-    (ap (λ (b : Bool). not b && rest) (eq-eqb n n refl))
+none_hears_itself w n = grind (arith, nat_tests)
 
 -- ## Isolated
 
@@ -17,17 +14,10 @@ not_heard : (since : List ContextEdit) (first second : List ℕ) (before : List 
     → may_hear (since ++ Apply first second Isolate ∷ before) a b ≡ false
 not_heard [] first second before a b on left = ap (λ (x : Bool). if x then false else may_hear before a b) on
 not_heard (Enter n ∷ since) first second before a b on left =
-    let all = list_all (leaves_isolated a b) since in
-    ap (λ (x : Bool). if x then true else (may_hear (since ++ Apply first second Isolate ∷ before) a b))
-    (not-true (eqb a n || eqb b n) (and_parts (not (eqb a n || eqb b n)) all left).0)
-    ∙ not_heard since first second before a b on (and_parts (not (eqb a n || eqb b n)) all left).1
+    grind (arith, nat_tests, not_heard since first second before a b on)
 not_heard (Leave n ∷ since) first second before a b on left = not_heard since first second before a b on left
 not_heard (Apply f s association ∷ since) first second before a b on left =
-    let rest = may_hear (since ++ Apply first second Isolate ∷ before) a b in
-    let all = list_all (leaves_isolated a b) since in
-    ap (λ (x : Bool). if x then permits association (is_forward f s a b) else rest)
-    (not-true (mentions f s a b) (and_parts (not (mentions f s a b)) all left).0)
-    ∙ not_heard since first second before a b on (and_parts (not (mentions f s a b)) all left).1
+    grind (arith, nat_tests, not_heard since first second before a b on)
 
 leaves_both : (a b : ℕ) (e : ContextEdit) → leaves_isolated b a e ≡ leaves_isolated a b e
 leaves_both a b (Enter n) = ap not (or_comm (eqb b n) (eqb a n))
@@ -36,16 +26,10 @@ leaves_both a b (Apply first second association) = ap not (or_comm (is_forward f
 
 all_leave : (a b : ℕ) (es : List ContextEdit) → list_all (leaves_isolated b a) es ≡ list_all (leaves_isolated a b) es
 all_leave a b [] = refl
-all_leave a b (e ∷ es) = ap (λ (x : Bool). x && list_all (leaves_isolated b a) es) (leaves_both a b e) ∙
-    ap (λ (x : Bool). leaves_isolated a b e && x) (all_leave a b es)
+all_leave a b (e ∷ es) = grind (arith, nat_tests, leaves_both a b e, all_leave a b es)
 
 no_flow : (w : Gateway) (a b : ℕ) → may_hear w.edits a b ≡ false → flow w a b ≡ false
-no_flow w a b h =
-    let heard = and_right (listens (mode_of w b)) (may_hear w.edits a b) h in
-    let apart = and_right (not (eqb a b)) (talks (mode_of w a) && (listens (mode_of w b) && may_hear w.edits a b))
-    (and_right (talks (mode_of w a)) (listens (mode_of w b) && may_hear w.edits a b) heard) in
-    and_right (eqb (context_of w a) (context_of w b))
-    (not (eqb a b) && (talks (mode_of w a) && (listens (mode_of w b) && may_hear w.edits a b))) apart
+no_flow w a b h = grind (arith, nat_tests)
 
 pub isolated_are_not_heard : IsolatedAreNotHeard
 isolated_are_not_heard w a b h = (
@@ -66,16 +50,9 @@ module _ (a b : Gateway) (same_rooms : a.rooms ≡ b.rooms) (same_edits : a.edit
   sample_same : (n k : ℕ) → frame_of a n ≡ frame_of b n → played_sample a n k ≡ played_sample b n k
   sample_same n k same = ap (λ (f : List ℤ). slice_index_or f k (pos 0)) same
 
-  part_at : (listener k talker : ℕ) (x : Bool) → (x ≡ true → frame_of a talker ≡ frame_of b talker) →
-      (if x then played_sample a talker k else pos 0) ≡ (if x then played_sample b talker k else pos 0)
-  part_at listener k talker true same = sample_same talker k (same refl)
-  part_at listener k talker false same = refl
-
   part_same : (listener k talker : ℕ) → (flow a talker listener ≡ true → frame_of a talker ≡ frame_of b talker) →
       part_of_mix a listener k talker ≡ part_of_mix b listener k talker
-  part_same listener k talker same =
-      part_at listener k talker (flow a talker listener) same ∙
-      ap (λ (x : Bool). if x then played_sample b talker k else pos 0) (flow_same talker listener)
+  part_same listener k talker same = grind (arith, nat_tests, flow_same talker listener, sample_same talker k)
 
   heard_same : (listener k : ℕ) → ((talker : ℕ) → flow a talker listener ≡ true →
       frame_of a talker ≡ frame_of b talker) → heard a listener k ≡ heard b listener k
@@ -84,18 +61,15 @@ module _ (a b : Gateway) (same_rooms : a.rooms ≡ b.rooms) (same_edits : a.edit
       (λ talker. part_same listener k talker (same talker))
       ∙ ap (λ (z : Registry). sum_of (part_of_mix b listener k) (map (λ r. r.number) z.terminations)) same_rooms
 
-  mix_at : (n k : ℕ) (x : Bool) → (x ≡ true → frame_of a n ≡ frame_of b n) → heard a n k ≡ heard b n k →
-      (if x then played_sample a n k else nearest_sample (heard a n k)) ≡
-      (if x then played_sample b n k else nearest_sample (heard b n k))
-  mix_at n k true own same = sample_same n k (own refl)
-  mix_at n k false own same = ap nearest_sample same
-
   mix_same : (n k : ℕ) → ((talker : ℕ) → flow a talker n ≡ true → frame_of a talker ≡ frame_of b talker) →
       (hears_itself a n ≡ true → frame_of a n ≡ frame_of b n) → mix a n k ≡ mix b n k
-  mix_same n k same own =
-      mix_at n k (hears_itself a n) own (heard_same n k same)
-      ∙ ap (λ (z : Registry). if is_loopback (mode_of (record a { rooms = z }) n) then played_sample b n k else
-      nearest_sample (heard b n k)) same_rooms
+  mix_same n k same own = grind (
+    arith,
+    nat_tests,
+    heard_same n k same,
+    sample_same n k,
+    ap (λ (z : Registry). mode_of (record a { rooms = z }) n) same_rooms,
+  )
 
   header_same : (to : Chosen) (s t : TerminationMedia) → a.config ≡ b.config → progress_of s ≡ progress_of t →
       header_of a to s ≡ header_of b to t
@@ -140,10 +114,7 @@ packets_depend_on_heard a b r config same_rooms edits progress same own =
 
 module _ (t : ℕ) (frame : List ℤ) where
   number_stays : (s : TerminationMedia) → (replayed t frame s).number ≡ s.number
-  number_stays s = cases (eqb s.number t) where
-    cases : (b : Bool) → (if b then record s { frame = frame } else s).number ≡ s.number
-    cases true = refl
-    cases false = refl
+  number_stays s = grind (arith, nat_tests)
 
   media_stays : (w : Gateway) (n : ℕ) → media_of (with_frame w t frame) n ≡ option_map (replayed t frame) (media_of w n)
   media_stays w n = found_in_map (λ s. s.number) (replayed t frame) n w.media number_stays

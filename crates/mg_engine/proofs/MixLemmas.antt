@@ -1,5 +1,5 @@
 -- A total without the listener itself and those silenced for it is what the listener hears.
-use Rattle.mg_engine.proofs.Common.{◌≡◌, ◌≢◌, ℕ, ◌+◌, ◌<◌, ◌&&◌, not, eqb, Bool, true, false, cond, ℤ, pos, ◌+ℤ◌, List, [], ◌∷◌, length, map, get_or, Option, Some, None, refl, sym, ap, ◌∙◌, arith, All, range_with_len, eqb-true, eq-eqb, get_or-map, length-map, sum_by-cons, seat_limit, has_seat, Record, record_at, Place, sibling_place, SumsState, total_of, nearest_sample, sum_of-cons, sum_of-same, place_of, IsOnPlace, EngineState, Inside, IsWholeEngine, view, talks, listens, ShareContext, slot_at, sample_at, flows_between, heard_now, silenced_now, map_agree, IsTrue, AllPairs, count_by, All-cons, All-map, filter_passes, All-weaker, sits_among, is_seated_in, ints, length-range_with_len, get_or-range_with_len, sum_of-map, sum_of-nil, sum_of-none, sum_of-plus, is_silenced_between, part_now, and-false, and_parts, count-found, sum_of-ones, sum_of-agree}
+use Rattle.mg_engine.proofs.Common.{◌≡◌, ◌≢◌, ℕ, ◌<◌, ◌&&◌, not, eqb, Bool, true, false, cond, ℤ, pos, ◌+ℤ◌, List, [], ◌∷◌, length, map, get_or, Option, Some, None, refl, sym, ap, ◌∙◌, arith, All, range_with_len, eqb-true, eq-eqb, get_or-map, length-map, sum_by-cons, seat_limit, has_seat, Record, record_at, Place, sibling_place, SumsState, total_of, nearest_sample, sum_of-cons, sum_of-same, place_of, IsOnPlace, EngineState, Inside, IsWholeEngine, view, talks, listens, ShareContext, slot_at, sample_at, flows_between, heard_now, silenced_now, map_agree, IsTrue, AllPairs, count_by, All-cons, All-map, filter_passes, All-weaker, sits_among, is_seated_in, ints, length-range_with_len, get_or-range_with_len, sum_of-map, sum_of-nil, sum_of-none, sum_of-plus, is_silenced_between, part_now, and-false, and_parts, count-found, sum_of-ones, sum_of-agree}
 use Rattle.std.proofs.lemmas.List.Kept.{AllPairs-cons, AllPairs-filter}
 use Rattle.mg_topology.specs.Mask.{seats_of}
 use Rattle.mg_flow.specs.Table as flow
@@ -65,17 +65,16 @@ mapped_apart f P xs all inj apart i j d lt within same =
     apart i j 0 lt below (inj (get_or xs i 0) (get_or xs j 0) (all i 0 (omega (arith, lt, below))) (all j 0 below)
     (sym first ∙ same ∙ second))
 
-one_more : (b : Bool) (n : ℕ) (rest : ℤ) → rest ≡ pos n → cond b (pos 1) (pos 0) +ℤ rest ≡ pos (cond b 1 0 + n)
-one_more true n rest e = omega (arith, ints, e)
-one_more false n rest e = omega (arith, ints, e)
-
 counted_ones : {A : Type 0} (p : A → Bool) (xs : List A) →
     sum_of (λ x. cond (p x) (pos 1) (pos 0)) xs ≡ pos (count_by p xs)
 counted_ones p [] = sum_of-nil (λ x. cond (p x) (pos 1) (pos 0))
-counted_ones p (x ∷ xs) =
-    sum_of-cons (λ y. cond (p y) (pos 1) (pos 0)) x xs
-    ∙ one_more (p x) (count_by p xs) (sum_of (λ y. cond (p y) (pos 1) (pos 0)) xs) (counted_ones p xs)
-    ∙ ap (λ (n : ℕ). pos n) (sym (sum_by-cons (λ y. cond (p y) 1 0) x xs))
+counted_ones p (x ∷ xs) = grind (
+  arith,
+  ints,
+  sum_of-cons (λ y. cond (p y) (pos 1) (pos 0)) x xs,
+  counted_ones p xs,
+  sum_by-cons (λ y. cond (p y) 1 0) x xs,
+)
 
 same_number : (m n : ℕ) → pos m ≡ pos n → m ≡ n
 same_number m n e = cc e

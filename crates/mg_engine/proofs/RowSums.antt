@@ -1,21 +1,16 @@
 -- Sums over rows that are joined to a room, as sums over terminations.
-use Rattle.mg_engine.proofs.Common.{◌≡◌, ℕ, ◌&&◌, eqb, Bool, true, false, cond, ℤ, pos, List, length, get_or, Option, Some, None, refl, ap, ◌∙◌, arith, range_with_len, eq-eqb, Mode, talks, termination_limit, Record, IsSound, Registry, Place, SumsState, total_of, AreJoined, room_for, sample_at, count_by, sum_of-filter, room_of_row, count-found}
+use Rattle.mg_engine.proofs.Common.{◌≡◌, ℕ, ◌&&◌, eqb, Bool, true, false, cond, ℤ, pos, List, length, get_or, Option, Some, None, refl, ap, ◌∙◌, arith, range_with_len, eq-eqb, talks, termination_limit, Record, IsSound, Registry, Place, SumsState, total_of, AreJoined, room_for, sample_at, count_by, sum_of-filter, room_of_row, count-found, nat_tests}
 use Rattle.mg_sums.specs.Sums.{sample_in, is_room, is_joined, joined_rows}
 use Rattle.mg_sums.specs.Samples.{sum_of}
 use Rattle.mg_engine.proofs.SeatSums.{seat_sums}
 
 -- ## Rows that are joined to a room
 
-joined_by : (mode : Mode) (b : Bool) (at room : ℕ) → talks mode ≡ b →
-    is_room (room_for mode at) room ≡ (b && eqb at room)
-joined_by mode true at room e = ap (λ (b : Bool). is_room (cond b (Some at) None) room) e
-joined_by mode false at room e = ap (λ (b : Bool). is_room (cond b (Some at) None) room) e
-
 -- the row of one on a place is joined to a room where it talks and the place is in it
 pub joined_is : (joined : List (Option ℕ)) (r : Record) (p : Place) (room : ℕ) →
     room_of_row joined r.slot ≡ room_for r.mode p.room →
     is_joined joined room r.slot ≡ (talks r.mode && eqb p.room room)
-joined_is joined r p room h = ap (λ (o : Option ℕ). is_room o room) h ∙ joined_by r.mode (talks r.mode) p.room room refl
+joined_is joined r p room h = grind (arith, nat_tests, h)
 
 some_room : (o : Option ℕ) (room : ℕ) → is_room o room ≡ true → (at : ℕ) × (o ≡ Some at)
 some_room (Some at) room h = (at, refl)

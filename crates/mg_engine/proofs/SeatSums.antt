@@ -1,5 +1,5 @@
 -- Sums over the seats of a room, and over the terminations that are on them.
-use Rattle.mg_engine.proofs.Common.{◌≡◌, ℕ, zero, suc, ◌+◌, ◌<◌, ◌≤◌, ◌&&◌, eqb, Bool, true, false, cond, ℤ, pos, ◌+ℤ◌, List, [], ◌∷◌, inl, inr, get_or, refl, sym, ap, ◌∙◌, arith, range_with_len, cases_eq, eq-eqb, sum_by-cons, seat_limit, has_seat, sum_of-cons, sum_of-same, count_by, nat_tests, ints, sum_of-filter, sum_of-nil, sum_of-none, sum_of-plus, All, sum_of-agree}
+use Rattle.mg_engine.proofs.Common.{◌≡◌, ℕ, zero, suc, ◌+◌, ◌<◌, ◌≤◌, ◌&&◌, eqb, Bool, true, false, cond, ℤ, pos, ◌+ℤ◌, List, [], ◌∷◌, inl, inr, get_or, refl, sym, ap, ◌∙◌, arith, range_with_len, cases_eq, eq-eqb, seat_limit, has_seat, sum_of-cons, sum_of-same, count_by, nat_tests, ints, sum_of-filter, sum_of-nil, sum_of-none, sum_of-plus, All, sum_of-agree, count-cons}
 use Rattle.mg_topology.specs.Mask.{seats_of}
 use Rattle.mg_sums.specs.Samples.{sum_of}
 
@@ -58,30 +58,17 @@ part_among false h s n lt = sum_of-none (λ (k : ℕ). pos 0) (range_with_len 0 
 
 -- ## One that passes a test
 
-none_at : (b : Bool) (z rest : ℤ) (n : ℕ) → cond b 1 0 + n ≡ 0 → (n ≡ 0 → rest ≡ pos 0) →
-    cond b z (pos 0) +ℤ rest ≡ pos 0
-none_at true z rest n e h = absurd (omega (arith, e))
-none_at false z rest n e h = omega (arith, ints, h (omega (arith, e)))
-
-one_at : (b : Bool) (z rest : ℤ) (n : ℕ) → cond b 1 0 + n ≡ 1 → (n ≡ 0 → rest ≡ pos 0) → (n ≡ 1 → rest ≡ z) →
-    cond b z (pos 0) +ℤ rest ≡ z
-one_at true z rest n e none one = omega (arith, ints, none (omega (arith, e)))
-one_at false z rest n e none one = omega (arith, ints, one (omega (arith, e)))
-
 module _ {A : Type 0} (p : A → Bool) (z : ℤ) where
   abbrev at : A → ℤ
   at t = cond (p t) z (pos 0)
 
   pub none_pass : (rs : List A) → count_by p rs ≡ 0 → sum_of at rs ≡ pos 0
   none_pass [] e = sum_of-nil at
-  none_pass (r ∷ rs) e = sum_of-cons at r rs ∙
-      none_at (p r) z (sum_of at rs) (count_by p rs) (sym (sum_by-cons (λ x. cond (p x) 1 0) r rs) ∙ e) (none_pass rs)
+  none_pass (r ∷ rs) e = grind (arith, ints, sum_of-cons at r rs, count-cons p r rs, none_pass rs)
 
   pub one_passes : (rs : List A) → count_by p rs ≡ 1 → sum_of at rs ≡ z
   one_passes [] e = absurd (omega (arith, e))
-  one_passes (r ∷ rs) e = sum_of-cons at r rs ∙
-      one_at (p r) z (sum_of at rs) (count_by p rs) (sym (sum_by-cons (λ x. cond (p x) 1 0) r rs) ∙ e) (none_pass rs)
-      (one_passes rs)
+  one_passes (r ∷ rs) e = grind (arith, ints, sum_of-cons at r rs, count-cons p r rs, none_pass rs, one_passes rs)
 
   by_count : (rs : List A) (n : ℕ) → count_by p rs ≡ n → n ≤ 1 → (n ≡ 0 → z ≡ pos 0) → z ≡ sum_of at rs
   by_count rs zero e few none = none refl ∙ sym (none_pass rs e)

@@ -1,5 +1,5 @@
 -- Ticks at once are ticks one after another, while no play list has a frame.
-use Rattle.mg_engine.proofs.Common.{◌≡◌, ℕ, zero, suc, ◌+◌, ◌*◌, ◌%◌, ◌^◌, ◌<◌, Bool, true, false, cond, List, ℤ, [], ◌∷◌, map, get_or, Option, Some, None, refl, sym, ap, subst, ◌∙◌, arith, count_by, option_map, sum_by-cons, is_concealed, PlayList, Record, record_at, silence, Config, Gateway, ContextEdit, TerminationMedia, media_of, may_hear, HasPassed, IsIdleEngine, EngineState, StandsFor, IsMediaOf, media_at, played, sent, sends_at, after_ticks, concealed_in_ticks, IsTrue, Registry, counted_up, SlotMedia, slot_sends, option_map_or, map-map, sound_of, ticked, ticked_in, is_idle, frame_or_silence, numbers_of, frame_played, slot_ended, slot_played, slot_ticked, slot_passed, after_tick, conceals, concealed_in_tick}
+use Rattle.mg_engine.proofs.Common.{◌≡◌, ℕ, zero, suc, ◌+◌, ◌*◌, ◌%◌, ◌^◌, ◌<◌, Bool, true, false, cond, List, ℤ, [], ◌∷◌, map, get_or, Option, Some, None, refl, sym, ap, subst, ◌∙◌, arith, count_by, option_map, sum_by-cons, is_concealed, PlayList, Record, record_at, silence, Config, Gateway, ContextEdit, TerminationMedia, media_of, may_hear, HasPassed, IsIdleEngine, EngineState, StandsFor, IsMediaOf, media_at, played, sent, sends_at, after_ticks, concealed_in_ticks, IsTrue, Registry, counted_up, SlotMedia, slot_sends, option_map_or, map-map, sound_of, ticked, ticked_in, is_idle, frame_or_silence, numbers_of, frame_played, slot_ended, slot_played, slot_ticked, slot_passed, after_tick, conceals, concealed_in_tick, nat_tests}
 use Rattle.std.specs.Fn.{iterate}
 use Rattle.mg_playout.specs.declared.phase.Phase.{Phase}
 use Rattle.mg_playout.specs.declared.phase.Phase.TheVariants.{Idle}
@@ -54,8 +54,7 @@ idle_ended true m = refl
 idle_ended false m = refl
 
 idle_kept : (b : Bool) (m : SlotMedia) → IsIdleMedia m → IsIdleMedia (slot_ticked b m)
-idle_kept b m idle = subst (λ (p : PlayList). IsTrue (is_idle p.phase))
-    (sym (idle_ended b (slot_played m) ∙ ap (λ (x : SlotMedia). x.play) (idle_played m idle))) idle
+idle_kept b m idle = grind (arith, nat_tests, idle_played m idle, idle_ended b (slot_played m))
 
 one_passed : (b : Bool) (m : SlotMedia) → slot_ended b (later m) ≡ slot_passed b 1 m
 one_passed true m = refl
@@ -204,10 +203,7 @@ IsIdleGateway w = (n : ℕ) (s : TerminationMedia) → media_of w n ≡ Some s �
 
 idle_termination : (b : Bool) (s : TerminationMedia) → IsTrue (is_idle s.play.phase) →
     IsTrue (is_idle (sent b (played s)).play.phase)
-idle_termination true s idle = subst (λ (p : PlayList × Played). IsTrue (is_idle p.0.phase))
-    (sym (idle_ticks s.play idle)) idle
-idle_termination false s idle = subst (λ (p : PlayList × Played). IsTrue (is_idle p.0.phase))
-    (sym (idle_ticks s.play idle)) idle
+idle_termination b s idle = grind (arith, nat_tests, idle_ticks s.play idle)
 
 idle_after : (w : Gateway) → IsIdleGateway w → IsIdleGateway (after_tick w)
 idle_after w idle n s there =
@@ -225,13 +221,7 @@ one b = cond b 1 0
 
 none_counted : (p : ℕ → Bool) (ns : List ℕ) → ((n : ℕ) → p n ≡ false) → count_by p ns ≡ 0
 none_counted p [] none = refl
-none_counted p (n ∷ ns) none =
-    omega (
-      arith,
-      sum_by-cons (λ x. one (p x)) n ns,
-      ap one (none n),
-      none_counted p ns none,
-    )
+none_counted p (n ∷ ns) none = omega (arith, sum_by-cons (λ x. one (p x)) n ns, ap one (none n), none_counted p ns none)
 
 none_concealed : (n : ℕ) (w : Gateway) → IsIdleGateway w → concealed_in_ticks n w ≡ 0
 none_concealed zero w idle = refl

@@ -1,5 +1,5 @@
 -- The totals that are kept are those of the world.
-use Rattle.mg_engine.proofs.Common.{◌≡◌, ℕ, ◌+◌, ◌<◌, ◌&&◌, eqb, Bool, true, false, cond, ℤ, pos, get_or, Option, Some, None, refl, sym, ap, ◌∙◌, nat_lt, arith, is_some, range_with_len, option_map, eqb-true, eq-eqb, ne_eqb, same_Some, Context, Record, talks, IsSound, record_at, context_at, members_at, Place, total_of, Gateway, IsOnPlace, EngineState, StandsFor, sample_at, count_by, lt-ltb, last_termination, Registry, IsMember, part_of_total, total, total_at, find-none, All, Inside, IsWholeEngine, list_any_at, sum_of-agree, view, counted_any}
+use Rattle.mg_engine.proofs.Common.{◌≡◌, ℕ, ◌+◌, ◌<◌, ◌&&◌, eqb, Bool, true, false, cond, ℤ, pos, get_or, Option, Some, None, refl, sym, ap, ◌∙◌, nat_lt, arith, is_some, range_with_len, option_map, eqb-true, eq-eqb, ne_eqb, same_Some, Context, Record, talks, IsSound, record_at, context_at, members_at, Place, total_of, Gateway, IsOnPlace, EngineState, StandsFor, sample_at, count_by, lt-ltb, last_termination, Registry, IsMember, part_of_total, total, total_at, find-none, All, Inside, IsWholeEngine, list_any_at, sum_of-agree, view, counted_any, false_from_ne_true}
 use Rattle.mg_sums.specs.Samples.{sum_of}
 use Rattle.mg_engine.proofs.FlowLemmas.{mode_found}
 use Rattle.mg_engine.proofs.MemberLemmas.{unequal}
@@ -33,14 +33,10 @@ module _ (w : Registry) (c : ℕ) (f : ℕ → ℤ) (sound : IsSound w) where
   below n r found = let (number, is) = sound.termination n r found in
       omega (arith, number, is.below, sound.consistent.last_termination)
 
-  not_counted : (n : ℕ) → count_by (λ m. eqb m n) (members_at w c) ≡ 0 → (b : Bool) →
-      in_context c (record_at w n) ≡ b → cond b (f n) (pos 0) ≡ pos 0
-  not_counted n none true e = absurd (omega (
-    arith,
-    none,
-    counted_any (λ m. eqb m n) (members_at w c) ((sound.members c n).1 (member_of c (record_at w n) e)),
-  ))
-  not_counted n none false e = refl
+  not_counted : (n : ℕ) → count_by (λ m. eqb m n) (members_at w c) ≡ 0 → part n ≡ pos 0
+  not_counted n none = ap (λ (b : Bool). cond b (f n) (pos 0)) (false_from_ne_true (in_context c (record_at w n)) (λ e.
+      let some = counted_any (λ m. eqb m n) (members_at w c) ((sound.members c n).1 (member_of c (record_at w n) e)) in
+      absurd (omega (arith, none, some))))
 
   is_member : All (IsMember w c) (members_at w c)
   is_member j d lt = let n = get_or (members_at w c) j d in
@@ -62,7 +58,7 @@ module _ (w : Registry) (c : ℕ) (f : ℕ → ℤ) (sound : IsSound w) where
       sym (ap (λ (o : Option Record). cond (in_context c o) (f (get_or (members_at w c) j d)) (pos 0)) found ∙
       ap (λ (b : Bool). cond b (f (get_or (members_at w c) j d)) (pos 0)) (eq-eqb r.context c context)))
       (sound.once c)
-      (λ n none. not_counted n none (in_context c (record_at w n)) refl)
+      not_counted
 
   pub sum_of_members : sum_of f (members_at w c) ≡ sum_of context_part w.terminations
   sum_of_members = sym by_members ∙ by_terminations

@@ -1,5 +1,5 @@
 -- What an edit and an RTP datagram leave alone.
-use Rattle.mg_engine.proofs.Common.{◌≡◌, ℕ, ℤ, pos, eqb, not, ◌&&◌, ◌||◌, Bool, true, false, cond, List, [], ◌∷◌, Option, Some, None, Result, Ok, Err, refl, sym, ap, subst, ◌∙◌, IsSome, is_some, eq-eqb, ne_eqb, same_Some, talks, ErrorNumber, Header, Reading, Context, Record, Settings, Target, is_number, record_at, context_at, members_at, passes, IsSound, Taken, TopologyTriple, Arrived, Takes, arrived, at_port, taken_at, frame_placed_at, taken_by, has, may_hear, Gateway, TerminationMedia, ContextEdit, Apply, Enter, media_of, new_media, frame_in, added, modified, moved, subtracted, existing_context, done_with, tuned, EngineState, StandsFor, check_triples, with_triples, slice_index_or, Registry, total, part_of_total, find-change_other, find-push_other, listens, IdentifierNotAllowed, NotInContext, context_in, mode_or_inactive, check_triple, is_barred, matched, names_others, bind_ok, false_from_ne_true, not-false, true≢false, get_or, list_any_at, sum_of-agree}
+use Rattle.mg_engine.proofs.Common.{◌≡◌, ℕ, ℤ, pos, eqb, not, ◌&&◌, Bool, true, false, cond, List, [], ◌∷◌, Option, Some, None, Result, Ok, Err, refl, sym, ap, subst, ◌∙◌, IsSome, is_some, eq-eqb, ne_eqb, same_Some, talks, ErrorNumber, Header, Reading, Context, Record, Settings, Target, is_number, record_at, context_at, members_at, IsSound, Taken, TopologyTriple, Arrived, Takes, arrived, at_port, taken_at, frame_placed_at, taken_by, has, may_hear, Gateway, TerminationMedia, ContextEdit, Apply, Enter, media_of, new_media, frame_in, added, modified, moved, subtracted, existing_context, done_with, tuned, EngineState, StandsFor, check_triples, with_triples, slice_index_or, Registry, total, part_of_total, find-change_other, find-push_other, listens, context_in, mode_or_inactive, check_triple, matched, names_others, bind_ok, false_from_ne_true, not-false, true≢false, get_or, list_any_at, sum_of-agree, arith, nat_tests}
 use Rattle.mg_rooms.specs.declared.target.Target.TheVariants.{Null, New, Number}
 use Rattle.mg_rooms.specs.Outcome as commands
 use Rattle.mg_rooms.specs.aids.Found.{members_of}
@@ -126,17 +126,9 @@ unmatched members (terms.Number k) a names out =
 unmatched members terms.Barred a names out = refl
 unmatched members terms.Stranger a names out = refl
 
-first_names : (a b : Bool) (e : ErrorNumber) (u : Unit {0}) → passes (not (a || b)) e ≡ Ok u → a ≡ false
-first_names true b e u h = absurd (cc h)
-first_names false b e u h = refl
-
 named_members : (members : List ℕ) (x : TopologyTriple) (u : Unit {0}) → check_triple members x ≡ Ok u →
     names_others members x.first ≡ false
-named_members members x u e =
-    let others = passes (not (names_others members x.first || names_others members x.second)) NotInContext in
-    let (_, _, one) = bind_ok (passes (not (is_barred x.first || is_barred x.second)) IdentifierNotAllowed) _ u e in
-    let (v, passed, _) = bind_ok others _ u one in
-    first_names (names_others members x.first) (names_others members x.second) NotInContext v passed
+named_members members x u e = grind (arith, nat_tests)
 
 unsaid : (first second : List ℕ) (association : _) (es : List ContextEdit) (a b : ℕ) → has first a ≡ false →
     has first b ≡ false → may_hear (Apply first second association ∷ es) a b ≡ may_hear es a b

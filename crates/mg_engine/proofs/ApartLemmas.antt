@@ -4,6 +4,7 @@ use Rattle.mg_rooms.specs.Outcome as commands
 use Rattle.mg_engine.specs.Outcome.{apply_triples}
 use Rattle.mg_engine.proofs.GatewayLemmas.{found_in_map}
 use Rattle.mg_engine.proofs.IsolationLemmas.{packets_depend_on_heard}
+use Rattle.mg_engine.proofs.TickLemmas.{sent_number}
 use Rattle.mg_engine.proofs.OrderLemmas.{found_passes}
 
 -- ## Media without arrivals
@@ -18,11 +19,7 @@ module _ (some : List ℕ) where
   -- what does not depend on arrivals stays
   stays : {A : Type 0} (g : TerminationMedia → A) → ((s : TerminationMedia) → g (without_arrivals s) ≡ g s) →
       (s : TerminationMedia) → g (mask s) ≡ g s
-  stays g same s = at (has some s.number)
-    where
-      at : (b : Bool) → g (unless b s) ≡ g s
-      at true = same s
-      at false = refl
+  stays g same s = grind (arith, nat_tests, same s)
 
   number_stays : (s : TerminationMedia) → (mask s).number ≡ s.number
   number_stays = stays (λ s. s.number) (λ s. refl)
@@ -36,22 +33,13 @@ module _ (some : List ℕ) where
 
   blind : (f : TerminationMedia → TerminationMedia) → ((s : TerminationMedia) → (f s).number ≡ s.number) →
       ((s : TerminationMedia) → without_arrivals (f (without_arrivals s)) ≡ without_arrivals (f s)) → IsBlind f
-  blind f number same s = at (has some s.number) refl
-    where
-      at : (b : Bool) → has some s.number ≡ b → mask (f (unless b s)) ≡ mask (f s)
-      at false e = refl
-      at true e = masked_as s (f (without_arrivals s)) true e (number (without_arrivals s)) ∙ same s ∙
-          sym (masked_as s (f s) true e (number s))
+  blind f number same s = grind (arith, nat_tests, number s, number (without_arrivals s), same s)
 
   tuned_blind : (settings : Settings) → IsBlind (tuned settings)
   tuned_blind settings = blind (tuned settings) (λ s. refl) (λ s. refl)
 
   played_blind : IsBlind played
   played_blind = blind played (λ s. refl) (λ s. refl)
-
-  sent_number : (b : Bool) (s : TerminationMedia) → (sent b s).number ≡ s.number
-  sent_number true s = refl
-  sent_number false s = refl
 
   sent_same : (b : Bool) (s : TerminationMedia) →
       without_arrivals (sent b (without_arrivals s)) ≡ without_arrivals (sent b s)

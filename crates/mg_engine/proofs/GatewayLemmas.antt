@@ -1,5 +1,5 @@
 -- What is looked up in a world that an engine stands for.
-use Rattle.mg_engine.proofs.Common.{inl, inr, ◌≡◌, ℕ, suc, ◌<◌, eqb, Bool, ℤ, length, get_or, subst, arith, List, [], ◌∷◌, map, Option, Some, None, refl, sym, option_map, eqb-true, same_Some, Record, record_at, Gateway, TerminationMedia, media_of, Config, EngineState, StandsFor, IsMediaOf, media_at, find, cases_Bool, nat_tests, SlotMedia, frame_of_row}
+use Rattle.mg_engine.proofs.Common.{inl, inr, ◌≡◌, ℕ, suc, ◌<◌, eqb, Bool, length, get_or, arith, List, [], ◌∷◌, map, Option, Some, None, refl, sym, option_map, eqb-true, same_Some, Record, record_at, Gateway, TerminationMedia, media_of, EngineState, StandsFor, IsMediaOf, media_at, find, cases_Bool, nat_tests, frame_of_row}
 use Rattle.mg_rooms.proofs.OrderLemmas as orders
 
 abbrev some : {A : Type 0} → A → Option A
@@ -49,13 +49,6 @@ pub has_media : (k : EngineState) (w : Gateway) (n : ℕ) (r : Record) → Stand
 has_media k w n r h found =
     let (s, there) = found_too (λ r. r.number) (λ s. s.number) n k.rooms.terminations w.media (sym h.numbers) r found in
     (s, there, h.media n r s found there)
-
--- media and a frame that are as before
-pub media_is : (config : Config) (m n : SlotMedia) (row line : List ℤ) (s : TerminationMedia) → m ≡ n →
-    row ≡ line → IsMediaOf config n line s → IsMediaOf config m row s
-media_is config m n row line s kept same h =
-    subst (λ (x : SlotMedia). IsMediaOf config x row s) (sym kept)
-    (subst (λ (x : List ℤ). IsMediaOf config n x s) (sym same) h)
 
 -- ## The slot of a termination
 

@@ -1,5 +1,5 @@
 -- A total without the listener itself and those silenced for it is what the listener hears.
-use Rattle.mg_engine.proofs.Common.{◌≡◌, ◌≢◌, ℕ, ◌<◌, ◌&&◌, not, eqb, Bool, true, false, cond, ℤ, pos, ◌+ℤ◌, List, [], ◌∷◌, length, map, get_or, Option, Some, None, refl, sym, ap, ◌∙◌, arith, All, range_with_len, eqb-true, eq-eqb, get_or-map, length-map, sum_by-cons, seat_limit, has_seat, Record, record_at, Place, sibling_place, SumsState, total_of, nearest_sample, sum_of-cons, sum_of-same, place_of, IsOnPlace, EngineState, Inside, IsWholeEngine, view, talks, listens, ShareContext, slot_at, sample_at, flows_between, heard_now, silenced_now, map_agree, IsTrue, AllPairs, count_by, All-cons, All-map, filter_passes, All-weaker, sits_among, is_seated_in, ints, length-range_with_len, get_or-range_with_len, sum_of-map, sum_of-nil, sum_of-none, sum_of-plus, is_silenced_between, part_now, and-false, and_parts, count-found, sum_of-ones, sum_of-agree}
+use Rattle.mg_engine.proofs.Common.{◌≡◌, ◌≢◌, ℕ, ◌<◌, ◌&&◌, not, eqb, Bool, true, false, cond, ℤ, pos, ◌+ℤ◌, List, [], ◌∷◌, length, map, get_or, Option, Some, None, refl, sym, ap, ◌∙◌, arith, All, range_with_len, eqb-true, eq-eqb, get_or-map, length-map, sum_by-cons, seat_limit, has_seat, Record, record_at, Place, sibling_place, SumsState, total_of, nearest_sample, sum_of-cons, sum_of-same, place_of, IsOnPlace, EngineState, Inside, IsWholeEngine, view, talks, listens, slot_at, sample_at, heard_now, silenced_now, map_agree, IsTrue, AllPairs, count_by, All-cons, All-map, filter_passes, All-weaker, sits_among, is_seated_in, ints, length-range_with_len, get_or-range_with_len, sum_of-map, sum_of-nil, sum_of-plus, is_silenced_between, part_now, and-false, and_parts, count-found, sum_of-ones, sum_of-agree, true≢false}
 use Rattle.std.proofs.lemmas.List.Kept.{AllPairs-cons, AllPairs-filter}
 use Rattle.mg_topology.specs.Mask.{seats_of}
 use Rattle.mg_flow.specs.Table as flow
@@ -18,9 +18,6 @@ use Rattle.mg_engine.proofs.SeatSums.{one_passes}
 abbrev Splits : ℤ → Bool → Bool → Bool → Bool → Type 0
 Splits z joined own silenced heard =
     cond joined z (pos 0) ≡ (cond own z (pos 0) +ℤ cond silenced z (pos 0)) +ℤ cond heard z (pos 0)
-
-splits : (z : ℤ) (j k o p s t f g : Bool) → j ≡ k → o ≡ p → s ≡ t → f ≡ g → Splits z k p t g → Splits z j o s f
-splits z j k o p s t f g a b c d h = rw (a, b, c, d) h
 
 own_splits : (z : ℤ) (b : Bool) → Splits z (b && true) (true && b) false false
 own_splits z true = omega (arith, ints)
@@ -122,17 +119,19 @@ module _ (inside : Inside) (l : Record) (p : Place) (mask : ℕ) (whole : IsWhol
   row_joined : (seat : ℕ) → IsTrue (has_seat mask seat) → IsTrue (is_joined k.sums.rooms p.room (row_on seat))
   row_joined seat h =
       let (n, r, at) = held seat h in
-      ap (λ (row : ℕ). is_joined k.sums.rooms p.room row) (whole.seats n r (sibling_place p seat) at)
-      ∙ joined_is k.sums.rooms r (sibling_place p seat) p.room (whole.joined.each n r (sibling_place p seat) at)
-      ∙ ap (λ (b : Bool). b && eqb p.room p.room) (talks_there seat n r h at)
-      ∙ eq-eqb p.room p.room refl
+      rw (
+        whole.seats n r (sibling_place p seat) at,
+        joined_is k.sums.rooms r (sibling_place p seat) p.room
+            (whole.joined.each n r (sibling_place p seat) at),
+        talks_there seat n r h at,
+      ) (eq-eqb p.room p.room refl)
 
   rows_differ : (a b : ℕ) → IsTrue (has_seat mask a) → IsTrue (has_seat mask b) → row_on a ≡ row_on b → a ≡ b
   rows_differ a b h g same =
       let (m, r, at) = held a h in
       let (n, s, to) = held b g in
-      let equal = whole.sound.one_slot m n r s at.found to.found (sym (whole.seats m r (sibling_place p a) at) ∙ same ∙ whole.seats n s (sibling_place p b) to)
-      in
+      let equal = whole.sound.one_slot m n r s at.found to.found
+      (sym (whole.seats m r (sibling_place p a) at) ∙ same ∙ whole.seats n s (sibling_place p b) to) in
       ap (λ (x : Place). x.seat) (one_place k.rooms m n r s (sibling_place p a) (sibling_place p b) at to equal)
 
   minus_joined : All (λ row. IsTrue (is_joined k.sums.rooms p.room row)) minus
@@ -149,10 +148,8 @@ module _ (inside : Inside) (l : Record) (p : Place) (mask : ℕ) (whole : IsWhol
   own_apart seat h same =
       let (n, r, at) = held seat h in
       let equal = whole.sound.one_slot l.number n l r on.found at.found (same ∙ whole.seats n r (sibling_place p seat) at) in
-      let here : p ≡ sibling_place p seat = one_place k.rooms l.number n l r p (sibling_place p seat) on at equal in
-      let false_too = ap (λ (q : Place). flow.is_silenced k.flows q p) (sym here) ∙ not_itself k.flows p in
-      let never : true ≡ false = sym h ∙ kept seat ∙ false_too in
-      cc never
+      let here = one_place k.rooms l.number n l r p (sibling_place p seat) on at equal in
+      true≢false (sym h ∙ kept seat ∙ ap (λ (q : Place). flow.is_silenced k.flows q p) (sym here) ∙ not_itself k.flows p)
 
   out_by : (b : Bool) → talks l.mode ≡ b →
       AreOfRoom k.sums.rooms p.room (left_out_by (cond b (Some l.slot) None) minus)
@@ -179,12 +176,9 @@ module _ (inside : Inside) (l : Record) (p : Place) (mask : ℕ) (whole : IsWhol
       (sym (sum_of-ones (seats_of mask))
       ∙ sum_on_seats k.rooms inside.seating l p mask whole.sound whole.seats on.place held
       (λ slot. pos 1)
-      ∙ sum_of-same (λ (t : Record). cond (sits_among k.rooms p.room mask t) (pos 1) (pos 0))
-      (λ (t : Record). cond (is_silenced_between k.flows (place_of k.rooms t) (place_of k.rooms l)) (pos 1)
-      (pos 0)) k.rooms.terminations
-      (λ t. ap (λ (b : Bool). cond b (pos 1) (pos 0))
-      (silenced_is (place_of k.rooms t) ∙ ap (λ (o : Option Place). is_silenced_between k.flows
-      (place_of k.rooms t) o) (sym on.place)))
+      ∙ sum_of-same _ (λ t. cond (is_silenced_between k.flows (place_of k.rooms t) (place_of k.rooms l)) (pos 1) (pos 0))
+      k.rooms.terminations (λ t. ap (λ (b : Bool). cond b (pos 1) (pos 0)) (silenced_is (place_of k.rooms t) ∙
+      ap (is_silenced_between k.flows (place_of k.rooms t)) (sym on.place)))
       ∙ counted_ones (λ (t : Record). is_silenced_between k.flows (place_of k.rooms t) (place_of k.rooms l))
       k.rooms.terminations)
 
@@ -209,86 +203,55 @@ module _ (inside : Inside) (l : Record) (p : Place) (mask : ℕ) (whole : IsWhol
         (flow.is_silenced k.flows q p) (flow.flows k.flows q p)
     split_at t q at true e c f =
         let equal = eqb-true t.number l.number e in
-        let r : t ≡ l = one_record k.rooms t.number l.number t l at.found on.found equal in
-        let here : q ≡ p = one_place k.rooms t.number l.number t l q p at on equal in
-        splits (sample_of t) _ (talks l.mode && true) _ (true && talks l.mode) _ false _ false
-        (ap (λ (x : Record). talks x.mode && eqb q.room p.room) r ∙
-        ap (λ (b : Bool). talks l.mode && b)
-        (ap (λ (x : Place). eqb x.room p.room) here ∙ eq-eqb p.room p.room refl))
-        refl
-        (ap (λ (x : Place). flow.is_silenced k.flows x p) here ∙ not_itself k.flows p)
-        (ap (λ (x : Place). flow.flows k.flows x p) here ∙ no_hearing k.flows p p (nobody_hears_itself k.flows p))
-        (own_splits (sample_of t) (talks l.mode))
+        rw (
+          one_record k.rooms t.number l.number t l at.found on.found equal,
+          one_place k.rooms t.number l.number t l q p at on equal,
+          not_itself k.flows p,
+          no_hearing k.flows p p (nobody_hears_itself k.flows p),
+          eq-eqb p.room p.room refl,
+        ) (own_splits (sample_of l) (talks l.mode))
     split_at t q at false e false f =
-        splits (sample_of t) _ false _ false _ false _ false
-        (ap (λ (b : Bool). talks t.mode && b) f ∙ and-false (talks t.mode))
-        refl
-        (silenced_apart k.flows q p f)
-        (flows_apart k.flows q p f)
-        (none_splits (sample_of t))
+        rw (silenced_apart k.flows q p f, flows_apart k.flows q p f, f, and-false (talks t.mode)) (none_splits (sample_of t))
     split_at t q at false e true f =
-        let same = eqb-true q.room p.room f in
-        let apart = unequal t.number l.number e in
-        let share : ShareContext k.rooms t.number l.number t l q p =
-        record {
+        let seat = seats_differ k.rooms t.number l.number t l q p whole.sound (record {
           first = at;
           second = on;
-          same = in_one_context k.rooms t l q p whole.sound at.place on.place same;
-          apart = apart;
-        } in
-        let seat = seats_differ k.rooms t.number l.number t l q p whole.sound share in
+          same = in_one_context k.rooms t l q p whole.sound at.place on.place (eqb-true q.room p.room f);
+          apart = unequal t.number l.number e;
+        }) in
         let from = whole.members.each t.number t q at in
         let to = whole.members.each l.number l p on in
         let quiet : flow.is_silenced k.flows q p ≡ (talks t.mode && not (flow.hears k.flows q p)) =
         rw (from.talks, from.held, to.held, f, seat) refl in
         let loud : flow.flows k.flows q p ≡ (talks t.mode && flow.hears k.flows q p) =
         rw (from.talks, to.listens, listening) refl in
-        splits (sample_of t) _ (talks t.mode && true) _ false _
-        (talks t.mode && not (flow.hears k.flows q p)) _ (talks t.mode && flow.hears k.flows q p)
-        (ap (λ (b : Bool). talks t.mode && b) f)
-        refl
-        quiet
-        loud
-        (other_splits (sample_of t) (talks t.mode) (flow.hears k.flows q p))
+        rw (quiet, loud, f) (other_splits (sample_of t) (talks t.mode) _)
 
     split : (t : Record) → record_at k.rooms t.number ≡ Some t →
         total_part t ≡ (own_part t +ℤ silenced_part t) +ℤ part_now k l i t
     split t found =
         let (q, at) = on_place k.rooms t.number t whole.sound found in
-        let z = sample_of t in
-        let heard : flows_between k.flows (place_of k.rooms t) (place_of k.rooms l) ≡ flow.flows k.flows q p =
-        ap (λ (o : Option Place). flows_between k.flows o (place_of k.rooms l)) at.place ∙
-        ap (λ (o : Option Place). flows_between k.flows (Some q) o) on.place in
-        splits z _ (talks t.mode && eqb q.room p.room) _ (eqb t.number l.number && talks l.mode) _
-        (flow.is_silenced k.flows q p) _ (flow.flows k.flows q p)
-        (joined_is k.sums.rooms t q p.room (whole.joined.each t.number t q at))
-        refl
-        (ap (λ (o : Option Place). is_seated_in p.room mask o) at.place ∙ silenced_is (Some q))
-        heard
+        rw (joined_is k.sums.rooms t q p.room (whole.joined.each t.number t q at), at.place, on.place, silenced_is (Some q))
         (split_at t q at (eqb t.number l.number) refl (eqb q.room p.room) refl)
 
     -- ## The listener itself
 
-    own_by : (b : Bool) → sum_of (λ (t : Record). cond (eqb t.number l.number && b) (sample_of t) (pos 0))
-        k.rooms.terminations ≡ cond b (sample_at k.sums.frames l.slot i) (pos 0)
-    own_by true =
+    own_sum : sum_of own_part k.rooms.terminations ≡ cond (talks l.mode) (sample_of l) (pos 0)
+    own_sum =
         let rs = k.rooms.terminations in
-        let z = sample_at k.sums.frames l.slot i in
-        let least = count-found (λ (t : Record). eqb t.number l.number) (λ (t : Record). eqb t.number l.number) rs l
+        let z = cond (talks l.mode) (sample_of l) (pos 0) in
+        let some = count-found (λ (t : Record). eqb t.number l.number) (λ (t : Record). eqb t.number l.number) rs l
         on.found (eq-eqb l.number l.number refl) in
         let most = whole.sound.consistent.terminations.one_number l.number in
-        let once : count_by (λ (t : Record). eqb t.number l.number) rs ≡ 1 = omega (arith, least, most) in
-        sum_of-agree (λ (t : Record). cond (eqb t.number l.number && true) (sample_of t) (pos 0))
-        (λ (t : Record). cond (eqb t.number l.number) z (pos 0)) rs
+        let once : count_by (λ (t : Record). eqb t.number l.number) rs ≡ 1 = omega (arith, some, most) in
+        sum_of-agree own_part (λ (t : Record). cond (eqb t.number l.number) z (pos 0)) rs
         (λ j d lt. let t = get_or rs j d in own_at t (whole.sound.by_number j d lt) (eqb t.number l.number) refl)
         ∙ one_passes (λ (t : Record). eqb t.number l.number) z rs once where
           own_at : (t : Record) → record_at k.rooms t.number ≡ Some t → (b : Bool) → eqb t.number l.number ≡ b →
-              cond (b && true) (sample_of t) (pos 0) ≡ cond b (sample_at k.sums.frames l.slot i) (pos 0)
-          own_at t found true e = ap (λ (x : Record). sample_of x)
-              (one_record k.rooms t.number l.number t l found on.found (eqb-true t.number l.number e))
+              cond (b && talks l.mode) (sample_of t) (pos 0) ≡ cond b (cond (talks l.mode) (sample_of l) (pos 0)) (pos 0)
+          own_at t found true e =
+              rw (one_record k.rooms t.number l.number t l found on.found (eqb-true t.number l.number e)) refl
           own_at t found false e = refl
-    own_by false = sum_of-none (λ (t : Record). cond (eqb t.number l.number && false) (sample_of t) (pos 0))
-        k.rooms.terminations (λ t. ap (λ (b : Bool). cond b (sample_of t) (pos 0)) (and-false (eqb t.number l.number)))
 
     out_sum : (b : Bool) → sum_of (sample_in k.sums.frames i) (left_out_by (cond b (Some l.slot) None) minus) ≡
         cond b (sample_at k.sums.frames l.slot i) (pos 0) +ℤ sum_of (sample_in k.sums.frames i) minus
@@ -311,9 +274,8 @@ module _ (inside : Inside) (l : Record) (p : Place) (mask : ℕ) (whole : IsWhol
         (λ (t : Record). own_part t +ℤ silenced_part t) (part_now k l i) rs (λ t. refl) in
         let second = sum_of-plus (λ (t : Record). own_part t +ℤ silenced_part t) own_part silenced_part rs (λ t. refl)
         in
-        let own = own_by (talks l.mode) in
         total_by_terminations k.rooms k.sums p.room i whole.sound whole.joined whole.row_count ∙ parted ∙ first
-        ∙ ap (λ (z : ℤ). z +ℤ heard_now k l i) (second ∙ ap (λ (z : ℤ). z +ℤ sum_of silenced_part rs) own ∙
+        ∙ ap (λ (z : ℤ). z +ℤ heard_now k l i) (second ∙ ap (λ (z : ℤ). z +ℤ sum_of silenced_part rs) own_sum ∙
         ap (λ (z : ℤ). cond (talks l.mode) (sample_at k.sums.frames l.slot i) (pos 0) +ℤ z)
         (sym silenced_sum) ∙ sym (out_sum (talks l.mode)))
 

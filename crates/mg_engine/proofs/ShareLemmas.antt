@@ -48,14 +48,10 @@ module _ (k : EngineState) (outbox : List Datagram) (sent : Datagram) (work at :
       All (IsShared after (outbox ++ sent ∷ []) room) (shares_in (with_share k.shares at share) room)
   shared_at room true e =
       let list = shares_in k.shares at in
-      let is = get_or-set_same k.shares at (one_more list share) [] there in
-      let here = subst (λ (xs : List Share). All (IsShared after (outbox ++ sent ∷ []) at) xs) (sym is)
-      (with_new (nat_lt (length list) member_limit) list (h at)) in
-      subst (λ (r : ℕ). All (IsShared after (outbox ++ sent ∷ []) r) (shares_in (with_share k.shares at share) r))
-      (sym (eqb-true room at e)) here
+      rw (eqb-true room at e, get_or-set_same k.shares at (one_more list share) [] there)
+      (with_new (nat_lt (length list) member_limit) list (h at))
   shared_at room false e =
-      let is = get_or-set_other k.shares at room (one_more (shares_in k.shares at) share) [] (unequal room at e) in
-      subst (λ (xs : List Share). All (IsShared after (outbox ++ sent ∷ []) room) xs) (sym is)
+      rw (get_or-set_other k.shares at room (one_more (shares_in k.shares at) share) [] (unequal room at e))
       (all_still k outbox sent work (with_share k.shares at share) room (shares_in k.shares room) (h room))
 
   pub now_shared : AreShared after (outbox ++ sent ∷ [])

@@ -1,12 +1,12 @@
 -- Ticks at once are ticks one after another, while no play list has a frame.
-use Rattle.mg_engine.proofs.Common.{◌≡◌, ℕ, zero, suc, ◌+◌, ◌*◌, ◌%◌, ◌^◌, ◌<◌, Bool, true, false, cond, List, ℤ, [], ◌∷◌, map, get_or, Option, Some, None, refl, sym, ap, subst, ◌∙◌, arith, count_by, option_map, sum_by-cons, is_concealed, PlayList, Record, record_at, silence, Config, Gateway, ContextEdit, TerminationMedia, media_of, may_hear, HasPassed, IsIdleEngine, EngineState, StandsFor, IsMediaOf, media_at, played, sent, sends_at, after_ticks, concealed_in_ticks, IsTrue, Registry, counted_up, SlotMedia, slot_sends, option_map_or, map-map, sound_of, ticked, ticked_in, is_idle, frame_or_silence, numbers_of, frame_played, slot_ended, slot_played, slot_ticked, slot_passed, after_tick, conceals, concealed_in_tick, nat_tests}
+use Rattle.mg_engine.proofs.Common.{◌≡◌, ℕ, zero, suc, ◌+◌, ◌*◌, ◌%◌, ◌^◌, ◌<◌, Bool, true, false, cond, List, ℤ, [], ◌∷◌, map, get_or, Option, Some, None, refl, sym, ap, subst, ◌∙◌, arith, count_by, option_map, sum_by-cons, is_concealed, PlayList, Record, record_at, silence, Config, Gateway, TerminationMedia, media_of, HasPassed, IsIdleEngine, EngineState, StandsFor, IsMediaOf, media_at, played, sent, sends_at, after_ticks, concealed_in_ticks, IsTrue, Registry, counted_up, SlotMedia, slot_sends, option_map_or, map-map, sound_of, ticked, ticked_in, is_idle, frame_or_silence, numbers_of, frame_played, slot_ended, slot_played, slot_ticked, slot_passed, after_tick, conceals, concealed_in_tick, nat_tests, IsSound, eqb, find, map_agree}
 use Rattle.std.specs.Fn.{iterate}
 use Rattle.mg_playout.specs.declared.phase.Phase.{Phase}
 use Rattle.mg_playout.specs.declared.phase.Phase.TheVariants.{Idle}
 use Rattle.mg_playout.specs.declared.played.Played.{Played}
 use Rattle.mg_playout.specs.declared.played.Played.TheVariants.{Silence}
-use Rattle.mg_engine.proofs.GatewayLemmas.{found_in_map, found_key, found_too}
-use Rattle.mg_engine.proofs.TickLemmas.{BySlot, ended_is, from_mapped, numbers_kept, played_is, same_sender, sent_number, with_media}
+use Rattle.mg_engine.proofs.GatewayLemmas.{found_in_map, found_too}
+use Rattle.mg_engine.proofs.TickLemmas.{ended_is, from_mapped, played_is, same_sender, sent_number, stands_mapped, with_media}
 
 -- ## Repeated steps
 
@@ -117,9 +117,10 @@ kept (suc n) w = kept n (after_tick w)
 
 one_tick_numbers : (w : Gateway) → map (λ s. s.number) (after_tick w).media ≡ map (λ s. s.number) w.media
 one_tick_numbers w =
-    map-map (λ (s : TerminationMedia). s.number) (λ s. sent (sends_at w.rooms s.number) s) (map played w.media)
-    ∙ numbers_kept w.rooms (map played w.media)
-    ∙ map-map (λ (s : TerminationMedia). s.number) played w.media
+    ap (map (λ s. s.number)) (map-map (λ s. sent (sends_at w.rooms s.number) s) played w.media)
+    ∙ map-map (λ (s : TerminationMedia). s.number) (ticked_media w.rooms) w.media
+    ∙ map_agree (λ s. (ticked_media w.rooms s).number) (λ s. s.number) w.media
+    (λ s. sent_number (sends_at w.rooms s.number) (played s))
 
 numbers_stay : (n : ℕ) (w : Gateway) → map (λ s. s.number) (after_ticks n w).media ≡ map (λ s. s.number) w.media
 numbers_stay zero w = refl
@@ -132,11 +133,9 @@ twice f g (Some s) = refl
 
 tick_found : (w : Gateway) (k : ℕ) → media_of (after_tick w) k ≡ option_map (ticked_media w.rooms) (media_of w k)
 tick_found w k =
-    found_in_map (λ s. s.number) (λ s. sent (sends_at w.rooms s.number) s) k (map played w.media)
-    (λ s. sent_number (sends_at w.rooms s.number) s)
-    ∙ ap (option_map (λ s. sent (sends_at w.rooms s.number) s))
-    (found_in_map (λ s. s.number) played k w.media (λ s. refl))
-    ∙ twice (λ s. sent (sends_at w.rooms s.number) s) played (media_of w k)
+    ap (find (λ s. eqb s.number k)) (map-map (λ s. sent (sends_at w.rooms s.number) s) played w.media) ∙
+    found_in_map (λ s. s.number) (ticked_media w.rooms) k w.media
+    (λ s. sent_number (sends_at w.rooms s.number) (played s))
 
 ticks_found : (n : ℕ) (w : Gateway) (k : ℕ) →
     media_of (after_ticks n w) k ≡ option_map (iterate (ticked_media w.rooms) n) (media_of w k)
@@ -171,29 +170,18 @@ module _ (config : Config) (w : Registry) (b : Bool) (row : List ℤ) (silent : 
 abbrev pub HavePassed : Registry → ℕ → List SlotMedia → List SlotMedia → Type 0
 HavePassed w count old new = (n : ℕ) (r : Record) → record_at w n ≡ Some r → HasPassed w count old new r.slot
 
-pub passed_stands : (k : EngineState) (w : Gateway) (count : ℕ) (new : List SlotMedia) → BySlot k.rooms →
+pub passed_stands : (k : EngineState) (w : Gateway) (count : ℕ) (new : List SlotMedia) → IsSound k.rooms →
     0 < count → IsIdleEngine k → HavePassed k.rooms count k.media new → StandsFor k w →
     StandsFor (with_media k new) (after_ticks count w)
-passed_stands k w count new by_slot some idle passed h = record {
-  config = (kept count w).0 ∙ h.config;
-  rooms = (kept count w).1 ∙ h.rooms;
-  numbers = numbers_stay count w ∙ h.numbers;
-  media = λ n r s found there.
-      let row = get_or k.sums.frames r.slot [] in
-      let b = slot_sends k.rooms r.slot in
-      from_mapped (iterate (ticked_media w.rooms) count) (λ t. IsMediaOf k.config (media_at new r.slot) row t)
-      (media_of w n) s (sym (ticks_found count w n) ∙ there)
-      (λ t was.
-      let sends : sends_at w.rooms t.number ≡ b = sym (same_sender k.rooms n r found (by_slot n r found) ∙
-      ap (λ (x : Registry). sends_at x n) (sym h.rooms) ∙
-      ap (sends_at w.rooms) (sym (found_key (λ x. x.number) n w.media t was))) in
-      subst (λ (x : SlotMedia). IsMediaOf k.config x row (iterate (ticked_media w.rooms) count t))
-      (sym (passed n r found ∙ passed_by b count (media_at k.media r.slot) some (idle n r found).idle))
-      (many_stand k.config w.rooms b row (idle n r found).silent count (media_at k.media r.slot) t (idle n r found).idle
-      sends (h.media n r t found was)));
-  hears = λ talker listener t l p q share. h.hears talker listener t l p q share ∙
-      ap (λ (es : List ContextEdit). may_hear es talker listener) (sym (kept count w).2);
-}
+passed_stands k w count new sound some idle passed h = stands_mapped k w (after_ticks count w) new k.sums
+    (iterate (ticked_media w.rooms) count) (kept count w) (numbers_stay count w) (ticks_found count w)
+    (λ n r t found same is.
+    let m = media_at k.media r.slot in
+    let b = slot_sends k.rooms r.slot in
+    let i = idle n r found in
+    rw (passed n r found ∙ passed_by b count m some i.idle)
+    (many_stand k.config w.rooms b (get_or k.sums.frames r.slot []) i.silent count m t i.idle
+    (sym (same_sender k w n t.number r sound h found same)) is)) h
 
 -- ## Nothing is concealed
 

@@ -1,7 +1,7 @@
 -- An engine stands for the world after each step of a tick.
-use Rattle.mg_engine.proofs.Common.{◌≡◌, ℕ, ◌≤◌, eqb, Bool, true, false, List, ℤ, [], ◌∷◌, map, get_or, Option, Some, None, refl, sym, ap, subst, ◌∙◌, arith, option_map, same_Some, PlayList, Record, record_at, holder_of, Config, Share, Gateway, TerminationMedia, media_of, played, all_played, sent, sends_at, IsPlayed, with_mixes, IsEnded, EngineState, StandsFor, IsMediaOf, media_at, find, Registry, transmitted, SlotMedia, SumsState, slot_sends, has_destination, map-map, sound_of, frame_or_silence, frame_played, slot_ended, slot_played, all_ended, HaveTicked}
+use Rattle.mg_engine.proofs.Common.{◌≡◌, ℕ, ◌≤◌, Bool, true, false, List, ℤ, [], map, get_or, Option, Some, None, refl, sym, ap, subst, ◌∙◌, arith, option_map, same_Some, PlayList, Record, record_at, Config, Share, Gateway, TerminationMedia, media_of, played, all_played, sent, sends_at, IsPlayed, with_mixes, IsEnded, EngineState, StandsFor, IsMediaOf, media_at, Registry, transmitted, SlotMedia, SumsState, slot_sends, has_destination, map-map, sound_of, frame_or_silence, frame_played, slot_ended, slot_played, all_ended, HaveTicked, IsSound, map_agree, may_hear, ContextEdit}
 use Rattle.mg_playout.specs.Playout as play_lists
-use Rattle.mg_engine.proofs.GatewayLemmas.{found_in_map, found_key, media_is}
+use Rattle.mg_engine.proofs.GatewayLemmas.{found_in_map, found_key}
 
 abbrev pub with_media : EngineState → List SlotMedia → EngineState
 with_media k kept = record k { media = kept }
@@ -27,26 +27,38 @@ pub from_mapped : (f : TerminationMedia → TerminationMedia) (P : TerminationMe
 from_mapped f P (Some t) s e h = subst P (same_Some (f t) s e) (h t refl)
 from_mapped f P None s e h = absurd (cc e)
 
+-- each termination's stream is changed by one function, and so are the media and the frame of its slot
+pub stands_mapped : (k : EngineState) (w v : Gateway) (new : List SlotMedia) (kept : SumsState)
+    (f : TerminationMedia → TerminationMedia) →
+    (v.config ≡ w.config) × (v.rooms ≡ w.rooms) × (v.edits ≡ w.edits) →
+    map (λ s. s.number) v.media ≡ map (λ s. s.number) w.media →
+    ((n : ℕ) → media_of v n ≡ option_map f (media_of w n)) →
+    ((n : ℕ) (r : Record) (t : TerminationMedia) → record_at k.rooms n ≡ Some r → t.number ≡ n →
+    IsMediaOf k.config (media_at k.media r.slot) (get_or k.sums.frames r.slot []) t →
+    IsMediaOf k.config (media_at new r.slot) (get_or kept.frames r.slot []) (f t)) →
+    StandsFor k w → StandsFor (with_frames k new kept) v
+stands_mapped k w v new kept f same numbers mapped step h = record {
+  config = same.0 ∙ h.config;
+  rooms = same.1 ∙ h.rooms;
+  numbers = numbers ∙ h.numbers;
+  media = λ n r s found there.
+      from_mapped f (λ t. IsMediaOf k.config (media_at new r.slot) (get_or kept.frames r.slot []) t) (media_of w n) s
+      (sym (mapped n) ∙ there)
+      (λ t was. step n r t found (found_key (λ x. x.number) n w.media t was) (h.media n r t found was));
+  hears = λ talker listener t l p q share. h.hears talker listener t l p q share ∙
+      ap (λ (es : List ContextEdit). may_hear es talker listener) (sym same.2);
+}
+
 -- each termination's play list has ticked
 abbrev pub ArePlayed : EngineState → List SlotMedia → List (List ℤ) → Type 0
 ArePlayed k new frames = (n : ℕ) (r : Record) → record_at k.rooms n ≡ Some r → IsPlayed k.media new frames r.slot
 
 pub played_stands : (k : EngineState) (w : Gateway) (new : List SlotMedia) (kept : SumsState) →
     ArePlayed k new kept.frames → StandsFor k w → StandsFor (with_frames k new kept) (all_played w)
-played_stands k w new kept all h = record {
-  config = h.config;
-  rooms = h.rooms;
-  numbers = map-map (λ s. s.number) played w.media ∙ h.numbers;
-  media = λ n r s found there.
-      let p = all n r found in
-      let row = get_or kept.frames r.slot [] in
-      from_mapped played (λ t. IsMediaOf k.config (media_at new r.slot) row t) (media_of w n) s
-      (sym (found_in_map (λ s. s.number) played n w.media (λ t. refl)) ∙ there)
-      (λ t was. media_is k.config (media_at new r.slot) (slot_played (media_at k.media r.slot)) row
-      (frame_played (media_at k.media r.slot)) (played t) p.ticked p.frame
-      (played_is k.config (media_at k.media r.slot) (get_or k.sums.frames r.slot []) t (h.media n r t found was)));
-  hears = h.hears;
-}
+played_stands k w new kept all h = stands_mapped k w (all_played w) new kept played (refl, refl, refl)
+    (map-map (λ s. s.number) played w.media) (λ n. found_in_map (λ s. s.number) played n w.media (λ t. refl))
+    (λ n r t found same is. let p = all n r found in rw (p.ticked, p.frame)
+    (played_is k.config (media_at k.media r.slot) (get_or k.sums.frames r.slot []) t is)) h
 
 -- ## Packets are sent
 
@@ -70,48 +82,23 @@ abbrev sent_at : Registry → TerminationMedia → TerminationMedia
 sent_at w s = sent (sends_at w s.number) s
 
 -- whether a termination sends, by its slot and by its number
-pub same_sender : (w : Registry) (n : ℕ) (r : Record) → record_at w n ≡ Some r → holder_of w r.slot ≡ Some r →
-    slot_sends w r.slot ≡ sends_at w n
-same_sender w n r by_number by_slot = ap has_destination (by_slot ∙ sym by_number)
+pub same_sender : (k : EngineState) (w : Gateway) (n m : ℕ) (r : Record) → IsSound k.rooms → StandsFor k w →
+    record_at k.rooms n ≡ Some r → m ≡ n → slot_sends k.rooms r.slot ≡ sends_at w.rooms m
+same_sender k w n m r sound h found same = ap has_destination (sound.holder n r found ∙ sym found) ∙
+    ap (λ (x : Registry). sends_at x n) (sym h.rooms) ∙ ap (sends_at w.rooms) (sym same)
 
 -- what is kept of each termination's media after the packets of a tick
 abbrev pub AreEnded : Registry → List SlotMedia → List SlotMedia → Type 0
 AreEnded w old new = (n : ℕ) (r : Record) → record_at w n ≡ Some r → IsEnded w old new r.slot
 
-abbrev pub BySlot : Registry → Type 0
-BySlot w = (n : ℕ) (r : Record) → record_at w n ≡ Some r → holder_of w r.slot ≡ Some r
-
-found_number : (n : ℕ) (ss : List TerminationMedia) (s : TerminationMedia) → find (λ x. eqb x.number n) ss ≡ Some s →
-    s.number ≡ n
-found_number n ss s e = found_key (λ x. x.number) n ss s e
-
-pub numbers_kept : (w : Registry) (ss : List TerminationMedia) →
-    map (λ s. (sent_at w s).number) ss ≡ map (λ s. s.number) ss
-numbers_kept w [] = refl
-numbers_kept w (s ∷ ss) = ap (λ (n : ℕ). n ∷ map (λ s. (sent_at w s).number) ss) (sent_number (sends_at w s.number) s)
-    ∙ ap (λ (ns : List ℕ). s.number ∷ ns) (numbers_kept w ss)
-
-pub ended_stands : (k : EngineState) (w : Gateway) (new : List SlotMedia) → BySlot k.rooms →
+pub ended_stands : (k : EngineState) (w : Gateway) (new : List SlotMedia) → IsSound k.rooms →
     AreEnded k.rooms k.media new → StandsFor k w → StandsFor (with_media k new) (all_ended w)
-ended_stands k w new by_slot ended h = record {
-  config = h.config;
-  rooms = h.rooms;
-  numbers = map-map (λ s. s.number) (sent_at w.rooms) w.media ∙ numbers_kept w.rooms w.media ∙ h.numbers;
-  media = λ n r s found there.
-      from_mapped (sent_at w.rooms) (λ t. IsMediaOf k.config (media_at new r.slot) (get_or k.sums.frames r.slot []) t)
-      (media_of w n) s (sym (found_in_map (λ s. s.number) (sent_at w.rooms) n w.media
-      (λ t. sent_number (sends_at w.rooms t.number) t)) ∙ there)
-      (λ t was.
-      let b : slot_sends k.rooms r.slot ≡ sends_at w.rooms t.number =
-      same_sender k.rooms n r found (by_slot n r found) ∙
-      ap (λ (x : Registry). sends_at x n) (sym h.rooms) ∙
-      ap (sends_at w.rooms) (sym (found_number n w.media t was)) in
-      let m = ended n r found ∙ ap (λ (x : Bool). slot_ended x (media_at k.media r.slot)) b in
-      subst (λ (x : SlotMedia). IsMediaOf k.config x (get_or k.sums.frames r.slot []) (sent_at w.rooms t))
-      (sym m) (ended_is k.config (sends_at w.rooms t.number) (media_at k.media r.slot)
-      (get_or k.sums.frames r.slot []) t (h.media n r t found was)));
-  hears = h.hears;
-}
+ended_stands k w new sound ended h = stands_mapped k w (all_ended w) new k.sums (sent_at w.rooms) (refl, refl, refl)
+    (map-map (λ s. s.number) (sent_at w.rooms) w.media ∙ map_agree (λ s. (sent_at w.rooms s).number) (λ s. s.number)
+    w.media (λ s. sent_number (sends_at w.rooms s.number) s))
+    (λ n. found_in_map (λ s. s.number) (sent_at w.rooms) n w.media (λ t. sent_number (sends_at w.rooms t.number) t))
+    (λ n r t found same is. rw (ended n r found, same_sender k w n t.number r sound h found same)
+    (ended_is k.config (sends_at w.rooms t.number) (media_at k.media r.slot) (get_or k.sums.frames r.slot []) t is)) h
 
 -- mixes and packets that lend their payloads change nothing that the world has
 pub mixed_stands : (k : EngineState) (w : Gateway) (work : ℕ) (shares : List (List Share)) → StandsFor k w →

@@ -1,4 +1,4 @@
-use Rattle.mg_engine.proofs.Common.{◌<◌, ℕ, List, Option, length, sym, ap, subst, ◌∙◌, arith, length-set, view, added, done_with, member_place, EngineState, StandsFor, sound_if, RisesAtMost, SetsRow, room_for, Registry, initial_media, add}
+use Rattle.mg_engine.proofs.Common.{◌<◌, ℕ, List, Option, length, sym, ap, subst, ◌∙◌, arith, length-set, view, added, member_place, sound_if, SetsRow, room_for, initial_media, refl}
 use Rattle.mg_engine.proofs.OutcomeLemmas.{add_adds}
 use Rattle.mg_engine.proofs.EditLemmas.{slot_fits, room_left, held_added, unknown_before, begun_tuned, added_stands}
 use Rattle.mg_engine.proofs.MemberLemmas.{no_record, same_others, carry, hears_carry, unknown, hears_some, free_place, has_entered, hears_entered}
@@ -124,23 +124,21 @@ returns-clause-outcome c w h =
     let others = c.in_ok-made.ensures.others.termination in
     let set_to = begun_tuned k.media c.begin.new.media.items c.tune.new.media.items d.slot (initial_media k.config)
     settings.depth lt c.begin.ensures.initial_media c.tune.ensures.tuned in
-    let stands = subst (λ (x : EngineState). StandsFor x w) (sym c.self.view_is) h in
+    let stands = rw (← c.self.view_is) at h in
     let same = same_others old new n c.self.invariant.sound sound c.add.ensures.lasts.room others in
     let has = carry old new n k.flows same (unknown old n k.flows (unknown_before old new d a sound)
     c.self.invariant.members) in
     let hears = hears_entered new n d p k.flows c.enter.new.flows sound on
     c.enter.ensures.entered has w.edits
-    (hears_carry old new n k.flows w.edits same (hears_some old n k.flows w.edits stands.hears)) in
-    let here = ap (λ (x : Registry). done_with (added w settings) (add x c.args.target settings))
-    stands.rooms ∙ ap (done_with (added w settings)) done in (
+    (hears_carry old new n k.flows w.edits same (hears_some old n k.flows w.edits stands.hears)) in (
       added w settings new d,
-      here,
+      rw (stands.rooms, done) refl,
       rw set_to (added_stands k new c.enter.new.flows c.enter.new.sums w settings d a sound others at.found lt in_rows
           silent hears stands),
     )
 
 pub returns-clause-work : goal.returns-clause-work
 returns-clause-work c =
-    subst (λ (x : EngineState). RisesAtMost 4 x.sums.work c.enter.new.sums.work) c.self.view_is
+    rw (← c.self.view_is)
     (rises_twice 2 2 4 c.self.inside.sums.work c.begin.new.sums.work c.enter.new.sums.work (omega arith)
     c.begin.ensures.work c.enter.ensures.work)

@@ -1,4 +1,4 @@
-use Rattle.mg_engine.proofs.Common.{rules, ◌≡◌, List, Ok, refl, sym, ap, subst, ◌∙◌, Any, Triple, Overlaps, hears, members_at, view, check_triples, with_triples, AreMatched, EngineState, StandsFor, hears_after}
+use Rattle.mg_engine.proofs.Common.{rules, ◌≡◌, List, Ok, refl, ap, subst, ◌∙◌, Any, Triple, Overlaps, hears, members_at, view, check_triples, with_triples, AreMatched, hears_after}
 use Rattle.mg_engine.proofs.TripleLemmas.{refused_there, refused_triples, done_triples, err_is, ok_is, has_still, hears_triples, words_stand}
 use Rattle.mg_engine.proofs.engine.Engine.apply_up_to.Goals.{in-Ok, in-Err}
 use Rattle.mg_engine.proofs.engine.Engine.apply_up_to.Goals as goal
@@ -6,7 +6,7 @@ use Rattle.mg_engine.proofs.engine.Engine.apply_up_to.Goals as goal
 pub returns-in_err-at-clause-outcome : goal.returns-in_err-at-clause-outcome
 returns-in_err-at-clause-outcome g c w h =
     let k = view c.self.inside in
-    let stands = subst (λ (x : EngineState). StandsFor x w) (sym c.self.view_is) h in
+    let stands = rw (← c.self.view_is) at h in
     err_is c.args.self.now c.from_residual.result _ c.in_err-at.field-0.0 (search rules)
     (refused_there k w c.args.target c.args.triples.now c.in_err-at.field-0.0 stands
     c.in_err-at.ensures.value)
@@ -14,7 +14,7 @@ returns-in_err-at-clause-outcome g c w h =
 pub returns-in_err-by_seats-clause-outcome : goal.returns-in_err-by_seats-clause-outcome
 returns-in_err-by_seats-clause-outcome g c w h =
     let k = view c.self.inside in
-    let stands = subst (λ (x : EngineState). StandsFor x w) (sym c.self.view_is) h in
+    let stands = rw (← c.self.view_is) at h in
     err_is c.args.self.now c.from_residual-in_err-by_seats.result _ c.in_err-by_seats.field-0.0 (search rules)
     (refused_triples k w c.args.target c.args.triples.now c.in_ok-at.at.context c.in_err-by_seats.field-0.0
     stands c.in_ok-at.ensures.value.0 (c.in_err-by_seats.ensures.value))
@@ -29,7 +29,7 @@ invariant_of-self g c = assumption (
 pub returns-clause-outcome : goal.returns-clause-outcome
 returns-clause-outcome g c w h =
     let k = view c.self.inside in
-    let stands = subst (λ (x : EngineState). StandsFor x w) (sym c.self.view_is) h in
+    let stands = rw (← c.self.view_is) at h in
     let at = c.in_ok-at.at in
     let xs = c.args.triples.now in
     let ys = c.in_ok-by_seats.by_seats.items in

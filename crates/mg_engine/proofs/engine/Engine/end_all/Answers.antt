@@ -1,4 +1,4 @@
-use Rattle.mg_engine.proofs.Common.{ℕ, length, sym, ap, subst, ◌∙◌, arith, Limits, view, EngineState, StandsFor, IsEnded}
+use Rattle.mg_engine.proofs.Common.{ℕ, length, ap, subst, ◌∙◌, arith, Limits, view, IsEnded}
 use Rattle.mg_engine.proofs.HeldLemmas.{held_below, held_apart, held_at}
 use Rattle.mg_engine.proofs.TickLemmas.{AreEnded, ended_stands}
 use Rattle.mg_engine.proofs.engine.Engine.end_all.Goals as goal
@@ -18,9 +18,9 @@ end_slots-requires c =
 pub returns-clause-after : goal.returns-clause-after
 returns-clause-after c w h =
     let k = view c.self.inside in
-    let stands = subst (λ (x : EngineState). StandsFor x w) (sym c.self.view_is) h in
+    let stands = rw (← c.self.view_is) at h in
     let all : AreEnded k.rooms k.media c.end_slots.new.media.items = λ n r found.
     let at = held_at k.rooms c.as_slice.result.now (c.as_slice.ensures.value ∙ c.self.invariant.held) n r found in
     subst (λ (s : ℕ). IsEnded k.rooms k.media c.end_slots.new.media.items s) at.is
     (c.end_slots.ensures.each at.at at.within) in
-    ended_stands k w c.end_slots.new.media.items c.self.invariant.sound.holder all stands
+    ended_stands k w c.end_slots.new.media.items c.self.invariant.sound all stands

@@ -1,4 +1,4 @@
-use Rattle.mg_engine.proofs.Common.{ℕ, IsTrue, sym, ap, subst, ◌∙◌, has_seat, Place, view, member_place, EngineState, StandsFor}
+use Rattle.mg_engine.proofs.Common.{ℕ, IsTrue, sym, ap, subst, ◌∙◌, has_seat, Place, view, member_place}
 use Rattle.mg_flow.specs.Table as table
 use Rattle.mg_engine.proofs.FlowLemmas.{flow_places}
 use Rattle.mg_engine.proofs.PlaceLemmas.{on_its_place}
@@ -15,7 +15,7 @@ pub returns-then-from-to : goal.returns-then-from-to
 returns-then-from-to c = record {
   value = λ w h.
       let k = view c.self.inside in
-      let stands = subst (λ (x : EngineState). StandsFor x w) (sym c.self.view_is) h in
+      let stands = rw (← c.self.view_is) at h in
       let t = c.in-Some-Some.speaking in
       let l = c.in-Some-Some.hearing in
       let from = c.member_place-from.result in

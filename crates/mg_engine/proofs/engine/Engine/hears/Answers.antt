@@ -1,4 +1,4 @@
-use Rattle.mg_engine.proofs.Common.{sym, ap, subst, ◌∙◌, Place, view, member_place, EngineState, StandsFor, hears}
+use Rattle.mg_engine.proofs.Common.{ap, ◌∙◌, Place, view, member_place, hears}
 use Rattle.mg_engine.proofs.FlowLemmas.{hears_places}
 use Rattle.mg_engine.proofs.PlaceLemmas.{on_its_place}
 use Rattle.mg_engine.proofs.engine.Engine.hears.Goals as goal
@@ -7,7 +7,7 @@ pub returns-in-Some-Some : goal.returns-in-Some-Some
 returns-in-Some-Some c = record {
   value = λ w h.
       let k = view c.self.inside in
-      let stands = subst (λ (x : EngineState). StandsFor x w) (sym c.self.view_is) h in
+      let stands = rw (← c.self.view_is) at h in
       let t = c.in-Some-Some.speaking in
       let l = c.in-Some-Some.hearing in
       c.hears.ensures.kept

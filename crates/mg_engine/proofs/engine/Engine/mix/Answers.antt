@@ -1,4 +1,4 @@
-use Rattle.mg_engine.proofs.Common.{ℕ, ◌+◌, ℤ, cond, List, length, map, Option, Some, None, sym, ap, subst, ◌∙◌, arith, range_with_len, byte_of, talks, sibling_place, SumsState, nearest_sample, view, IsOnPlace, EngineState, heard_now, silenced_now}
+use Rattle.mg_engine.proofs.Common.{ℕ, ◌+◌, ℤ, cond, List, length, map, Option, Some, None, sym, ap, subst, ◌∙◌, arith, byte_of, talks, sibling_place, SumsState, view}
 use Rattle.mg_sums.specs.Sums.{AreOfRoom, left_out_by, mix_of}
 use Rattle.mg_engine.proofs.MixLemmas.{IsLeftAndHeard, left_out, how_many, mix_is}
 use Rattle.mg_engine.proofs.engine.Engine.mix.Goals as goal
@@ -7,8 +7,7 @@ pub silenced-requires : goal.silenced-requires
 silenced-requires c =
     let l = c.args.listener.now in
     let p = c.args.place in
-    let on : IsOnPlace (view c.self.inside).rooms l.number l p =
-    subst (λ (x : EngineState). IsOnPlace x.rooms l.number l p) (sym c.self.view_is) c.requires.place in
+    let on = rw (← c.self.view_is) at c.requires.place in
     (c.self.invariant.members.each l.number l p on).held
 
 pub rows_on-silenced-requires-clause-slots : goal.rows_on-silenced-requires-clause-slots
@@ -24,8 +23,7 @@ mix-requires c =
     let k = view c.self.inside in
     let l = c.args.listener.now in
     let p = c.args.place in
-    let on : IsOnPlace k.rooms l.number l p =
-    subst (λ (x : EngineState). IsOnPlace x.rooms l.number l p) (sym c.self.view_is) c.requires.place in
+    let on = rw (← c.self.view_is) at c.requires.place in
     let rows = c.as_slice.ensures.value ∙ c.rows_on-silenced.ensures.value in
     let out = left_out c.self.inside l p c.silenced.result.now c.self.invariant on c.requires.listens
     c.silenced.ensures.kept c.silenced.ensures.held in
@@ -42,8 +40,7 @@ returns-clause-value c =
     let k = view c.self.inside in
     let l = c.args.listener.now in
     let p = c.args.place in
-    let on : IsOnPlace k.rooms l.number l p =
-    subst (λ (x : EngineState). IsOnPlace x.rooms l.number l p) (sym c.self.view_is) c.requires.place in
+    let on = rw (← c.self.view_is) at c.requires.place in
     let own = c.own_row.ensures.value in
     let rows = c.as_slice.ensures.value ∙ c.rows_on-silenced.ensures.value in
     let heard = subst (λ (m : List ℕ). IsLeftAndHeard k.sums p.room
@@ -52,26 +49,22 @@ returns-clause-value c =
     (subst (λ (room : ℕ). IsLeftAndHeard k.sums room (left_out_by c.own_row.result c.as_slice.result.now))
     c.new.ensures c.mix.ensures.heard)) in
     let law = c.args.law in
-    c.mix.ensures.mix
+    rw (← c.self.view_is) (c.mix.ensures.mix
     ∙ ap (λ (room : ℕ). map (byte_of law) (mix_of k.sums room (left_out_by c.own_row.result c.as_slice.result.now)))
     c.new.ensures
     ∙ ap (λ (b : Option ℕ). map (byte_of law) (mix_of k.sums p.room (left_out_by b c.as_slice.result.now))) own
     ∙ ap (λ (m : List ℕ). map (byte_of law) (mix_of k.sums p.room
     (left_out_by (cond (talks l.mode) (Some l.slot) None) m))) rows
     ∙ ap (λ (xs : List ℤ). map (byte_of law) xs) (mix_is c.self.inside l p c.silenced.result.now c.self.invariant on
-    c.requires.listens c.silenced.ensures.kept c.silenced.ensures.held heard)
-    ∙ ap (λ (x : EngineState). map (byte_of law) (map (λ i. nearest_sample (heard_now x l i)) (range_with_len 0 160)))
-    c.self.view_is
+    c.requires.listens c.silenced.ensures.kept c.silenced.ensures.held heard))
 
 pub returns-clause-work : goal.returns-clause-work
 returns-clause-work c =
     let l = c.args.listener.now in
     let p = c.args.place in
-    let on : IsOnPlace c.self.inside.rooms l.number l p =
-    subst (λ (x : EngineState). IsOnPlace x.rooms l.number l p) (sym c.self.view_is) c.requires.place in
+    let on = rw (← c.self.view_is) at c.requires.place in
     let count = ap (λ (xs : List ℕ). length xs) (c.as_slice.ensures.value ∙ c.rows_on-silenced.ensures.value) ∙
     how_many c.self.inside l p c.silenced.result.now c.self.invariant on c.requires.listens c.silenced.ensures.kept
-    c.silenced.ensures.held ∙ ap (λ (x : EngineState). silenced_now x l) c.self.view_is in
-    let old = ap (λ (x : EngineState). x.sums.work) c.self.view_is in
+    c.silenced.ensures.held in
     let now = ap (λ (s : SumsState). s.work) c.mix.ensures.kept in
-    (1 + length c.as_slice.result.now, omega (arith, count), omega (arith, old, now))
+    rw (← c.self.view_is) (1 + length c.as_slice.result.now, omega (arith, count), omega (arith, now))

@@ -1,4 +1,4 @@
-use Rattle.mg_engine.proofs.Common.{length, sym, ap, subst, ◌∙◌, arith, length-set, same_Some, Record, view, modified, done_with, member_place, EngineState, StandsFor, RisesAtMost, sound_if, Registry, modify}
+use Rattle.mg_engine.proofs.Common.{length, sym, ap, ◌∙◌, arith, length-set, same_Some, Record, view, modified, member_place, sound_if, refl}
 use Rattle.mg_engine.proofs.OutcomeLemmas.{modify_changes}
 use Rattle.mg_engine.proofs.EditLemmas.{slot_fits, held_changed, changed_stands}
 use Rattle.mg_engine.proofs.MemberLemmas.{same_others, stayed_at, has_mode, hears_mode}
@@ -96,18 +96,16 @@ returns-clause-outcome c w h =
     let same = same_others old new n before sound c.modify.ensures.lasts.room others in
     let was = stayed_at old new n a.was d p before c.modify.ensures.lasts a.there context on in
     let lt = slot_fits c.self.inside new n d c.self.invariant sound a.limits at.found in
-    let stands = subst (λ (x : EngineState). StandsFor x w) (sym c.self.view_is) h in
+    let stands = rw (← c.self.view_is) at h in
     let hears = hears_mode old new n a.was d p k.flows c.take_mode.new.flows sound same was on
-    (sym context) c.take_mode.ensures.taken w.edits stands.hears in
-    let here = ap (λ (x : Registry). done_with (modified w settings)
-    (modify x c.args.target n settings)) stands.rooms ∙ ap (done_with (modified w settings)) done in (
+    (sym context) c.take_mode.ensures.taken w.edits stands.hears in (
       modified w settings new d,
-      here,
+      rw (stands.rooms, done) refl,
       rw c.tune.ensures.tuned (changed_stands k new c.take_mode.new.flows c.take_mode.new.sums w settings n d w.edits a
           sound others lt c.take_mode.ensures.frames hears stands),
     )
 
 pub returns-clause-work : goal.returns-clause-work
 returns-clause-work c =
-    subst (λ (x : EngineState). RisesAtMost 4 x.sums.work c.take_mode.new.sums.work) c.self.view_is
+    rw (← c.self.view_is)
     (rises_less 2 4 c.self.inside.sums.work c.take_mode.new.sums.work (omega arith) c.take_mode.ensures.work)

@@ -1,4 +1,4 @@
-use Rattle.mg_engine.proofs.Common.{◌∷◌, length, sym, ap, subst, ◌∙◌, arith, length-set, same_Some, Record, view, Enter, Leave, moved, done_with, member_place, EngineState, StandsFor, RisesAtMost, sound_if, Registry, move_to}
+use Rattle.mg_engine.proofs.Common.{◌∷◌, length, sym, ap, subst, ◌∙◌, arith, length-set, same_Some, Record, view, Enter, Leave, moved, member_place, sound_if, refl}
 use Rattle.mg_engine.proofs.OutcomeLemmas.{move_changes}
 use Rattle.mg_engine.proofs.EditLemmas.{slot_fits, held_changed, changed_at, changed_stands}
 use Rattle.mg_engine.proofs.MemberLemmas.{Hears, same_others, carry, hears_carry, has_left, hears_left, free_place, has_entered, hears_entered}
@@ -122,23 +122,21 @@ returns-clause-outcome c w h =
     (has_left old n r from c.self.inside.flows c.vacate.new.flows before was left
     c.self.invariant.members) in
     let lt = slot_fits c.self.inside new n d c.self.invariant sound a.limits at.found in
-    let stands = subst (λ (x : EngineState). StandsFor x w) (sym c.self.view_is) h in
+    let stands = rw (← c.self.view_is) at h in
     let apart = hears_carry old new n c.vacate.new.flows w.edits same
     (hears_left old n r from k.flows c.vacate.new.flows before was left w.edits
     stands.hears) in
     let entered = hears_entered new n d p c.vacate.new.flows c.enter.new.flows sound on
     c.enter.ensures.entered without (Leave n ∷ w.edits) apart in
     let hears = subst (λ (m : _). Hears new c.enter.new.flows (Enter m ∷ Leave m ∷ w.edits))
-    (sym (changed_at k new n d a)) entered in
-    let here = ap (λ (x : Registry). done_with (moved w settings) (move_to x c.args.target n settings))
-    stands.rooms ∙ ap (done_with (moved w settings)) done in (
+    (sym (changed_at k new n d a)) entered in (
       moved w settings new d,
-      here,
+      rw (stands.rooms, done) refl,
       rw c.tune.ensures.tuned (changed_stands k new c.enter.new.flows c.enter.new.sums w settings n d
           (Enter d.number ∷ Leave d.number ∷ w.edits) a sound others lt c.enter.ensures.frames hears stands),
     )
 
 pub returns-clause-work : goal.returns-clause-work
 returns-clause-work c =
-    subst (λ (x : EngineState). RisesAtMost 4 x.sums.work c.enter.new.sums.work) c.self.view_is
+    rw (← c.self.view_is)
     (rises_less 2 4 c.self.inside.sums.work c.enter.new.sums.work (omega arith) c.enter.ensures.work)

@@ -1,4 +1,4 @@
-use Rattle.mg_engine.proofs.Common.{ℕ, length, sym, ap, subst, ◌∙◌, arith, Limits, view, EngineState, StandsFor, HasPassed, IsIdleEngine}
+use Rattle.mg_engine.proofs.Common.{ℕ, length, ap, subst, ◌∙◌, arith, Limits, view, HasPassed}
 use Rattle.mg_engine.proofs.HeldLemmas.{held_below, held_apart, held_at}
 use Rattle.mg_engine.proofs.SkipLemmas.{HavePassed, passed_conceals, passed_stands}
 use Rattle.mg_engine.proofs.engine.Engine.pass.Goals as goal
@@ -22,10 +22,10 @@ pub returns-clause-after : goal.returns-clause-after
 returns-clause-after c w h =
     let k = view c.self.inside in
     let sound = c.self.invariant.sound in
-    let stands = subst (λ (x : EngineState). StandsFor x w) (sym c.self.view_is) h in
-    let idle = subst IsIdleEngine (sym c.self.view_is) c.requires.idle in
+    let stands = rw (← c.self.view_is) at h in
+    let idle = rw (← c.self.view_is) at c.requires.idle in
     let all : HavePassed k.rooms c.args.count k.media c.pass_slots.new.media.items = λ n r found.
     let at = held_at k.rooms c.as_slice.result.now (c.as_slice.ensures.value ∙ c.self.invariant.held) n r found in
     subst (λ (s : ℕ). HasPassed k.rooms c.args.count k.media c.pass_slots.new.media.items s) at.is
     (c.pass_slots.ensures.each at.at at.within) in
-    passed_stands k w c.args.count c.pass_slots.new.media.items sound.holder c.requires.some idle all stands
+    passed_stands k w c.args.count c.pass_slots.new.media.items sound c.requires.some idle all stands

@@ -1,4 +1,4 @@
-use Rattle.mg_engine.proofs.Common.{◌≡◌, ℕ, ◌*◌, length, sym, ap, subst, ◌∙◌, arith, Limits, view, EngineState, StandsFor, RisesAtMost, IsPlayed}
+use Rattle.mg_engine.proofs.Common.{◌≡◌, ℕ, ◌*◌, length, ap, subst, ◌∙◌, arith, Limits, view, EngineState, RisesAtMost, IsPlayed}
 use Rattle.mg_engine.proofs.ConcealLemmas.{concealed_is}
 use Rattle.mg_engine.proofs.HeldLemmas.{many, held_below, held_apart, held_at}
 use Rattle.mg_engine.proofs.TickLemmas.{ArePlayed, played_stands}
@@ -20,7 +20,7 @@ play_slots-requires c =
 pub returns-clause-after : goal.returns-clause-after
 returns-clause-after c w h =
     let k = view c.self.inside in
-    let stands = subst (λ (x : EngineState). StandsFor x w) (sym c.self.view_is) h in
+    let stands = rw (← c.self.view_is) at h in
     let all : ArePlayed k c.play_slots.new.media.items c.play_slots.new.sums.frames = λ n r found.
     let at = held_at k.rooms c.as_slice.result.now (c.as_slice.ensures.value ∙ c.self.invariant.held) n r found in
     subst (λ (s : ℕ). IsPlayed k.media c.play_slots.new.media.items c.play_slots.new.sums.frames s) at.is
@@ -31,7 +31,7 @@ pub returns-clause-concealed : goal.returns-clause-concealed
 returns-clause-concealed c w h =
     let k = view c.self.inside in
     let held = c.as_slice.ensures.value ∙ c.self.invariant.held in
-    let stands = subst (λ (x : EngineState). StandsFor x w) (sym c.self.view_is) h in
+    let stands = rw (← c.self.view_is) at h in
     c.play_slots.ensures.concealed ∙ concealed_is k w c.as_slice.result.now stands c.self.invariant.sound held
 
 pub returns-clause-work : goal.returns-clause-work

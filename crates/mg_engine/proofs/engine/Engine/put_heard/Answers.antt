@@ -1,4 +1,4 @@
-use Rattle.mg_engine.proofs.Common.{◌+◌, ◌∷◌, ◌++◌, [], List, map, sym, ap, subst, ◌∙◌, range_with_len, byte_of, nearest_sample, view, Share, IsOnPlace, EngineState, heard_now, silenced_now, with_mixes, AreShared, RisesAtMost, All-contains, IsShared, packet_at, shares_in, place_of}
+use Rattle.mg_engine.proofs.Common.{◌∷◌, ◌++◌, [], List, map, sym, ap, subst, ◌∙◌, range_with_len, byte_of, nearest_sample, view, Share, EngineState, heard_now, with_mixes, AreShared, All-contains, IsShared, packet_at, shares_in, place_of}
 use Rattle.mg_engine.proofs.MaskLemmas.{payload_is_on}
 use Rattle.mg_engine.proofs.ShareLemmas.{still_shared, now_shared}
 use Rattle.mg_engine.proofs.engine.Engine.put_heard.Goals as goal
@@ -7,7 +7,7 @@ pub open-talkers-requires : goal.open-talkers-requires
 open-talkers-requires c =
     let l = c.args.listener.now in
     (c.self.invariant.members.each l.number l c.args.place
-    (subst (λ (x : EngineState). IsOnPlace x.rooms l.number l c.args.place) (sym c.self.view_is) c.requires.place)).held
+    (rw (← c.self.view_is) at c.requires.place)).held
 
 pub lend-requires-clause-there : goal.lend-requires-clause-there
 lend-requires-clause-there c =
@@ -15,7 +15,7 @@ lend-requires-clause-there c =
     let room = c.args.place.room in
     let outbox = c.args.outbox.now.items in
     let share : Share = record { talkers = c.open-talkers.result.now; law = c.args.law; packet = c.in-Some.packet } in
-    let lent = subst (λ (x : EngineState). AreShared x outbox) (sym c.self.view_is) c.requires.shared in
+    let lent = rw (← c.self.view_is) at c.requires.shared in
     (All-contains (IsShared k outbox room) (shares_in k.shares room) share (lent room) c.in-Some.ensures.found).sent
 
 pub returns-in-Some-clause-put : goal.returns-in-Some-clause-put
@@ -26,7 +26,7 @@ returns-in-Some-clause-put c =
     let outbox = c.args.outbox.now.items in
     let here = ap (λ (x : EngineState). place_of x.rooms l) c.self.view_is ∙ c.requires.place.place in
     let share : Share = record { talkers = c.open-talkers.result.now; law = c.args.law; packet = c.in-Some.packet } in
-    let lent = subst (λ (x : EngineState). AreShared x outbox) (sym c.self.view_is) c.requires.shared in
+    let lent = rw (← c.self.view_is) at c.requires.shared in
     let is = All-contains (IsShared k outbox p.room) (shares_in k.shares p.room) share (lent p.room)
     c.in-Some.ensures.found in
     record {
@@ -59,7 +59,7 @@ returns-clause-shared c sent e =
     let p = c.args.place in
     let outbox = c.args.outbox.now.items in
     let here = ap (λ (x : EngineState). place_of x.rooms l) c.self.view_is ∙ c.requires.place.place in
-    let lent = subst (λ (x : EngineState). AreShared x outbox) (sym c.self.view_is) c.requires.shared in
+    let lent = rw (← c.self.view_is) at c.requires.shared in
     let share : Share = record { talkers = c.open-talkers.result.now; law = c.args.law; packet = c.len-packet.result } in
     let work = c.mix-payload.new.self.sums.work in
     let payload = e ∙ sym (ap (λ (x : EngineState). map (byte_of c.args.law)
@@ -72,6 +72,4 @@ returns-clause-shared c sent e =
 
 pub returns-clause-work : goal.returns-clause-work
 returns-clause-work c =
-    let l = c.args.listener.now in
-    subst (λ (x : EngineState). RisesAtMost (1 + silenced_now x l) x.sums.work c.mix-payload.new.self.sums.work)
-    c.self.view_is c.mix-payload.ensures.work
+    rw (← c.self.view_is) c.mix-payload.ensures.work

@@ -6,20 +6,20 @@ use Rattle.mg_engine.proofs.engine.Engine.send_all.Goals as goal
 
 pub returns-clause-sent : goal.returns-clause-sent
 returns-clause-sent c w old h =
-    let stands = subst (λ (x : EngineState). StandsFor x w) (sym c.self.view_is) h in
+    let stands = rw (← c.self.view_is) at h in
     c.fill.ensures.value ∙
     sym (packets_are (view c.self.inside) w c.self.invariant.sound c.self.invariant.members stands old)
 
 pub returns-clause-after : goal.returns-clause-after
 returns-clause-after c w h =
-    let stands = subst (λ (x : EngineState). StandsFor x w) (sym c.self.view_is) h in
+    let stands = rw (← c.self.view_is) at h in
     subst (λ (x : EngineState). StandsFor x w) (sym c.fill.ensures.same)
     (mixed_stands (view c.self.inside) w c.fill.new.engine.sums.work c.fill.new.engine.shares stands)
 
 pub returns-clause-work : goal.returns-clause-work
 returns-clause-work c w h =
     let k = view c.self.inside in
-    let stands = subst (λ (x : EngineState). StandsFor x w) (sym c.self.view_is) h in
+    let stands = rw (← c.self.view_is) at h in
     let most = all_work_is k w c.self.invariant.sound c.self.invariant.members stands in
     let old = ap (λ (x : EngineState). x.sums.work) c.self.view_is in
     subst (λ (n : ℕ). RisesAtMost (sum_by (sending_work w) w.rooms.terminations) n c.fill.new.engine.sums.work) old

@@ -1,4 +1,4 @@
-use Rattle.mg_engine.proofs.Common.{ℕ, None, arith, sym, ap, subst, ◌∙◌, view, subtracted, done_with, member_place, EngineState, StandsFor, RisesAtMost, SetsRow, sound_if, Registry, subtract}
+use Rattle.mg_engine.proofs.Common.{ℕ, None, arith, subst, ◌∙◌, view, subtracted, member_place, SetsRow, sound_if, refl}
 use Rattle.mg_engine.proofs.OutcomeLemmas.{subtract_removes}
 use Rattle.mg_engine.proofs.EditLemmas.{held_removed, removed_stands, gone}
 use Rattle.mg_engine.proofs.MemberLemmas.{same_others, carry, hears_carry, has_left, hears_left, members_all, hears_all}
@@ -72,20 +72,18 @@ returns-clause-outcome c w h =
     let was = on_its_place old n m c.in_ok-gone.ensures.member in
     let same = same_others old new n before sound c.subtract.ensures.lasts.room others in
     let left = c.vacate.ensures.left in
-    let stands = subst (λ (x : EngineState). StandsFor x w) (sym c.self.view_is) h in
+    let stands = rw (← c.self.view_is) at h in
     let hears = hears_all new n c.vacate.new.flows w.edits (gone k new n d a before)
     (hears_carry old new n c.vacate.new.flows w.edits same
     (hears_left old n d (member_place m) k.flows c.vacate.new.flows before was left w.edits
-    stands.hears)) in
-    let here = ap (λ (x : Registry). done_with (subtracted w) (subtract x c.args.target n))
-    stands.rooms ∙ ap (done_with (subtracted w)) done in (
+    stands.hears)) in (
       subtracted w new d,
-      here,
+      rw (stands.rooms, done) refl,
       removed_stands k new c.vacate.new.flows c.part.new.sums w n d a before others hears
           c.part.ensures.frames stands,
     )
 
 pub returns-clause-work : goal.returns-clause-work
 returns-clause-work c =
-    subst (λ (x : EngineState). RisesAtMost 4 x.sums.work c.part.new.sums.work) c.self.view_is
+    rw (← c.self.view_is)
     (rises_less 1 4 c.self.inside.sums.work c.part.new.sums.work (omega arith) c.part.ensures.work)

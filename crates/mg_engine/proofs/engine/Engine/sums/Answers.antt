@@ -1,11 +1,11 @@
-use Rattle.mg_engine.proofs.Common.{Option, sym, ap, subst, ◌∙◌, record_at, context_at, view, TerminationMedia, frame_in, EngineState, StandsFor, Registry}
+use Rattle.mg_engine.proofs.Common.{Option, sym, ap, ◌∙◌, record_at, context_at, view, TerminationMedia, frame_in, Registry}
 use Rattle.mg_engine.proofs.GatewayLemmas.{has_media}
 use Rattle.mg_engine.proofs.TotalLemmas.{total_is}
 use Rattle.mg_engine.proofs.engine.Engine.sums.Goals as goal
 
 pub returns-clause-represented : goal.returns-clause-represented
 returns-clause-represented c w h =
-    let stands = subst (λ (x : EngineState). StandsFor x w) (sym c.self.view_is) h in
+    let stands = rw (← c.self.view_is) at h in
     record {
       frames = λ n r found.
           let (s, there, is) = has_media (view c.self.inside) w n r stands

@@ -1,4 +1,4 @@
-use Rattle.mg_engine.proofs.Common.{◌<◌, ℕ, ℤ, Some, w32, sym, ap, subst, ◌∙◌, arith, rules, context_at, total_of, view, EngineState, StandsFor, to_z-of_z}
+use Rattle.mg_engine.proofs.Common.{◌<◌, ℕ, ℤ, Some, w32, sym, ap, ◌∙◌, arith, rules, context_at, total_of, view, to_z-of_z}
 use Rattle.mg_engine.proofs.TotalLemmas.{context_with, total_is, total_there}
 use Rattle.mg_engine.proofs.engine.Engine.total.Goals as goal
 
@@ -6,7 +6,7 @@ pub returns : goal.returns
 returns c = record {
   value = λ w h.
       let k = view c.self.inside in
-      let stands = subst (λ (x : EngineState). StandsFor x w) (sym c.self.view_is) h in
+      let stands = rw (← c.self.view_is) at h in
       let lt : c.args.i < 160 = omega (arith, c.if-i-ge-SAMPLES.false) in
       let (x, found, room) = context_with (context_at k.rooms c.args.context) c.in_ok-room.room
       (sym c.room.ensures.value ∙ c.in_ok-room.was) in

@@ -26,8 +26,10 @@ pub use Rattle.mg_engine.specs.aids.Seating.{AreSeated, index_of, place_count, s
 pub use Rattle.mg_engine.specs.aids.Sending.{IsEnded, PlacedAt, addressed, flows_between, flows_now, heard_now, is_silenced_between, mix_now, mix_work_now, mixed_now, packet_now, packets_now, part_now, sample_at, sending_work_now, silenced_now, slot_sends, with_mixes}
 pub use Rattle.mg_engine.specs.aids.Shares.{AreShared, IsShared, heard_on, is_seated_in, one_more, packet_at, payload_of, payload_on, shares_in, sits_among, with_share}
 pub use Rattle.mg_engine.specs.aids.Triples.{AreMatched, IsMatched, IsRoomOf, IsSeated, Matches}
+pub use Rattle.mg_engine.specs.aids.Whole.{IsWholeEngine}
 pub use Rattle.mg_engine.specs.declared.config.Config.{Config}
 pub use Rattle.mg_engine.specs.declared.datagram.Datagram.{Datagram}
+pub use Rattle.mg_engine.specs.declared.engine.Engine.TheInside.{Inside}
 pub use Rattle.mg_engine.specs.declared.engine.Engine.TheView.{view}
 pub use Rattle.mg_engine.specs.declared.share.Share.{Share}
 pub use Rattle.mg_engine.specs.declared.taken.Taken.{Taken}
@@ -62,7 +64,7 @@ pub use Rattle.mg_rtp.specs.declared.header.Header.{Header}
 pub use Rattle.mg_sdp.specs.declared.chosen.Chosen.{Chosen}
 pub use Rattle.mg_sums.proofs.HeardLemmas.{map_agree}
 pub use Rattle.mg_sums.proofs.SumLemmas.{sum_of-cons, sum_of-filter, sum_of-map, sum_of-nil, sum_of-none, sum_of-plus, sum_of-same, sum_of-ones, sum_of-agree}
-pub use Rattle.mg_sums.specs.Samples.{frame_or_silence, nearest_sample, silence}
+pub use Rattle.mg_sums.specs.Samples.{frame_or_silence, nearest_sample, silence, sum_of}
 pub use Rattle.mg_sums.specs.Sums.{SumsState, frame_of_row, total_of}
 pub use Rattle.mg_topology.specs.Mask.{has_seat, seat_limit}
 pub use Rattle.mg_topology.specs.Triple.{Overlaps, is_oneway, mentions, overlaps, word_of}
@@ -73,6 +75,7 @@ pub use Rattle.mg_words.specs.ResultSteps.{◌>>=◌}
 pub use Rattle.mg_words.specs.declared.association.Association.TheVariants.{Bothway, Isolate, Oneway}
 pub use Rattle.mg_words.specs.declared.error_number.ErrorNumber.{ErrorNumber}
 pub use Rattle.mg_words.specs.declared.error_number.ErrorNumber.TheVariants.{IllegalCombination}
+pub use Rattle.std.proofs.Math.Bool.{and-false, or_comm}
 pub use Rattle.std.proofs.Math.Seq.{get_or-append_seam, set-append_seam, take-append_seam}
 pub use Rattle.std.proofs.lemmas.Bool.{and_from, and_parts, and_right, cases_Bool, cases_eq, eq-eqb, eqb-false, eqb-true, false_from_ne_true, lt-ltb, ne_eqb, true≢false, not-false}
 pub use Rattle.std.proofs.lemmas.Bool.Decides.{nat_tests}
@@ -88,6 +91,3 @@ pub use Rattle.std.specs.Int.{from_bool}
 pub use Rattle.std.specs.List.{cons_option, list_all, list_any, range_with_len, refill, slice_get}
 pub use Rattle.std.specs.Option.{option_map, option_map_or}
 pub use Rattle.std.specs.Prelude.{All, AllPairs, Any, Contains, IfSome, IsFalse, IsSome, count_by, filter, filter_map, is_some, option_to_list, slice_index_or, sum_by, ◌↔◌}
-pub use Rattle.std.proofs.Math.Bool.{and-false, or_comm}
-pub use Rattle.mg_engine.specs.declared.engine.Engine.TheInside.{Inside}
-pub use Rattle.mg_engine.specs.aids.Whole.{IsWholeEngine}

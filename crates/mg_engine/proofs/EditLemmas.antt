@@ -1,10 +1,13 @@
--- An engine stands for the worlds that its edits lead to, and stays whole.
+-- An engine stands for the worlds that its edits lead to, and stays whole. Passes on what the proofs of edits cite.
 use Rattle.mg_engine.proofs.Common.{◌≡◌, ◌≢◌, ℕ, ◌<◌, ◌≤◌, eqb, not, Bool, true, false, ℤ, List, [], ◌∷◌, ◌++◌, length, map, get_or, set, Option, Some, None, refl, sym, ap, subst, ◌∙◌, arith, count_by, option_map, eqb-true, eq-eqb, ne_eqb, same_Some, length-map, map-append, get_or-set_same, get_or-set_other, PlayList, Limits, Record, Settings, change, IsSound, record_at, Config, silence, Gateway, TerminationMedia, ContextEdit, Enter, new_media, media_of, idle, tuned, media_with, added, subtracted, EngineState, StandsFor, IsMediaOf, media_at, find, filter, set-set, length_push, Registry, RoomFlows, play_after, media_without, SlotMedia, SumsState, find-change_other, find-push_other, initial_media, Inside, IsWholeEngine, slot_tuned}
 use Rattle.mg_words.specs.declared.limits.TheConstants.{TERMINATIONS}
-use Rattle.mg_engine.proofs.MemberLemmas.{Others, Hears, another, unequal}
-use Rattle.mg_engine.proofs.PlaceLemmas.{one_record}
+pub use Rattle.mg_engine.proofs.MemberLemmas.{Hears, Others, another, carry, free_place, has_entered, has_left, has_mode, hears_all, hears_carry, hears_entered, hears_left, hears_mode, hears_some, members_all, no_record, same_others, stayed_at, unequal, unknown}
+pub use Rattle.mg_engine.proofs.PlaceLemmas.{member_within, on_its_place, one_record}
+pub use Rattle.mg_engine.proofs.JoinedLemmas.{joined_changed, joined_left}
+pub use Rattle.mg_engine.proofs.SeatingLemmas.{carry_seats, seated_all, seated_mode, seated_put}
+pub use Rattle.mg_engine.proofs.WorkLemmas.{rises_less, rises_twice}
 use Rattle.mg_engine.proofs.KeyLemmas.{none_before_last, found_push, found_changed, found_replaced, none_left, mapped_kept, keys_left, spots_left}
-use Rattle.mg_engine.proofs.OutcomeLemmas.{Adds, Changes, Removes}
+pub use Rattle.mg_engine.proofs.OutcomeLemmas.{Adds, Changes, Removes, add_adds, modify_changes, move_changes, subtract_removes}
 use Rattle.mg_engine.proofs.GatewayLemmas.{found_too, found_key, has_media}
 
 -- ## Media of the termination that an edit is done on

@@ -1,7 +1,6 @@
 -- Who isn't heard.
-use Rattle.mg_engine.proofs.Common.{◌≡◌, ℕ, ℤ, pos, ◌+◌, ◌-◌, ◌*◌, ◌%◌, ◌^◌, ◌<◌, eqb, not, ◌&&◌, Bool, true, false, List, [], ◌∷◌, ◌++◌, length, map, get_or, Option, Some, None, refl, sym, ap, ◌∙◌, arith, if◌then◌else◌, range_with_len, option_map, same_Some, byte_of, header_bytes, plain, Chosen, Record, slot_port, map_agree, sum_of-same, Datagram, Gateway, TerminationMedia, ContextEdit, Enter, Leave, Apply, media_of, frame_in, may_hear, played_sample, sent_to, type_of, slice_index_or, list_all, Registry, part_of_mix, heard, mix, mixed, get_or-append-add, get_or-map-range_with_len, packet_to, frame_of, mode_of, numbers_of, packet, header_of, NoneHearsItself, leaves_isolated, IsolatedAreNotHeard, replayed, with_frame, hears_itself, progress_of, PacketsDependOnHeard, OwnSpeechChangesNoPacket, UnheardChangesNoPacket, PayloadsAreMixes, Isolate, map-map, or_comm, and_right, ne_eqb, true≢false, nat_tests}
+use Rattle.mg_engine.proofs.Common.{◌≡◌, ℕ, ℤ, pos, ◌+◌, ◌-◌, ◌*◌, ◌%◌, ◌^◌, ◌<◌, eqb, not, ◌&&◌, Bool, true, false, List, [], ◌∷◌, ◌++◌, length, map, get_or, Option, Some, None, refl, sym, ap, ◌∙◌, arith, if◌then◌else◌, range_with_len, option_map, same_Some, byte_of, header_bytes, plain, Chosen, Record, slot_port, map_agree, sum_of-same, Datagram, Gateway, TerminationMedia, ContextEdit, Enter, Leave, Apply, media_of, frame_in, may_hear, played_sample, sent_to, type_of, slice_index_or, list_all, Registry, part_of_mix, heard, mix, mixed, get_or-append-add, get_or-map-range_with_len, packet_to, frame_of, mode_of, numbers_of, packet, header_of, NoneHearsItself, leaves_isolated, IsolatedAreNotHeard, replayed, with_frame, hears_itself, progress_of, PacketsDependOnHeard, OwnSpeechChangesNoPacket, UnheardChangesNoPacket, PayloadsAreMixes, Isolate, map-map, or_comm, and_right, ne_eqb, true≢false, nat_tests, sum_of}
 use Rattle.mg_engine.proofs.GatewayLemmas.{found_in_map, found_key}
-use Rattle.mg_sums.specs.Samples.{sum_of}
 use Rattle.mg_engine.specs.Flow.{flow, is_forward, mentions}
 
 pub none_hears_itself : NoneHearsItself

@@ -1,7 +1,6 @@
 -- Sums over the seats of a mask, as sums over the terminations that are on them.
-use Rattle.mg_engine.proofs.Common.{◌≡◌, ℕ, ◌≤◌, ◌&&◌, eqb, Bool, true, false, cond, ℤ, pos, List, map, get_or, Option, Some, None, refl, sym, ap, ◌∙◌, arith, range_with_len, option_map, eqb-true, eq-eqb, ne_eqb, seat_limit, has_seat, Record, record_at, context_at, IsSound, Place, sibling_place, nearest_sample, sum_of-same, place_of, IsOnPlace, slot_at, AreSeated, sample_at, flows_between, heard_now, byte_of, map_agree, EngineState, IsTrue, count_by, and_from, Registry, RoomFlows, flows, is_seated_in, sits_among, heard_on, payload_on, count-found}
+use Rattle.mg_engine.proofs.Common.{◌≡◌, ℕ, ◌≤◌, ◌&&◌, eqb, Bool, true, false, cond, ℤ, pos, List, map, get_or, Option, Some, None, refl, sym, ap, ◌∙◌, arith, range_with_len, option_map, eqb-true, eq-eqb, ne_eqb, seat_limit, has_seat, Record, record_at, context_at, IsSound, Place, sibling_place, nearest_sample, sum_of-same, place_of, IsOnPlace, slot_at, AreSeated, sample_at, flows_between, heard_now, byte_of, map_agree, EngineState, IsTrue, count_by, and_from, Registry, RoomFlows, flows, is_seated_in, sits_among, heard_on, payload_on, count-found, sum_of}
 use Rattle.mg_topology.specs.Mask.{seats_of}
-use Rattle.mg_sums.specs.Samples.{sum_of}
 use Rattle.mg_g711.specs.declared.law.Law.{Law}
 use Rattle.mg_engine.proofs.MemberLemmas.{unequal}
 use Rattle.mg_engine.proofs.PlaceLemmas.{seated, place, at, on_place, in_one_context, hears_apart, no_hearing}

@@ -1,7 +1,6 @@
 -- Sums over rows that are joined to a room, as sums over terminations.
-use Rattle.mg_engine.proofs.Common.{◌≡◌, ℕ, ◌&&◌, eqb, Bool, true, false, cond, ℤ, pos, List, length, get_or, Option, Some, None, refl, ap, ◌∙◌, arith, range_with_len, eq-eqb, talks, termination_limit, Record, IsSound, Registry, Place, SumsState, total_of, AreJoined, room_for, sample_at, count_by, sum_of-filter, room_of_row, count-found, nat_tests}
+use Rattle.mg_engine.proofs.Common.{◌≡◌, ℕ, ◌&&◌, eqb, Bool, true, false, cond, ℤ, pos, List, length, get_or, Option, Some, None, refl, ap, ◌∙◌, arith, range_with_len, eq-eqb, talks, termination_limit, Record, IsSound, Registry, Place, SumsState, total_of, AreJoined, room_for, sample_at, count_by, sum_of-filter, room_of_row, count-found, nat_tests, sum_of}
 use Rattle.mg_sums.specs.Sums.{sample_in, is_room, is_joined, joined_rows}
-use Rattle.mg_sums.specs.Samples.{sum_of}
 use Rattle.mg_engine.proofs.SeatSums.{seat_sums}
 
 -- ## Rows that are joined to a room

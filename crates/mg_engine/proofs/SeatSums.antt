@@ -1,7 +1,6 @@
 -- Sums over the seats of a room, and over the terminations that are on them.
-use Rattle.mg_engine.proofs.Common.{◌≡◌, ℕ, zero, suc, ◌+◌, ◌<◌, ◌≤◌, ◌&&◌, eqb, Bool, true, false, cond, ℤ, pos, ◌+ℤ◌, List, [], ◌∷◌, inl, inr, get_or, refl, sym, ap, ◌∙◌, arith, range_with_len, cases_eq, eq-eqb, seat_limit, has_seat, sum_of-cons, sum_of-same, count_by, nat_tests, ints, sum_of-filter, sum_of-nil, sum_of-none, sum_of-plus, All, sum_of-agree, count-cons}
+use Rattle.mg_engine.proofs.Common.{◌≡◌, ℕ, zero, suc, ◌+◌, ◌<◌, ◌≤◌, ◌&&◌, eqb, Bool, true, false, cond, ℤ, pos, ◌+ℤ◌, List, [], ◌∷◌, inl, inr, get_or, refl, sym, ap, ◌∙◌, arith, range_with_len, cases_eq, eq-eqb, seat_limit, has_seat, sum_of-cons, sum_of-same, count_by, nat_tests, ints, sum_of-filter, sum_of-nil, sum_of-none, sum_of-plus, All, sum_of-agree, count-cons, sum_of}
 use Rattle.mg_topology.specs.Mask.{seats_of}
-use Rattle.mg_sums.specs.Samples.{sum_of}
 
 -- ## Sums of sums
 

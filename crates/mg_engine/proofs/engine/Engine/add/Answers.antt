@@ -1,11 +1,5 @@
 use Rattle.mg_engine.proofs.Common.{◌<◌, ℕ, List, Option, length, sym, ap, subst, ◌∙◌, arith, length-set, view, added, member_place, sound_if, SetsRow, room_for, initial_media, refl}
-use Rattle.mg_engine.proofs.OutcomeLemmas.{add_adds}
-use Rattle.mg_engine.proofs.EditLemmas.{slot_fits, room_left, held_added, unknown_before, begun_tuned, added_stands}
-use Rattle.mg_engine.proofs.MemberLemmas.{no_record, same_others, carry, hears_carry, unknown, hears_some, free_place, has_entered, hears_entered}
-use Rattle.mg_engine.proofs.JoinedLemmas.{joined_changed}
-use Rattle.mg_engine.proofs.WorkLemmas.{rises_twice}
-use Rattle.mg_engine.proofs.PlaceLemmas.{on_its_place, member_within}
-use Rattle.mg_engine.proofs.SeatingLemmas.{carry_seats, seated_put}
+use Rattle.mg_engine.proofs.EditLemmas.{slot_fits, room_left, held_added, unknown_before, begun_tuned, added_stands, no_record, same_others, carry, hears_carry, unknown, hears_some, free_place, has_entered, hears_entered, joined_changed, carry_seats, seated_put, on_its_place, member_within, add_adds, rises_twice}
 use Rattle.mg_engine.proofs.engine.Engine.add.Goals as goal
 
 pub begin-requires : goal.begin-requires

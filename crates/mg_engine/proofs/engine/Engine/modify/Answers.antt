@@ -1,11 +1,5 @@
 use Rattle.mg_engine.proofs.Common.{length, sym, ap, ◌∙◌, arith, length-set, same_Some, Record, view, modified, member_place, sound_if, refl}
-use Rattle.mg_engine.proofs.OutcomeLemmas.{modify_changes}
-use Rattle.mg_engine.proofs.EditLemmas.{slot_fits, held_changed, changed_stands}
-use Rattle.mg_engine.proofs.MemberLemmas.{same_others, stayed_at, has_mode, hears_mode}
-use Rattle.mg_engine.proofs.JoinedLemmas.{joined_changed}
-use Rattle.mg_engine.proofs.WorkLemmas.{rises_less}
-use Rattle.mg_engine.proofs.PlaceLemmas.{on_its_place, member_within}
-use Rattle.mg_engine.proofs.SeatingLemmas.{seated_mode}
+use Rattle.mg_engine.proofs.EditLemmas.{slot_fits, held_changed, changed_stands, same_others, stayed_at, has_mode, hears_mode, joined_changed, seated_mode, on_its_place, member_within, modify_changes, rises_less}
 use Rattle.mg_engine.proofs.engine.Engine.modify.Goals as goal
 
 pub tune-requires : goal.tune-requires

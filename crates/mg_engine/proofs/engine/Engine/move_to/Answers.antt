@@ -1,11 +1,5 @@
 use Rattle.mg_engine.proofs.Common.{◌∷◌, length, sym, ap, subst, ◌∙◌, arith, length-set, same_Some, Record, view, Enter, Leave, moved, member_place, sound_if, refl}
-use Rattle.mg_engine.proofs.OutcomeLemmas.{move_changes}
-use Rattle.mg_engine.proofs.EditLemmas.{slot_fits, held_changed, changed_at, changed_stands}
-use Rattle.mg_engine.proofs.MemberLemmas.{Hears, same_others, carry, hears_carry, has_left, hears_left, free_place, has_entered, hears_entered}
-use Rattle.mg_engine.proofs.JoinedLemmas.{joined_changed}
-use Rattle.mg_engine.proofs.WorkLemmas.{rises_less}
-use Rattle.mg_engine.proofs.PlaceLemmas.{on_its_place, member_within}
-use Rattle.mg_engine.proofs.SeatingLemmas.{carry_seats, seated_put}
+use Rattle.mg_engine.proofs.EditLemmas.{slot_fits, held_changed, changed_at, changed_stands, Hears, same_others, carry, hears_carry, has_left, hears_left, free_place, has_entered, hears_entered, joined_changed, carry_seats, seated_put, on_its_place, member_within, move_changes, rises_less}
 use Rattle.mg_engine.proofs.engine.Engine.move_to.Goals as goal
 
 pub tune-requires : goal.tune-requires

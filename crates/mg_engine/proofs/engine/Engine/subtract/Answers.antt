@@ -1,11 +1,5 @@
 use Rattle.mg_engine.proofs.Common.{ℕ, None, arith, subst, ◌∙◌, view, subtracted, member_place, SetsRow, sound_if, refl}
-use Rattle.mg_engine.proofs.OutcomeLemmas.{subtract_removes}
-use Rattle.mg_engine.proofs.EditLemmas.{held_removed, removed_stands, gone}
-use Rattle.mg_engine.proofs.MemberLemmas.{same_others, carry, hears_carry, has_left, hears_left, members_all, hears_all}
-use Rattle.mg_engine.proofs.JoinedLemmas.{joined_left}
-use Rattle.mg_engine.proofs.WorkLemmas.{rises_less}
-use Rattle.mg_engine.proofs.PlaceLemmas.{on_its_place}
-use Rattle.mg_engine.proofs.SeatingLemmas.{carry_seats, seated_all}
+use Rattle.mg_engine.proofs.EditLemmas.{held_removed, removed_stands, gone, same_others, carry, hears_carry, has_left, hears_left, members_all, hears_all, joined_left, carry_seats, seated_all, on_its_place, subtract_removes, rises_less}
 use Rattle.mg_engine.proofs.engine.Engine.subtract.Goals as goal
 
 pub vacate-requires : goal.vacate-requires

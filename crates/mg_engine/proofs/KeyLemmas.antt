@@ -67,23 +67,11 @@ module _ {A : Type 0} (key : A → ℕ) where
   one_place [] i j d once a b same = absurd (omega (arith, a))
   one_place (x ∷ xs) zero zero d once a b same = refl
   one_place (x ∷ xs) zero (suc j) d once a b same =
-      grind (
-        arith,
-        nat_tests,
-        once (key x),
-        count-cons (at (key x)) x xs,
-        counted_any (at (key x)) xs,
-        list_any_at (at (key x)) xs j d,
-      )
+      let q = at (key x) in
+      grind (arith, nat_tests, once (key x), count-cons q x xs, counted_any q xs, list_any_at q xs j d)
   one_place (x ∷ xs) (suc i) zero d once a b same =
-      grind (
-        arith,
-        nat_tests,
-        once (key x),
-        count-cons (at (key x)) x xs,
-        counted_any (at (key x)) xs,
-        list_any_at (at (key x)) xs i d,
-      )
+      let q = at (key x) in
+      grind (arith, nat_tests, once (key x), count-cons q x xs, counted_any q xs, list_any_at q xs i d)
   one_place (x ∷ xs) (suc i) (suc j) d once a b same =
       ap suc (one_place xs i j d (λ n. omega (arith, once n, count-cons (at n) x xs)) (omega (arith, a))
       (omega (arith, b)) same)

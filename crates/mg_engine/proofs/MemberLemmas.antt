@@ -198,11 +198,10 @@ module _ (w : Registry) (n : ℕ) (r : Record) (p : Place) (old new : List RoomF
   }
 
   pub hears_left : (es : List ContextEdit) → Hears w old es → HearsOthers w n new es
-  hears_left es h talker listener t l a b one two s = rw (
-    left.hears a b,
-    apart_places w talker n t r a p sound s.first on one,
-    apart_places w listener n l r b p sound s.second on two,
-  ) (h talker listener t l a b s)
+  hears_left es h talker listener t l a b one two s =
+      let first = apart_places w talker n t r a p sound s.first on one in
+      let second = apart_places w listener n l r b p sound s.second on two in
+      rw (left.hears a b, first, second) (h talker listener t l a b s)
 
 -- ## One enters
 
@@ -242,11 +241,11 @@ module _ (w : Registry) (n : ℕ) (r : Record) (p : Place) (old new : List RoomF
       k talker listener t l a b (unequal talker n e) (unequal listener n f) s
 
   pub hears_entered : (es : List ContextEdit) → HearsOthers w n old es → Hears w new (Enter n ∷ es)
-  hears_entered es k talker listener t l a b s = rw (
-    represents.hears a b,
-    is_newcomer talker t a s.first (eqb talker n) refl,
-    is_newcomer listener l b s.second (eqb listener n) refl,
-  ) (pair es k talker listener t l a b s (eqb talker n) (eqb listener n) refl refl)
+  hears_entered es k talker listener t l a b s =
+      let first = is_newcomer talker t a s.first (eqb talker n) refl in
+      let second = is_newcomer listener l b s.second (eqb listener n) refl in
+      rw (represents.hears a b, first, second)
+      (pair es k talker listener t l a b s (eqb talker n) (eqb listener n) refl refl)
 
 -- ## One has another mode
 

@@ -35,13 +35,8 @@ other_splits z false b = omega (arith, ints)
 range_apart : (n : ℕ) → AllPairs (λ a b. a ≢ b) (range_with_len 0 n)
 range_apart n i j d lt within same =
     let below : j < n = omega (arith, within, length-range_with_len 0 n) in
-    omega (
-      arith,
-      same,
-      lt,
-      get_or-range_with_len 0 n i d (omega (arith, lt, below)),
-      get_or-range_with_len 0 n j d below,
-    )
+    let first = get_or-range_with_len 0 n i d (omega (arith, lt, below)) in
+    omega (arith, same, lt, first, get_or-range_with_len 0 n j d below)
 
 seats_apart : (mask : ℕ) → AllPairs (λ a b. a ≢ b) (seats_of mask)
 unfolding seats_of
@@ -64,13 +59,9 @@ mapped_apart f P xs all inj apart i j d lt within same =
 counted_ones : {A : Type 0} (p : A → Bool) (xs : List A) →
     sum_of (λ x. cond (p x) (pos 1) (pos 0)) xs ≡ pos (count_by p xs)
 counted_ones p [] = sum_of-nil (λ x. cond (p x) (pos 1) (pos 0))
-counted_ones p (x ∷ xs) = grind (
-  arith,
-  ints,
-  sum_of-cons (λ y. cond (p y) (pos 1) (pos 0)) x xs,
-  counted_ones p xs,
-  sum_by-cons (λ y. cond (p y) 1 0) x xs,
-)
+counted_ones p (x ∷ xs) =
+    let more = sum_of-cons (λ y. cond (p y) (pos 1) (pos 0)) x xs in
+    grind (arith, ints, more, counted_ones p xs, sum_by-cons (λ y. cond (p y) 1 0) x xs)
 
 same_number : (m n : ℕ) → pos m ≡ pos n → m ≡ n
 same_number m n e = cc e
@@ -118,12 +109,8 @@ module _ (inside : Inside) (l : Record) (p : Place) (mask : ℕ) (whole : IsWhol
   row_joined : (seat : ℕ) → IsTrue (has_seat mask seat) → IsTrue (is_joined k.sums.rooms p.room (row_on seat))
   row_joined seat h =
       let (n, r, at) = held seat h in
-      rw (
-        whole.seats n r (sibling_place p seat) at,
-        joined_is k.sums.rooms r (sibling_place p seat) p.room
-            (whole.joined.each n r (sibling_place p seat) at),
-        talks_there seat n r h at,
-      ) (eq-eqb p.room p.room refl)
+      let joins = joined_is k.sums.rooms r (sibling_place p seat) p.room (whole.joined.each n r (sibling_place p seat) at) in
+      rw (whole.seats n r (sibling_place p seat) at, joins, talks_there seat n r h at) (eq-eqb p.room p.room refl)
 
   rows_differ : (a b : ℕ) → IsTrue (has_seat mask a) → IsTrue (has_seat mask b) → row_on a ≡ row_on b → a ≡ b
   rows_differ a b h g same =
@@ -202,13 +189,10 @@ module _ (inside : Inside) (l : Record) (p : Place) (mask : ℕ) (whole : IsWhol
         (flow.is_silenced k.flows q p) (flow.flows k.flows q p)
     split_at t q at true e c f =
         let equal = eqb-true t.number l.number e in
-        rw (
-          one_record k.rooms t.number l.number t l at.found on.found equal,
-          one_place k.rooms t.number l.number t l q p at on equal,
-          not_itself k.flows p,
-          no_hearing k.flows p p (nobody_hears_itself k.flows p),
-          eq-eqb p.room p.room refl,
-        ) (own_splits (sample_of l) (talks l.mode))
+        let is = one_record k.rooms t.number l.number t l at.found on.found equal in
+        let here = one_place k.rooms t.number l.number t l q p at on equal in
+        let unheard = no_hearing k.flows p p (nobody_hears_itself k.flows p) in
+        rw (is, here, not_itself k.flows p, unheard, eq-eqb p.room p.room refl) (own_splits (sample_of l) (talks l.mode))
     split_at t q at false e false f =
         rw (silenced_apart k.flows q p f, flows_apart k.flows q p f, f, and-false (talks t.mode)) (none_splits (sample_of t))
     split_at t q at false e true f =

@@ -214,11 +214,8 @@ none_counted p (n ∷ ns) none = omega (arith, sum_by-cons (λ x. one (p x)) n n
 none_concealed : (n : ℕ) (w : Gateway) → IsIdleGateway w → concealed_in_ticks n w ≡ 0
 none_concealed zero w idle = refl
 none_concealed (suc n) w idle =
-    omega (
-      arith,
-      none_counted (conceals w) (numbers_of w) (λ k. idle_conceals (media_of w k) (λ s there. idle k s there)),
-      none_concealed n (after_tick w) (idle_after w idle),
-    )
+    let here = none_counted (conceals w) (numbers_of w) (λ k. idle_conceals (media_of w k) (λ s there. idle k s there)) in
+    omega (arith, here, none_concealed n (after_tick w) (idle_after w idle))
 
 pub idle_gateway : (k : EngineState) (w : Gateway) → IsIdleEngine k → StandsFor k w → IsIdleGateway w
 idle_gateway k w idle h n s there =

@@ -8,13 +8,9 @@ sum_by-map f g (x ∷ xs) = omega (arith, sum_by-cons f (g x) (map g xs), sum_by
 -- two functions that agree at each element
 pub sum_by-agree : {A : Type 0} (f g : A → ℕ) (xs : List A) → All (λ x. f x ≡ g x) xs → sum_by f xs ≡ sum_by g xs
 sum_by-agree f g [] h = refl
-sum_by-agree f g (x ∷ xs) h = omega (
-  arith,
-  sum_by-cons f x xs,
-  sum_by-cons g x xs,
-  All-head (λ y. f y ≡ g y) x xs h,
-  sum_by-agree f g xs (All-tail (λ y. f y ≡ g y) x xs h),
-)
+sum_by-agree f g (x ∷ xs) h =
+    let rest = sum_by-agree f g xs (All-tail (λ y. f y ≡ g y) x xs h) in
+    omega (arith, sum_by-cons f x xs, sum_by-cons g x xs, All-head (λ y. f y ≡ g y) x xs h, rest)
 
 -- a list of n parts is what it has at each place
 pub list_is : {A : Type 0} (f : ℕ → A) (xs : List A) (n : ℕ) (d : A) → length xs ≡ n →

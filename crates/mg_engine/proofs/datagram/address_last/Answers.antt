@@ -11,12 +11,8 @@ returns c = record {
   value = λ before last was.
       let items = c.args.outbox.now.items in
       let i = c.len-last.result - 1 in
-      let at : i ≡ length before = omega (
-        arith,
-        c.len-last.ensures.value,
-        ap (λ (xs : List Datagram). length xs) was,
-        length-append before (last ∷ []),
-      ) in
+      let now = ap (λ (xs : List Datagram). length xs) was in
+      let at : i ≡ length before = omega (arith, c.len-last.ensures.value, now, length-append before (last ∷ [])) in
       let there = ap (λ (xs : List Datagram). get_or xs i none) (c.deref_mut.ensures.value ∙ was) ∙
       ap (λ (n : ℕ). get_or (before ++ last ∷ []) n none) at ∙ get_or-append_seam before last [] none in
       let now = c.address.ensures.value ∙ ap (addressed c.args.from c.args.to c.args.header) there in

@@ -13,12 +13,8 @@ returns c =
     let i = c.len-last.result - 1 in
     let was = get_or c.deref_mut.result.now i none in
     let sent : Datagram = record { from = was.from; to = was.to; bytes = c.write_payload.new.bytes } in
-    let at : i ≡ length old = omega (
-      arith,
-      c.len-last.ensures.value,
-      ap (λ (xs : List Datagram). length xs) c.push.ensures.items,
-      length-append old (c.default.result ∷ []),
-    ) in
+    let now = ap (λ (xs : List Datagram). length xs) c.push.ensures.items in
+    let at : i ≡ length old = omega (arith, c.len-last.ensures.value, now, length-append old (c.default.result ∷ [])) in
     record {
       put = record {
         last = sent;

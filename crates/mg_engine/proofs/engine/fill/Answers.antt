@@ -5,14 +5,9 @@ use Rattle.mg_engine.proofs.WorkLemmas.{rises_twice, stays}
 use Rattle.mg_engine.proofs.engine.fill.Goals as goal
 
 pub held_at-slot-requires : goal.held_at-slot-requires
-held_at-slot-requires c = record {
-  there = omega (
-    arith,
-    c.loop-i-test.true,
-    c.requires.all,
-    ap (λ (x : EngineState). length x.rooms.terminations) c.loop-i.invariant.same,
-  );
-}
+held_at-slot-requires c =
+    let many = ap (λ (x : EngineState). length x.rooms.terminations) c.loop-i.invariant.same in
+    record { there = omega (arith, c.loop-i-test.true, c.requires.all, many) }
 
 pub loop-i-init : goal.loop-i-init
 loop-i-init c = record {

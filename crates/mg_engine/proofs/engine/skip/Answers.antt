@@ -12,13 +12,9 @@ loop-done-preserved c =
     record {
       after = λ w h. subst (λ (v : Gateway). StandsFor c.tick_without_packets.new.self v) (sym (iterate_last after_tick done w))
           (c.tick_without_packets.ensures.after (after_ticks done w) (stands w h));
-      concealed = λ w h. omega (
-        arith,
-        c.saturating_add-concealed.ensures,
-        c.loop-done.invariant.concealed w h,
-        c.tick_without_packets.ensures.concealed (after_ticks done w) (stands w h),
-        concealed_last done w,
-      );
+      concealed = λ w h.
+          let more = c.tick_without_packets.ensures.concealed (after_ticks done w) (stands w h) in
+          omega (arith, c.saturating_add-concealed.ensures, c.loop-done.invariant.concealed w h, more, concealed_last done w);
     }
 
 pub returns-then-is_idle-clause-concealed : goal.returns-then-is_idle-clause-concealed
@@ -26,13 +22,9 @@ returns-then-is_idle-clause-concealed c w h =
     let done = c.loop-done.done in
     let rest = c.args.count - done in
     let all : done + rest ≡ c.args.count = omega (arith, c.loop-done-test.true) in
-    omega (
-      arith,
-      c.loop-done.invariant.concealed w h,
-      c.pass.ensures.none (after_ticks done w) (c.loop-done.invariant.after w h),
-      concealed_both done rest w,
-      ap (λ (n : ℕ). concealed_in_ticks n w) all,
-    )
+    let none = c.pass.ensures.none (after_ticks done w) (c.loop-done.invariant.after w h) in
+    let both = ap (λ (n : ℕ). concealed_in_ticks n w) all in
+    omega (arith, c.loop-done.invariant.concealed w h, none, concealed_both done rest w, both)
 
 pub returns-then-is_idle-clause-after : goal.returns-then-is_idle-clause-after
 returns-then-is_idle-clause-after c w h =

@@ -34,9 +34,5 @@ slot_port-from-requires-clause-slot c =
     let r = c.args.sender.now in
     let found = ap (λ (x : EngineState). record_at x.rooms r.number) c.self.view_is ∙ c.requires.member in
     let (number, is) = c.self.invariant.sound.termination r.number r found in
-    omega (
-      arith,
-      is.slot,
-      ap (λ (l : Limits). l.slots) c.self.invariant.limits,
-      ap (λ (l : Limits). l.slots) c.limits.ensures.value,
-    )
+    let old = ap (λ (l : Limits). l.slots) c.self.invariant.limits in
+    omega (arith, is.slot, old, ap (λ (l : Limits). l.slots) c.limits.ensures.value)

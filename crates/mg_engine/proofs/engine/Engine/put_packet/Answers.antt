@@ -33,12 +33,8 @@ returns-clause-few c =
     let put = c.put_payload.ensures.put in
     let body = put.same ∙ ap (λ (x : EngineState). map (byte_of to.law) (mixed_now x sender))
     (sym c.put_payload.ensures.same) in
-    let sent = packet_now c.put_payload.new.self sender to in
-    omega (
-      arith,
-      ap (λ (xs : List Datagram). length xs) (c.address.ensures.put old put.last put.all body),
-      length-append old (sent ∷ []),
-    )
+    let all = ap (λ (xs : List Datagram). length xs) (c.address.ensures.put old put.last put.all body) in
+    omega (arith, all, length-append old (packet_now c.put_payload.new.self sender to ∷ []))
 
 pub returns-clause-shared : goal.returns-clause-shared
 returns-clause-shared c =

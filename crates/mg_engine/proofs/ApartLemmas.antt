@@ -13,9 +13,6 @@ module _ (some : List ℕ) where
   abbrev mask : TerminationMedia → TerminationMedia
   mask = unless_among some
 
-  abbrev unless : Bool → TerminationMedia → TerminationMedia
-  unless b s = cond b (without_arrivals s) s
-
   -- what does not depend on arrivals stays
   stays : {A : Type 0} (g : TerminationMedia → A) → ((s : TerminationMedia) → g (without_arrivals s) ≡ g s) →
       (s : TerminationMedia) → g (mask s) ≡ g s
@@ -27,9 +24,6 @@ module _ (some : List ℕ) where
   -- a step of media that sees only what the mask leaves
   abbrev IsBlind : (TerminationMedia → TerminationMedia) → Type 0
   IsBlind f = (s : TerminationMedia) → mask (f (mask s)) ≡ mask (f s)
-
-  masked_as : (s t : TerminationMedia) (b : Bool) → has some s.number ≡ b → t.number ≡ s.number → mask t ≡ unless b t
-  masked_as s t b e same = ap (λ (x : Bool). unless x t) (ap (has some) same ∙ e)
 
   blind : (f : TerminationMedia → TerminationMedia) → ((s : TerminationMedia) → (f s).number ≡ s.number) →
       ((s : TerminationMedia) → without_arrivals (f (without_arrivals s)) ≡ without_arrivals (f s)) → IsBlind f
@@ -56,7 +50,7 @@ module _ (some : List ℕ) where
   -- what comes to one of some changes nothing else
   one_placed : (p : Header × List ℤ) (s : TerminationMedia) → has some s.number ≡ true →
       mask (frame_placed p.0 p.1 s) ≡ mask s
-  one_placed p s is_one = masked_as s (frame_placed p.0 p.1 s) true is_one refl ∙ sym (masked_as s s true is_one refl)
+  one_placed p s is_one = rw is_one refl
 
   -- ## Lists of them
 
@@ -121,8 +115,7 @@ module _ (some : List ℕ) where
       (command : Registry → Result (Registry × Record) ErrorNumber) (x y : Registry) → x ≡ y →
       ((z : Registry) (r : Record) → AgreeOutside some (f z r) (g z r)) →
       EndsAlike some (done_with f (command x)) (done_with g (command y))
-  ends_on f g command x y same h = subst (λ (z : Registry). EndsAlike some (done_with f (command x))
-      (done_with g (command z))) same (ends f g (command x) h)
+  ends_on f g command x y same h = rw (← same) (ends f g (command x) h)
 
   tuned_media : (settings : Settings) (n : ℕ) (a b : Gateway) → AgreeOutside some a b →
       AreLike (changed n (λ s. Some (tuned settings s)) a.media) (changed n (λ s. Some (tuned settings s)) b.media)
@@ -149,7 +142,8 @@ module _ (some : List ℕ) where
       AgreeOutside some a b → AgreeOutside some (place n p a o) (place n p b k)
   places n p a b None None one h = h
   places n p a b (Some s) (Some t) one h =
-      assumption (changes n (λ m. Some (frame_placed p.0 p.1 m)) (λ s. ap Some (placed_blind p s)) a.media b.media h.media)
+      assumption (changes n (λ m. Some (frame_placed p.0 p.1 m)) (λ s. ap Some (placed_blind p s)) a.media b.media
+      h.media)
   places n p a b o k one h = absurd (cc one)
 
   arrives : (n : ℕ) (x : Arrived) (a b : Gateway) → AgreeOutside some a b →
@@ -240,8 +234,7 @@ pub taken_by_one : (some : List ℕ) (a b : Gateway) (port : ℕ) (source : List
     IsPortAmong some a port → AgreeOutside some a b →
     AgreeOutside some (taken_by a (at_port a.rooms port) source reading).0 b
 taken_by_one some a b port source reading (r, at, is_one) h =
-    subst (λ (o : Option Record). AgreeOutside some (taken_by a o source reading).0 b) (sym at)
-    (one_arrives some r.number (arrived r source reading) a b is_one h)
+    rw at (one_arrives some r.number (arrived r source reading) a b is_one h)
 
 -- ## Packets
 

@@ -75,7 +75,7 @@ pub use Rattle.mg_words.specs.ResultSteps.{◌>>=◌}
 pub use Rattle.mg_words.specs.declared.association.Association.TheVariants.{Bothway, Isolate, Oneway}
 pub use Rattle.mg_words.specs.declared.error_number.ErrorNumber.{ErrorNumber}
 pub use Rattle.mg_words.specs.declared.error_number.ErrorNumber.TheVariants.{IllegalCombination}
-pub use Rattle.std.proofs.Math.Bool.{and-false, or_comm}
+pub use Rattle.std.proofs.Math.Bool.{or-false, and-false, or_comm}
 pub use Rattle.std.proofs.Math.Seq.{get_or-append_seam, set-append_seam, take-append_seam}
 pub use Rattle.std.proofs.lemmas.Bool.{and_from, and_parts, and_right, cases_Bool, cases_eq, eq-eqb, eqb-false, eqb-true, false_from_ne_true, lt-ltb, ne_eqb, true≢false, not-false}
 pub use Rattle.std.proofs.lemmas.Bool.Decides.{nat_tests}

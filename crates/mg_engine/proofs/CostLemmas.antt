@@ -28,7 +28,6 @@ module _ (k : EngineState) (w : Gateway) (sound : IsSound k.rooms) (members : Ha
   work_is r found = ap (λ (n : ℕ). cond (is_some (sent_to r)) (1 + cond (is_loopback r.mode) 0 n) 0) (count_is r found)
 
   pub all_work_is : sum_by (sending_work w) w.rooms.terminations ≡ sum_by (sending_work_now k) k.rooms.terminations
-  all_work_is =
-      ap (λ (x : Registry). sum_by (sending_work w) x.terminations) h.rooms
+  all_work_is = ap (λ (x : Registry). sum_by (sending_work w) x.terminations) h.rooms
       ∙ sum_by-agree (sending_work w) (sending_work_now k) k.rooms.terminations
       (λ i d lt. work_is (get_or k.rooms.terminations i d) (sound.by_number i d lt))

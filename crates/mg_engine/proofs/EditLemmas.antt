@@ -1,4 +1,4 @@
--- An engine stands for the worlds that its edits lead to, and stays whole. Passes on what the proofs of edits cite.
+-- An engine stands for the worlds that its edits lead to, and stays whole. Re-exports what the proofs of edits cite.
 use Rattle.mg_engine.proofs.Common.{◌≡◌, ◌≢◌, ℕ, ◌<◌, ◌≤◌, eqb, not, Bool, true, false, ℤ, List, [], ◌∷◌, ◌++◌, length, map, get_or, set, Option, Some, None, refl, sym, ap, subst, ◌∙◌, arith, count_by, option_map, eqb-true, eq-eqb, ne_eqb, same_Some, length-map, map-append, get_or-set_same, get_or-set_other, PlayList, Limits, Record, Settings, change, IsSound, record_at, Config, silence, Gateway, TerminationMedia, ContextEdit, Enter, new_media, media_of, idle, tuned, media_with, added, subtracted, EngineState, StandsFor, IsMediaOf, media_at, find, filter, set-set, length_push, Registry, RoomFlows, play_after, media_without, SlotMedia, SumsState, find-change_other, find-push_other, initial_media, Inside, IsWholeEngine, slot_tuned}
 use Rattle.mg_words.specs.declared.limits.TheConstants.{TERMINATIONS}
 pub use Rattle.mg_engine.proofs.MemberLemmas.{Hears, Others, another, carry, free_place, has_entered, has_left, has_mode, hears_all, hears_carry, hears_entered, hears_left, hears_mode, hears_some, members_all, no_record, same_others, stayed_at, unequal, unknown}
@@ -20,7 +20,7 @@ tuned_is : (config : Config) (settings : Settings) (m : SlotMedia) (row : List �
     IsMediaOf config m row s → IsMediaOf config (slot_tuned settings.depth m) row (tuned settings s)
 tuned_is config settings m row s h = assumption (ap (λ (p : PlayList). play_after settings.depth p) h.play)
 
--- One termination has other media, which are stored in its slot, and those of the others are as before.
+-- The media of one termination change and are stored in its slot; all other media are unchanged.
 module _ (config : Config) (w : Registry) (ms : List SlotMedia) (fs : List (List ℤ)) (ss : List TerminationMedia) (n : ℕ)
     (d : Record) (m : SlotMedia) (t : TerminationMedia) (sound : IsSound w) (found : record_at w n ≡ Some d)
     (lt : d.slot < length ms) (mine : find (λ s. eqb s.number n) ss ≡ Some t)
@@ -106,7 +106,8 @@ added_stands k new flows kept w settings d a sound others made lt in_rows silent
       config = h.config;
       rooms = refl;
       numbers = map-append (λ s. s.number) w.media (s ∷ []) ∙ ap (λ (ns : List ℕ). ns ++ d.number ∷ []) h.numbers
-          ∙ sym (map-append (λ r. r.number) k.rooms.terminations (d ∷ [])) ∙ ap (map (λ r. r.number)) (sym a.terminations);
+          ∙ sym (map-append (λ r. r.number) k.rooms.terminations (d ∷ []))
+          ∙ ap (map (λ r. r.number)) (sym a.terminations);
       media = media_set k.config new k.media kept.frames (w.media ++ s ∷ []) d.number d m s sound made lt
           (found_push (λ s. s.number) d.number w.media s (eq-eqb d.number d.number refl) none)
           (subst (λ (x : List ℤ). IsMediaOf k.config m x s) (sym row)
@@ -173,7 +174,8 @@ changed_stands k new flows kept w settings n d es a sound others lt rows hears h
           (tuned_is k.config settings old (get_or kept.frames d.slot []) t is)
           (λ x q s e apart slots found there. subst (λ (fs : List (List ℤ)). IsMediaOf k.config (media_at k.media q.slot)
           (get_or fs q.slot []) s) (sym rows) (h.media x q s (sym (others x apart) ∙ found)
-          (sym (find-change_other (λ s. s.number) n x (λ s. Some (tuned settings s)) w.media (λ y same. refl) e) ∙ there)));
+          (sym (find-change_other (λ s. s.number) n x (λ s. Some (tuned settings s)) w.media (λ y same. refl) e) ∙
+          there)));
       hears = hears;
     })
 
@@ -209,8 +211,7 @@ removed_stands k new flows kept w n d a sound others hears rows h = record {
   config = h.config;
   rooms = refl;
   numbers = ap (λ (m : ℕ). map (λ s. s.number) (media_without m w.media)) (removed_at k new n d a)
-      ∙ keys_left (λ s. s.number) n w.media
-      ∙ ap (change (λ m. m) n (λ _. None)) h.numbers
+      ∙ keys_left (λ s. s.number) n w.media ∙ ap (change (λ m. m) n (λ _. None)) h.numbers
       ∙ sym (keys_left (λ r. r.number) n k.rooms.terminations)
       ∙ ap (map (λ r. r.number)) (sym (left_terminations k new n d a));
   media = λ m q s found there.

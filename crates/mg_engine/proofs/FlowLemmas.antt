@@ -78,8 +78,8 @@ module _ (k : EngineState) (w : Gateway) (sound : IsSound k.rooms) (all : HasMem
         mode_found k w talker t h s.first.found,
       ) refl
 
-  -- What is said of two places is what is said of the members on them, where that is so of one member, of two of one
-  -- context, and of two of different contexts, which are in different rooms.
+  -- A test of two places agrees with a test of the members on them if it does for a single member, for two members of
+  -- a context, and for members of different contexts, which are in different rooms.
   module _ (places : Place → Place → Bool) (members : ℕ → ℕ → Bool)
       (itself : (n : ℕ) (r : Record) (p : Place) → record_at k.rooms n ≡ Some r → places p p ≡ members n n)
       (together : (m n : ℕ) (t l : Record) (p q : Place) → ShareContext k.rooms m n t l p q → places p q ≡ members m n)
@@ -108,9 +108,7 @@ module _ (k : EngineState) (w : Gateway) (sound : IsSound k.rooms) (all : HasMem
       IsOnPlace k.rooms listener l q → flow.flows k.flows p q ≡ worlds.flow w talker listener
   flow_places = by_places (flow.flows k.flows) (worlds.flow w)
       (λ n r p found. no_hearing k.flows p p (nobody_hears_itself k.flows p) ∙ sym (none_hears_itself w n))
-      flow_there
-      (λ m n t l p q first second f e.
-      no_hearing k.flows p q (hears_apart k.flows p q e) ∙
+      flow_there (λ m n t l p q first second f e. no_hearing k.flows p q (hears_apart k.flows p q e) ∙
       sym (rw (context_found k w m t h first, context_found k w n l h second, f) refl))
 
   pub flow_is : (talker listener : ℕ) (t l : Record) → record_at k.rooms talker ≡ Some t →
@@ -124,8 +122,7 @@ module _ (k : EngineState) (w : Gateway) (sound : IsSound k.rooms) (all : HasMem
   -- whether one hears another, and whether one is silenced for another, by the places of both
   pub hears_places : (talker listener : ℕ) (t l : Record) (p q : Place) → IsOnPlace k.rooms talker t p →
       IsOnPlace k.rooms listener l q → flow.hears k.flows p q ≡ worlds.hears w talker listener
-  hears_places = by_places (flow.hears k.flows) (worlds.hears w)
-      (λ n r p found. nobody_hears_itself k.flows p ∙
+  hears_places = by_places (flow.hears k.flows) (worlds.hears w) (λ n r p found. nobody_hears_itself k.flows p ∙
       sym (rw (shared n n r r found found, eq-eqb r.context r.context refl, eq-eqb n n refl) refl))
       (λ m n t l p q s. h.hears m n t l p q s ∙ sym (rw (
         shared m n t l s.first.found s.second.found,
@@ -136,8 +133,7 @@ module _ (k : EngineState) (w : Gateway) (sound : IsSound k.rooms) (all : HasMem
 
   pub silenced_places : (talker listener : ℕ) (t l : Record) (p q : Place) → IsOnPlace k.rooms talker t p →
       IsOnPlace k.rooms listener l q → flow.is_silenced k.flows p q ≡ is_silenced w talker listener
-  silenced_places = by_places (flow.is_silenced k.flows) (is_silenced w)
-      (λ n r p found. not_itself k.flows p ∙
+  silenced_places = by_places (flow.is_silenced k.flows) (is_silenced w) (λ n r p found. not_itself k.flows p ∙
       sym (rw (shared n n r r found found, eq-eqb r.context r.context refl, eq-eqb n n refl) refl))
       silenced_there
       (λ m n t l p q first second f e. silenced_apart k.flows p q e ∙ sym (rw (shared m n t l first second, f) refl))

@@ -1,14 +1,8 @@
 -- The slots that are held, in the order of their terminations' numbers.
-use Rattle.mg_engine.proofs.Common.{◌≡◌, ℕ, ◌<◌, ◌≤◌, eqb, List, length, map, get_or, Some, sym, ap, ◌∙◌, arith, get_or-map, length-map, Record, Registry, IsSound, record_at, AreApart}
+use Rattle.mg_engine.proofs.Common.{◌≡◌, ℕ, ◌<◌, ◌≤◌, eqb, List, length, map, get_or, Some, sym, ap, ◌∙◌, arith, get_or-map, length-map, Record, Registry, IsSound, record_at, AreApart, subst}
 use Rattle.mg_engine.proofs.GatewayLemmas.{found_place}
 use Rattle.mg_engine.proofs.KeyLemmas.{one_place}
 use Rattle.mg_engine.proofs.SendingLemmas.{nobody}
-
--- where the slot of a termination stands
-pub record HeldAt (held : List ℕ) (slot : ℕ) : Type 0 where
-  pub at : ℕ
-  pub within : at < length held
-  pub is : get_or held at 0 ≡ slot
 
 module _ (w : Registry) (held : List ℕ) (is : held ≡ map (λ r. r.slot) w.terminations) where
   pub many : length held ≡ length w.terminations
@@ -33,7 +27,9 @@ module _ (w : Registry) (held : List ℕ) (is : held ≡ map (λ r. r.slot) w.te
       (sound.one_slot x.number y.number x y (sound.by_number a nobody i) (sound.by_number b nobody j)
       (sym (slot_at a i) ∙ same ∙ slot_at b j))
 
-  pub held_at : (n : ℕ) (r : Record) → record_at w n ≡ Some r → HeldAt held r.slot
-  held_at n r found =
+  -- what holds for each held slot holds for the slot of each termination
+  pub each_held : (P : ℕ → Type 0) → ((i : ℕ) → i < length held → P (get_or held i 0)) → (n : ℕ) (r : Record) →
+      record_at w n ≡ Some r → P r.slot
+  each_held P all n r found =
       let (i, lt, there) = found_place (λ (x : Record). eqb x.number n) w.terminations r nobody found in
-      record { at = i; within = omega (arith, lt, many); is = slot_at i lt ∙ ap (λ (x : Record). x.slot) there }
+      subst P (slot_at i lt ∙ ap (λ (x : Record). x.slot) there) (all i (omega (arith, lt, many)))

@@ -21,7 +21,8 @@ not_heard (Apply f s association ∷ since) first second before a b on left =
 leaves_both : (a b : ℕ) (e : ContextEdit) → leaves_isolated b a e ≡ leaves_isolated a b e
 leaves_both a b (Enter n) = ap not (or_comm (eqb b n) (eqb a n))
 leaves_both a b (Leave n) = refl
-leaves_both a b (Apply first second association) = ap not (or_comm (is_forward first second b a) (is_forward first second a b))
+leaves_both a b (Apply first second association) =
+    ap not (or_comm (is_forward first second b a) (is_forward first second a b))
 
 all_leave : (a b : ℕ) (es : List ContextEdit) → list_all (leaves_isolated b a) es ≡ list_all (leaves_isolated a b) es
 all_leave a b [] = refl
@@ -55,8 +56,7 @@ module _ (a b : Gateway) (same_rooms : a.rooms ≡ b.rooms) (same_edits : a.edit
 
   heard_same : (listener k : ℕ) → ((talker : ℕ) → flow a talker listener ≡ true →
       frame_of a talker ≡ frame_of b talker) → heard a listener k ≡ heard b listener k
-  heard_same listener k same =
-      sum_of-same (part_of_mix a listener k) (part_of_mix b listener k) (numbers_of a)
+  heard_same listener k same = sum_of-same (part_of_mix a listener k) (part_of_mix b listener k) (numbers_of a)
       (λ talker. part_same listener k talker (same talker))
       ∙ ap (λ (z : Registry). sum_of (part_of_mix b listener k) (map (λ r. r.number) z.terminations)) same_rooms
 
@@ -92,8 +92,7 @@ module _ (a b : Gateway) (same_rooms : a.rooms ≡ b.rooms) (same_edits : a.edit
       option_map progress_of o ≡ option_map progress_of k → mixed a r.number ≡ mixed b r.number →
       option_map (packet a r to) o ≡ option_map (packet b r to) k
   sent_same r to None None same e samples = refl
-  sent_same r to (Some s) (Some t) same e samples =
-      ap (λ (d : Datagram). let o : Option Datagram = Some d in o)
+  sent_same r to (Some s) (Some t) same e samples = ap (λ (d : Datagram). let o : Option Datagram = Some d in o)
       (packet_same r to s t (header_same to s t same (same_Some (progress_of s) (progress_of t) e)) samples)
   sent_same r to o k same e samples = absurd (cc e)
 

@@ -9,7 +9,8 @@ use Rattle.mg_engine.proofs.SeatSums.{sum-seats_of, seat_sums}
 -- ## Who sits on the seats of a mask
 
 -- a test tells the seats of the mask, and nobody in another room
-module _ (p : Place) (mask : ℕ) (test : Place → Bool) (kept : (seat : ℕ) → has_seat mask seat ≡ test (sibling_place p seat))
+module _ (p : Place) (mask : ℕ) (test : Place → Bool)
+    (kept : (seat : ℕ) → has_seat mask seat ≡ test (sibling_place p seat))
     (apart : (q : Place) → eqb q.room p.room ≡ false → test q ≡ false) where
   seated_by : (q : Place) (b : Bool) → eqb q.room p.room ≡ b → (eqb q.room p.room && has_seat mask q.seat) ≡ test q
   seated_by q true e = ap (λ (b : Bool). b && has_seat mask q.seat) e ∙ kept q.seat ∙
@@ -98,8 +99,7 @@ module _ (w : Registry) (seating : List ℕ) (l : Record) (p : Place) (mask : �
   silent_at seat false e none = refl
 
   pub sum_on_seats : sum_of on_seat (seats_of mask) ≡ sum_of seated_part w.terminations
-  sum_on_seats =
-      sum-seats_of mask on_seat
+  sum_on_seats = sum-seats_of mask on_seat
       ∙ seat_sums w.terminations (λ t. eqb t.context l.context) (λ t. t.seat) seat_limit seat_part seated_part
       (λ j d lt. let r = get_or w.terminations j d in
       omega (arith, (sound.termination r.number r (sound.by_number j d lt)).1.seat))

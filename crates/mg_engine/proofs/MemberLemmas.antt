@@ -22,7 +22,7 @@ seats_differ w talker listener t l a b sound s = ne_eqb a.seat b.seat (λ same.
 pub unequal : (m n : ℕ) → eqb m n ≡ false → m ≢ n
 unequal m n e same = true≢false (sym (eq-eqb m n same) ∙ e)
 
--- who is on another place is another
+-- members on different places are different
 unlike : (w : Registry) (m n : ℕ) (x r : Record) (q p : Place) → IsOnPlace w m x q → IsOnPlace w n r p →
     is_same_place q p ≡ false → m ≢ n
 unlike w m n x r q p there on e same = true≢false
@@ -31,7 +31,7 @@ unlike w m n x r q p there on e same = true≢false
 pub no_record : (r : Record) → Option.Some r ≡ None → ⊥
 no_record r h = cc h
 
--- one that is there is another than one that isn't
+-- a termination that exists differs from one that doesn't
 pub another : (w : Registry) (m n : ℕ) (r : Record) → record_at w m ≡ Some r → record_at w n ≡ None → m ≢ n
 another w m n r found none same = no_record r (sym found ∙ ap (record_at w) same ∙ none)
 
@@ -52,7 +52,7 @@ pub some_context : (o : Option Context) → is_some o ≡ true → (x : Context)
 some_context (Some x) h = (x, refl)
 some_context None h = absurd (cc h)
 
--- one on a place, perhaps with another record later, of the same context and seat
+-- a member keeps its place if its context and seat are unchanged
 carried : (old new : Registry) (m : ℕ) (r q : Record) (p : Place) → IsSound new → KeepsRooms old new →
     record_at new m ≡ Some q → q.context ≡ r.context → q.seat ≡ r.seat → IsOnPlace old m r p → IsOnPlace new m q p
 carried old new m r q p sound keeps found context seat on =
@@ -64,10 +64,11 @@ carried old new m r q p sound keeps found context seat on =
 
 pub same_others : (old new : Registry) (n : ℕ) → IsSound old → IsSound new → KeepsRooms old new →
     Others old new n → SameOthers old new n
-same_others old new n before after keeps others m r p apart = (
-  λ on. carried old new m r r p after keeps (others m apart ∙ on.found) refl refl on,
-  λ on. carried new old m r r p before (λ c x y a b. sym (keeps c y x b a)) (sym (others m apart) ∙ on.found) refl refl on,
-)
+same_others old new n before after keeps others m r p apart =
+    let back : KeepsRooms new old = λ c x y a b. sym (keeps c y x b a) in (
+      λ on. carried old new m r r p after keeps (others m apart ∙ on.found) refl refl on,
+      λ on. carried new old m r r p before back (sym (others m apart) ∙ on.found) refl refl on,
+    )
 
 -- one with another record, in the same context, was on the same place
 pub stayed_at : (old new : Registry) (n : ℕ) (r q : Record) (p : Place) → IsSound old → Lasts old new →
@@ -148,7 +149,7 @@ module _ (old new : List RoomFlows) (p : Place) (held does_talk does_listen : Bo
   held_here : holds new p ≡ held
   held_here = set.held p ∙ ap (λ (b : Bool). cond b held (holds old p)) (same_is p)
 
--- one is on its place, with its mode, and the table has the others
+-- the table has the other members, and the place of one is set to its mode
 module _ (w : Registry) (n : ℕ) (r : Record) (p : Place) (old new : List RoomFlows) (sound : IsSound w)
     (on : IsOnPlace w n r p) (set : SetsPlace old new p true (talks r.mode) (listens r.mode))
     (each : (m : ℕ) (x : Record) (q : Place) → m ≢ n → IsOnPlace w m x q → SaysOf old x q)
@@ -229,8 +230,7 @@ module _ (w : Registry) (n : ℕ) (r : Record) (p : Place) (old new : List RoomF
   -- whether the place of one is the newcomer's
   is_newcomer : (m : ℕ) (x : Record) (q : Place) → IsOnPlace w m x q → (b : Bool) → eqb m n ≡ b → is_same_place q p ≡ b
   is_newcomer m x q there true e = rw (one_place w m n x r q p there on (eqb-true m n e)) (same_is p)
-  is_newcomer m x q there false e =
-      apart_places w m n x r q p sound there on (unequal m n e)
+  is_newcomer m x q there false e = apart_places w m n x r q p sound there on (unequal m n e)
 
   pair : (es : List ContextEdit) → HearsOthers w n old es → (talker listener : ℕ) (t l : Record) (a b : Place) →
       ShareContext w talker listener t l a b → (x y : Bool) → eqb talker n ≡ x → eqb listener n ≡ y →

@@ -102,14 +102,14 @@ module _ (inside : Inside) (l : Record) (p : Place) (mask : ℕ) (whole : IsWhol
   -- whose seat is silenced talks in the room
   talks_there : (seat : ℕ) (n : ℕ) (r : Record) → IsTrue (has_seat mask seat) →
       IsOnPlace k.rooms n r (sibling_place p seat) → talks r.mode ≡ true
-  talks_there seat n r h at =
-      sym (whole.members.each n r (sibling_place p seat) at).talks
+  talks_there seat n r h at = sym (whole.members.each n r (sibling_place p seat) at).talks
       ∙ (and_parts (flow.talks_at k.flows (sibling_place p seat)) _ (sym (kept seat) ∙ h)).0
 
   row_joined : (seat : ℕ) → IsTrue (has_seat mask seat) → IsTrue (is_joined k.sums.rooms p.room (row_on seat))
   row_joined seat h =
       let (n, r, at) = held seat h in
-      let joins = joined_is k.sums.rooms r (sibling_place p seat) p.room (whole.joined.each n r (sibling_place p seat) at) in
+      let joins = joined_is k.sums.rooms r (sibling_place p seat) p.room
+      (whole.joined.each n r (sibling_place p seat) at) in
       rw (whole.seats n r (sibling_place p seat) at, joins, talks_there seat n r h at) (eq-eqb p.room p.room refl)
 
   rows_differ : (a b : ℕ) → IsTrue (has_seat mask a) → IsTrue (has_seat mask b) → row_on a ≡ row_on b → a ≡ b
@@ -133,7 +133,8 @@ module _ (inside : Inside) (l : Record) (p : Place) (mask : ℕ) (whole : IsWhol
   own_apart : (seat : ℕ) → IsTrue (has_seat mask seat) → l.slot ≢ row_on seat
   own_apart seat h same =
       let (n, r, at) = held seat h in
-      let equal = whole.sound.one_slot l.number n l r on.found at.found (same ∙ whole.seats n r (sibling_place p seat) at) in
+      let equal = whole.sound.one_slot l.number n l r on.found at.found
+      (same ∙ whole.seats n r (sibling_place p seat) at) in
       let here = one_place k.rooms l.number n l r p (sibling_place p seat) on at equal in
       true≢false (sym h ∙ kept seat ∙ ap (λ (q : Place). flow.is_silenced k.flows q p) (sym here) ∙ not_itself k.flows p)
 
@@ -143,8 +144,7 @@ module _ (inside : Inside) (l : Record) (p : Place) (mask : ℕ) (whole : IsWhol
     joined = All-cons (λ row. IsTrue (is_joined k.sums.rooms p.room row)) l.slot minus
         (joined_is k.sums.rooms l p p.room (whole.joined.each l.number l p on) ∙
         ap (λ (b : Bool). b && eqb p.room p.room) e ∙ eq-eqb p.room p.room refl) minus_joined;
-    different = AllPairs-cons (λ a b. a ≢ b) l.slot minus
-        (All-map (λ row. l.slot ≢ row) row_on (seats_of mask)
+    different = AllPairs-cons (λ a b. a ≢ b) l.slot minus (All-map (λ row. l.slot ≢ row) row_on (seats_of mask)
         (All-weaker (λ seat. IsTrue (has_seat mask seat)) (λ seat. l.slot ≢ row_on seat) own_apart (seats_of mask)
         (seats_pass mask))) minus_apart;
   }
@@ -156,12 +156,9 @@ module _ (inside : Inside) (l : Record) (p : Place) (mask : ℕ) (whole : IsWhol
   -- ## How many they are
 
   pub how_many : length minus ≡ silenced_now k l
-  how_many =
-      length-map (seats_of mask) row_on
-      ∙ same_number (length (seats_of mask)) (silenced_now k l)
+  how_many = length-map (seats_of mask) row_on ∙ same_number (length (seats_of mask)) (silenced_now k l)
       (sym (sum_of-ones (seats_of mask))
-      ∙ sum_on_seats k.rooms inside.seating l p mask whole.sound whole.seats on.place held
-      (λ slot. pos 1)
+      ∙ sum_on_seats k.rooms inside.seating l p mask whole.sound whole.seats on.place held (λ slot. pos 1)
       ∙ sum_of-same _ (λ t. cond (is_silenced_between k.flows (place_of k.rooms t) (place_of k.rooms l)) (pos 1) (pos 0))
       k.rooms.terminations (λ t. ap (λ (b : Bool). cond b (pos 1) (pos 0)) (silenced_is (place_of k.rooms t) ∙
       ap (is_silenced_between k.flows (place_of k.rooms t)) (sym on.place)))
@@ -194,7 +191,8 @@ module _ (inside : Inside) (l : Record) (p : Place) (mask : ℕ) (whole : IsWhol
         let unheard = no_hearing k.flows p p (nobody_hears_itself k.flows p) in
         rw (is, here, not_itself k.flows p, unheard, eq-eqb p.room p.room refl) (own_splits (sample_of l) (talks l.mode))
     split_at t q at false e false f =
-        rw (silenced_apart k.flows q p f, flows_apart k.flows q p f, f, and-false (talks t.mode)) (none_splits (sample_of t))
+        rw (silenced_apart k.flows q p f, flows_apart k.flows q p f, f, and-false (talks t.mode))
+        (none_splits (sample_of t))
     split_at t q at false e true f =
         let seat = seats_differ k.rooms t.number l.number t l q p whole.sound (record {
           first = at;
@@ -214,7 +212,8 @@ module _ (inside : Inside) (l : Record) (p : Place) (mask : ℕ) (whole : IsWhol
         total_part t ≡ (own_part t +ℤ silenced_part t) +ℤ part_now k l i t
     split t found =
         let (q, at) = on_place k.rooms t.number t whole.sound found in
-        rw (joined_is k.sums.rooms t q p.room (whole.joined.each t.number t q at), at.place, on.place, silenced_is (Some q))
+        let joins = joined_is k.sums.rooms t q p.room (whole.joined.each t.number t q at) in
+        rw (joins, at.place, on.place, silenced_is (Some q))
         (split_at t q at (eqb t.number l.number) refl (eqb q.room p.room) refl)
 
     -- ## The listener itself
@@ -242,8 +241,7 @@ module _ (inside : Inside) (l : Record) (p : Place) (mask : ℕ) (whole : IsWhol
     out_sum false = omega (arith, ints)
 
     silenced_sum : sum_of (sample_in k.sums.frames i) minus ≡ sum_of silenced_part k.rooms.terminations
-    silenced_sum =
-        sum_of-map (sample_in k.sums.frames i) row_on (seats_of mask)
+    silenced_sum = sum_of-map (sample_in k.sums.frames i) row_on (seats_of mask)
         ∙ sum_on_seats k.rooms inside.seating l p mask whole.sound whole.seats on.place held
         (λ slot. sample_at k.sums.frames slot i)
 

@@ -68,8 +68,7 @@ swap_placed w n m p q None (Some t) apart here there =
     let after = (frame_placed_at w m q (Some t)).0 in (
       after,
       ap (frame_placed_at w m q) there,
-      ap (frame_placed_at after n p)
-          (other_media w m n q (turned_numbers n m apart) ∙ here),
+      ap (frame_placed_at after n p) (other_media w m n q (turned_numbers n m apart) ∙ here),
     )
 swap_placed w n m p q (Some s) None apart here there =
     let after = (frame_placed_at w n p (Some s)).0 in
@@ -108,8 +107,7 @@ swap_by w (Some r) (Some d) s t x y apart =
 -- ## A packet changes media alone
 
 arrived_rooms : (w : Gateway) (n : ℕ) (x : Arrived) → (taken_at w n x).0.rooms ≡ w.rooms
-arrived_rooms w n (Ok p) =
-    grind (arith, nat_tests)
+arrived_rooms w n (Ok p) = grind (arith, nat_tests)
 arrived_rooms w n (Err cause) = refl
 
 taken_rooms : (w : Gateway) (o : Option Record) (source : List ℕ) (reading : Reading) →
@@ -141,28 +139,27 @@ order_of_two w between last port other from source bytes list a b h ports (x, is
       (
         x,
         is,
-        ap (λ (z : Registry). taken_by turned (at_port z port) from x) (taken_rooms w k source y)
-            ∙ before
-            ∙ ap (λ (g : Gateway). (g, (taken_by w o from x).1)) is_last
-            ∙ ap (λ (t : Taken). (last, t)) is_a,
+        ap (λ (z : Registry). taken_by turned (at_port z port) from x) (taken_rooms w k source y) ∙ before
+            ∙ ap (λ (g : Gateway). (g, (taken_by w o from x).1)) is_last ∙ ap (λ (t : Taken). (last, t)) is_a,
       ),
     )
 
 -- ## An edit, and the terminations and contexts after it
 
-abbrev ok_pair : Registry → Record → Result (Registry × Record) ErrorNumber
-ok_pair z d = Ok (z, d)
-
 -- a command that was done on a gateway was done on its terminations
 pub done_is : (f : Registry → Record → Gateway) (o : Result (Registry × Record) ErrorNumber)
     (next : Gateway) (r : Record) → done_with f o ≡ Ok (next, r) → (z : Registry) × (o ≡ Ok (z, r)) ×
     (next ≡ f z r)
-done_is f (Ok p) next r e =
-    grind (arith, nat_tests, p.1, p.0)
+done_is f (Ok p) next r e = grind (arith, nat_tests, p.1, p.0)
 done_is f (Err x) next r e = absurd (cc e)
+
+-- what holds of each outcome of a command on the terminations holds of the gateway after it
+pub done_gives : (P : Gateway → Type 0) (f : Registry → Record → Gateway)
+    (o : Result (Registry × Record) ErrorNumber) (next : Gateway) (r : Record) → done_with f o ≡ Ok (next, r) →
+    ((z : Registry) → o ≡ Ok (z, r) → P (f z r)) → P next
+done_gives P f o next r e gives = let (z, is, represents) = done_is f o next r e in rw represents (gives z is)
 
 pub triples_rooms : (w next : Gateway) (target : Target) (xs : List TopologyTriple) (c : ℕ) →
     apply_triples w target xs ≡ Ok (next, c) → next.rooms ≡ w.rooms
 unfolding apply_triples
-triples_rooms w next target xs c e =
-    grind (arith, nat_tests)
+triples_rooms w next target xs c e = grind (arith, nat_tests)

@@ -44,8 +44,7 @@ module _ (w : Registry) (kept : SumsState) (room i : ℕ) (sound : IsSound w) (j
 
   -- the total of a room is the sum over the terminations whose rows are joined to it
   pub total_by_terminations : total_of kept room i ≡ sum_of joined_part w.terminations
-  total_by_terminations =
-      total_by_rows
+  total_by_terminations = total_by_rows
       ∙ seat_sums w.terminations (λ t. true) (λ t. t.slot) termination_limit row_part joined_part
       (λ j d lt. let r = get_or w.terminations j d in
       omega (arith, (sound.termination r.number r (sound.by_number j d lt)).1.slot, sound.consistent.limits.0.few_slots))

@@ -8,10 +8,8 @@ swapped : {A : Type 0} (f : A → ℕ → ℤ) (rs : List A) (ks : List ℕ) →
     sum_of (λ k. sum_of (λ t. f t k) rs) ks ≡ sum_of (λ t. sum_of (f t) ks) rs
 swapped f [] ks = sum_of-none (λ k. sum_of (λ t. f t k) []) ks (λ k. sum_of-nil (λ t. f t k)) ∙
     sym (sum_of-nil (λ t. sum_of (f t) ks))
-swapped f (r ∷ rs) ks =
-    sum_of-plus (λ k. sum_of (λ t. f t k) (r ∷ rs)) (f r) (λ k. sum_of (λ t. f t k) rs) ks
-    (λ k. sum_of-cons (λ t. f t k) r rs)
-    ∙ ap (λ (z : ℤ). sum_of (f r) ks +ℤ z) (swapped f rs ks)
+swapped f (r ∷ rs) ks = sum_of-plus (λ k. sum_of (λ t. f t k) (r ∷ rs)) (f r) (λ k. sum_of (λ t. f t k) rs) ks
+    (λ k. sum_of-cons (λ t. f t k) r rs) ∙ ap (λ (z : ℤ). sum_of (f r) ks +ℤ z) (swapped f rs ks)
     ∙ sym (sum_of-cons (λ t. sum_of (f t) ks) r rs)
 
 -- what seats of a mask add up to, over all seats
@@ -87,6 +85,5 @@ seat_sums {A} rs is_in seat n h g below parts once none =
     sum_of-same h (λ k. sum_of (λ t. part t k) rs) (range_with_len 0 n)
     (λ k. by_count (λ t. is_in t && eqb (seat t) k) (h k) rs (count_by (λ t. is_in t && eqb (seat t) k) rs) refl
     (once k) (none k))
-    ∙ swapped part rs (range_with_len 0 n)
-    ∙ sum_of-agree (λ t. sum_of (part t) (range_with_len 0 n)) g rs
+    ∙ swapped part rs (range_with_len 0 n) ∙ sum_of-agree (λ t. sum_of (part t) (range_with_len 0 n)) g rs
     (λ i d lt. let t = get_or rs i d in part_among (is_in t) h (seat t) n (below i d lt) ∙ sym (parts i d lt))

@@ -45,7 +45,8 @@ module _ (old new : Registry) (n : ℕ) (was r : Record) (p : Place) (seating : 
       eqb m n ≡ b → slot_at seating q ≡ x.slot
   mode_case h m x q at true e =
       let at_n = eqb-true m n e in
-      rw (one_place new m n x r q p at on at_n, one_record new m n x r at.found on.found at_n) (h n was p there ∙ sym slot)
+      rw (one_place new m n x r q p at on at_n, one_record new m n x r at.found on.found at_n)
+      (h n was p there ∙ sym slot)
   mode_case h m x q at false e = h m x q ((same m x q (unequal m n e)).1 at)
 
   pub seated_mode : AreSeated old seating → AreSeated new seating

@@ -16,8 +16,7 @@ module _ (k : EngineState) (w : Gateway) (sound : IsSound k.rooms) (members : Ha
     (h : StandsFor k w) where
   part_is : (l t : Record) (i : ℕ) → record_at k.rooms l.number ≡ Some l → record_at k.rooms t.number ≡ Some t →
       part_of_mix w l.number i t.number ≡ part_now k l i t
-  part_is l t i hearing speaking =
-      ap (λ (b : Bool). cond b (played_sample w t.number i) (pos 0))
+  part_is l t i hearing speaking = ap (λ (b : Bool). cond b (played_sample w t.number i) (pos 0))
       (flow_is k w sound members h t.number l.number t l speaking hearing)
       ∙ ap (λ (z : ℤ). cond (flows_now k t l) z (pos 0)) (sample_is k w t i h speaking)
 
@@ -52,9 +51,8 @@ module _ (k : EngineState) (w : Gateway) (sound : IsSound k.rooms) (members : Ha
   packet_same : (r : Record) (to : Chosen) (s : TerminationMedia) → record_at k.rooms r.number ≡ Some r →
       media_of w r.number ≡ Some s → 1 ≤ s.ticks → packet w r to s ≡ packet_now k r to
   packet_same r to s found there old =
-      let number = found_key (λ x. x.number) r.number w.media s there in
       let head = header_is to r.number (media_at k.media r.slot) (get_or k.sums.frames r.slot []) s
-      (h.media r.number r s found there) old number in
+      (h.media r.number r s found there) old (found_key (λ x. x.number) r.number w.media s there) in
       λ i. record {
         from = slot_port (h.rooms i).limits r.slot;
         to = record { address = to.address; port = to.port };

@@ -25,8 +25,7 @@ module _ {A : Type 0} (h : A → A) where
 
 -- ## An idle play list
 
-in_idle : (phase : Phase) (list : PlayList) → IsTrue (is_idle phase) →
-    ticked_in phase list ≡ (list, Silence)
+in_idle : (phase : Phase) (list : PlayList) → IsTrue (is_idle phase) → ticked_in phase list ≡ (list, Silence)
 in_idle Idle list idle = refl
 in_idle phase list idle = absurd (cc idle)
 
@@ -91,11 +90,9 @@ ticked_once b m idle = ap (slot_ended b) (idle_played m idle) ∙ one_passed b m
 pub passed_is : (b : Bool) (n : ℕ) (m : SlotMedia) → IsTrue (is_idle m.play.phase) →
     iterate (slot_ticked b) (suc n) m ≡ slot_passed b (suc n) m
 passed_is b zero m idle = ticked_once b m idle
-passed_is b (suc n) m idle =
-    ap (iterate (slot_ticked b) (suc n)) (ticked_once b m idle)
+passed_is b (suc n) m idle = ap (iterate (slot_ticked b) (suc n)) (ticked_once b m idle)
     ∙ passed_is b n (slot_passed b 1 m)
-    (subst (λ (p : PlayList). IsTrue (is_idle p.phase)) (sym (idle_passed b 1 m)) idle)
-    ∙ more_passed b n m
+    (subst (λ (p : PlayList). IsTrue (is_idle p.phase)) (sym (idle_passed b 1 m)) idle) ∙ more_passed b n m
 
 pub passed_by : (b : Bool) (n : ℕ) (m : SlotMedia) → 0 < n → IsTrue (is_idle m.play.phase) →
     slot_passed b n m ≡ iterate (slot_ticked b) n m
@@ -116,8 +113,7 @@ kept zero w = (refl, refl, refl)
 kept (suc n) w = kept n (after_tick w)
 
 one_tick_numbers : (w : Gateway) → map (λ s. s.number) (after_tick w).media ≡ map (λ s. s.number) w.media
-one_tick_numbers w =
-    ap (map (λ s. s.number)) (map-map (λ s. sent (sends_at w.rooms s.number) s) played w.media)
+one_tick_numbers w = ap (map (λ s. s.number)) (map-map (λ s. sent (sends_at w.rooms s.number) s) played w.media)
     ∙ map-map (λ (s : TerminationMedia). s.number) (ticked_media w.rooms) w.media
     ∙ map_agree (λ s. (ticked_media w.rooms s).number) (λ s. s.number) w.media
     (λ s. sent_number (sends_at w.rooms s.number) (played s))
@@ -162,8 +158,7 @@ module _ (config : Config) (w : Registry) (b : Bool) (row : List ℤ) (silent : 
   many_stand : (n : ℕ) (m : SlotMedia) (s : TerminationMedia) → IsIdleMedia m → sends_at w s.number ≡ b →
       IsMediaOf config m row s → IsMediaOf config (iterate (slot_ticked b) n m) row (iterate (ticked_media w) n s)
   many_stand zero m s idle sends h = h
-  many_stand (suc n) m s idle sends h =
-      many_stand n (slot_ticked b m) (ticked_media w s) (idle_kept b m idle)
+  many_stand (suc n) m s idle sends h = many_stand n (slot_ticked b m) (ticked_media w s) (idle_kept b m idle)
       (ap (sends_at w) (sent_number (sends_at w s.number) (played s)) ∙ sends) (one_stands m s idle sends h)
 
 -- ticks were counted for the slot of each termination

@@ -3,7 +3,8 @@ use Rattle.mg_engine.proofs.Common.{◌≡◌, ℕ, ◌<◌, List, [], ◌∷◌
 
 pub sum_by-map : {A B : Type 0} (f : B → ℕ) (g : A → B) (xs : List A) → sum_by f (map g xs) ≡ sum_by (λ x. f (g x)) xs
 sum_by-map f g [] = refl
-sum_by-map f g (x ∷ xs) = omega (arith, sum_by-cons f (g x) (map g xs), sum_by-map f g xs, sum_by-cons (λ y. f (g y)) x xs)
+sum_by-map f g (x ∷ xs) =
+    omega (arith, sum_by-cons f (g x) (map g xs), sum_by-map f g xs, sum_by-cons (λ y. f (g y)) x xs)
 
 -- two functions that agree at each element
 pub sum_by-agree : {A : Type 0} (f g : A → ℕ) (xs : List A) → All (λ x. f x ≡ g x) xs → sum_by f xs ≡ sum_by g xs

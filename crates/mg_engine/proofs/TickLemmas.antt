@@ -27,7 +27,7 @@ pub from_mapped : (f : TerminationMedia → TerminationMedia) (P : TerminationMe
 from_mapped f P (Some t) s e h = subst P (same_Some (f t) s e) (h t refl)
 from_mapped f P None s e h = absurd (cc e)
 
--- each termination's stream is changed by one function, and so are the media and the frame of its slot
+-- One function changes the media of each termination, and the media and the frame of its slot change accordingly.
 pub stands_mapped : (k : EngineState) (w v : Gateway) (new : List SlotMedia) (kept : SumsState)
     (f : TerminationMedia → TerminationMedia) →
     (v.config ≡ w.config) × (v.rooms ≡ w.rooms) × (v.edits ≡ w.edits) →

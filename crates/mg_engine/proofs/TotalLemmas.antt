@@ -45,8 +45,7 @@ module _ (w : Registry) (c : ℕ) (f : ℕ → ℤ) (sound : IsSound w) where
   by_terminations = seat_sums w.terminations (λ t. true) (λ t. t.number) numbers part context_part
       (λ j d lt. below (get_or w.terminations j d).number (get_or w.terminations j d) (sound.by_number j d lt))
       (λ j d lt. ap (λ (o : Option Record). cond (in_context c o) (f (get_or w.terminations j d).number) (pos 0))
-      (sym (sound.by_number j d lt)))
-      (λ n. sound.consistent.terminations.one_number n)
+      (sym (sound.by_number j d lt))) (λ n. sound.consistent.terminations.one_number n)
       (λ n none. ap (λ (o : Option Record). cond (in_context c o) (f n) (pos 0))
       (find-none (λ r. eqb r.number n) w.terminations none))
 
@@ -99,8 +98,7 @@ module _ (inside : Inside) (w : Gateway) (c i : ℕ) (x : Context) (whole : IsWh
       (sym (sample_is k w t i h found) j) (pos 0)) (pos 0)
 
   pub total_is : total_of k.sums x.room i ≡ total w c i
-  total_is =
-      total_by_terminations k.rooms k.sums x.room i whole.sound whole.joined whole.row_count
+  total_is = total_by_terminations k.rooms k.sums x.room i whole.sound whole.joined whole.row_count
       ∙ sum_of-agree (joined_part k.rooms k.sums x.room i whole.sound whole.joined whole.row_count)
       (λ (t : Record). cond (eqb t.context c) (part_of_total w i t.number) (pos 0)) k.rooms.terminations
       (λ j d lt. part_is (get_or k.rooms.terminations j d) (whole.sound.by_number j d lt))
@@ -119,8 +117,7 @@ context_with None room h = absurd (cc h)
 
 pub total_there : (k : EngineState) (w : Gateway) (c i : ℕ) (x : Context) → StandsFor k w → i < 160 →
     context_at k.rooms c ≡ Some x → some (total w c i) ≡ total_at w c i
-total_there k w c i x h lt found =
-    ap (λ (b : Bool). cond b (some (total w c i)) None) (sym (lt-ltb i 160 lt))
+total_there k w c i x h lt found = ap (λ (b : Bool). cond b (some (total w c i)) None) (sym (lt-ltb i 160 lt))
     ∙ ap (λ (b : Bool). cond (b && nat_lt i 160) (some (total w c i)) None) (sym (ap is_some found))
     ∙ ap (λ (y : Registry). cond (is_some (context_at y c) && nat_lt i 160) (some (total w c i)) None)
     (sym h.rooms)

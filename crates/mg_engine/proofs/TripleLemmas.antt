@@ -1,5 +1,5 @@
 -- Triples by the seats of the members that their terms match.
-use Rattle.mg_engine.proofs.Common.{IsSound, ne_eqb, and_parts, and-false, false_from_ne_true, ◌≡◌, ℕ, zero, suc, ◌+◌, ◌<◌, eqb, ◌&&◌, ◌||◌, Bool, true, false, cond, List, [], ◌∷◌, ◌++◌, ◌==◌, length, get_or, take, drop, Some, Result, Ok, Err, refl, sym, ap, subst, ◌∙◌, arith, Any, list_any, eqb-true, eq-eqb, take_more, Triple, has_seat, Overlaps, Context, Record, Registry, record_at, context_at, members_at, Place, RoomFlows, hears, Target, Gateway, ContextEdit, Apply, may_hear, existing_context, EngineState, StandsFor, ShareContext, has, place_of, HasMembers, ErrorNumber, TopologyTriple, with_triples, check_triples, AreMatched, IsTrue, ◌↔◌, nat_tests, are_together, holds, hears_after, KeepsPlaces, KeepsOthers, drop_more, IllegalCombination, matched, is_barred, names_others, check_triple, overlaps, mentions, word_of, is_oneway, Isolate, Oneway, Bothway, IsOutcome, IsRoomOf, IsSeated, Matches, IsMatched}
+use Rattle.mg_engine.proofs.Common.{IsSound, ne_eqb, and_parts, and-false, false_from_ne_true, ◌≡◌, ℕ, zero, suc, ◌+◌, ◌<◌, eqb, ◌&&◌, ◌||◌, Bool, true, false, cond, List, [], ◌∷◌, ◌++◌, ◌==◌, length, get_or, take, drop, Some, Result, Ok, Err, refl, sym, ap, subst, ◌∙◌, arith, Any, list_any, eqb-true, eq-eqb, take_more, Triple, has_seat, Overlaps, Context, Record, Registry, record_at, context_at, members_at, Place, RoomFlows, hears, Target, Gateway, ContextEdit, Apply, may_hear, existing_context, EngineState, StandsFor, ShareContext, has, place_of, HasMembers, ErrorNumber, TopologyTriple, with_triples, check_triples, AreMatched, IsTrue, ◌↔◌, nat_tests, are_together, holds, hears_after, KeepsPlaces, KeepsOthers, drop_more, IllegalCombination, matched, is_barred, names_others, check_triple, overlaps, mentions, word_of, is_oneway, Isolate, Oneway, Bothway, IsOutcome, IsRoomOf, IsSeated, Matches, IsMatched, or-false}
 use Rattle.std.specs.Cmp.{both_ways}
 use Rattle.mg_topology.specs.Topology as topology
 use Rattle.mg_engine.specs.Outcome.{apply_triples}
@@ -30,11 +30,9 @@ module _ (w : Registry) (c number mask : ℕ) (r : Record) (sound : IsSound w) (
       number,
       rw (eqb-true seat r.seat (sym (of_seat seat) ∙ h)) (seated w c number r sound found context),
     );
-    named = λ n h. (r.seat, rw (sym (eqb-true number n (only (eqb number n) h))) (seated w c number r sound found context));
-  } where
-    only : (b : Bool) → (b || false) ≡ true → b ≡ true
-    only true h = refl
-    only false h = absurd (cc h)
+    named = λ n h. let same = eqb-true number n (sym (or-false (eqb number n)) ∙ h) in
+        (r.seat, rw (sym same) (seated w c number r sound found context));
+  }
 
 -- ## All members
 
@@ -68,16 +66,14 @@ matches_every w c room mask table sound is all held = record {
 
 any_named : (xs ys : List ℕ) (n : ℕ) → has xs n ≡ true → has ys n ≡ true → list_any (has ys) xs ≡ true
 any_named [] ys n one two = absurd (cc one)
-any_named (x ∷ xs) ys n one two =
-    grind (arith, nat_tests, any_named xs ys n)
+any_named (x ∷ xs) ys n one two = grind (arith, nat_tests, any_named xs ys n)
 
 abbrev AreNamed : List ℕ → List ℕ → Type 0
 AreNamed xs ys = (n : ℕ) × (has xs n ≡ true) × (has ys n ≡ true)
 
 some_named : (xs ys : List ℕ) → list_any (has ys) xs ≡ true → AreNamed xs ys
 some_named [] ys h = absurd (cc h)
-some_named (x ∷ xs) ys h =
-    grind (arith, nat_tests, some_named xs ys)
+some_named (x ∷ xs) ys h = grind (arith, nat_tests, some_named xs ys)
 
 oneway_is : (a : Association) → is_oneway a ≡ true → a ≡ Oneway
 oneway_is Isolate h = absurd (cc h)
@@ -95,11 +91,7 @@ module _ (w : Registry) (c : ℕ) (members : List ℕ) (x : TopologyTriple) (y :
       let (seat, is) = m.first.named n a in
       law.1 (
         m.association ∙ oneway_is x.association oneway,
-        record {
-          seat = seat;
-          in_first = m.first.same n seat is ∙ a;
-          in_second = m.second.same n seat is ∙ b;
-        },
+        record { seat = seat; in_first = m.first.same n seat is ∙ a; in_second = m.second.same n seat is ∙ b },
       )
 
   by_seats : overlaps y ≡ true → terms.overlaps members x ≡ true

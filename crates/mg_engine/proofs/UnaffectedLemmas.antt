@@ -1,5 +1,5 @@
 -- What an edit and an RTP datagram leave alone.
-use Rattle.mg_engine.proofs.Common.{◌≡◌, ℕ, ℤ, pos, eqb, not, ◌&&◌, Bool, true, false, cond, List, [], ◌∷◌, Option, Some, None, Result, Ok, Err, refl, sym, ap, subst, ◌∙◌, IsSome, is_some, eq-eqb, ne_eqb, same_Some, talks, ErrorNumber, Header, Reading, Context, Record, Settings, Target, is_number, record_at, context_at, members_at, IsSound, Taken, TopologyTriple, Arrived, Takes, arrived, at_port, taken_at, frame_placed_at, taken_by, has, may_hear, Gateway, TerminationMedia, ContextEdit, Apply, Enter, media_of, new_media, frame_in, added, modified, moved, subtracted, existing_context, done_with, tuned, EngineState, StandsFor, check_triples, with_triples, slice_index_or, Registry, total, part_of_total, find-change_other, find-push_other, listens, context_in, mode_or_inactive, check_triple, matched, names_others, bind_ok, false_from_ne_true, not-false, true≢false, get_or, list_any_at, sum_of-agree, arith, nat_tests, sum_of}
+use Rattle.mg_engine.proofs.Common.{◌≡◌, ℕ, ℤ, pos, eqb, not, ◌&&◌, Bool, true, false, cond, List, [], ◌∷◌, Option, Some, None, Result, Ok, Err, refl, sym, ap, subst, ◌∙◌, IsSome, is_some, eq-eqb, ne_eqb, same_Some, talks, ErrorNumber, Header, Reading, Context, Record, Settings, Target, is_number, record_at, context_at, members_at, IsSound, Taken, TopologyTriple, Arrived, Takes, arrived, at_port, taken_at, frame_placed_at, taken_by, has, may_hear, Gateway, TerminationMedia, ContextEdit, Apply, Enter, media_of, new_media, frame_in, added, modified, moved, subtracted, existing_context, tuned, check_triples, with_triples, slice_index_or, Registry, total, part_of_total, find-change_other, find-push_other, listens, context_in, mode_or_inactive, check_triple, matched, names_others, bind_ok, false_from_ne_true, not-false, true≢false, get_or, list_any_at, sum_of-agree, arith, nat_tests, sum_of}
 use Rattle.mg_rooms.specs.declared.target.Target.TheVariants.{Null, New, Number}
 use Rattle.mg_rooms.specs.Outcome as commands
 use Rattle.mg_rooms.specs.aids.Found.{members_of}
@@ -13,7 +13,7 @@ use Rattle.mg_engine.specs.Flow.{flow, hears}
 use Rattle.mg_engine.specs.Unaffected.{IsUnaffected, IsEditElsewhere, IsPortElsewhere, is_member}
 use Rattle.mg_engine.specs.Outcome.{add, modify, move_to, subtract, apply_triples, done_as, outcome}
 use Rattle.mg_engine.proofs.ElsewhereLemmas.{Spares, add_spares, modify_spares, move_spares, subtract_spares}
-use Rattle.mg_engine.proofs.OrderLemmas.{done_is, other_media}
+use Rattle.mg_engine.proofs.OrderLemmas.{done_gives, other_media}
 
 -- ## A context of which each record and each stream is as it was
 
@@ -22,8 +22,7 @@ abbrev share : Option Record → Option Record → ℕ → ℕ → Bool
 share r q a b = is_some r && (is_some q && (eqb (context_in r) (context_in q) && not (eqb a b)))
 
 abbrev flow_by : Option Record → Option Record → Bool → ℕ → ℕ → Bool
-flow_by r q word a b =
-    eqb (context_in r) (context_in q) && (not (eqb a b) &&
+flow_by r q word a b = eqb (context_in r) (context_in q) && (not (eqb a b) &&
     (talks (mode_or_inactive r) && (listens (mode_or_inactive q) && word)))
 
 abbrev part : Option Record → Option TerminationMedia → ℕ → ℤ
@@ -48,8 +47,7 @@ module _ (w next : Gateway) (c : ℕ) (context : context_at next.rooms c ≡ con
   part_same i n there = λ j. part (records n there j) (media n there j) i
 
   total_same : (i : ℕ) → total next c i ≡ total w c i
-  total_same i =
-      ap (λ (o : Option Context). sum_of (part_of_total next i) (members_of o)) context
+  total_same i = ap (λ (o : Option Context). sum_of (part_of_total next i) (members_of o)) context
       ∙ sums_agree (part_of_total next i) (part_of_total w i) (members_at w.rooms c) (part_same i)
 
   alone : IsUnaffected w next c
@@ -71,8 +69,7 @@ turned_from w c n m out within = ne_eqb m n (λ same. true≢false (sym within �
 -- the last word on two looks at no entry of a third one
 entry_elsewhere : (w : Gateway) (c n : ℕ) (es : List ContextEdit) → is_member w c n ≡ false → (a b : ℕ) →
     is_member w c a ≡ true → is_member w c b ≡ true → may_hear (Enter n ∷ es) a b ≡ may_hear es a b
-entry_elsewhere w c n es out a b one two =
-    rw (turned_from w c n a out one, turned_from w c n b out two) refl
+entry_elsewhere w c n es out a b one two = rw (turned_from w c n a out one, turned_from w c n b out two) refl
 
 module _ (w : Gateway) (z : Registry) (d : Record) (c : ℕ) (s : Spares w.rooms z c d.number) where
   kept : (n : ℕ) → is_member w c n ≡ true → record_at z n ≡ record_at w.rooms n
@@ -85,11 +82,9 @@ module _ (w : Gateway) (z : Registry) (d : Record) (c : ℕ) (s : Spares w.rooms
       (apart_from w c d.number n s.apart there)
 
   added_alone : (settings : Settings) → IsUnaffected w (added w settings z d) c
-  added_alone settings =
-      alone w (added w settings z d) c s.context kept
+  added_alone settings = alone w (added w settings z d) c s.context kept
       (λ n there. find-push_other (λ s. eqb s.number n) w.media (tuned settings (new_media d.number))
-      (apart_from w c d.number n s.apart there))
-      (entry_elsewhere w c d.number w.edits s.apart)
+      (apart_from w c d.number n s.apart there)) (entry_elsewhere w c d.number w.edits s.apart)
 
   modified_alone : (settings : Settings) → IsUnaffected w (modified w settings z d) c
   modified_alone settings = alone w (modified w settings z d) c s.context kept (tuned_elsewhere settings)
@@ -100,19 +95,9 @@ module _ (w : Gateway) (z : Registry) (d : Record) (c : ℕ) (s : Spares w.rooms
       (entry_elsewhere w c d.number w.edits s.apart)
 
   subtracted_alone : IsUnaffected w (subtracted w z d) c
-  subtracted_alone =
-      alone w (subtracted w z d) c s.context kept
+  subtracted_alone = alone w (subtracted w z d) c s.context kept
       (λ n there. find-change_other (λ s. s.number) d.number n (λ _. None) w.media (λ x at. tt)
-      (apart_from w c d.number n s.apart there))
-      (λ a b one two. refl)
-
--- a command leaves what its outcome leaves
-command_alone : (w next : Gateway) (f : Registry → Record → Gateway)
-    (o : Result (Registry × Record) ErrorNumber) (r : Record) (c : ℕ) → done_with f o ≡ Ok (next, r) →
-    ((z : Registry) → o ≡ Ok (z, r) → IsUnaffected w (f z r) c) → IsUnaffected w next c
-command_alone w next f o r c done leaves =
-    let (z, is, represents) = done_is f o next r done in
-    subst (λ (g : Gateway). IsUnaffected w g c) (sym represents) (leaves z is)
+      (apart_from w c d.number n s.apart there)) (λ a b one two. refl)
 
 -- ## Triples
 
@@ -190,19 +175,19 @@ pub edit_alone : (w next : Gateway) (edit : Edit) (done : Done) (c : ℕ) → Is
     outcome w edit ≡ Ok (next, done) → IsSome (context_at w.rooms c) → IsEditElsewhere w c edit → IsUnaffected w next c
 edit_alone w next (edits.Add target settings) done c h e there apart =
     let (r, is) = as_done Termination (add w target settings) next done e in
-    command_alone w next (added w settings) (commands.add w.rooms target settings) r c is
+    done_gives (λ g. IsUnaffected w g c) (added w settings) (commands.add w.rooms target settings) next r is
     (λ z one. added_alone w z r c (add_spares w.rooms target settings z r c h there apart one) settings)
 edit_alone w next (edits.Modify target n settings) done c h e there (apart, out) =
     let (r, is) = as_done Termination (modify w target n settings) next done e in
-    command_alone w next (modified w settings) (commands.modify w.rooms target n settings) r c is
+    done_gives (λ g. IsUnaffected w g c) (modified w settings) (commands.modify w.rooms target n settings) next r is
     (λ z one. modified_alone w z r c (modify_spares w.rooms target n settings z r c out one) settings)
 edit_alone w next (edits.Move target n settings) done c h e there (apart, out) =
     let (r, is) = as_done Termination (move_to w target n settings) next done e in
-    command_alone w next (moved w settings) (commands.move_to w.rooms target n settings) r c is
+    done_gives (λ g. IsUnaffected w g c) (moved w settings) (commands.move_to w.rooms target n settings) next r is
     (λ z one. moved_alone w z r c (move_spares w.rooms target n settings z r c h there apart out one) settings)
 edit_alone w next (edits.Subtract target n) done c h e there (apart, out) =
     let (r, is) = as_done Termination (subtract w target n) next done e in
-    command_alone w next (subtracted w) (commands.subtract w.rooms target n) r c is
+    done_gives (λ g. IsUnaffected w g c) (subtracted w) (commands.subtract w.rooms target n) next r is
     (λ z one. subtracted_alone w z r c (subtract_spares w.rooms target n z r c h out one))
 edit_alone w next (edits.Triples target xs) done c h e there apart =
     let (t, is) = as_done Topology (apply_triples w target xs.items) next done e in
@@ -213,8 +198,7 @@ edit_alone w next (edits.Triples target xs) done c h e there apart =
 placed_alone : (w : Gateway) (c n : ℕ) (p : Header × List ℤ) (o : Option TerminationMedia) → is_member w c n ≡ false →
     IsUnaffected w (frame_placed_at w n p o).0 c
 placed_alone w c n p None out = same_alone w c
-placed_alone w c n p (Some s) out =
-    alone w (frame_placed_at w n p (Some s)).0 c refl (λ m there. refl)
+placed_alone w c n p (Some s) out = alone w (frame_placed_at w n p (Some s)).0 c refl (λ m there. refl)
     (λ m there. other_media w n m p (apart_from w c n m out there)) (λ a b one two. refl)
 
 arrived_alone : (w : Gateway) (c n : ℕ) (x : Arrived) → is_member w c n ≡ false → IsUnaffected w (taken_at w n x).0 c
@@ -231,9 +215,3 @@ pub datagram_alone : (w next : Gateway) (port : ℕ) (source bytes : List ℕ) (
 datagram_alone w next port source bytes result c (reading, is, represents) out =
     subst (λ (g : Gateway). IsUnaffected w g c) (ap (λ (p : Gateway × Taken). p.0) represents)
     (taken_alone w c (at_port w.rooms port) source reading out)
-
--- ## What an engine stands for
-
--- the terminations and contexts of each world that an engine stands for are sound, as its own are
-pub sound_as : (k now : EngineState) (w : Gateway) → k ≡ now → IsSound k.rooms → StandsFor now w → IsSound w.rooms
-sound_as k now w same sound h = subst IsSound (ap (λ (x : EngineState). x.rooms) same ∙ sym h.rooms) sound

@@ -17,7 +17,6 @@ returns c = record {
       ap (λ (n : ℕ). get_or (before ++ last ∷ []) n none) at ∙ get_or-append_seam before last [] none in
       let now = c.address.ensures.value ∙ ap (addressed c.args.from c.args.to c.args.header) there in
       ap (λ (xs : List Datagram). refill (length items) items (set xs i c.address.new.self)) c.deref_mut.ensures.value
-      ∙ refilled items i c.address.new.self
-      ∙ last_set before last c.address.new.self items i was at
+      ∙ refilled items i c.address.new.self ∙ last_set before last c.address.new.self items i was at
       ∙ ap (λ (d : Datagram). before ++ d ∷ []) now;
 }

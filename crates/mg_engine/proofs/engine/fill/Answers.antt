@@ -39,8 +39,7 @@ loop-i-preserved c =
     (ap (λ (x : EngineState). sending_work_now x r) same) (c.put_packet.ensures.work r holder) in
     record {
       same = c.put_packet.ensures.same ∙ ap (λ (x : EngineState). with_mixes x after.sums.work after.shares) same;
-      items = c.put_packet.ensures.put r holder
-          ∙ ap (λ (x : EngineState). c.loop-i.outbox.items ++
+      items = c.put_packet.ensures.put r holder ∙ ap (λ (x : EngineState). c.loop-i.outbox.items ++
           option_to_list (option_map (packet_now x r) (sent_to r))) same
           ∙ ap (λ (xs : List Datagram). xs ++ option_to_list (f r)) c.loop-i.invariant.items
           ∙ sym (one_more f rs i nobody within);

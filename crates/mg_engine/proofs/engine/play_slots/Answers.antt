@@ -29,8 +29,7 @@ loop-slot-preserved c =
       done = λ j lt. elim (cases_eq j i) [
         | inl same ↦ rw same (record {
           ticked = played.ticked ∙ ap slot_played old;
-          frame = played.frame ∙
-              ap frame_played old;
+          frame = played.frame ∙ ap frame_played old;
         })
         | inr other ↦
             (let less : j < i = omega (arith, lt, other) in

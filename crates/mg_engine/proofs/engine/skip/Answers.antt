@@ -10,11 +10,13 @@ loop-done-preserved c =
     let done = c.loop-done.done in
     let stands = c.loop-done.invariant.after in
     record {
-      after = λ w h. subst (λ (v : Gateway). StandsFor c.tick_without_packets.new.self v) (sym (iterate_last after_tick done w))
+      after = λ w h. subst (λ (v : Gateway). StandsFor c.tick_without_packets.new.self v)
+          (sym (iterate_last after_tick done w))
           (c.tick_without_packets.ensures.after (after_ticks done w) (stands w h));
       concealed = λ w h.
           let more = c.tick_without_packets.ensures.concealed (after_ticks done w) (stands w h) in
-          omega (arith, c.saturating_add-concealed.ensures, c.loop-done.invariant.concealed w h, more, concealed_last done w);
+          let all = concealed_last done w in
+          omega (arith, c.saturating_add-concealed.ensures, c.loop-done.invariant.concealed w h, more, all);
     }
 
 pub returns-then-is_idle-clause-concealed : goal.returns-then-is_idle-clause-concealed

@@ -10,8 +10,7 @@ loop-number-preserved c =
     let ns = c.args.numbers.now in
     let i = c.loop-number.number-index in
     record {
-      numbers = ap (map f) c.push.ensures.items
-          ∙ map-append f xs (x ∷ [])
+      numbers = ap (map f) c.push.ensures.items ∙ map-append f xs (x ∷ [])
           ∙ ap (λ (ys : List ℕ). ys ++ x.number ∷ []) c.loop-number.invariant.numbers
           ∙ ap (λ (n : ℕ). take i ns ++ n ∷ []) c.seated_member.ensures.number
           ∙ sym (take_more ns i 0 c.loop-number-test.true);

@@ -1,22 +1,17 @@
-use Rattle.mg_engine.proofs.Common.{◌≡◌, ℕ, List, ap, subst, ◌∙◌, Reading, Taken, Gateway, AgreeOutside, SameArrivalKeepsAgreement, OneArrivalKeepsAgreement, IsPacketReading, taken}
+use Rattle.mg_engine.proofs.Common.{◌≡◌, ℕ, List, ap, ◌∙◌, Reading, Taken, Gateway, SameArrivalKeepsAgreement, OneArrivalKeepsAgreement, IsPacketReading, taken}
 use Rattle.mg_engine.proofs.ApartLemmas as apart
 use Rattle.mg_engine.proofs.theorems.agreement_lasts.Goals as goal
 
 same_arrival : ((list : List ℕ) (a b : Reading) → IsPacketReading list a → IsPacketReading list b → a ≡ b) →
     SameArrivalKeepsAgreement
 same_arrival one some a b x y port source bytes t u h (first, is, represents) (second, too, comes) =
-    let in_both = apart.taken_alike some a b port source first h in
-    let second_is : (taken b port source first).0 ≡ y =
-    ap (λ (reading : Reading). (taken b port source reading).0) (one bytes first second is too) ∙
+    let second_is = ap (λ (reading : Reading). (taken b port source reading).0) (one bytes first second is too) ∙
     ap (λ (p : Gateway × Taken). p.0) comes in
-    let first_is : (taken a port source first).0 ≡ x = ap (λ (p : Gateway × Taken). p.0) represents in
-    subst (λ (g : Gateway). AgreeOutside some g y) first_is
-    (subst (λ (g : Gateway). AgreeOutside some (taken a port source first).0 g) second_is in_both)
+    rw (← ap (λ (p : Gateway × Taken). p.0) represents, ← second_is) (apart.taken_alike some a b port source first h)
 
 one_arrival : OneArrivalKeepsAgreement
 one_arrival some a b x port source bytes t h among (reading, is, represents) =
-    let first_is : (taken a port source reading).0 ≡ x = ap (λ (p : Gateway × Taken). p.0) represents in
-    subst (λ (g : Gateway). AgreeOutside some g b) first_is (apart.taken_by_one some a b port source reading among h)
+    rw (← ap (λ (p : Gateway × Taken). p.0) represents) (apart.taken_by_one some a b port source reading among h)
 
 pub returns : goal.returns
 returns c = record {

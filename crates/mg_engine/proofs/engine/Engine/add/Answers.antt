@@ -70,8 +70,7 @@ invariant_of-self-2 c =
     let same = same_others old new n c.self.invariant.sound sound c.add.ensures.lasts.room
     c.in_ok-made.ensures.others.termination in
     let none = unknown_before old new d a sound in
-    let members = has_entered new n d p c.self.inside.flows c.enter.new.flows sound on
-    c.enter.ensures.entered
+    let members = has_entered new n d p c.self.inside.flows c.enter.new.flows sound on c.enter.ensures.entered
     (carry old new n c.self.inside.flows same (unknown old n c.self.inside.flows none c.self.invariant.members)) in
     let seats = seated_put new n d p c.self.inside.seating c.self.invariant.places sound on
     (carry_seats old new n c.self.inside.seating same c.self.invariant.seats) in
@@ -114,7 +113,6 @@ returns-clause-outcome c w h =
     let lt = slot_fits c.self.inside new n d c.self.invariant sound a.limits at.found in
     let in_rows : d.slot < length k.sums.frames =
     omega (arith, is.slot, sound.consistent.limits.0.few_slots, c.begin.ensures.rows) in
-    let silent = c.enter.ensures.frames ∙ c.begin.ensures.silent in
     let others = c.in_ok-made.ensures.others.termination in
     let set_to = begun_tuned k.media c.begin.new.media.items c.tune.new.media.items d.slot (initial_media k.config)
     settings.depth lt c.begin.ensures.initial_media c.tune.ensures.tuned in
@@ -122,17 +120,15 @@ returns-clause-outcome c w h =
     let same = same_others old new n c.self.invariant.sound sound c.add.ensures.lasts.room others in
     let has = carry old new n k.flows same (unknown old n k.flows (unknown_before old new d a sound)
     c.self.invariant.members) in
-    let hears = hears_entered new n d p k.flows c.enter.new.flows sound on
-    c.enter.ensures.entered has w.edits
+    let hears = hears_entered new n d p k.flows c.enter.new.flows sound on c.enter.ensures.entered has w.edits
     (hears_carry old new n k.flows w.edits same (hears_some old n k.flows w.edits stands.hears)) in (
       added w settings new d,
       rw (stands.rooms, done) refl,
       rw set_to (added_stands k new c.enter.new.flows c.enter.new.sums w settings d a sound others at.found lt in_rows
-          silent hears stands),
+          (c.enter.ensures.frames ∙ c.begin.ensures.silent) hears stands),
     )
 
 pub returns-clause-work : goal.returns-clause-work
-returns-clause-work c =
-    rw (← c.self.view_is)
+returns-clause-work c = rw (← c.self.view_is)
     (rises_twice 2 2 4 c.self.inside.sums.work c.begin.new.sums.work c.enter.new.sums.work (omega arith)
     c.begin.ensures.work c.enter.ensures.work)

@@ -7,15 +7,13 @@ pub returns-in-Some : goal.returns-in-Some
 returns-in-Some c = record {
   value = λ w h.
       let k = view c.self.inside in
-      let stands = rw (← c.self.view_is) at h in
       let (r, there, slot) = with_slot (record_at k.rooms c.args.number) c.in-Some.slot
       (sym c.slot_of.ensures.value ∙ c.in-Some.is) in
-      let (s, found, is) = has_media k w c.args.number r stands there in
+      let (s, found, is) = has_media k w c.args.number r (rw (← c.self.view_is) at h) there in
       c.conceals_in.ensures.value
       ∙ ap (λ (ms : List SlotMedia). is_concealing (media_at ms c.in-Some.slot)) c.as_slice.ensures.value
       ∙ ap (λ (n : ℕ). is_concealing (media_at k.media n)) (sym slot)
-      ∙ ap (λ (list : PlayList). is_concealed ((ticked list).1)) is.play
-      ∙ ap conceals_in (sym found);
+      ∙ ap (λ (list : PlayList). is_concealed ((ticked list).1)) is.play ∙ ap conceals_in (sym found);
 }
 
 pub returns-in-None : goal.returns-in-None

@@ -25,11 +25,8 @@ returns-then-from-to c = record {
       (on_its_place k.rooms c.args.talker t c.in-Some-Some.ensures.some)
       (on_its_place k.rooms c.args.listener l c.in-Some-Some.ensures'.some) in
       c.has_seat.ensures
-      ∙ ap (has_seat c.open.result.now) c.from.ensures
-      ∙ c.open.ensures.kept from.seat
+      ∙ ap (has_seat c.open.result.now) c.from.ensures ∙ c.open.ensures.kept from.seat
       ∙ ap (λ (room : ℕ). let p : Place = record { room = room; seat = from.seat } in table.flows k.flows p to)
-      (sym c.if-from-to.true)
-      ∙ ap (λ (p : Place). table.flows k.flows p to) c.member_place-from.ensures.value
-      ∙ ap (table.flows k.flows (member_place t)) c.member_place-to.ensures.value
-      ∙ flows;
+      (sym c.if-from-to.true) ∙ ap (λ (p : Place). table.flows k.flows p to) c.member_place-from.ensures.value
+      ∙ ap (table.flows k.flows (member_place t)) c.member_place-to.ensures.value ∙ flows;
 }

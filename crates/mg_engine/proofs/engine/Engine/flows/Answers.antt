@@ -4,6 +4,4 @@ use Rattle.mg_engine.proofs.engine.Engine.flows.Goals as goal
 
 pub returns-clause-represented : goal.returns-clause-represented
 returns-clause-represented c w h =
-    let k = view c.self.inside in
-    let stands = rw (← c.self.view_is) at h in
-    tells k w c.self.invariant.sound c.self.invariant.members stands
+    tells (view c.self.inside) w c.self.invariant.sound c.self.invariant.members (rw (← c.self.view_is) at h)

@@ -1,5 +1,5 @@
-use Rattle.mg_engine.proofs.Common.{ℕ, List, length, ap, subst, ◌∙◌, arith, Limits, view, IsIdleEngine, SlotMedia, IsIdleSlot}
-use Rattle.mg_engine.proofs.HeldLemmas.{held_below, held_at}
+use Rattle.mg_engine.proofs.Common.{List, length, ap, ◌∙◌, arith, Limits, SlotMedia, IsIdleSlot}
+use Rattle.mg_engine.proofs.HeldLemmas.{held_below, each_held}
 use Rattle.mg_engine.proofs.engine.Engine.is_idle.Goals as goal
 
 pub are_idle-requires : goal.are_idle-requires
@@ -17,12 +17,7 @@ are_idle-requires c =
 
 pub returns : goal.returns
 returns c = record {
-  value = λ yes.
-      let k = view c.self.inside in
-      let all : IsIdleEngine k = λ n r found.
-      let at = held_at k.rooms c.as_slice.result.now (c.as_slice.ensures.value ∙ c.self.invariant.held) n r found in
-      subst (λ (ms : List SlotMedia). IsIdleSlot ms k.sums.frames r.slot) c.as_slice-2.ensures.value
-      (subst (λ (s : ℕ). IsIdleSlot c.as_slice-2.result.now k.sums.frames s) at.is
-      (c.are_idle.ensures.value yes at.at at.within)) in
-      subst IsIdleEngine c.self.view_is all;
+  value = λ yes. rw (← c.self.view_is, ← c.as_slice-2.ensures.value) (each_held c.self.inside.rooms
+      c.as_slice.result.now (c.as_slice.ensures.value ∙ c.self.invariant.held)
+      (IsIdleSlot c.as_slice-2.result.now c.self.inside.sums.frames) (c.are_idle.ensures.value yes));
 }

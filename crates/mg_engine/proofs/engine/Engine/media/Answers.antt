@@ -39,8 +39,7 @@ returns-in-Some c = record {
           reading,
           is_reading c.args.bytes.now c.read-packet.result c.read-packet.ensures.found
               c.read-packet.ensures.fault,
-          ap (λ (o : Option Record). taken_by w o c.args.source.address reading) here ∙
-              represents,
+          ap (λ (o : Option Record). taken_by w o c.args.source.address reading) here ∙ represents,
         ),
         subst (λ (x : EngineState). StandsFor x now)
             (media_alone k c.place.new.self c.place.ensures.config c.place.ensures.rooms c.place.ensures.flows

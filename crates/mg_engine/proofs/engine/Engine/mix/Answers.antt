@@ -6,9 +6,7 @@ use Rattle.mg_engine.proofs.engine.Engine.mix.Goals as goal
 pub silenced-requires : goal.silenced-requires
 silenced-requires c =
     let l = c.args.listener.now in
-    let p = c.args.place in
-    let on = rw (← c.self.view_is) at c.requires.place in
-    (c.self.invariant.members.each l.number l p on).held
+    (c.self.invariant.members.each l.number l c.args.place (rw (← c.self.view_is) at c.requires.place)).held
 
 pub rows_on-silenced-requires-clause-slots : goal.rows_on-silenced-requires-clause-slots
 rows_on-silenced-requires-clause-slots c seat h =

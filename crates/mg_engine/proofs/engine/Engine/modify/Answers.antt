@@ -100,6 +100,5 @@ returns-clause-outcome c w h =
     )
 
 pub returns-clause-work : goal.returns-clause-work
-returns-clause-work c =
-    rw (← c.self.view_is)
+returns-clause-work c = rw (← c.self.view_is)
     (rises_less 2 4 c.self.inside.sums.work c.take_mode.new.sums.work (omega arith) c.take_mode.ensures.work)

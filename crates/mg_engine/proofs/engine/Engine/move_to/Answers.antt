@@ -31,7 +31,6 @@ enter-requires c =
     let sound = sound_if _ c.move_to.ensures.consistent in
     let at = c.in_ok-moved.ensures.to in
     let p = member_place m in
-    let r = c.in_ok-moved.moved.from.record in
     let from = member_place c.in_ok-moved.moved.from in
     let k = view c.self.inside in
     let others = c.in_ok-moved.ensures.others.termination in
@@ -41,7 +40,7 @@ enter-requires c =
     let same = same_others old new n before sound c.move_to.ensures.lasts.room others in
     let left = c.vacate.ensures.left in
     let without = carry old new n c.vacate.new.flows same
-    (has_left old n r from c.self.inside.flows c.vacate.new.flows before was left
+    (has_left old n c.in_ok-moved.moved.from.record from c.self.inside.flows c.vacate.new.flows before was left
     c.self.invariant.members) in
     record {
       within = member_within new n m sound at;
@@ -59,7 +58,6 @@ invariant_of-self-2 c =
     let before = c.self.invariant.sound in
     let sound = sound_if _ c.move_to.ensures.consistent in
     let p = member_place m in
-    let r = c.in_ok-moved.moved.from.record in
     let from = member_place c.in_ok-moved.moved.from in
     let others = c.in_ok-moved.ensures.others.termination in
     let was = on_its_place old n c.in_ok-moved.moved.from c.in_ok-moved.ensures.from in
@@ -68,7 +66,7 @@ invariant_of-self-2 c =
     let same = same_others old new n before sound c.move_to.ensures.lasts.room others in
     let left = c.vacate.ensures.left in
     let without = carry old new n c.vacate.new.flows same
-    (has_left old n r from c.self.inside.flows c.vacate.new.flows before was left
+    (has_left old n c.in_ok-moved.moved.from.record from c.self.inside.flows c.vacate.new.flows before was left
     c.self.invariant.members) in
     let members = has_entered new n d p c.vacate.new.flows c.enter.new.flows sound on
     c.enter.ensures.entered without in
@@ -113,13 +111,11 @@ returns-clause-outcome c w h =
     let same = same_others old new n before sound c.move_to.ensures.lasts.room others in
     let left = c.vacate.ensures.left in
     let without = carry old new n c.vacate.new.flows same
-    (has_left old n r from c.self.inside.flows c.vacate.new.flows before was left
-    c.self.invariant.members) in
+    (has_left old n r from c.self.inside.flows c.vacate.new.flows before was left c.self.invariant.members) in
     let lt = slot_fits c.self.inside new n d c.self.invariant sound a.limits at.found in
     let stands = rw (← c.self.view_is) at h in
     let apart = hears_carry old new n c.vacate.new.flows w.edits same
-    (hears_left old n r from k.flows c.vacate.new.flows before was left w.edits
-    stands.hears) in
+    (hears_left old n r from k.flows c.vacate.new.flows before was left w.edits stands.hears) in
     let entered = hears_entered new n d p c.vacate.new.flows c.enter.new.flows sound on
     c.enter.ensures.entered without (Leave n ∷ w.edits) apart in
     let hears = subst (λ (m : _). Hears new c.enter.new.flows (Enter m ∷ Leave m ∷ w.edits))
@@ -131,6 +127,5 @@ returns-clause-outcome c w h =
     )
 
 pub returns-clause-work : goal.returns-clause-work
-returns-clause-work c =
-    rw (← c.self.view_is)
+returns-clause-work c = rw (← c.self.view_is)
     (rises_less 2 4 c.self.inside.sums.work c.enter.new.sums.work (omega arith) c.enter.ensures.work)

@@ -1,7 +1,7 @@
 use Rattle.mg_engine.proofs.Common.{◌≡◌, ℕ, ◌*◌, length, ap, subst, ◌∙◌, arith, Limits, view, EngineState, RisesAtMost, IsPlayed}
 use Rattle.mg_engine.proofs.ConcealLemmas.{concealed_is}
-use Rattle.mg_engine.proofs.HeldLemmas.{many, held_below, held_apart, held_at}
-use Rattle.mg_engine.proofs.TickLemmas.{ArePlayed, played_stands}
+use Rattle.mg_engine.proofs.HeldLemmas.{many, held_below, held_apart, each_held}
+use Rattle.mg_engine.proofs.TickLemmas.{played_stands}
 use Rattle.mg_engine.proofs.engine.Engine.play_all.Goals as goal
 
 pub play_slots-requires : goal.play_slots-requires
@@ -12,7 +12,8 @@ play_slots-requires c =
     let held = c.as_slice.ensures.value ∙ c.self.invariant.held in
     let limit = ap (λ (l : Limits). l.slots) c.self.invariant.limits in
     record {
-      slots = held_below w slots held (length c.self.inside.media.items) sound (omega (arith, limit, c.self.invariant.media));
+      slots = held_below w slots held (length c.self.inside.media.items) sound
+          (omega (arith, limit, c.self.invariant.media));
       few = omega (arith, limit, c.self.invariant.media, sound.consistent.limits.0.few_slots);
       apart = held_apart w slots held sound;
     }
@@ -20,12 +21,9 @@ play_slots-requires c =
 pub returns-clause-after : goal.returns-clause-after
 returns-clause-after c w h =
     let k = view c.self.inside in
-    let stands = rw (← c.self.view_is) at h in
-    let all : ArePlayed k c.play_slots.new.media.items c.play_slots.new.sums.frames = λ n r found.
-    let at = held_at k.rooms c.as_slice.result.now (c.as_slice.ensures.value ∙ c.self.invariant.held) n r found in
-    subst (λ (s : ℕ). IsPlayed k.media c.play_slots.new.media.items c.play_slots.new.sums.frames s) at.is
-    (c.play_slots.ensures.each at.at at.within) in
-    played_stands k w c.play_slots.new.media.items c.play_slots.new.sums all stands
+    let all = each_held k.rooms c.as_slice.result.now (c.as_slice.ensures.value ∙ c.self.invariant.held)
+    (IsPlayed k.media c.play_slots.new.media.items c.play_slots.new.sums.frames) c.play_slots.ensures.each in
+    played_stands k w c.play_slots.new.media.items c.play_slots.new.sums all (rw (← c.self.view_is) at h)
 
 pub returns-clause-concealed : goal.returns-clause-concealed
 returns-clause-concealed c w h =

@@ -47,8 +47,7 @@ returns-clause-put c =
     record {
       last = put.last;
       all = put.all;
-      same = put.same ∙ c.mix-payload.ensures.value
-          ∙ ap (λ (x : EngineState). map (byte_of c.args.law)
+      same = put.same ∙ c.mix-payload.ensures.value ∙ ap (λ (x : EngineState). map (byte_of c.args.law)
           (map (λ i. nearest_sample (heard_now x c.args.listener.now i)) (range_with_len 0 160))) c.self.view_is;
     }
 
@@ -71,5 +70,4 @@ returns-clause-shared c sent e =
     (sym c.put.ensures.value) now)
 
 pub returns-clause-work : goal.returns-clause-work
-returns-clause-work c =
-    rw (← c.self.view_is) c.mix-payload.ensures.work
+returns-clause-work c = rw (← c.self.view_is) c.mix-payload.ensures.work

@@ -14,8 +14,7 @@ returns-clause-put c r holds =
     let sender = c.in-Some.sender in
     let to = c.in-Some-sent_to.to in
     let put = c.put_payload.ensures.put in
-    let same : sender ≡ r = found_is sender r
-    (sym c.in-Some.is ∙ c.held.ensures.value ∙
+    let same : sender ≡ r = found_is sender r (sym c.in-Some.is ∙ c.held.ensures.value ∙
     ap (λ (x : EngineState). holder_of x.rooms c.args.slot) c.self.view_is ∙ holds) in
     let goes = sym c.in-Some-sent_to.is ∙ c.sent_to.ensures.value ∙ ap sent_to same in
     let body = put.same ∙ ap (λ (x : EngineState). map (byte_of to.law) (mixed_now x sender))
@@ -51,8 +50,7 @@ pub returns-clause-work : goal.returns-clause-work
 returns-clause-work c r holds =
     let k = c.args.self.now in
     let sender = c.in-Some.sender in
-    let same : sender ≡ r = found_is sender r
-    (sym c.in-Some.is ∙ c.held.ensures.value ∙
+    let same : sender ≡ r = found_is sender r (sym c.in-Some.is ∙ c.held.ensures.value ∙
     ap (λ (x : EngineState). holder_of x.rooms c.args.slot) c.self.view_is ∙ holds) in
     let goes = sym c.sent_to.ensures.value ∙ c.in-Some-sent_to.is in
     let most = ap (λ (x : Record). sending_work_now k x) (sym same) ∙

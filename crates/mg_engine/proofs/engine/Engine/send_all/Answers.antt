@@ -19,8 +19,7 @@ returns-clause-after c w h =
 pub returns-clause-work : goal.returns-clause-work
 returns-clause-work c w h =
     let k = view c.self.inside in
-    let stands = rw (← c.self.view_is) at h in
-    let most = all_work_is k w c.self.invariant.sound c.self.invariant.members stands in
+    let most = all_work_is k w c.self.invariant.sound c.self.invariant.members (rw (← c.self.view_is) at h) in
     let old = ap (λ (x : EngineState). x.sums.work) c.self.view_is in
     subst (λ (n : ℕ). RisesAtMost (sum_by (sending_work w) w.rooms.terminations) n c.fill.new.engine.sums.work) old
     (subst (λ (m : ℕ). RisesAtMost m k.sums.work c.fill.new.engine.sums.work) (sym most) c.fill.ensures.work)

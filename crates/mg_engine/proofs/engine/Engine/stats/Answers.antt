@@ -8,14 +8,12 @@ pub returns-in-Some : goal.returns-in-Some
 returns-in-Some c = record {
   value = λ w h.
       let k = view c.self.inside in
-      let stands = rw (← c.self.view_is) at h in
       let (r, there, slot) = with_slot (record_at k.rooms c.args.number) c.in-Some.slot
       (sym c.slot_of.ensures.value ∙ c.in-Some.is) in
-      let (s, found, is) = has_media k w c.args.number r stands there in
+      let (s, found, is) = has_media k w c.args.number r (rw (← c.self.view_is) at h) there in
       let stats = c.stats_in.ensures.value
       ∙ ap (λ (ms : List SlotMedia). (media_at ms c.in-Some.slot).stats) c.as_slice.ensures.value
-      ∙ ap (λ (n : ℕ). (media_at k.media n).stats) (sym slot)
-      ∙ is.stats in
+      ∙ ap (λ (n : ℕ). (media_at k.media n).stats) (sym slot) ∙ is.stats in
       ap (λ (x : Stats). Some x) stats ∙ ap (option_map (λ (x : TerminationMedia). x.stats)) (sym found);
 }
 

@@ -17,7 +17,6 @@ invariant_of-self-2 c =
     let n = c.args.number in
     let m = c.in_ok-gone.gone in
     let d = m.record in
-    let p = member_place m in
     let k = view c.self.inside in
     let before = c.self.invariant.sound in
     let sound = sound_if _ c.subtract.ensures.consistent in
@@ -26,10 +25,8 @@ invariant_of-self-2 c =
     let was = on_its_place old n m c.in_ok-gone.ensures.member in
     let none = gone k new n d a before in
     let same = same_others old new n before sound c.subtract.ensures.lasts.room others in
-    let left = c.vacate.ensures.left in
-    let members = members_all new n c.vacate.new.flows none
-    (carry old new n c.vacate.new.flows same
-    (has_left old n d p c.self.inside.flows c.vacate.new.flows before was left
+    let members = members_all new n c.vacate.new.flows none (carry old new n c.vacate.new.flows same
+    (has_left old n d (member_place m) c.self.inside.flows c.vacate.new.flows before was c.vacate.ensures.left
     c.self.invariant.members)) in
     let seats = seated_all new n c.self.inside.seating none
     (carry_seats old new n c.self.inside.seating same c.self.invariant.seats) in
@@ -65,11 +62,10 @@ returns-clause-outcome c w h =
     let others = c.in_ok-gone.ensures.others.termination in
     let was = on_its_place old n m c.in_ok-gone.ensures.member in
     let same = same_others old new n before sound c.subtract.ensures.lasts.room others in
-    let left = c.vacate.ensures.left in
     let stands = rw (← c.self.view_is) at h in
     let hears = hears_all new n c.vacate.new.flows w.edits (gone k new n d a before)
     (hears_carry old new n c.vacate.new.flows w.edits same
-    (hears_left old n d (member_place m) k.flows c.vacate.new.flows before was left w.edits
+    (hears_left old n d (member_place m) k.flows c.vacate.new.flows before was c.vacate.ensures.left w.edits
     stands.hears)) in (
       subtracted w new d,
       rw (stands.rooms, done) refl,
@@ -78,6 +74,5 @@ returns-clause-outcome c w h =
     )
 
 pub returns-clause-work : goal.returns-clause-work
-returns-clause-work c =
-    rw (← c.self.view_is)
+returns-clause-work c = rw (← c.self.view_is)
     (rises_less 1 4 c.self.inside.sums.work c.part.new.sums.work (omega arith) c.part.ensures.work)

@@ -11,7 +11,6 @@ returns-clause-represented c w h =
           let (s, there, is) = has_media (view c.self.inside) w n r stands
           (ap (λ (x : Registry). record_at x n) (sym stands.rooms) ∙ found) in
           is.frame ∙ sym (ap (λ (o : Option TerminationMedia). frame_in o) there);
-      totals = λ context i x found lt.
-          total_is c.self.inside w context i x c.self.invariant stands
+      totals = λ context i x found lt. total_is c.self.inside w context i x c.self.invariant stands
           (ap (λ (y : Registry). context_at y context) (sym stands.rooms) ∙ found);
     }

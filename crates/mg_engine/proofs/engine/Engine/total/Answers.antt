@@ -12,8 +12,7 @@ returns c = record {
       (sym c.room.ensures.value ∙ c.in_ok-room.was) in
       ap (λ (z : ℤ). Some z)
       (to_z-of_z w32 c.total.result.now (search rules)
-      ∙ c.total.ensures.value
-      ∙ ap (λ (at : ℕ). total_of k.sums at c.args.i) (c.new.ensures ∙ sym room)
+      ∙ c.total.ensures.value ∙ ap (λ (at : ℕ). total_of k.sums at c.args.i) (c.new.ensures ∙ sym room)
       ∙ total_is c.self.inside w c.args.context c.args.i x c.self.invariant stands found)
       ∙ total_there k w c.args.context c.args.i x stands lt found;
 }

@@ -16,8 +16,7 @@ returns c =
     let older = c.saturating_sub-older.result in
     let share : ℕ → Share = λ packet. record { talkers = c.args.talkers; law = c.args.law; packet = packet } in
     record {
-      found =
-          IfSome_then c.packet_among.result c.packet_among.ensures.found
+      found = IfSome_then c.packet_among.result c.packet_among.ensures.found
           (λ packet has. subst (λ (some : List Share). Contains some (share packet))
           (c.as_slice-shares.ensures.value ∙ c.self.view_is)
           (in_part shares older (length shares - older) (share packet) has));

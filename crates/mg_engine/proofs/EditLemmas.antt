@@ -1,11 +1,13 @@
 -- An engine stands for the worlds that its edits lead to, and stays whole. Re-exports what the proofs of edits cite.
-use Rattle.mg_engine.proofs.Common.{◌≡◌, ◌≢◌, ℕ, ◌<◌, ◌≤◌, eqb, not, Bool, true, false, ℤ, List, [], ◌∷◌, ◌++◌, length, map, get_or, set, Option, Some, None, refl, sym, ap, subst, ◌∙◌, arith, count_by, option_map, eqb-true, eq-eqb, ne_eqb, same_Some, length-map, map-append, get_or-set_same, get_or-set_other, PlayList, Limits, Record, Settings, change, IsSound, record_at, Config, silence, Gateway, TerminationMedia, ContextEdit, Enter, new_media, media_of, idle, tuned, media_with, added, subtracted, EngineState, StandsFor, IsMediaOf, media_at, find, filter, set-set, length_push, Registry, RoomFlows, play_after, media_without, SlotMedia, SumsState, find-change_other, find-push_other, initial_media, Inside, IsWholeEngine, slot_tuned}
+use Rattle.mg_engine.proofs.Common.{◌≡◌, ◌≢◌, ℕ, ◌<◌, ◌≤◌, eqb, not, Bool, true, false, ℤ, List, [], ◌∷◌, ◌++◌, length, map, get_or, set, Option, Some, None, refl, sym, ap, subst, ◌∙◌, arith, count_by, option_map, view, eqb-true, eq-eqb, ne_eqb, same_Some, length-map, map-append, get_or-set_same, get_or-set_other, PlayList, Limits, Record, Settings, change, IsSound, record_at, Config, silence, Gateway, TerminationMedia, ContextEdit, Enter, new_media, media_of, idle, tuned, media_with, added, subtracted, EngineState, StandsFor, IsMediaOf, media_at, find, filter, set-set, length_push, Registry, RoomFlows, play_after, media_without, SlotMedia, SumsState, find-change_other, find-push_other, initial_media, Inside, IsWholeEngine, slot_tuned}
+use Rattle.std.proofs.lemmas.Option.{slice_get-get_or}
 use Rattle.mg_words.specs.declared.limits.TheConstants.{TERMINATIONS}
 pub use Rattle.mg_engine.proofs.MemberLemmas.{Hears, Others, another, carry, free_place, has_entered, has_left, has_mode, hears_all, hears_carry, hears_entered, hears_left, hears_mode, hears_some, members_all, no_record, same_others, stayed_at, unequal, unknown}
 pub use Rattle.mg_engine.proofs.PlaceLemmas.{member_within, on_its_place, one_record}
 pub use Rattle.mg_engine.proofs.JoinedLemmas.{joined_changed, joined_left}
 pub use Rattle.mg_engine.proofs.SeatingLemmas.{carry_seats, seated_all, seated_mode, seated_put}
 pub use Rattle.mg_engine.proofs.WorkLemmas.{rises_less, rises_twice}
+use Rattle.mg_engine.specs.aids.Found.{HasStats}
 use Rattle.mg_engine.proofs.KeyLemmas.{none_before_last, found_push, found_changed, found_replaced, none_left, mapped_kept, keys_left, spots_left}
 pub use Rattle.mg_engine.proofs.OutcomeLemmas.{Adds, Changes, Removes, add_adds, modify_changes, move_changes, subtract_removes}
 use Rattle.mg_engine.proofs.GatewayLemmas.{found_too, found_key, has_media}
@@ -51,6 +53,15 @@ pub slot_fits : (e : Inside) (new : Registry) (n : ℕ) (d : Record) → IsWhole
     new.limits ≡ e.rooms.limits → record_at new n ≡ Some d → d.slot < length e.media.items
 slot_fits e new n d h sound same found =
     omega (arith, ap (λ (l : Limits). l.slots) (same ∙ h.limits), h.media, (sound.termination n d found).1.slot)
+
+-- the counters of a termination are in its slot
+pub has_stats : (e : Inside) (w : Gateway) (n : ℕ) (r : Record) → IsWholeEngine e → StandsFor (view e) w →
+    record_at e.rooms n ≡ Some r → HasStats (view e) w r
+has_stats e w n r whole h there =
+    let (s, found, same) = has_media (view e) w n r h there in
+    let lt = slot_fits e e.rooms n r whole whole.sound refl there in
+    rw ((whole.sound.termination n r there).0, found, slice_get-get_or e.media.items r.slot idle lt)
+    (ap Some (sym same.stats))
 
 pub room_left : (e : Inside) (new : Registry) (d : Record) → IsWholeEngine e → Adds e.rooms new d → IsSound new →
     length e.held.items < TERMINATIONS

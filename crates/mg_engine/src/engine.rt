@@ -3,7 +3,7 @@ ghost use Rattle.mg_rooms.specs.declared.record.Record.{Record};
 ghost use Rattle.mg_words.specs.declared.limits.TheConstants.{TERMINATIONS};
 ghost use Rattle.std.specs.List.{range_with_len, slice_get};
 ghost use Rattle.mg_rooms.specs.Limits.{slot_port};
-ghost use Rattle.mg_rooms.specs.Outcome.{is_number};
+ghost use Rattle.mg_rooms.specs.Outcome.{is_number, member};
 ghost use Rattle.mg_rooms.specs.Registry.{holder_of, record_at, context_at, members_at};
 ghost use Rattle.mg_words.specs.Limits.{context_limit, termination_limit};
 ghost use Rattle.mg_sums.specs.Samples.{nearest_sample};
@@ -35,6 +35,7 @@ ghost use Rattle.mg_engine.specs.Config.{IsValidConfig};
 ghost use Rattle.mg_engine.specs.Gateway.{Gateway, start_of, stats_of};
 ghost use Rattle.mg_sums.specs.Samples.{silence};
 ghost use Rattle.mg_engine.specs.Stands.{StandsFor, IsOutcome, media_at};
+ghost use Rattle.mg_engine.specs.aids.Found.{HasStats};
 
 use crate::arrival::{frame_by_law, law_for};
 use crate::config::Config;
@@ -256,11 +257,20 @@ impl Engine {
         }
     }
 
+    /// Returns a member of the action's context, or the error if the termination isn't one.
+    pub fn find(&self, target: Target, number: u32) -> Result<Record, ErrorNumber>
+        ensures value { (w : Gateway) → StandsFor self.now w → result ≡ member w.rooms target number }
+        ensures stats { IfOk result (λ r. (w : Gateway) → StandsFor self.now w → HasStats self.now w r) }
+    {
+        self.rooms.find(target, number)
+    }
+
     /// Creates a termination in the action's context, and the context too if it is new (RFC 3525, section 7.2.1).
     pub fn add(&mut self, target: Target, settings: &Settings) -> Result<Record, ErrorNumber>
         ensures outcome { (w : Gateway) → StandsFor self.old w → IsOutcome self.new result (add w target settings.now) }
         ensures refused { OnErr result (self.new ≡ self.old) }
         ensures work { RisesAtMost 4 self.old.sums.work self.new.sums.work }
+        ensures stats { IfOk result (λ r. (w : Gateway) → StandsFor self.new w → HasStats self.new w r) }
     {
         let made = self.rooms.add(target, settings)?;
         let slot = made.record.slot;
@@ -282,6 +292,7 @@ impl Engine {
             IsOutcome self.new result (modify w target number settings.now) }
         ensures refused { OnErr result (self.new ≡ self.old) }
         ensures work { RisesAtMost 4 self.old.sums.work self.new.sums.work }
+        ensures stats { IfOk result (λ r. (w : Gateway) → StandsFor self.new w → HasStats self.new w r) }
     {
         let changed = self.rooms.modify(target, number, settings)?;
         tune(&mut self.media, changed.record.slot, settings.depth);
@@ -302,6 +313,7 @@ impl Engine {
             IsOutcome self.new result (move_to w target number settings.now) }
         ensures refused { OnErr result (self.new ≡ self.old) }
         ensures work { RisesAtMost 4 self.old.sums.work self.new.sums.work }
+        ensures stats { IfOk result (λ r. (w : Gateway) → StandsFor self.new w → HasStats self.new w r) }
     {
         let moved = self.rooms.move_to(target, number, settings)?;
         tune(&mut self.media, moved.to.record.slot, settings.depth);
@@ -317,6 +329,7 @@ impl Engine {
         ensures outcome { (w : Gateway) → StandsFor self.old w → IsOutcome self.new result (subtract w target number) }
         ensures refused { OnErr result (self.new ≡ self.old) }
         ensures work { RisesAtMost 4 self.old.sums.work self.new.sums.work }
+        ensures stats { IfOk result (λ r. (w : Gateway) → StandsFor self.old w → HasStats self.new w r) }
     {
         let gone = self.rooms.subtract(target, number)?;
         without(&mut self.held, gone.record.slot);
@@ -514,6 +527,14 @@ impl Engine {
             Some(slot) => Some(stats_in(self.media.as_slice(), slot)),
             None => None,
         }
+    }
+
+    /// Returns the counters of the termination that holds a slot or held it last, or `None` if there is no such slot.
+    pub fn slot_stats(&self, slot: u8) -> Option<Stats>
+        ensures value { result ≡ option_map (λ m. m.stats) (slice_get self.now.media slot) }
+    {
+        let media = self.media.get(usize::from(slot))?;
+        Some(media.stats())
     }
 
     /// Returns whether the next tick conceals a missing frame of a termination.

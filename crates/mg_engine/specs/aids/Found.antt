@@ -1,5 +1,6 @@
 -- Results of lookups, for proofs.
-use Rattle.std.specs.Prelude.{ℕ, ℤ, Bool, false, List, Option, is_some}
+use Rattle.std.specs.Prelude.{◌≡◌, ℕ, ℤ, Bool, false, List, Option, is_some}
+use Rattle.std.specs.List.{slice_get}
 use Rattle.std.specs.Option.{option_map, option_map_or}
 use Rattle.mg_words.specs.OptionSteps.{◌>>=◌}
 use Rattle.mg_words.specs.declared.mode.Mode.{Mode}
@@ -14,8 +15,9 @@ use Rattle.mg_engine.specs.declared.datagram.Datagram.{Datagram}
 use Rattle.mg_engine.specs.declared.taken.DropCause.TheVariants as causes
 use Rattle.mg_engine.specs.declared.taken.Taken.{Taken}
 use Rattle.mg_engine.specs.declared.taken.Taken.TheVariants.{Dropped}
-use Rattle.mg_engine.specs.Gateway.{Gateway, TerminationMedia, media_of}
+use Rattle.mg_engine.specs.Gateway.{Gateway, TerminationMedia, media_of, stats_of}
 use Rattle.mg_engine.specs.Arrival.{arrived, taken_at}
+use Rattle.mg_engine.specs.Stands.{EngineState}
 use Rattle.mg_engine.specs.Tick.{packet, sent_to}
 
 abbrev pub mode_or_inactive : Option Record → Mode
@@ -40,3 +42,8 @@ abbrev pub taken_by : Gateway → Option Record → List ℕ → Reading → Gat
 taken_by w r source reading =
     option_map_or (λ r. taken_at w r.number (arrived r source reading)) r
     (w, Dropped causes.NoTermination)
+
+-- a termination's counters are those in its slot
+abbrev pub HasStats : EngineState → Gateway → Record → Type 0
+HasStats kept w r =
+    stats_of w r.number ≡ option_map (λ m. m.stats) (slice_get kept.media r.slot)

@@ -1,5 +1,5 @@
 use Rattle.mg_engine.proofs.Common.{◌<◌, ℕ, List, Option, length, sym, ap, subst, ◌∙◌, arith, length-set, view, added, member_place, sound_if, SetsRow, room_for, initial_media, refl}
-use Rattle.mg_engine.proofs.EditLemmas.{slot_fits, room_left, held_added, unknown_before, begun_tuned, added_stands, no_record, same_others, carry, hears_carry, unknown, hears_some, free_place, has_entered, hears_entered, joined_changed, carry_seats, seated_put, on_its_place, member_within, add_adds, rises_twice}
+use Rattle.mg_engine.proofs.EditLemmas.{has_stats, slot_fits, room_left, held_added, unknown_before, begun_tuned, added_stands, no_record, same_others, carry, hears_carry, unknown, hears_some, free_place, has_entered, hears_entered, joined_changed, carry_seats, seated_put, on_its_place, member_within, add_adds, rises_twice}
 use Rattle.mg_engine.proofs.engine.Engine.add.Goals as goal
 
 pub begin-requires : goal.begin-requires
@@ -127,6 +127,10 @@ returns-clause-outcome c w h =
       rw set_to (added_stands k new c.enter.new.flows c.enter.new.sums w settings d a sound others at.found lt in_rows
           (c.enter.ensures.frames ∙ c.begin.ensures.silent) hears stands),
     )
+
+pub returns-clause-stats : goal.returns-clause-stats
+returns-clause-stats c w h =
+    has_stats _ w c.in_ok-made.made.record.number c.in_ok-made.made.record (invariant_of-self-2 c) h c.in_ok-made.ensures.member.found
 
 pub returns-clause-work : goal.returns-clause-work
 returns-clause-work c = rw (← c.self.view_is)

@@ -1,5 +1,5 @@
 use Rattle.mg_engine.proofs.Common.{length, sym, ap, ◌∙◌, arith, length-set, same_Some, Record, view, modified, member_place, sound_if, refl}
-use Rattle.mg_engine.proofs.EditLemmas.{slot_fits, held_changed, changed_stands, same_others, stayed_at, has_mode, hears_mode, joined_changed, seated_mode, on_its_place, member_within, modify_changes, rises_less}
+use Rattle.mg_engine.proofs.EditLemmas.{has_stats, slot_fits, held_changed, changed_stands, same_others, stayed_at, has_mode, hears_mode, joined_changed, seated_mode, on_its_place, member_within, modify_changes, rises_less}
 use Rattle.mg_engine.proofs.engine.Engine.modify.Goals as goal
 
 pub tune-requires : goal.tune-requires
@@ -98,6 +98,10 @@ returns-clause-outcome c w h =
       rw c.tune.ensures.tuned (changed_stands k new c.take_mode.new.flows c.take_mode.new.sums w settings n d w.edits a
           sound others lt c.take_mode.ensures.frames hears stands),
     )
+
+pub returns-clause-stats : goal.returns-clause-stats
+returns-clause-stats c w h =
+    has_stats _ w c.args.number c.in_ok-changed.changed.record (invariant_of-self-2 c) h c.in_ok-changed.ensures.member.found
 
 pub returns-clause-work : goal.returns-clause-work
 returns-clause-work c = rw (← c.self.view_is)

@@ -1,5 +1,5 @@
 use Rattle.mg_engine.proofs.Common.{◌∷◌, length, sym, ap, subst, ◌∙◌, arith, length-set, same_Some, Record, view, Enter, Leave, moved, member_place, sound_if, refl}
-use Rattle.mg_engine.proofs.EditLemmas.{slot_fits, held_changed, changed_at, changed_stands, Hears, same_others, carry, hears_carry, has_left, hears_left, free_place, has_entered, hears_entered, joined_changed, carry_seats, seated_put, on_its_place, member_within, move_changes, rises_less}
+use Rattle.mg_engine.proofs.EditLemmas.{has_stats, slot_fits, held_changed, changed_at, changed_stands, Hears, same_others, carry, hears_carry, has_left, hears_left, free_place, has_entered, hears_entered, joined_changed, carry_seats, seated_put, on_its_place, member_within, move_changes, rises_less}
 use Rattle.mg_engine.proofs.engine.Engine.move_to.Goals as goal
 
 pub tune-requires : goal.tune-requires
@@ -125,6 +125,10 @@ returns-clause-outcome c w h =
       rw c.tune.ensures.tuned (changed_stands k new c.enter.new.flows c.enter.new.sums w settings n d
           (Enter d.number ∷ Leave d.number ∷ w.edits) a sound others lt c.enter.ensures.frames hears stands),
     )
+
+pub returns-clause-stats : goal.returns-clause-stats
+returns-clause-stats c w h =
+    has_stats _ w c.args.number c.in_ok-moved.moved.to.record (invariant_of-self-2 c) h c.in_ok-moved.ensures.to.found
 
 pub returns-clause-work : goal.returns-clause-work
 returns-clause-work c = rw (← c.self.view_is)

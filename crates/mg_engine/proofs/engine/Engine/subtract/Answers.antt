@@ -1,5 +1,5 @@
 use Rattle.mg_engine.proofs.Common.{ℕ, None, arith, subst, ◌∙◌, view, subtracted, member_place, SetsRow, sound_if, refl}
-use Rattle.mg_engine.proofs.EditLemmas.{held_removed, removed_stands, gone, same_others, carry, hears_carry, has_left, hears_left, members_all, hears_all, joined_left, carry_seats, seated_all, on_its_place, subtract_removes, rises_less}
+use Rattle.mg_engine.proofs.EditLemmas.{has_stats, held_removed, removed_stands, gone, same_others, carry, hears_carry, has_left, hears_left, members_all, hears_all, joined_left, carry_seats, seated_all, on_its_place, subtract_removes, rises_less}
 use Rattle.mg_engine.proofs.engine.Engine.subtract.Goals as goal
 
 pub vacate-requires : goal.vacate-requires
@@ -72,6 +72,10 @@ returns-clause-outcome c w h =
       removed_stands k new c.vacate.new.flows c.part.new.sums w n d a before others hears
           c.part.ensures.frames stands,
     )
+
+pub returns-clause-stats : goal.returns-clause-stats
+returns-clause-stats c w h = has_stats c.self.inside w c.args.number c.in_ok-gone.gone.record c.self.invariant
+    (rw (← c.self.view_is) at h) c.in_ok-gone.ensures.member.found
 
 pub returns-clause-work : goal.returns-clause-work
 returns-clause-work c = rw (← c.self.view_is)

@@ -34,7 +34,7 @@ use Rattle.mg_commands.specs.declared.served.Served.{Served}
 use Rattle.mg_commands.specs.aids.Agreement.{RequestsKeepAgreement, item_but_received, parts_but_received}
 use Rattle.mg_commands.specs.ContextProperties.{action_fault, audit_items, audit_pair, audit_pairs, context_outcome, is_context_audit, pair_item, triples_of}
 use Rattle.mg_commands.specs.Name.{name_of, written_as, written_name}
-use Rattle.mg_commands.specs.Outcome.{CommandOutcome, Trial, audit_outcome, audit_root, check_command, check_new_name, made_at, names_for, number_in, outcome, reply_media, reply_parts, served_at, trial_of}
+use Rattle.mg_commands.specs.Outcome.{CommandOutcome, Trial, audit_outcome, audit_root, check_command, check_new_name, names_for, number_in, outcome, reply_media, reply_parts, served_at, trial_of}
 use Rattle.mg_commands.specs.aids.Steps.{in_same_world}
 use Rattle.mg_commands.specs.aids.Steps.{all_names, audit_termination}
 use Rattle.mg_commands.specs.ReplyDescriptors.{descriptors_after, descriptors_before, descriptors_by_audit}
@@ -42,7 +42,6 @@ use Rattle.mg_commands.specs.Transaction.{id_of, replied}
 use Rattle.mg_commands.specs.aids.ByActions.{by_actions, ActionState, ActionsState, action_start, after_commands, after_outcome, after_properties, end_of_action, continue_with, continue_after_action, unless_optional, with_action, with_actions, with_command, with_commands, with_name, with_names, with_trial}
 use Rattle.mg_commands.proofs.FoldLemmas.{shown, same_reply}
 use Rattle.mg_commands.specs.aids.Steps.{action_unless}
-use Rattle.mg_words.specs.Term.{rtp_name}
 
 -- ## What is told
 
@@ -89,32 +88,23 @@ module _ (some : List ℕ) (edits : SameEditsKeepAgreement) (same_stats : SameSt
 
   -- ## Parts
 
-  media_same : (d : ReplyDescriptors) (n : ℕ) (a b : Gateway) → AgreeOutside some a b →
-      reply_media d a n ≡ reply_media d b n
-  media_same d n a b h = λ i. reply_media d (record a { rooms = h.rooms i }) n
-
   counted : (b : Bool) (o k : Option Stats) → option_map but_received o ≡ option_map but_received k →
       option_map but_received (if b then o else None) ≡ option_map but_received (if b then k else None)
   counted true o k h = h
   counted false o k h = refl
 
-  parts_same : (d : ReplyDescriptors) (n : ℕ) (a b : Gateway) → AgreeOutside some a b →
-      parts_but_received (reply_parts d a n) ≡ parts_but_received (reply_parts d b n)
-  parts_same d n a b h = λ i. record {
-    media = media_same d n a b h i;
-    statistics = counted d.statistics (stats_of a n) (stats_of b n) (same_stats some a b n h) i;
+  parts_same : (d : ReplyDescriptors) (r : Record) (a b : Gateway) → AgreeOutside some a b →
+      parts_but_received (reply_parts d a r) ≡ parts_but_received (reply_parts d b r)
+  parts_same d r a b h = λ i. record {
+    media = reply_media d r;
+    statistics = counted d.statistics (stats_of a r.number) (stats_of b r.number) (same_stats some a b r.number h) i;
   }
 
-  served_same : (target : Target) (d : ReplyDescriptors) (n : ℕ) (a b : Gateway) → AgreeOutside some a b →
-      served_but (served_at target (rtp_name n) (reply_parts d a n)) ≡
-      served_but (served_at target (rtp_name n) (reply_parts d b n))
-  served_same target d n a b h = λ i. record (served_but (served_at target (rtp_name n) (reply_parts d a n)))
-      { parts = parts_same d n a b h i }
-
-  made_same : (target : Target) (d : ReplyDescriptors) (n : ℕ) (a b : Gateway) → AgreeOutside some a b →
-      served_but (made_at target n (reply_parts d a n)) ≡ served_but (made_at target n (reply_parts d b n))
-  made_same target d n a b h = λ i. record (served_but (made_at target n (reply_parts d a n)))
-      { parts = parts_same d n a b h i }
+  served_same : (target : Record → Target) (d : ReplyDescriptors) (p q : Gateway × Record) → AgreeOutside some p.0 q.0 →
+      p.1 ≡ q.1 → served_but (served_at p.0 (target p.1) p.1 d) ≡ served_but (served_at q.0 (target q.1) q.1 d)
+  served_same target d p q h same =
+      (λ i. record (served_but (served_at p.0 (target p.1) p.1 d)) { parts = parts_same d p.1 p.0 q.0 h i })
+      ∙ ap (λ (r : Record). served_but (served_at q.0 (target r) r d)) same
 
   -- ## Commands
 
@@ -125,26 +115,26 @@ module _ (some : List ℕ) (edits : SameEditsKeepAgreement) (same_stats : SameSt
   new_name_same (names.Number n) a b h = λ i. check_new_name (record a { rooms = h.rooms i }) (names.Number n)
   new_name_same names.Other a b h = refl
 
-  abbrev audit_of : Target → CommandParameters → Gateway → ℕ → Result Record ErrorNumber → CommandOutcome
-  audit_of target parameters w n r = in_same_world w
-      (r >>= (λ _. Ok (served_at target (rtp_name n) (reply_parts (descriptors_by_audit parameters) w n))))
+  abbrev audit_of : Target → CommandParameters → Gateway → Result Record ErrorNumber → CommandOutcome
+  audit_of target parameters w r = in_same_world w
+      (r >>= (λ r. Ok (served_at w target r (descriptors_by_audit parameters))))
 
-  audit_at : (target : Target) (parameters : CommandParameters) (n : ℕ) (a b : Gateway) → AgreeOutside some a b →
-      (r : Result Record ErrorNumber) → ServedAlike (audit_of target parameters a n r)
-      (audit_of target parameters b n r)
-  audit_at target parameters n a b h (Ok r) = (h, served_same target (descriptors_by_audit parameters) n a b h)
-  audit_at target parameters n a b h (Err e) = refl
+  audit_at : (target : Target) (parameters : CommandParameters) (a b : Gateway) → AgreeOutside some a b →
+      (r : Result Record ErrorNumber) → ServedAlike (audit_of target parameters a r) (audit_of target parameters b r)
+  audit_at target parameters a b h (Ok r) =
+      (h, served_same (λ _. target) (descriptors_by_audit parameters) (a, r) (b, r) h refl)
+  audit_at target parameters a b h (Err e) = refl
 
   audit_by : (target : Target) (parameters : CommandParameters) (a b : Gateway) → AgreeOutside some a b →
       (o : Result ℕ ErrorNumber)
       → ServedAlike (in_same_world a (o >>= (λ n. member a.rooms target n >>=
-      (λ _. Ok (served_at target (rtp_name n) (reply_parts (descriptors_by_audit parameters) a n))))))
+      (λ r. Ok (served_at a target r (descriptors_by_audit parameters))))))
       (in_same_world b (o >>= (λ n. member b.rooms target n >>=
-      (λ _. Ok (served_at target (rtp_name n) (reply_parts (descriptors_by_audit parameters) b n))))))
+      (λ r. Ok (served_at b target r (descriptors_by_audit parameters))))))
   audit_by target parameters a b h (Ok n) =
-      subst (λ (z : rooms.Registry). ServedAlike (audit_of target parameters a n (member a.rooms target n))
-      (audit_of target parameters b n (member z target n))) h.rooms
-      (audit_at target parameters n a b h (member a.rooms target n))
+      subst (λ (z : rooms.Registry). ServedAlike (audit_of target parameters a (member a.rooms target n))
+      (audit_of target parameters b (member z target n))) h.rooms
+      (audit_at target parameters a b h (member a.rooms target n))
   audit_by target parameters a b h (Err e) = refl
 
   audited : (target : Target) (parameters : CommandParameters) (name : Name) (a b : Gateway) → AgreeOutside some a b →
@@ -176,29 +166,25 @@ module _ (some : List ℕ) (edits : SameEditsKeepAgreement) (same_stats : SameSt
       (edits.add some a b target parameters.settings h)
       (λ p q agree same. (
         agree,
-        made_same (targets.Number p.1.context) (descriptors_after parameters) p.1.number p.0 q.0 agree
-            ∙ ap (λ (r : Record). served_but (made_at (targets.Number r.context) r.number
-            (reply_parts (descriptors_after parameters) q.0 r.number))) same,
+        λ i. record (served_same (λ r. targets.Number r.context) (descriptors_after parameters) p q agree same i)
+            { made = Some ((same i).number) },
       )))
   outcome_alike words.Modify target name parameters a b h =
       by_step (number_in name) _ _
       (λ n. by_edit (modify a target n parameters.settings) (modify b target n parameters.settings) _ _
       (edits.modify some a b target n parameters.settings h)
-      (λ p q agree same. (agree, served_same target (descriptors_after parameters) n p.0 q.0 agree)))
+      (λ p q agree same. (agree, served_same (λ _. target) (descriptors_after parameters) p q agree same)))
   outcome_alike words.Move target name parameters a b h =
       by_step (number_in name) _ _
       (λ n. by_edit (move_to a target n parameters.settings) (move_to b target n parameters.settings) _ _
       (edits.move_to some a b target n parameters.settings h)
-      (λ p q agree same. (
-        agree,
-        served_same (targets.Number p.1.context) (descriptors_after parameters) n p.0 q.0 agree
-            ∙ ap (λ (r : Record). served_but (served_at (targets.Number r.context) (rtp_name n)
-            (reply_parts (descriptors_after parameters) q.0 n))) same,
-      )))
+      (λ p q agree same.
+      (agree, served_same (λ r. targets.Number r.context) (descriptors_after parameters) p q agree same)))
   outcome_alike words.Subtract target name parameters a b h =
       by_step (number_in name) _ _
       (λ n. by_edit (subtract a target n) (subtract b target n) _ _ (edits.subtract some a b target n h)
-      (λ p q agree same. (agree, served_same target (descriptors_before parameters) n a b h)))
+      (λ p q agree same.
+      (agree, served_same (λ _. target) (descriptors_before parameters) (a, p.1) (b, q.1) h same)))
   outcome_alike words.AuditValue target name parameters a b h = audit_alike target name parameters a b h
   outcome_alike words.AuditCapability target name parameters a b h = refl
   outcome_alike words.Notify target name parameters a b h = refl

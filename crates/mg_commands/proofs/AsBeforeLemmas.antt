@@ -25,8 +25,9 @@ use Rattle.mg_commands.specs.declared.name.Name.TheVariants as names
 use Rattle.mg_commands.specs.ContextProperties.{action_fault, audit_items, context_outcome, is_topology}
 use Rattle.mg_commands.specs.ContextProperties.{topology_triple_of, triples_in, triples_of}
 use Rattle.mg_commands.specs.Name.{name_of, written_as, written_name}
-use Rattle.mg_commands.specs.Outcome.{CommandOutcome, Trial, check_command, members_in, names_for, outcome, takes_all, trial_of, unless_empty}
+use Rattle.mg_commands.specs.Outcome.{CommandOutcome, Trial, check_command, members_in, names_for, outcome, trial_of, unless_empty}
 use Rattle.mg_commands.specs.Search.{first_of}
+use Rattle.mg_commands.specs.Support.{takes_all}
 use Rattle.mg_commands.specs.Theorems.{RefusedRequestsChangeNothing, depends_on_commands, reports_success}
 use Rattle.mg_commands.specs.Transaction.{id_of}
 use Rattle.mg_commands.specs.aids.ByActions.{ActionState, ActionsState, action_start, after_commands, after_outcome, after_properties, end_of_action, continue_with, continue_after_action, unless_optional, with_action, with_actions, with_command, with_commands, with_name, with_names, with_trial}

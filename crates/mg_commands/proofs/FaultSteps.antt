@@ -1,5 +1,5 @@
 -- One step of a walk over parts, each looked at with those before it.
-use Rattle.std.proofs.Common.{◌≡◌, ℕ, ◌+◌, ◌<◌, ◌≤◌, List, [], ◌∷◌, length, get_or, take, drop, Option, Some, None, false, refl, sym, ap, ◌∙◌}
+use Rattle.std.proofs.Common.{◌≡◌, ℕ, ◌+◌, ◌<◌, ◌≤◌, List, [], ◌∷◌, length, get_or, take, drop, Option, Some, None, false, refl}
 use Rattle.std.proofs.lemmas.List.{drop_more, drop_all, take_more}
 use Rattle.std.specs.List.{list_any}
 use Rattle.mg_scan.specs.declared.span.Span.{Span}
@@ -7,8 +7,9 @@ use Rattle.mg_words.specs.declared.error_number.ErrorNumber.{ErrorNumber}
 use Rattle.mg_text.specs.declared.media.PropertyValue.{PropertyValue}
 use Rattle.mg_text.specs.declared.media.ControlPart.{ControlPart}
 use Rattle.mg_text.specs.declared.media.ControlPart.TheVariants as controls
-use Rattle.mg_commands.specs.DescriptorFault.{is_jitter, same_control}
+use Rattle.mg_commands.specs.DescriptorFault.{same_control}
 use Rattle.mg_commands.specs.Search.{first_after}
+use Rattle.mg_commands.specs.Support.{is_jitter}
 use Rattle.mg_commands.specs.aids.Levels.{is_single}
 
 pub walk_next : {X : Type 0} (f : List X → X → Option ErrorNumber) (xs : List X) (i : ℕ) (d : X) → i < length xs →
@@ -22,24 +23,6 @@ pub walk_found : {X : Type 0} (f : List X → X → Option ErrorNumber) (xs : Li
     first_after f (take i xs) (drop i xs) ≡ Some fault
 unfolding first_after
 walk_found f xs i d fault lt e = rw (drop_more xs i d lt, e) refl
-
--- the fault that was found is the first
-pub walk_hit : {X : Type 0} (f : List X → X → Option ErrorNumber) (xs : List X) (i : ℕ) (x d : X) (before : List X)
-    (r w : Option ErrorNumber) (fault : ErrorNumber) → i < length xs → x ≡ get_or xs i d → before ≡ take i xs →
-    r ≡ f before x → r ≡ Some fault → first_after f (take i xs) (drop i xs) ≡ w → Some fault ≡ w
-walk_hit f xs i x d before r w fault lt is front called some h =
-    let one : f (take i xs) (get_or xs i d) ≡ Some fault = ap (f (take i xs)) (sym is) ∙
-    ap (λ (b : List _). f b x) (sym front) ∙ sym called ∙ some in
-    sym (walk_found f xs i d fault lt one) ∙ h
-
--- the first fault is not here
-pub walk_pass : {X : Type 0} (f : List X → X → Option ErrorNumber) (xs : List X) (i : ℕ) (x d : X) (before : List X)
-    (r w : Option ErrorNumber) → i < length xs → x ≡ get_or xs i d → before ≡ take i xs → r ≡ f before x → r ≡ None →
-    first_after f (take i xs) (drop i xs) ≡ w → first_after f (take (i + 1) xs) (drop (i + 1) xs) ≡ w
-walk_pass f xs i x d before r w lt is front called none h =
-    let one : f (take i xs) (get_or xs i d) ≡ None = ap (f (take i xs)) (sym is) ∙
-    ap (λ (b : List _). f b x) (sym front) ∙ sym called ∙ none in
-    walk_next f xs i d lt one ∙ h
 
 pub walk_end : {X : Type 0} (f : List X → X → Option ErrorNumber) (xs : List X) (i : ℕ) → length xs ≤ i →
     first_after f (take i xs) (drop i xs) ≡ None

@@ -15,9 +15,8 @@ use Rattle.mg_text.specs.declared.media.StreamPart.{StreamPart}
 use Rattle.mg_text.specs.declared.media.StreamPart.TheVariants as streams
 use Rattle.mg_text.specs.declared.media.MediaPart.{MediaPart}
 use Rattle.mg_text.specs.declared.media.MediaPart.TheVariants as media
-use Rattle.mg_scan.specs.declared.span.Span.{Span}
 use Rattle.mg_commands.specs.declared.part.Part.{Part}
-use Rattle.mg_commands.specs.declared.part.Part.TheVariants.{Media, Audit, Audited, Other, TerminationState, Stream, Local, Remote, LocalControl, Control}
+use Rattle.mg_commands.specs.declared.part.Part.TheVariants.{Media, Audit, Audited, Other, TerminationState, Stream, LocalControl, Control}
 use Rattle.mg_commands.specs.DescriptorFault.{is_same_part, same_control, fault_of, part_fault, descriptors_fault}
 use Rattle.mg_commands.specs.Part.{stream_parts, media_parts, descriptor_parts, parts_of}
 use Rattle.std.specs.Option.{option_or}
@@ -27,13 +26,7 @@ use Rattle.mg_commands.specs.aids.Words.{stream_word, controls_within, descripto
 
 -- ## Tests
 
-or_comm : (a b : Bool) → (a || b) ≡ (b || a)
-or_comm true true = refl
-or_comm true false = refl
-or_comm false true = refl
-or_comm false false = refl
-
-or_false : (a : Bool) → (a || false) ≡ a
+pub or_false : (a : Bool) → (a || false) ≡ a
 or_false true = refl
 or_false false = refl
 
@@ -75,9 +68,6 @@ first_after-flat_map f g level c e bs (x ∷ xs) =
     ap (λ (l : List Part). first_after f l (flat_map g xs)) (sym (flat_map_more g c bs x)))
     ∙ sym (first_after-append f (c ++ flat_map g bs) (g x) (flat_map g xs))
 
-same_number : (n : ℕ) → (n == n) ≡ true
-same_number n = eq-eqb n n refl
-
 none_or : (p : Part → Bool) (xs ys : List Part) → list_any p xs ≡ false → list_any p (xs ++ ys) ≡ list_any p ys
 none_or p xs ys e = list_any-append p xs ys ∙ ap (λ (b : Bool). b || list_any p ys) e
 
@@ -95,15 +85,14 @@ none_in_all p g e (x ∷ xs) = or_none p (g x) (flat_map g xs) (e x) (none_in_al
 any_in_all : {X : Type 0} (p : Part → Bool) (g : X → List Part) (q : X → Bool) → ((x : X) → list_any p (g x) ≡ q x) →
     (xs : List X) → list_any p (flat_map g xs) ≡ list_any q xs
 any_in_all p g q e [] = refl
-any_in_all p g q e (x ∷ xs) = list_any-append p (g x) (flat_map g xs) ∙
-    ap (λ (b : Bool). b || list_any p (flat_map g xs)) (e x) ∙ ap (λ (b : Bool). q x || b) (any_in_all p g q e xs)
+any_in_all p g q e (x ∷ xs) = simp (list_any-append, e x, any_in_all p g q e xs)
 
 none_in_map : {X : Type 0} (p : Part → Bool) (g : X → Part) → ((x : X) → p (g x) ≡ false) → (xs : List X) →
     list_any p (map g xs) ≡ false
 none_in_map p g e [] = refl
 none_in_map p g e (x ∷ xs) = rw (e x) (none_in_map p g e xs)
 
-or_none_else : {A : Type 0} (o : Option A) → option_or o None ≡ o
+pub or_none_else : {A : Type 0} (o : Option A) → option_or o None ≡ o
 or_none_else (Some x) = refl
 or_none_else None = refl
 
@@ -122,7 +111,7 @@ module _ (source : List ℕ) where
   controls_among : (n : ℕ) (x : ControlPart) (xs : List ControlPart) →
       list_any (is_same_part source (Control n x)) (map (Control n) xs) ≡ list_any (same_control source x) xs
   controls_among n x [] = refl
-  controls_among n x (y ∷ ys) = rw (same_number n, controls_among n x ys) refl
+  controls_among n x (y ∷ ys) = rw (eq-eqb n n refl, controls_among n x ys) refl
 
   control_flat : (n : ℕ) (c : List Part) → ((x : ControlPart) →
       list_any (is_same_part source (Control n x)) c ≡ false) → (bs : List ControlPart) (x : ControlPart) →
@@ -130,41 +119,27 @@ module _ (source : List ℕ) where
       (Control n x ∷ [])
   unfolding first_after
   control_flat n c none bs x =
-      let appeared : list_any (is_same_part source (Control n x)) (c ++ flat_map (λ y. Control n y ∷ []) bs) ≡
-      list_any (same_control source x) bs =
-      none_or (is_same_part source (Control n x)) c (flat_map (λ y. Control n y ∷ []) bs) (none x) ∙
-      ap (list_any (is_same_part source (Control n x))) (flat_map_single (Control n) bs) ∙ controls_among n x bs in
-      ap (λ (b : Bool). fault_of b (Control n x)) (sym appeared) ∙
-      sym (or_none_else (fault_of (list_any (is_same_part source (Control n x))
-      (c ++ flat_map (λ y. Control n y ∷ []) bs)) (Control n x)))
+      simp (list_any-append, none x, flat_map_single (Control n) bs, controls_among n x bs, or_none_else)
 
   controls_flat : (n : ℕ) (c : List Part) → ((x : ControlPart) →
       list_any (is_same_part source (Control n x)) c ≡ false) → (xs : List ControlPart) →
       first_after (control_level source n) [] xs ≡ first_after (part_fault source) c (map (Control n) xs)
-  controls_flat n c none xs =
-      first_after-flat_map (part_fault source) (λ y. Control n y ∷ []) (control_level source n) c
-      (control_flat n c none) [] xs
-      ∙ ap (λ (l : List Part). first_after (part_fault source) l (flat_map (λ y. Control n y ∷ []) xs)) (append-nil c)
-      ∙ ap (first_after (part_fault source) c) (flat_map_single (Control n) xs)
+  controls_flat n c none xs = simp (append-nil, flat_map_single (Control n) xs) at (first_after-flat_map (part_fault source)
+      (λ y. Control n y ∷ []) (control_level source n) c (control_flat n c none) [] xs)
 
   -- ## The words of streams
 
   no_word_among_controls : (n : ℕ) (x : StreamPart) (k : ℕ) (ys : List ControlPart) →
       list_any (is_same_part source (stream_word n x)) (map (Control k) ys) ≡ false
-  no_word_among_controls n (streams.Local t) k ys =
-      none_in_map (is_same_part source (Local n t)) (Control k) (λ y. refl) ys
-  no_word_among_controls n (streams.Remote t) k ys =
-      none_in_map (is_same_part source (Remote n t)) (Control k) (λ y. refl) ys
-  no_word_among_controls n (streams.LocalControl xs) k ys =
-      none_in_map (is_same_part source (LocalControl n)) (Control k) (λ y. refl) ys
+  no_word_among_controls n (streams.Local t) k ys = none_in_map _ _ (λ y. refl) ys
+  no_word_among_controls n (streams.Remote t) k ys = none_in_map _ _ (λ y. refl) ys
+  no_word_among_controls n (streams.LocalControl xs) k ys = none_in_map _ _ (λ y. refl) ys
 
   word_in_stream : (n : ℕ) (x : StreamPart) (k : ℕ) (y : StreamPart) →
       list_any (is_same_part source (stream_word n x)) (stream_parts k y) ≡ is_same_word source (stream_word n x) k y
-  word_in_stream n x k (streams.Local t) = or_false (is_same_part source (stream_word n x) (Local k t))
-  word_in_stream n x k (streams.Remote t) = or_false (is_same_part source (stream_word n x) (Remote k t))
-  word_in_stream n x k (streams.LocalControl ys) =
-      ap (λ (b : Bool). is_same_part source (stream_word n x) (LocalControl k) || b) (no_word_among_controls n x k ys)
-      ∙ or_false (is_same_part source (stream_word n x) (LocalControl k))
+  word_in_stream n x k (streams.Local t) = or_false _
+  word_in_stream n x k (streams.Remote t) = or_false _
+  word_in_stream n x k (streams.LocalControl ys) = simp (no_word_among_controls n x k ys, or_false)
 
   -- a word is one of its own stream
   own_stream : (n : ℕ) (x : StreamPart) (k : ℕ) (y : StreamPart) →
@@ -199,14 +174,9 @@ module _ (source : List ℕ) where
   word_in_media : (n : ℕ) (x : StreamPart) (p : MediaPart) →
       list_any (is_same_part source (stream_word n x)) (media_parts p) ≡ appears_in source (stream_word n x) n p
   word_in_media n x (media.Part y) = word_in_stream n x 1 y ∙ own_stream n x 1 y
-  word_in_media n x (media.Stream k ys) =
-      ap (λ (b : Bool). b || list_any (is_same_part source (stream_word n x)) (flat_map (stream_parts k) ys))
-      (no_word_is_stream n x k)
-      ∙ any_in_all (is_same_part source (stream_word n x)) (stream_parts k) (is_same_word source (stream_word n x) k)
-      (word_in_stream n x k) ys
-      ∙ and_any (n == k) (is_same_word source (stream_word n x) k) (own_stream n x k) ys
-  word_in_media n x (media.TerminationState b) =
-      or_false (is_same_part source (stream_word n x) (TerminationState b)) ∙ no_word_is_state n x b
+  word_in_media n x (media.Stream k ys) = rw (no_word_is_stream n x k)
+      (any_in_all _ _ _ (word_in_stream n x k) ys ∙ and_any (n == k) _ (own_stream n x k) ys)
+  word_in_media n x (media.TerminationState b) = or_false _ ∙ no_word_is_state n x b
 
   -- ## A LocalControl stands before its parts
 
@@ -216,12 +186,8 @@ module _ (source : List ℕ) where
 
   guarded_both : (n : ℕ) (a b : List Part) → IsGuarded n a → IsGuarded n b → IsGuarded n (a ++ b)
   guarded_both n a b first second e y =
-      let h = sym (list_any-append (is_same_part source (LocalControl n)) a b) ∙ e in
-      or_none (is_same_part source (Control n y)) a b
-      (first (or_parts (list_any (is_same_part source (LocalControl n)) a)
-      (list_any (is_same_part source (LocalControl n)) b) h).0 y)
-      (second (or_parts (list_any (is_same_part source (LocalControl n)) a)
-      (list_any (is_same_part source (LocalControl n)) b) h).1 y)
+      let (h, k) = or_parts _ _ (sym (list_any-append (is_same_part source (LocalControl n)) a b) ∙ e) in
+      or_none _ a b (first h y) (second k y)
 
   guarded_all : {X : Type 0} (n : ℕ) (g : X → List Part) → ((x : X) → IsGuarded n (g x)) → (xs : List X) →
       IsGuarded n (flat_map g xs)
@@ -230,15 +196,12 @@ module _ (source : List ℕ) where
 
   other_controls : (n k : ℕ) (y : ControlPart) (zs : List ControlPart) → (n == k) ≡ false →
       list_any (is_same_part source (Control n y)) (map (Control k) zs) ≡ false
-  other_controls n k y zs e = none_in_map (is_same_part source (Control n y)) (Control k)
-      (λ z. ap (λ (b : Bool). b && same_control source y z) e) zs
+  other_controls n k y zs e = none_in_map _ _ (λ z. ap (λ (b : Bool). b && same_control source y z) e) zs
 
   guarded_stream : (n k : ℕ) (x : StreamPart) → IsGuarded n (stream_parts k x)
   guarded_stream n k (streams.Local t) e y = refl
   guarded_stream n k (streams.Remote t) e y = refl
-  guarded_stream n k (streams.LocalControl zs) e y =
-      other_controls n k y zs
-      (or_parts (n == k) (list_any (is_same_part source (LocalControl n)) (map (Control k) zs)) e).0
+  guarded_stream n k (streams.LocalControl zs) e y = other_controls n k y zs (or_parts (n == k) _ e).0
 
   guarded_media : (n : ℕ) (p : MediaPart) → IsGuarded n (media_parts p)
   guarded_media n (media.Part x) = guarded_stream n 1 x
@@ -260,12 +223,8 @@ module _ (source : List ℕ) where
   unfolding first_after
   stream_step n c (streams.Local t) guarded = refl
   stream_step n c (streams.Remote t) guarded = refl
-  stream_step n c (streams.LocalControl xs) guarded =
-      unless_appeared (list_any (is_same_part source (LocalControl n)) c) (LocalControl n)
-      (first_after (control_level source n) [] xs)
-      (first_after (part_fault source) (c ++ LocalControl n ∷ []) (map (Control n) xs))
-      (λ e. controls_flat n (c ++ LocalControl n ∷ [])
-      (λ y. or_none (is_same_part source (Control n y)) c (LocalControl n ∷ []) (guarded e y) refl) xs)
+  stream_step n c (streams.LocalControl xs) guarded = unless_appeared _ (LocalControl n) _ _
+      (λ e. controls_flat n (c ++ LocalControl n ∷ []) (λ y. or_none _ c (LocalControl n ∷ []) (guarded e y) refl) xs)
 
   stream_flat : (n : ℕ) (c m : List Part) (parts : List MediaPart) → IsOutside c →
       ((x : StreamPart) → list_any (is_same_part source (stream_word n x)) m ≡ false) → IsGuarded n m
@@ -276,70 +235,50 @@ module _ (source : List ℕ) where
       let p = is_same_part source (stream_word n x) in
       let before = flat_map media_parts parts in
       let own = flat_map (stream_parts n) bs in
-      let front : list_any p ((c ++ before) ++ m) ≡ list_any (appears_in source (stream_word n x) n) parts =
-      list_any-append p (c ++ before) m ∙ ap (λ (b : Bool). list_any p (c ++ before) || b) (no_word x) ∙
-      or_false (list_any p (c ++ before))
-      ∙ none_or p c before (outside.word n x) ∙
-      any_in_all p media_parts (appears_in source (stream_word n x) n) (word_in_media n x) parts in
       let appeared : list_any p (((c ++ before) ++ m) ++ own) ≡ appeared_in_media source parts n bs (stream_word n x) =
-      list_any-append p ((c ++ before) ++ m) own
-      ∙ ap (λ (b : Bool). b || list_any p own) front
-      ∙ ap (λ (b : Bool). list_any (appears_in source (stream_word n x) n) parts || b)
-      (any_in_all p (stream_parts n) (is_same_word source (stream_word n x) n) (word_in_stream n x n) bs)
-      ∙ or_comm (list_any (appears_in source (stream_word n x) n) parts)
-      (list_any (is_same_word source (stream_word n x) n) bs) in
-      ap (λ (b : Bool). option_or (fault_of b (stream_word n x))
-      (first_after (control_level source n) [] (controls_within x))) (sym appeared)
-      ∙ stream_step n (((c ++ before) ++ m) ++ own) x
+      simp (
+        list_any-append,
+        outside.word n x,
+        no_word x,
+        or_false,
+        any_in_all p media_parts _ (word_in_media n x) parts,
+        any_in_all p (stream_parts n) _ (word_in_stream n x n) bs,
+      ) in
+      rw (sym appeared) (stream_step n (((c ++ before) ++ m) ++ own) x
       (guarded_both n ((c ++ before) ++ m) own
       (guarded_both n (c ++ before) m (guarded_both n c before (λ e. outside.control n)
       (guarded_all n media_parts (guarded_media n) parts)) guarded)
-      (guarded_all n (stream_parts n) (guarded_stream n n) bs))
+      (guarded_all n (stream_parts n) (guarded_stream n n) bs)))
 
   no_state_in_stream : (b : Bool) (n : ℕ) (x : StreamPart) →
       list_any (is_same_part source (TerminationState b)) (stream_parts n x) ≡ false
   no_state_in_stream b n (streams.Local t) = refl
   no_state_in_stream b n (streams.Remote t) = refl
-  no_state_in_stream b n (streams.LocalControl xs) =
-      none_in_map (is_same_part source (TerminationState b)) (Control n) (λ y. refl) xs
+  no_state_in_stream b n (streams.LocalControl xs) = none_in_map _ _ (λ y. refl) xs
 
   state_in_media : (b : Bool) (p : MediaPart) →
       list_any (is_same_part source (TerminationState b)) (media_parts p) ≡ is_state p
   state_in_media b (media.Part x) = no_state_in_stream b 1 x
-  state_in_media b (media.Stream n xs) = none_in_all (is_same_part source (TerminationState b)) (stream_parts n)
-      (no_state_in_stream b n) xs
+  state_in_media b (media.Stream n xs) = none_in_all _ _ (no_state_in_stream b n) xs
   state_in_media b (media.TerminationState h) = refl
 
   media_flat : (c : List Part) → IsOutside c → (bs : List MediaPart) (x : MediaPart) →
       media_level source bs x ≡ first_after (part_fault source) (c ++ flat_map media_parts bs) (media_parts x)
   unfolding first_after
   media_flat c outside bs (media.Part x) =
-      stream_flat 1 c [] bs outside (λ y. refl) (λ e y. refl) [] x
-      ∙ ap (λ (l : List Part). first_after (part_fault source) l (stream_parts 1 x))
-      (append-nil ((c ++ flat_map media_parts bs) ++ []) ∙ append-nil (c ++ flat_map media_parts bs))
+      simp append-nil at (stream_flat 1 c [] bs outside (λ y. refl) (λ e y. refl) [] x)
   media_flat c outside bs (media.Stream n xs) =
-      let front = (c ++ flat_map media_parts bs) ++ Stream n ∷ [] in
-      first_after-flat_map (part_fault source) (stream_parts n) (stream_level source bs n) front
-      (stream_flat n c (Stream n ∷ []) bs outside
-      (λ y. or_false (is_same_part source (stream_word n y) (Stream n)) ∙ no_word_is_stream n y n) (λ e y. refl))
-      [] xs
-      ∙ ap (λ (l : List Part). first_after (part_fault source) l (flat_map (stream_parts n) xs)) (append-nil front)
-      ∙ ap (λ (b : Bool). option_or (fault_of b (Stream n))
-      (first_after (part_fault source) front (flat_map (stream_parts n) xs)))
-      (sym (no_stream_twice n (c ++ flat_map media_parts bs)))
+      let flat = stream_flat n c (Stream n ∷ []) bs outside (λ y. or_false _ ∙ no_word_is_stream n y n) (λ e y. refl) in
+      rw (no_stream_twice n (c ++ flat_map media_parts bs)) (simp append-nil at (first_after-flat_map (part_fault source)
+      (stream_parts n) (stream_level source bs n) ((c ++ flat_map media_parts bs) ++ Stream n ∷ []) flat [] xs))
   media_flat c outside bs (media.TerminationState h) =
       let p = is_same_part source (TerminationState h) in
-      let appeared : list_any p (c ++ flat_map media_parts bs) ≡ list_any is_state bs =
-      none_or p c (flat_map media_parts bs) (outside.state h) ∙
-      any_in_all p media_parts is_state (state_in_media h) bs in
-      ap (λ (b : Bool). fault_of b (TerminationState h)) (sym appeared) ∙
-      sym (or_none_else (fault_of (list_any p (c ++ flat_map media_parts bs)) (TerminationState h)))
+      simp (list_any-append, outside.state h, any_in_all p media_parts is_state (state_in_media h) bs, or_none_else)
 
   medias_flat : (c : List Part) → IsOutside c → (xs : List MediaPart) →
       first_after (media_level source) [] xs ≡ first_after (part_fault source) c (flat_map media_parts xs)
-  medias_flat c outside xs =
-      first_after-flat_map (part_fault source) media_parts (media_level source) c (media_flat c outside) [] xs
-      ∙ ap (λ (l : List Part). first_after (part_fault source) l (flat_map media_parts xs)) (append-nil c)
+  medias_flat c outside xs = simp append-nil at
+      (first_after-flat_map (part_fault source) media_parts (media_level source) c (media_flat c outside) [] xs)
 
   -- ## Descriptors
 
@@ -348,9 +287,8 @@ module _ (source : List ℕ) where
       list_any (is_same_descriptor source Media) bs ≡ false → list_any p (parts_of bs) ≡ false
   none_outside p audit word other [] e = refl
   none_outside p audit word other (descriptors.Media xs ∷ bs) e = absurd (cc e)
-  none_outside p audit word other (descriptors.Audit ws ∷ bs) e =
-      or_none p (Audit ∷ map Audited ws) (parts_of bs) (rw audit (none_in_map p Audited word ws))
-      (none_outside p audit word other bs e)
+  none_outside p audit word other (descriptors.Audit ws ∷ bs) e = or_none p (Audit ∷ map Audited ws) (parts_of bs)
+      (rw audit (none_in_map p Audited word ws)) (none_outside p audit word other bs e)
   none_outside p audit word other (descriptors.Other w b ∷ bs) e = rw (other w b) (none_outside p audit word other bs e)
 
   none_with_media : (p : Part → Bool) → p Audit ≡ false → ((w : AuditWord) → p (Audited w) ≡ false) →
@@ -361,70 +299,40 @@ module _ (source : List ℕ) where
 
   word_outside : (bs : List Descriptor) → list_any (is_same_descriptor source Media) bs ≡ false →
       (n : ℕ) (x : StreamPart) → list_any (is_same_part source (stream_word n x)) (parts_of bs ++ Media ∷ []) ≡ false
-  word_outside bs e n (streams.Local t) = none_with_media (is_same_part source (Local n t)) refl (λ w. refl)
-      (λ w b. refl) refl bs e
-  word_outside bs e n (streams.Remote t) = none_with_media (is_same_part source (Remote n t)) refl (λ w. refl)
-      (λ w b. refl) refl bs e
-  word_outside bs e n (streams.LocalControl xs) =
-      none_with_media (is_same_part source (LocalControl n)) refl (λ w. refl) (λ w b. refl) refl bs e
+  word_outside bs e n (streams.Local t) = none_with_media _ refl (λ w. refl) (λ w b. refl) refl bs e
+  word_outside bs e n (streams.Remote t) = none_with_media _ refl (λ w. refl) (λ w b. refl) refl bs e
+  word_outside bs e n (streams.LocalControl xs) = none_with_media _ refl (λ w. refl) (λ w b. refl) refl bs e
 
   outside_before : (bs : List Descriptor) → list_any (is_same_descriptor source Media) bs ≡ false →
       IsOutside (parts_of bs ++ Media ∷ [])
   outside_before bs e = record {
     word = word_outside bs e;
-    control = λ n x. none_with_media (is_same_part source (Control n x)) refl (λ w. refl) (λ w b. refl) refl bs e;
-    state = λ b. none_with_media (is_same_part source (TerminationState b)) refl (λ w. refl) (λ w b. refl) refl bs e;
+    control = λ n x. none_with_media _ refl (λ w. refl) (λ w b. refl) refl bs e;
+    state = λ b. none_with_media _ refl (λ w. refl) (λ w b. refl) refl bs e;
   }
 
-  -- a test that no part within a Media descriptor passes
-  record IsOuter (p : Part → Bool) : Type 0 where
-    local : (n : ℕ) (t : Span) → p (Local n t) ≡ false
-    remote : (n : ℕ) (t : Span) → p (Remote n t) ≡ false
-    word : (n : ℕ) → p (LocalControl n) ≡ false
-    control : (n : ℕ) (x : ControlPart) → p (Control n x) ≡ false
-    stream : (n : ℕ) → p (Stream n) ≡ false
-    state : (b : Bool) → p (TerminationState b) ≡ false
+  -- no part within a Media descriptor is like a descriptor
+  outer_in_stream : (d : Descriptor) (n : ℕ) (x : StreamPart) →
+      list_any (is_same_part source (descriptor_word d)) (stream_parts n x) ≡ false
+  outer_in_stream (descriptors.Media ms) n (streams.Local t) = refl
+  outer_in_stream (descriptors.Media ms) n (streams.Remote t) = refl
+  outer_in_stream (descriptors.Media ms) n (streams.LocalControl xs) = none_in_map _ _ (λ y. refl) xs
+  outer_in_stream (descriptors.Audit ws) n (streams.Local t) = refl
+  outer_in_stream (descriptors.Audit ws) n (streams.Remote t) = refl
+  outer_in_stream (descriptors.Audit ws) n (streams.LocalControl xs) = none_in_map _ _ (λ y. refl) xs
+  outer_in_stream (descriptors.Other w h) n (streams.Local t) = refl
+  outer_in_stream (descriptors.Other w h) n (streams.Remote t) = refl
+  outer_in_stream (descriptors.Other w h) n (streams.LocalControl xs) = none_in_map _ _ (λ y. refl) xs
 
-  outer_in_stream : (p : Part → Bool) → IsOuter p → (n : ℕ) (x : StreamPart) → list_any p (stream_parts n x) ≡ false
-  outer_in_stream p outer n (streams.Local t) = rw (outer.local n t) refl
-  outer_in_stream p outer n (streams.Remote t) = rw (outer.remote n t) refl
-  outer_in_stream p outer n (streams.LocalControl xs) =
-      rw (outer.word n) (none_in_map p (Control n) (outer.control n) xs)
-
-  outer_in_media : (p : Part → Bool) → IsOuter p → (x : MediaPart) → list_any p (media_parts x) ≡ false
-  outer_in_media p outer (media.Part x) = outer_in_stream p outer 1 x
-  outer_in_media p outer (media.Stream n xs) =
-      rw (outer.stream n) (none_in_all p (stream_parts n) (outer_in_stream p outer n) xs)
-  outer_in_media p outer (media.TerminationState b) = rw (outer.state b) refl
-
-  descriptor_is_outer : (d : Descriptor) → IsOuter (is_same_part source (descriptor_word d))
-  descriptor_is_outer (descriptors.Media xs) =
-      record {
-        local = λ n t. refl;
-        remote = λ n t. refl;
-        word = λ n. refl;
-        control = λ n x. refl;
-        stream = λ n. refl;
-        state = λ b. refl;
-      }
-  descriptor_is_outer (descriptors.Audit xs) =
-      record {
-        local = λ n t. refl;
-        remote = λ n t. refl;
-        word = λ n. refl;
-        control = λ n x. refl;
-        stream = λ n. refl;
-        state = λ b. refl;
-      }
-  descriptor_is_outer (descriptors.Other w h) =
-      record {
-        local = λ n t. refl;
-        remote = λ n t. refl;
-        word = λ n. refl;
-        control = λ n x. refl;
-        stream = λ n. refl;
-        state = λ b. refl;
-      }
+  outer_in_media : (d : Descriptor) (x : MediaPart) →
+      list_any (is_same_part source (descriptor_word d)) (media_parts x) ≡ false
+  outer_in_media d (media.Part x) = outer_in_stream d 1 x
+  outer_in_media (descriptors.Media ms) (media.Stream n xs) = none_in_all _ _ (outer_in_stream (descriptors.Media ms) n) xs
+  outer_in_media (descriptors.Audit ws) (media.Stream n xs) = none_in_all _ _ (outer_in_stream (descriptors.Audit ws) n) xs
+  outer_in_media (descriptors.Other w h) (media.Stream n xs) = none_in_all _ _ (outer_in_stream (descriptors.Other w h) n) xs
+  outer_in_media (descriptors.Media ms) (media.TerminationState b) = refl
+  outer_in_media (descriptors.Audit ws) (media.TerminationState b) = refl
+  outer_in_media (descriptors.Other w h) (media.TerminationState b) = refl
 
   no_descriptor_is_audited : (d : Descriptor) (w : AuditWord) →
       is_same_part source (descriptor_word d) (Audited w) ≡ false
@@ -435,21 +343,16 @@ module _ (source : List ℕ) where
   word_in_descriptor : (d e : Descriptor) → list_any (is_same_part source (descriptor_word d)) (descriptor_parts e) ≡
       is_same_descriptor source (descriptor_word d) e
   word_in_descriptor d (descriptors.Media xs) =
-      ap (λ (b : Bool). is_same_part source (descriptor_word d) Media || b)
-      (none_in_all (is_same_part source (descriptor_word d)) media_parts
-      (outer_in_media (is_same_part source (descriptor_word d)) (descriptor_is_outer d)) xs) ∙
-      or_false (is_same_part source (descriptor_word d) Media)
+      let p = is_same_part source (descriptor_word d) in
+      simp (none_in_all p media_parts (outer_in_media d) xs, or_false)
   word_in_descriptor d (descriptors.Audit ws) =
-      ap (λ (b : Bool). is_same_part source (descriptor_word d) Audit || b)
-      (none_in_map (is_same_part source (descriptor_word d)) Audited (no_descriptor_is_audited d) ws) ∙
-      or_false (is_same_part source (descriptor_word d) Audit)
-  word_in_descriptor d (descriptors.Other w h) = or_false (is_same_part source (descriptor_word d) (Other w h))
+      simp (none_in_map (is_same_part source (descriptor_word d)) Audited (no_descriptor_is_audited d) ws, or_false)
+  word_in_descriptor d (descriptors.Other w h) = or_false _
 
   word_before : (d : Descriptor) (bs : List Descriptor) →
       list_any (is_same_part source (descriptor_word d)) (parts_of bs) ≡
       list_any (is_same_descriptor source (descriptor_word d)) bs
-  word_before d bs = any_in_all (is_same_part source (descriptor_word d)) descriptor_parts
-      (is_same_descriptor source (descriptor_word d)) (word_in_descriptor d) bs
+  word_before d bs = any_in_all _ _ _ (word_in_descriptor d) bs
 
   audited_twice : (w : AuditWord) (c : List Part) → list_any (is_same_part source (Audited w)) c ≡ false
   audited_twice w [] = refl
@@ -463,18 +366,11 @@ module _ (source : List ℕ) where
   descriptor_flat : (bs : List Descriptor) (d : Descriptor) →
       descriptor_level source bs d ≡ first_after (part_fault source) (parts_of bs) (descriptor_parts d)
   unfolding first_after
-  descriptor_flat bs (descriptors.Media xs) =
-      unless_appeared (list_any (is_same_descriptor source Media) bs) Media (first_after (media_level source) [] xs)
-      (first_after (part_fault source) (parts_of bs ++ Media ∷ []) (flat_map media_parts xs))
-      (λ e. medias_flat (parts_of bs ++ Media ∷ []) (outside_before bs e) xs)
-      ∙ ap (λ (b : Bool). option_or (fault_of b Media)
-      (first_after (part_fault source) (parts_of bs ++ Media ∷ []) (flat_map media_parts xs)))
-      (sym (word_before (descriptors.Media xs) bs))
+  descriptor_flat bs (descriptors.Media xs) = rw (word_before (descriptors.Media xs) bs) (unless_appeared _ Media _ _
+      (λ e. medias_flat (parts_of bs ++ Media ∷ []) (outside_before bs e) xs))
   descriptor_flat bs (descriptors.Audit ws) =
-      ap (λ (b : Bool). option_or (fault_of b Audit) None) (sym (word_before (descriptors.Audit ws) bs))
-      ∙ ap (option_or (part_fault source (parts_of bs) Audit)) (sym (no_audited_fault (parts_of bs ++ Audit ∷ []) ws))
-  descriptor_flat bs (descriptors.Other w h) =
-      ap (λ (b : Bool). option_or (fault_of b (Other w h)) None) (sym (word_before (descriptors.Other w h) bs))
+      rw (word_before (descriptors.Audit ws) bs, no_audited_fault (parts_of bs ++ Audit ∷ []) ws) refl
+  descriptor_flat bs (descriptors.Other w h) = rw (word_before (descriptors.Other w h) bs) refl
 
   -- the first fault level by level is the first of the parts
   pub levels_are_parts : (xs : List Descriptor) →

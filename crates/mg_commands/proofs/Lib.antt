@@ -1,7 +1,6 @@
 pub mod FaultSteps
-pub mod SearchSteps
 pub mod LevelLemmas
-pub mod ParameterLemmas
+pub mod FindingLemmas
 pub mod PutLemmas
 pub mod WorkLemmas
 pub mod PropertySteps

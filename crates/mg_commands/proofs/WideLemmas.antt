@@ -1,5 +1,5 @@
 -- Each item of a reply is wide, and the last ends an action.
-use Rattle.std.proofs.Common.{◌≡◌, ℕ, ◌+◌, ◌/◌, ◌%◌, ◌≤◌, zero, suc, Bool, true, false, ◌&&◌, ◌||◌, ◌==◌, not, List, [], ◌∷◌, ◌++◌, length, map, Option, Some, None, Result, Ok, Err, refl, ◌∙◌, length-append, arith, codes, decimal, if◌then◌else◌, subst}
+use Rattle.std.proofs.Common.{◌≡◌, ℕ, ◌+◌, ◌/◌, ◌%◌, ◌≤◌, zero, suc, Bool, true, false, ◌&&◌, ◌||◌, ◌==◌, not, List, [], ◌∷◌, ◌++◌, length, map, Option, Some, None, Result, Ok, Err, refl, ◌∙◌, length-append, arith, codes, decimal, if◌then◌else◌, subst, ap}
 use Rattle.std.specs.Fmt.{digits, digits_onto, digit_glyph}
 use Rattle.std.specs.List.{list_all, list_any}
 use Rattle.std.proofs.lemmas.Bool.{and_parts, le-leb, and_from, or_right}
@@ -23,13 +23,11 @@ use Rattle.mg_reply.specs.declared.item.Item.{Item}
 use Rattle.mg_reply.specs.declared.item.Item.TheVariants as replies
 use Rattle.mg_reply.specs.declared.outcome.Outcome.{Outcome}
 use Rattle.mg_reply.specs.declared.outcome.Outcome.TheVariants.{Failed, Done}
-use Rattle.mg_reply.specs.declared.outcome.Parts.{Parts}
 use Rattle.mg_reply.specs.Entries.{outcome_text}
 use Rattle.mg_reply.specs.Listed.{listed}
 use Rattle.mg_reply.specs.Reply.{is_refusal, last_is_action}
 use Rattle.mg_reply.specs.aids.Width.{is_wide}
 use Rattle.mg_rooms.specs.declared.target.Target.{Target}
-use Rattle.mg_rooms.specs.declared.target.Target.TheVariants as targets
 use Rattle.mg_engine.specs.Flow.{hears}
 use Rattle.mg_engine.specs.Gateway.{Gateway}
 use Rattle.mg_engine.specs.Outcome.{add, modify, move_to, subtract, apply_triples}
@@ -44,9 +42,8 @@ use Rattle.mg_commands.specs.declared.name.Name.{Name}
 use Rattle.mg_commands.specs.declared.served.Served.{Served}
 use Rattle.mg_commands.specs.Name.{written_as, written_name}
 use Rattle.mg_commands.specs.ContextProperties.{is_context_audit, action_fault, triples_of, pair_item, audit_pair, audit_pairs, audit_items, context_outcome}
-use Rattle.mg_commands.specs.Outcome.{CommandOutcome, Trial, check_new_name, number_in, outcome, trial_of, reply_parts, served_at, made_at}
+use Rattle.mg_commands.specs.Outcome.{CommandOutcome, Trial, check_new_name, number_in, outcome, trial_of}
 use Rattle.mg_commands.specs.aids.Steps.{in_same_world}
-use Rattle.mg_commands.specs.ReplyDescriptors.{descriptors_after, descriptors_before}
 use Rattle.mg_commands.specs.Transaction.{replied}
 use Rattle.mg_commands.specs.aids.ByActions.{ActionState, ActionsState, after_outcome, with_name, with_names, with_trial, with_command, unless_optional, continue_with, with_commands, action_start, end_of_action, after_properties, after_commands, refusal, with_action, continue_after_action, with_actions}
 use Rattle.mg_commands.proofs.FoldLemmas.{same_reply}
@@ -168,13 +165,8 @@ data IsLong (word : CommandWord) : CommandOutcome → Type 0 where
   done : (p : Gateway × Served) → 9 ≤ length (command_text word) + (1 + length p.1.term) → IsLong word (Ok p)
   failed : (e : ErrorNumber) → IsLong word (Err e)
 
-named : (word : CommandWord) (w : Gateway) (target : Target) (n : ℕ) (parts : Parts) →
-    IsLong word (Ok (w, served_at target (rtp_name n) parts))
-named word w target n parts = done (w, served_at target (rtp_name n) parts) (omega (arith, word_long word, rtp_long n))
-
-made : (word : CommandWord) (w : Gateway) (target : Target) (n : ℕ) (parts : Parts) →
-    IsLong word (Ok (w, made_at target n parts))
-made word w target n parts = done (w, made_at target n parts) (omega (arith, word_long word, rtp_long n))
+named : (word : CommandWord) (w : Gateway) (s : Served) (n : ℕ) → s.term ≡ rtp_name n → IsLong word (Ok (w, s))
+named word w s n is = done (w, s) (omega (arith, word_long word, rtp_long n, ap length is))
 
 audit_is_long : (w : Gateway) (r : Result Served ErrorNumber) → IsLong words.AuditValue (in_same_world w r)
 audit_is_long w (Ok s) = done (w, s) (omega (arith, audit_long))
@@ -186,21 +178,19 @@ unfolding outcome
 outcome_long words.Add w target name parameters =
     by_bind (IsLong words.Add) (check_new_name w name) _
     (λ u. by_bind (IsLong words.Add) (add w target parameters.settings) _
-    (λ p. made words.Add p.0 (targets.Number p.1.context) p.1.number
-    (reply_parts (descriptors_after parameters) p.0 p.1.number)) failed) failed
+    (λ p. named words.Add p.0 _ p.1.number refl) failed) failed
 outcome_long words.Modify w target name parameters =
     by_bind (IsLong words.Modify) (number_in name) _
     (λ n. by_bind (IsLong words.Modify) (modify w target n parameters.settings) _
-    (λ p. named words.Modify p.0 target n (reply_parts (descriptors_after parameters) p.0 n)) failed) failed
+    (λ p. named words.Modify p.0 _ p.1.number refl) failed) failed
 outcome_long words.Move w target name parameters =
     by_bind (IsLong words.Move) (number_in name) _
     (λ n. by_bind (IsLong words.Move) (move_to w target n parameters.settings) _
-    (λ p. named words.Move p.0 (targets.Number p.1.context) n (reply_parts (descriptors_after parameters) p.0 n))
-    failed) failed
+    (λ p. named words.Move p.0 _ p.1.number refl) failed) failed
 outcome_long words.Subtract w target name parameters =
     by_bind (IsLong words.Subtract) (number_in name) _
     (λ n. by_bind (IsLong words.Subtract) (subtract w target n) _
-    (λ p. named words.Subtract p.0 target n (reply_parts (descriptors_before parameters) w n)) failed) failed
+    (λ p. named words.Subtract p.0 _ p.1.number refl) failed) failed
 outcome_long words.AuditValue w target name parameters = audit_is_long w _
 outcome_long words.AuditCapability w target name parameters = failed NotServed
 outcome_long words.Notify w target name parameters = failed NotServed

@@ -17,10 +17,9 @@ use Rattle.mg_text.specs.declared.media.ControlPart.TheVariants as controls
 use Rattle.mg_commands.specs.declared.command_parameters.CommandParameters.{CommandParameters}
 use Rattle.mg_commands.specs.declared.part.Part.{Part}
 use Rattle.mg_commands.specs.declared.part.Part.TheVariants.{Audit, Audited, Local, Remote, Control}
-use Rattle.mg_commands.specs.DescriptorFault.{is_jitter}
 use Rattle.mg_commands.specs.Part.{parts_of}
-use Rattle.mg_commands.specs.PropertyFault.{jitter_of}
 use Rattle.mg_commands.specs.Search.{first_of}
+use Rattle.mg_commands.specs.Support.{is_jitter, jitter_of}
 
 -- ## One part
 

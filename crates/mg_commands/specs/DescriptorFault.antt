@@ -1,11 +1,7 @@
--- The first fault in a command's descriptors, in text order (RFC 3525, section 7.1). Which
--- descriptors are supported is this project's choice.
-use Rattle.std.specs.Prelude.{ℕ, Bool, true, false, ◌&&◌, ◌==◌, List, [], Option, Some, None, codes}
+-- The first fault in a command's descriptors, in text order (RFC 3525, section 7.1).
+use Rattle.std.specs.Prelude.{ℕ, Bool, true, false, ◌&&◌, ◌==◌, List, [], Option, Some, None}
 use Rattle.std.specs.Prelude.{if◌then◌else◌}
 use Rattle.std.specs.List.{list_any}
-use Rattle.std.specs.Str.{str_eq_ignore_ascii_case}
-use Rattle.mg_scan.specs.declared.span.Span.{Span}
-use Rattle.mg_scan.specs.Span.{text_of}
 use Rattle.mg_words.specs.declared.error_number.ErrorNumber.{ErrorNumber}
 use Rattle.mg_words.specs.declared.error_number.ErrorNumber.TheVariants.{DescriptorTwice}
 use Rattle.mg_words.specs.declared.error_number.ErrorNumber.TheVariants.{DescriptorNotServed}
@@ -17,7 +13,8 @@ use Rattle.mg_text.specs.declared.media.ControlPart.TheVariants as controls
 use Rattle.mg_commands.specs.declared.part.Part.{Part}
 use Rattle.mg_commands.specs.declared.part.Part.TheVariants as parts
 use Rattle.mg_commands.specs.Part.{parts_of}
-use Rattle.mg_commands.specs.Search.{first_after}
+use Rattle.mg_commands.specs.Search.{first_of, first_after}
+use Rattle.mg_commands.specs.Support.{is_unserved, is_jitter, property_fault}
 
 abbrev pub same_other_word : OtherWord → OtherWord → Bool
 same_other_word others.Signals others.Signals = true
@@ -27,10 +24,6 @@ same_other_word others.Mux others.Mux = true
 same_other_word others.DigitMap others.DigitMap = true
 same_other_word others.EventBuffer others.EventBuffer = true
 same_other_word _ _ = false
-
--- the one supported property, ignoring case
-unfoldable pub is_jitter : List ℕ → Span → Bool
-is_jitter source name = str_eq_ignore_ascii_case (text_of source name) (codes "nt/jit")
 
 -- of the named properties, only nt/jit must not be repeated
 abbrev pub same_control : List ℕ → ControlPart → ControlPart → Bool
@@ -54,12 +47,6 @@ is_same_part source (parts.LocalControl n) (parts.LocalControl k) = n == k
 is_same_part source (parts.Control n a) (parts.Control k b) = n == k && same_control source a b
 is_same_part source _ _ = false
 
--- an unsupported descriptor may be bare or have empty braces
-abbrev pub is_unserved : Part → Bool
-is_unserved (parts.Other word has_content) = has_content
-is_unserved (parts.TerminationState has_content) = has_content
-is_unserved _ = false
-
 abbrev pub fault_of : Bool → Part → Option ErrorNumber
 fault_of appeared x =
     if appeared then Some DescriptorTwice
@@ -70,3 +57,7 @@ part_fault source before x = fault_of (list_any (is_same_part source x) before) 
 
 abbrev pub descriptors_fault : List ℕ → List Descriptor → Option ErrorNumber
 descriptors_fault source xs = first_after (part_fault source) [] (parts_of xs)
+
+-- a fault in a stream's number or a property, which only counts if no descriptor is faulty
+abbrev pub properties_fault : List ℕ → List Descriptor → Option ErrorNumber
+properties_fault source xs = first_of (property_fault source) (parts_of xs)

@@ -2,7 +2,7 @@ pub mod Name
 pub mod Part
 pub mod Search
 pub mod DescriptorFault
-pub mod PropertyFault
+pub mod Support
 pub mod CommandParameters
 pub mod ContextProperties
 pub mod ReplyDescriptors

@@ -1,9 +1,9 @@
 -- The outcome of a command: the error of the first check that fails, or the result (RFC 3525,
 -- section 7.2). The error numbers and the order of the checks are this project's own. The order is:
 -- support, the descriptors, the properties, the name, then terminations and contexts.
-use Rattle.std.specs.Prelude.{ℕ, ◌&&◌, not, Bool, true, false, List, [], ◌∷◌, map, Option, Some}
+use Rattle.std.specs.Prelude.{ℕ, ◌&&◌, not, List, [], ◌∷◌, map, Option, Some}
 use Rattle.std.specs.Prelude.{None, is_some, Result, Ok, Err, codes, if◌then◌else◌}
-use Rattle.std.specs.Option.{option_and_then, option_map}
+use Rattle.std.specs.Option.{option_map}
 use Rattle.mg_scan.specs.Span.{text_of}
 use Rattle.mg_words.specs.Term.{rtp_name}
 use Rattle.mg_words.specs.ResultSteps.{◌>>=◌}
@@ -31,9 +31,9 @@ use Rattle.mg_commands.specs.declared.reply_descriptors.ReplyDescriptors.{ReplyD
 use Rattle.mg_commands.specs.ReplyDescriptors.{descriptors_after, descriptors_by_audit}
 use Rattle.mg_commands.specs.ReplyDescriptors.{descriptors_before}
 use Rattle.mg_commands.specs.CommandParameters.{parameters_of}
-use Rattle.mg_commands.specs.DescriptorFault.{descriptors_fault}
+use Rattle.mg_commands.specs.DescriptorFault.{descriptors_fault, properties_fault}
 use Rattle.mg_commands.specs.Name.{name_of}
-use Rattle.mg_commands.specs.PropertyFault.{properties_fault}
+use Rattle.mg_commands.specs.Support.{is_served_word, takes_all}
 
 -- ## Steps
 
@@ -42,14 +42,6 @@ unless None = Ok tt
 unless (Some e) = Err e
 
 -- ## Checks of the text
-
-abbrev pub is_served_word : CommandWord → Bool
-is_served_word words.Add = true
-is_served_word words.Modify = true
-is_served_word words.Move = true
-is_served_word words.Subtract = true
-is_served_word words.AuditValue = true
-is_served_word _ = false
 
 -- What a command asks for, if its text is supported. W-, which requests one reply for all matches
 -- (RFC 3525, section 8.2.2), is not supported.
@@ -61,13 +53,6 @@ check_command source c = do
   Ok (parameters_of source c.descriptors)
 
 -- ## The names that a command is tried on
-
--- a Modify, Subtract or AuditValue may name all members of its context
-abbrev pub takes_all : CommandWord → Bool
-takes_all words.Modify = true
-takes_all words.Subtract = true
-takes_all words.AuditValue = true
-takes_all _ = false
 
 -- the members of an action's context, in order of entry, or none if the context does not exist
 abbrev pub members_in : Gateway → Target → List ℕ
@@ -106,21 +91,21 @@ number_in _ = Err errors.IdentifierNotAllowed
 
 -- ## What is reported
 
-abbrev pub media_of_record : Record → Media
-media_of_record r = Whole (record { mode = r.mode; depth = r.depth }) r.local r.remote
+-- all settings of a termination's media
+abbrev pub whole_media : Record → Media
+whole_media r = Whole (record { mode = r.mode; depth = r.depth }) r.local r.remote
 
 -- the whole media of a termination, or only its Local
-abbrev pub reply_media : ReplyDescriptors → Gateway → ℕ → Option Media
-reply_media descriptors w n =
-    if descriptors.media then option_map media_of_record (record_at w.rooms n)
-    else (if descriptors.local
-    then option_map Local (option_and_then (λ r. r.local) (record_at w.rooms n)) else None)
+abbrev pub reply_media : ReplyDescriptors → Record → Option Media
+reply_media descriptors r =
+    if descriptors.media then Some (whole_media r)
+    else (if descriptors.local then option_map Local r.local else None)
 
-abbrev pub reply_parts : ReplyDescriptors → Gateway → ℕ → Parts
-reply_parts descriptors w n =
+abbrev pub reply_parts : ReplyDescriptors → Gateway → Record → Parts
+reply_parts descriptors w r =
     record {
-      media = reply_media descriptors w n;
-      statistics = if descriptors.statistics then stats_of w n else None;
+      media = reply_media descriptors r;
+      statistics = if descriptors.statistics then stats_of w r.number else None;
     }
 
 -- ## Commands
@@ -128,26 +113,32 @@ reply_parts descriptors w n =
 abbrev pub CommandOutcome : Type 0
 CommandOutcome = Result (Gateway × Served) ErrorNumber
 
-abbrev pub served_at : Target → List ℕ → Parts → Served
-served_at target term parts =
+-- what is reported under a name
+abbrev pub served_as : Target → List ℕ → Parts → Served
+served_as target term parts =
     record { target = target; made = None; term = term; parts = parts }
 
--- what is reported about a new termination
-abbrev pub made_at : Target → ℕ → Parts → Served
-made_at target n parts = record (served_at target (rtp_name n) parts) { made = Some n }
+-- what is reported about a termination
+abbrev pub served_at : Gateway → Target → Record → ReplyDescriptors → Served
+served_at w target r descriptors =
+    served_as target (rtp_name r.number) (reply_parts descriptors w r)
+
+-- what is reported about a termination after it entered a context
+abbrev pub entered_at : Gateway → Record → ReplyDescriptors → Served
+entered_at w r descriptors = served_at w (targets.Number r.context) r descriptors
 
 -- ROOT can be audited in the null context, and nothing is reported about it
 abbrev pub audit_root : Target → Result Served ErrorNumber
 audit_root targets.Null =
-    Ok (served_at targets.Null (codes "ROOT") (record { media = None; statistics = None }))
+    Ok (served_as targets.Null (codes "ROOT") (record { media = None; statistics = None }))
 audit_root _ = Err errors.IdentifierNotAllowed
 
 abbrev pub audit_outcome : Gateway → Target → Name → CommandParameters → Result Served ErrorNumber
 audit_outcome w target names.Root parameters = audit_root target
 audit_outcome w target name parameters = do
   n ← number_in name
-  _ ← member w.rooms target n
-  Ok (served_at target (rtp_name n) (reply_parts (descriptors_by_audit parameters) w n))
+  r ← member w.rooms target n
+  Ok (served_at w target r (descriptors_by_audit parameters))
 
 -- the outcome of a command for one name, after its text has been checked
 unfoldable pub outcome : CommandWord → Gateway → Target → Name → CommandParameters
@@ -155,27 +146,19 @@ unfoldable pub outcome : CommandWord → Gateway → Target → Name → Command
 outcome words.Add w target name parameters = do
   _ ← check_new_name w name
   p ← engine.add w target parameters.settings
-  Ok (
-    p.0,
-    made_at (targets.Number p.1.context) p.1.number
-        (reply_parts (descriptors_after parameters) p.0 p.1.number),
-  )
+  Ok (p.0, record (entered_at p.0 p.1 (descriptors_after parameters)) { made = Some p.1.number })
 outcome words.Modify w target name parameters = do
   n ← number_in name
   p ← engine.modify w target n parameters.settings
-  Ok (p.0, served_at target (rtp_name n) (reply_parts (descriptors_after parameters) p.0 n))
+  Ok (p.0, served_at p.0 target p.1 (descriptors_after parameters))
 outcome words.Move w target name parameters = do
   n ← number_in name
   p ← engine.move_to w target n parameters.settings
-  Ok (
-    p.0,
-    served_at (targets.Number p.1.context) (rtp_name n)
-        (reply_parts (descriptors_after parameters) p.0 n),
-  )
+  Ok (p.0, entered_at p.0 p.1 (descriptors_after parameters))
 outcome words.Subtract w target name parameters = do
   n ← number_in name
   p ← engine.subtract w target n
-  Ok (p.0, served_at target (rtp_name n) (reply_parts (descriptors_before parameters) w n))
+  Ok (p.0, served_at w target p.1 (descriptors_before parameters))
 outcome words.AuditValue w target name parameters =
     audit_outcome w target name parameters >>= (λ s. Ok (w, s))
 outcome _ w target name parameters = Err errors.NotServed

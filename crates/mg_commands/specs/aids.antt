@@ -1,7 +1,7 @@
 pub mod Words
 pub mod ByActions
 pub mod Levels
-pub mod Parameters
+pub mod Findings
 pub mod Properties
 pub mod Runs
 pub mod Steps

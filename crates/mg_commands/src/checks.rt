@@ -5,28 +5,16 @@ ghost use Rattle.mg_words.specs.declared.error_number.ErrorNumber.TheVariants.{N
 ghost use Rattle.mg_rooms.specs.Results.{passes};
 ghost use Rattle.mg_engine.specs.Gateway.{Gateway};
 ghost use Rattle.mg_engine.specs.Stands.{StandsFor};
-ghost use Rattle.mg_commands.specs.Outcome.{is_served_word, unless, check_command, check_new_name, number_in};
+ghost use Rattle.mg_commands.specs.Outcome.{check_command, check_new_name, number_in};
 ghost use Rattle.mg_commands.specs.aids.Steps.{is_served, check_descriptors};
 
-use crate::command_parameters::{CommandParameters, parameters_of};
-use crate::descriptor_fault::descriptors_fault;
+use crate::command_parameters::CommandParameters;
+use crate::descriptors::read_descriptors;
+use crate::findings::Findings;
 use crate::name::Name;
-use crate::property_fault::properties_fault;
+use crate::support::is_served_word;
 use mg_engine::Engine;
-use mg_text::{Command, CommandWord, Descriptor, ErrorNumber};
-
-fn is_served_word(word: CommandWord) -> bool
-    ensures value { result ≡ is_served_word word }
-{
-    match word {
-        CommandWord::Add
-        | CommandWord::Modify
-        | CommandWord::Move
-        | CommandWord::Subtract
-        | CommandWord::AuditValue => true,
-        CommandWord::AuditCapability | CommandWord::Notify | CommandWord::ServiceChange => false,
-    }
-}
+use mg_text::{Command, Descriptor, ErrorNumber};
 
 /// Returns whether a command is supported. The prefix `W-`, which requests one reply for all matching terminations, is
 /// not supported.
@@ -46,15 +34,6 @@ fn if_served(is_served: bool) -> Result<(), ErrorNumber>
     }
 }
 
-fn unless(fault: Option<ErrorNumber>) -> Result<(), ErrorNumber>
-    ensures value { result ≡ unless fault }
-{
-    match fault {
-        Some(number) => Err(number),
-        None => Ok(()),
-    }
-}
-
 /// Returns what the descriptors ask for, or the first error in them.
 fn check_descriptors(
     source: &[u8],
@@ -62,9 +41,11 @@ fn check_descriptors(
 ) -> Result<CommandParameters, ErrorNumber>
     ensures value { result ≡ check_descriptors source.now descriptors.now }
 {
-    unless(descriptors_fault(source, descriptors))?;
-    unless(properties_fault(source, descriptors))?;
-    Ok(parameters_of(source, descriptors))
+    let mut found = Findings::nothing();
+    match read_descriptors(source, descriptors, &mut found).or(found.fault) {
+        Some(fault) => Err(fault),
+        None => Ok(found.parameters),
+    }
 }
 
 /// Returns what a command asks for, or the first error in its text.

@@ -1,20 +1,18 @@
 ghost use Rattle.std.specs.Prelude.{◌≡◌};
 ghost use Rattle.std.specs.Option.{option_or};
-ghost use Rattle.mg_commands.specs.aids.Parameters.{no_parameters, with_part};
-ghost use Rattle.mg_commands.specs.CommandParameters.{mode_in, frames_for, depth_in, setting_of, local_in, remote_in, parameters_of};
+ghost use Rattle.mg_commands.specs.aids.Findings.{no_parameters, asked_with};
+ghost use Rattle.mg_commands.specs.CommandParameters.{mode_in, frames_for, depth_in, setting_of, local_in, remote_in};
 
-use crate::descriptor_fault::is_jitter;
-use crate::descriptor_parts::DescriptorParts;
 use crate::part::Part;
-use crate::property_fault::jitter_of;
+use crate::support::{is_jitter, jitter_of};
 use mg_engine::{MediaSetting, Mode, Settings};
 use mg_scan::Span;
 use mg_sdp::read_sessions;
-use mg_text::{AuditWord, ControlPart, Descriptor};
+use mg_text::{AuditWord, ControlPart};
 use mg_words::FRAME_MS;
 
 /// What a command's descriptors ask for.
-#[derive(Debug, Drop)]
+#[derive(Drop)]
 pub struct CommandParameters {
     /// The settings that the command changes.
     pub settings: Settings,
@@ -82,7 +80,7 @@ fn remote_in(source: &[u8], part: Part) -> Option<MediaSetting>
 }
 
 /// Stores `found` in `kept`, unless a value is already stored there.
-fn keep_first<T: Drop>(kept: &mut Option<T>, found: Option<T>)
+pub fn keep_first<T: Drop>(kept: &mut Option<T>, found: Option<T>)
     ensures value { kept.new ≡ option_or kept.old found }
 {
     if kept.is_none() && found.is_some() {
@@ -92,7 +90,7 @@ fn keep_first<T: Drop>(kept: &mut Option<T>, found: Option<T>)
 
 impl CommandParameters {
     /// Returns the parameters of a command without descriptors.
-    fn no_parameters() -> CommandParameters
+    pub fn no_parameters() -> CommandParameters
         ensures value { result ≡ no_parameters }
     {
         CommandParameters {
@@ -104,8 +102,8 @@ impl CommandParameters {
     }
 
     /// Stores the value of a part, unless an earlier part of the same kind had one.
-    fn take(&mut self, source: &[u8], part: Part)
-        ensures value { self.new ≡ with_part source.now self.old part }
+    pub fn take(&mut self, source: &[u8], part: Part)
+        ensures value { self.new ≡ asked_with source.now self.old part }
     {
         keep_first(&mut self.settings.mode, mode_in(part));
         keep_first(&mut self.settings.depth, depth_in(source, part));
@@ -118,15 +116,4 @@ impl CommandParameters {
             _ => {}
         }
     }
-}
-
-/// Returns what the descriptors ask for.
-pub fn parameters_of(source: &[u8], descriptors: &[Descriptor]) -> CommandParameters
-    ensures value { result ≡ parameters_of source.now descriptors.now }
-{
-    let mut parameters = CommandParameters::no_parameters();
-    for part in DescriptorParts::new(descriptors) {
-        parameters.take(source, part);
-    }
-    parameters
 }

@@ -3,27 +3,14 @@
 ghost use Rattle.std.specs.Prelude.{◌≡◌, ◌≤◌, Ok, Err, MatchResult, IfOk, length, map, take};
 ghost use Rattle.mg_engine.specs.Gateway.{Gateway};
 ghost use Rattle.mg_engine.specs.Stands.{StandsFor};
-ghost use Rattle.mg_commands.specs.Outcome.{takes_all, members_in};
+ghost use Rattle.mg_commands.specs.Outcome.{members_in};
 ghost use Rattle.mg_commands.specs.aids.Steps.{all_names};
 
 use crate::name::Name;
+use crate::support::takes_all;
 use mg_engine::{Engine, Target};
 use mg_text::{CommandWord, ErrorNumber};
 use mg_words::MEMBERS;
-
-/// Returns whether a command may name all members of its context.
-fn takes_all(word: CommandWord) -> bool
-    ensures value { result ≡ takes_all word }
-{
-    match word {
-        CommandWord::Modify | CommandWord::Subtract | CommandWord::AuditValue => true,
-        CommandWord::Add
-        | CommandWord::Move
-        | CommandWord::AuditCapability
-        | CommandWord::Notify
-        | CommandWord::ServiceChange => false,
-    }
-}
 
 /// Returns the members of an action's context, in order of entry, or none if the context does not exist.
 fn members_in(engine: &Engine, target: Target) -> &[u32]

@@ -6,7 +6,7 @@ use mg_text::Term;
 use mg_words::{after_prefix, number_of};
 
 /// The meaning of a termination's name (RFC 3525, section 6.2), ignoring case.
-#[derive(Clone, Copy, Debug, PartialEq, Eq)]
+#[derive(Clone, Copy)]
 pub enum Name {
     /// `ROOT`: the gateway as a whole.
     Root,

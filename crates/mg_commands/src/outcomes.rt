@@ -1,12 +1,13 @@
 //! Commands on one termination, and what a reply reports about each command.
 
 ghost use Rattle.std.specs.Prelude.{◌≡◌, OnErr, if◌then◌else◌};
-ghost use Rattle.mg_words.specs.Term.{rtp_name};
+ghost use Rattle.mg_words.specs.declared.command_word.CommandWord.TheVariants.{Add, Modify, Move, Subtract};
 ghost use Rattle.mg_engine.specs.Gateway.{Gateway};
 ghost use Rattle.mg_engine.specs.Stands.{StandsFor, IsOutcome};
 ghost use Rattle.mg_engine.specs.Work.{RisesAtMost};
-ghost use Rattle.mg_commands.specs.Outcome.{served_at, made_at, audit_root, audit_outcome, outcome};
-ghost use Rattle.mg_commands.specs.aids.Steps.{add_outcome, modify_outcome, move_outcome, subtract_outcome, audit_termination};
+ghost use Rattle.mg_engine.specs.aids.Found.{HasStats};
+ghost use Rattle.mg_commands.specs.Outcome.{served_at, entered_at, audit_root, audit_outcome, outcome};
+ghost use Rattle.mg_commands.specs.aids.Steps.{audit_termination};
 ghost use Rattle.mg_commands.specs.Work.{is_edit};
 
 use crate::checks::{check_new_name, number_in};
@@ -15,35 +16,43 @@ use crate::name::Name;
 use crate::reply_descriptors::ReplyDescriptors;
 use crate::reply_parts::reply_parts;
 use crate::served::Served;
-use mg_engine::{Engine, Target};
+use mg_engine::{Engine, Record, Target};
 use mg_reply::Parts;
 use mg_text::{CommandWord, ErrorNumber, Term};
 
-/// Returns what is reported about the termination with this number.
-fn served_at(target: Target, number: u32, parts: Parts) -> Served
-    ensures value { result ≡ served_at target (rtp_name number) parts }
+/// Returns what is reported about a termination. The record is the one that the command left, or subtracted.
+fn served_at(
+    engine: &Engine,
+    target: Target,
+    termination: &Record,
+    descriptors: ReplyDescriptors,
+) -> Served
+    ensures value { (w : Gateway) → HasStats engine.now w termination.now →
+        result ≡ served_at w target termination.now descriptors }
 {
     Served {
         target,
         made: None,
-        term: Term::rtp(number),
-        parts,
+        term: Term::rtp(termination.number),
+        parts: reply_parts(engine, termination, descriptors),
     }
 }
 
-/// Returns what is reported about a new termination.
-fn made_at(target: Target, number: u32, parts: Parts) -> Served
-    ensures value { result ≡ made_at target number parts }
+/// Returns what is reported about a termination after it entered a context.
+fn entered_at(engine: &Engine, termination: &Record, descriptors: ReplyDescriptors) -> Served
+    ensures value { (w : Gateway) → HasStats engine.now w termination.now →
+        result ≡ entered_at w termination.now descriptors }
 {
-    Served {
-        target,
-        made: Some(number),
-        term: Term::rtp(number),
-        parts,
-    }
+    served_at(
+        engine,
+        Target::Number(termination.context),
+        termination,
+        descriptors,
+    )
 }
 
 /// Runs an Add (RFC 3525, section 7.2.1).
+#[tactic(auto, unfolding(crate::specs::Outcome::outcome))]
 fn add_outcome(
     engine: &mut Engine,
     target: Target,
@@ -51,18 +60,20 @@ fn add_outcome(
     parameters: &CommandParameters,
 ) -> Result<Served, ErrorNumber>
     ensures represents { (w : Gateway) → StandsFor engine.old w →
-        IsOutcome engine.new result (add_outcome w target name parameters.now) }
+        IsOutcome engine.new result (outcome Add w target name parameters.now) }
     ensures refused { OnErr result (engine.new ≡ engine.old) }
     ensures work { RisesAtMost 4 engine.old.sums.work engine.new.sums.work }
 {
     check_new_name(engine, name)?;
-    let descriptors = ReplyDescriptors::after(parameters);
     let added = engine.add(target, &parameters.settings)?;
-    let parts = reply_parts(engine, added.number, descriptors);
-    Ok(made_at(Target::Number(added.context), added.number, parts))
+    Ok(Served {
+        made: Some(added.number),
+        ..entered_at(engine, &added, ReplyDescriptors::after(parameters))
+    })
 }
 
 /// Runs a Modify (RFC 3525, section 7.2.2).
+#[tactic(auto, unfolding(crate::specs::Outcome::outcome))]
 fn modify_outcome(
     engine: &mut Engine,
     target: Target,
@@ -70,18 +81,21 @@ fn modify_outcome(
     parameters: &CommandParameters,
 ) -> Result<Served, ErrorNumber>
     ensures represents { (w : Gateway) → StandsFor engine.old w →
-        IsOutcome engine.new result (modify_outcome w target name parameters.now) }
+        IsOutcome engine.new result (outcome Modify w target name parameters.now) }
     ensures refused { OnErr result (engine.new ≡ engine.old) }
     ensures work { RisesAtMost 4 engine.old.sums.work engine.new.sums.work }
 {
-    let number = number_in(name)?;
-    let descriptors = ReplyDescriptors::after(parameters);
-    engine.modify(target, number, &parameters.settings)?;
-    let parts = reply_parts(engine, number, descriptors);
-    Ok(served_at(target, number, parts))
+    let changed = engine.modify(target, number_in(name)?, &parameters.settings)?;
+    Ok(served_at(
+        engine,
+        target,
+        &changed,
+        ReplyDescriptors::after(parameters),
+    ))
 }
 
 /// Runs a Move (RFC 3525, section 7.2.4).
+#[tactic(auto, unfolding(crate::specs::Outcome::outcome))]
 fn move_outcome(
     engine: &mut Engine,
     target: Target,
@@ -89,18 +103,16 @@ fn move_outcome(
     parameters: &CommandParameters,
 ) -> Result<Served, ErrorNumber>
     ensures represents { (w : Gateway) → StandsFor engine.old w →
-        IsOutcome engine.new result (move_outcome w target name parameters.now) }
+        IsOutcome engine.new result (outcome Move w target name parameters.now) }
     ensures refused { OnErr result (engine.new ≡ engine.old) }
     ensures work { RisesAtMost 4 engine.old.sums.work engine.new.sums.work }
 {
-    let number = number_in(name)?;
-    let descriptors = ReplyDescriptors::after(parameters);
-    let moved = engine.move_to(target, number, &parameters.settings)?;
-    let parts = reply_parts(engine, number, descriptors);
-    Ok(served_at(Target::Number(moved.context), number, parts))
+    let moved = engine.move_to(target, number_in(name)?, &parameters.settings)?;
+    Ok(entered_at(engine, &moved, ReplyDescriptors::after(parameters)))
 }
 
 /// Runs a Subtract (RFC 3525, section 7.2.3). Reports the state as it was before the command.
+#[tactic(auto, unfolding(crate::specs::Outcome::outcome))]
 fn subtract_outcome(
     engine: &mut Engine,
     target: Target,
@@ -108,14 +120,12 @@ fn subtract_outcome(
     parameters: &CommandParameters,
 ) -> Result<Served, ErrorNumber>
     ensures represents { (w : Gateway) → StandsFor engine.old w →
-        IsOutcome engine.new result (subtract_outcome w target name parameters.now) }
+        IsOutcome engine.new result (outcome Subtract w target name parameters.now) }
     ensures refused { OnErr result (engine.new ≡ engine.old) }
     ensures work { RisesAtMost 4 engine.old.sums.work engine.new.sums.work }
 {
-    let number = number_in(name)?;
-    let before = reply_parts(engine, number, ReplyDescriptors::before(parameters));
-    engine.subtract(target, number)?;
-    Ok(served_at(target, number, before))
+    let gone = engine.subtract(target, number_in(name)?)?;
+    Ok(served_at(engine, target, &gone, ReplyDescriptors::before(parameters)))
 }
 
 /// Runs an AuditValue on a termination (RFC 3525, section 7.2.5).
@@ -127,10 +137,13 @@ fn audit_termination(
 ) -> Result<Served, ErrorNumber>
     ensures value { (w : Gateway) → StandsFor engine.now w → result ≡ audit_termination w target name parameters.now }
 {
-    let number = number_in(name)?;
-    engine.rooms().find(target, number)?;
-    let parts = reply_parts(engine, number, ReplyDescriptors::by_audit(parameters));
-    Ok(served_at(target, number, parts))
+    let found = engine.find(target, number_in(name)?)?;
+    Ok(served_at(
+        engine,
+        target,
+        &found,
+        ReplyDescriptors::by_audit(parameters),
+    ))
 }
 
 /// Runs an AuditValue on the gateway as a whole. Reports only that the gateway exists.

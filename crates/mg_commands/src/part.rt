@@ -4,7 +4,7 @@ use mg_text::{AuditWord, ControlPart, OtherWord};
 /// A part of a command's descriptors.
 ///
 /// A part of a stream has the stream's number; a part outside a Stream belongs to stream 1.
-#[derive(Clone, Copy, Debug)]
+#[derive(Clone, Copy)]
 pub enum Part {
     /// The keyword Media.
     Media,

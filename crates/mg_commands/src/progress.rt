@@ -1,7 +1,7 @@
 use mg_engine::Target;
 
 /// The progress of an action.
-#[derive(Clone, Copy, Debug, PartialEq, Eq)]
+#[derive(Clone, Copy)]
 pub struct Progress {
     /// The action's context so far.
     pub target: Target,

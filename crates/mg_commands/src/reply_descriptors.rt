@@ -5,7 +5,7 @@ use crate::command_parameters::CommandParameters;
 use mg_engine::MediaSetting;
 
 /// What a reply reports about a termination.
-#[derive(Clone, Copy, Debug, PartialEq, Eq)]
+#[derive(Clone, Copy)]
 pub struct ReplyDescriptors {
     /// Whether the reply includes all settings of the termination's media.
     pub media: bool,

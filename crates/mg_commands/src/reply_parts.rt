@@ -1,16 +1,15 @@
-ghost use Rattle.std.specs.Prelude.{◌≡◌, None, if◌then◌else◌};
-ghost use Rattle.mg_engine.specs.Gateway.{Gateway, stats_of};
-ghost use Rattle.mg_engine.specs.Stands.{StandsFor};
-ghost use Rattle.mg_commands.specs.Outcome.{media_of_record, reply_media, reply_parts};
-ghost use Rattle.mg_commands.specs.aids.Steps.{whole_media, local_media};
+ghost use Rattle.std.specs.Prelude.{◌≡◌};
+ghost use Rattle.mg_engine.specs.Gateway.{Gateway};
+ghost use Rattle.mg_engine.specs.aids.Found.{HasStats};
+ghost use Rattle.mg_commands.specs.Outcome.{whole_media, reply_media, reply_parts};
 
 use crate::reply_descriptors::ReplyDescriptors;
-use mg_engine::{Engine, Record, Stats};
+use mg_engine::{Engine, Record};
 use mg_reply::{Control, Media, Parts};
 
-/// Returns all settings of a termination's media, from its record.
-fn media_of_record(termination: Record) -> Media
-    ensures value { result ≡ media_of_record termination }
+/// Returns all settings of a termination's media.
+fn whole_media(termination: &Record) -> Media
+    ensures value { result ≡ whole_media termination.now }
 {
     Media::Whole {
         control: Control {
@@ -22,58 +21,31 @@ fn media_of_record(termination: Record) -> Media
     }
 }
 
-/// Returns all settings of a termination's media, or `None` if the termination doesn't exist.
-fn whole_media(engine: &Engine, number: u32) -> Option<Media>
-    ensures value { (w : Gateway) → StandsFor engine.now w → result ≡ whole_media w number }
-{
-    match engine.rooms().record(number) {
-        Some(record) => Some(media_of_record(record)),
-        None => None,
-    }
-}
-
-/// Returns only the Local of a termination, or `None` if it has no Local or doesn't exist.
-fn local_media(engine: &Engine, number: u32) -> Option<Media>
-    ensures value { (w : Gateway) → StandsFor engine.now w → result ≡ local_media w number }
-{
-    let record = engine.rooms().record(number)?;
-    match record.local {
-        Some(chosen) => Some(Media::Local(chosen)),
-        None => None,
-    }
-}
-
 /// Returns all settings of a termination's media or only its Local, as requested. Returns `None` if neither is
-/// requested, or if the one requested doesn't exist.
-fn reply_media(engine: &Engine, number: u32, descriptors: ReplyDescriptors) -> Option<Media>
-    ensures value { (w : Gateway) → StandsFor engine.now w → result ≡ reply_media descriptors w number }
+/// requested, or if only the Local is and the termination has none.
+fn reply_media(termination: &Record, descriptors: ReplyDescriptors) -> Option<Media>
+    ensures value { result ≡ reply_media descriptors termination.now }
 {
     if descriptors.media {
-        whole_media(engine, number)
+        Some(whole_media(termination))
     } else if descriptors.local {
-        local_media(engine, number)
+        termination.local.map(Media::Local)
     } else {
         None
     }
 }
 
-/// Returns a termination's counters if they are requested, and `None` otherwise.
-fn reply_statistics(engine: &Engine, number: u32, is_wanted: bool) -> Option<Stats>
-    ensures value { (w : Gateway) → StandsFor engine.now w → result ≡ (if is_wanted then stats_of w number else None) }
-{
-    if is_wanted {
-        engine.stats(number)
-    } else {
-        None
-    }
-}
-
-/// Returns what a reply reports about a termination.
-pub fn reply_parts(engine: &Engine, number: u32, descriptors: ReplyDescriptors) -> Parts
-    ensures value { (w : Gateway) → StandsFor engine.now w → result ≡ reply_parts descriptors w number }
+/// Returns what a reply reports about a termination that the engine has, or had before it was subtracted.
+pub fn reply_parts(engine: &Engine, termination: &Record, descriptors: ReplyDescriptors) -> Parts
+    ensures value { (w : Gateway) → HasStats engine.now w termination.now →
+        result ≡ reply_parts descriptors w termination.now }
 {
     Parts {
-        media: reply_media(engine, number, descriptors),
-        statistics: reply_statistics(engine, number, descriptors.statistics),
+        media: reply_media(termination, descriptors),
+        statistics: if descriptors.statistics {
+            engine.slot_stats(termination.slot)
+        } else {
+            None
+        },
     }
 }

@@ -11,9 +11,10 @@ use Rattle.mg_text.specs.declared.media.MediaPart.{MediaPart}
 use Rattle.mg_text.specs.declared.media.MediaPart.TheVariants as media
 use Rattle.mg_commands.specs.declared.part.Part.{Part}
 use Rattle.mg_commands.specs.declared.part.Part.TheVariants as parts
-use Rattle.mg_commands.specs.DescriptorFault.{is_jitter, same_control, is_same_part, fault_of}
+use Rattle.mg_commands.specs.DescriptorFault.{same_control, is_same_part, fault_of}
 use Rattle.std.specs.Option.{option_or}
 use Rattle.mg_commands.specs.Search.{first_after}
+use Rattle.mg_commands.specs.Support.{is_jitter}
 use Rattle.mg_commands.specs.aids.Words.{stream_word, controls_within, descriptor_word}
 use Rattle.mg_commands.specs.aids.Words.{media_within}
 
@@ -39,7 +40,7 @@ appears_in source x n (media.TerminationState has_content) = false
 
 abbrev pub appeared_in_media : List ℕ → List MediaPart → ℕ → List StreamPart → Part → Bool
 appeared_in_media source parts n before x =
-    list_any (is_same_word source x n) before || list_any (appears_in source x n) parts
+    list_any (appears_in source x n) parts || list_any (is_same_word source x n) before
 
 abbrev pub stream_level : List ℕ → List MediaPart → ℕ → List StreamPart → StreamPart
     → Option ErrorNumber

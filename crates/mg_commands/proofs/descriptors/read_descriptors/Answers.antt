@@ -1,0 +1,19 @@
+use Rattle.mg_commands.proofs.FindingLemmas.{walk_hit, walk_pass, walk_ends}
+use Rattle.mg_commands.proofs.LevelLemmas.{levels_are_parts}
+use Rattle.mg_commands.proofs.descriptors.read_descriptors.Goals as goal
+
+pub returns-in-Some : goal.returns-in-Some
+returns-in-Some c = record {
+  reads = rw (levels_are_parts c.args.source.now c.args.descriptors.now) at (walk_hit _ c.loop-i.invariant
+      c.loop-i-test.true c.index-descriptors-i.is c.split_at.ensures.front c.read_descriptor.ensures.reads c.in-Some.is);
+}
+
+pub loop-i-preserved : goal.loop-i-preserved
+loop-i-preserved c = walk_pass _ c.loop-i.invariant c.loop-i-test.true c.index-descriptors-i.is c.split_at.ensures.front
+    c.read_descriptor.ensures.reads c.in_default.is
+
+pub returns : goal.returns
+returns c = record {
+  reads = rw (levels_are_parts c.args.source.now c.args.descriptors.now) at
+      (walk_ends c.loop-i.invariant c.loop-i-test.false);
+}

@@ -1,0 +1,68 @@
+ghost use Rattle.std.specs.Prelude.{◌≡◌, [], ◌∷◌, map};
+ghost use Rattle.mg_commands.specs.declared.part.Part.TheVariants.{Audited};
+ghost use Rattle.mg_commands.specs.DescriptorFault.{fault_of};
+ghost use Rattle.mg_commands.specs.aids.Findings.{nothing_found, with_part, with_parts, Reads};
+
+use crate::command_parameters::{CommandParameters, keep_first};
+use crate::part::Part;
+use crate::support::{is_unserved, property_fault};
+use mg_text::{AuditWord, ErrorNumber};
+
+/// What the walk over a command's descriptors has found so far.
+#[derive(Drop)]
+pub struct Findings {
+    /// What the command asks for.
+    pub parameters: CommandParameters,
+    /// The first fault in a property or a stream's number, if any. A faulty descriptor outranks it, even a later one.
+    pub fault: Option<ErrorNumber>,
+}
+
+/// Returns the fault in a part, if any: a repeated word, or unsupported content.
+fn fault_of(appeared: bool, part: Part) -> Option<ErrorNumber>
+    ensures value { result ≡ fault_of appeared part }
+{
+    if appeared {
+        return Some(ErrorNumber::DescriptorTwice);
+    }
+    is_unserved(part).then_some(ErrorNumber::DescriptorNotServed)
+}
+
+impl Findings {
+    /// Returns what is found in a command without descriptors.
+    pub fn nothing() -> Findings
+        ensures value { result ≡ nothing_found }
+    {
+        Findings {
+            parameters: CommandParameters::no_parameters(),
+            fault: None,
+        }
+    }
+
+    /// Adds a part.
+    pub fn add(&mut self, source: &[u8], part: Part)
+        ensures value { self.new ≡ with_part source.now self.old part }
+    {
+        keep_first(&mut self.fault, property_fault(source, part));
+        self.parameters.take(source, part);
+    }
+
+    /// Adds a part, unless it is faulty: it repeats a word, or its content is unsupported. Returns the fault, if any.
+    pub fn add_sound(&mut self, source: &[u8], appeared: bool, part: Part) -> Option<ErrorNumber>
+        ensures reads { Reads source.now (fault_of appeared part) (part ∷ []) self.old self.new result }
+    {
+        let fault = fault_of(appeared, part);
+        if fault.is_none() {
+            self.add(source, part);
+        }
+        fault
+    }
+
+    /// Adds the words of an Audit descriptor.
+    pub fn add_words(&mut self, source: &[u8], words: &[AuditWord])
+        ensures value { self.new ≡ with_parts source.now self.old (map Audited words.now) }
+    {
+        for word in words {
+            self.add(source, Part::Audited(*word));
+        }
+    }
+}

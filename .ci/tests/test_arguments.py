@@ -1,6 +1,7 @@
 """Arguments that are refused, and the versions."""
 import re
 import subprocess
+import time
 
 from programs import LIMIT, ROOT, Commands, program, run
 
@@ -86,6 +87,12 @@ class Arguments(Commands):
     def test_mg_pace_polls_and_ticks(self):
         for words, polls, ticks in ((["--ticks", "1"], 4, 1), (["--polls=1", "--ticks=2"], 1, 2), (["--ticks=0"], 4, 0)):
             self.ends(0, ("poll\n" * polls + "tick\n") * ticks + "quit\n", "", *words, name="mg_pace")
+
+    def test_mg_pace_waits(self):
+        """Three steps of 20 ms take at least 60 ms, and less than ten seconds on any host."""
+        begun = time.monotonic()
+        self.ends(0, "poll\ntick\n" * 3 + "quit\n", "", "--polls=1", "--ticks=3", name="mg_pace")
+        self.assertTrue(0.06 <= time.monotonic() - begun < 10)
 
     def test_mg_pace_refused(self):
         for words in (["--polls", "0"], ["--polls", "1001"], ["--ticks", "-1"], ["--tick", "1"], ["20"]):

@@ -160,3 +160,28 @@ class Journals(Commands):
                 status, output, errors = run("serve", "--journal", self.path, option, text="quit\n")
                 self.assertEqual((status, output, errors[-len(wanted) :]), (6, "", wanted))
                 self.assertEqual(Path(self.path).read_text(), text)
+
+    def test_a_partial_last_line_is_cut_off_once_the_journal_is_accepted(self):
+        text = self.TITLE + "tick\n"
+        Path(self.path).write_text(text + "tic")
+        refused = ": line 1 has another --slots\n"
+        status, output, errors = run("serve", "--journal", self.path, "--slots=3", text="quit\n")
+        self.assertEqual((status, output, errors[-len(refused) :]), (6, "", refused))
+        self.assertEqual(Path(self.path).read_text(), text + "tic")
+        for sync in ([], ["--sync"]):
+            with self.subTest(sync=sync), bound(FIRST + 30) as (caller,):
+                title = text.replace("28807", str(FIRST)).replace("28808", str(FIRST + 2))
+                Path(self.path).write_text(title + "tic")
+                self.assertEqual(self.session(caller, ["--journal", self.path, *sync], "poll\nquit\n")[:2], (0, ""))
+                found = Path(self.path).read_text()
+                # The next lines are a seal, a date and the caller's message.
+                self.assertRegex(found[len(title) :], r"\A(# .*\n)*control 127\.0\.0\.1:[0-9]+ [0-9a-f]+\n\Z")
+                self.assertEqual(found[: len(title)], title)
+
+    def test_files_that_cannot_be_opened(self):
+        for path, error in (
+            ("/", "Is a directory (os error 21)"),
+            ("/dev/null/journal", "Not a directory (os error 20)"),
+            ("/nowhere/journal", "No such file or directory (os error 2)"),
+        ):
+            self.ends(6, "", f"journal {path}: cannot be opened: {error}\n", "serve", "--journal", path, text="quit\n")

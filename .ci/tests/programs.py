@@ -19,8 +19,8 @@ HEARTBEAT = "MEGACO/1 [127.0.0.1]:2945 Transaction=1{Context=-{AuditValue=ROOT{A
 
 
 def program(name):
-    """The path of a program."""
-    return (FOLDER / name) if FOLDER else ROOT / "crates" / name / "out" / name
+    """The path of a program. The name `mg_bridge.by-rattle` is that of the program as Rattle's own compiler makes it."""
+    return (FOLDER / name) if FOLDER else ROOT / "crates" / name.removesuffix(".by-rattle") / "out" / name
 
 
 def run(*words, text="", name="mg_bridge"):

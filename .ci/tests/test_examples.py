@@ -1,4 +1,5 @@
 """The stored scripts, and the output that is stored beside each."""
+import programs
 from programs import ROOT, Commands
 from seals import sealed
 
@@ -7,13 +8,17 @@ COMMANDS = {".out": ["replay"], ".flows": ["replay", "--flows"], ".heard": ["hea
 
 
 class Examples(Commands):
+    # The program as each compiler makes it. A folder, such as dist, has LLVM's alone.
+    COMPILED = ["mg_bridge"] if programs.FOLDER else ["mg_bridge", "mg_bridge.by-rattle"]
+
     def test_output_is_as_stored(self):
         for script in sorted((ROOT / "examples").rglob("*.txt")):
             stored = {ending: script.with_suffix(ending) for ending in COMMANDS}
             stored = {ending: output for ending, output in stored.items() if output.exists()}
             self.assertTrue(stored, script)
             for ending, output in stored.items():
-                self.ends(0, output.read_text(), "", *COMMANDS[ending], text=script.read_text())
+                for name in self.COMPILED:
+                    self.ends(0, output.read_text(), "", *COMMANDS[ending], text=script.read_text(), name=name)
 
     def test_seals_change_no_output(self):
         for output in sorted((ROOT / "examples").rglob("*.out")):

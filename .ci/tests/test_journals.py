@@ -129,6 +129,47 @@ class Journals(Commands):
             self.assertEqual(status, 0)
             self.assertIn(f" strangers=0 started={media} placed=0 pushed=0 again=0 late=0 dropped=0,0,0,0,0,0 ", errors)
 
+    def test_each_cause_is_counted(self):
+        """A gateway that resumes counts each cause of a drop and each result of a frame in its journal."""
+
+        def rtp(place, data, source="127.0.0.1"):
+            return f"rtp {FIRST + place} {source}:5004 {data}\n"
+
+        def frame(sequence, source="127.0.0.1"):
+            return rtp(2, f"8000{sequence:04x}0000000000000063" + "ff" * 160, source)
+
+        callers = line_of(conference(*(add(port, "SendReceive") for port in (40000, 40002, 40004))))
+        no_local = line_of(request(2, "Context=1{Add=$}"))
+        header = "0000010000000000000063"
+        frames = [100, 101, *[102] * 5, 104, 105, 106, *[100] * 5]
+        for script, control, media, ticks, dropped, results, sent in (
+            (
+                callers + frame(1) * 2 + frame(1, "127.0.0.2") + rtp(8, "80") + rtp(2, "80") + "tick\ntick\n\n# end\n",
+                *(1, 5, 2, "1,1,0,1,0,0", "started=1 placed=0 pushed=0 again=1 late=0", 7),
+            ),
+            (
+                callers + no_local + rtp(10, "80") + rtp(2, "80", "127.0.0.2") * 2 + rtp(8, "80") * 3 + rtp(2, "80") * 4
+                + rtp(2, f"8008{header[2:]}") * 5 + rtp(2, f"8000{header[2:]}") * 6 + "".join(map(frame, frames)),
+                *(2, 36, 0, "1,2,3,4,5,6", "started=1 placed=2 pushed=3 again=4 late=5", 2),
+            ),
+            # After an acknowledgment, the same request runs again. The last line has no line feed.
+            (
+                callers + line_of(b"!/1 [127.0.0.1]:2945 K{1}") + callers + "tick\ntick",
+                *(3, 0, 2, "0,0,0,0,0,0", "started=0 placed=0 pushed=0 again=0 late=0", 14),
+            ),
+        ):
+            with self.subTest(results=results):
+                title = self.TITLE.replace("28807", str(FIRST)).replace("28808", str(FIRST + 2)).replace("=2 ", "=6 ")
+                status, output, errors = run(*title.split()[2:], text=title + script)
+                self.assertEqual((status, output.count("\n"), errors), (0, sent, ""))
+                Path(self.path).write_text(title + script + "\n")
+                with Gateway("serve", "--journal", self.path, "--report=1") as gateway:
+                    counts = gateway.stats()
+                    self.assertEqual(counts, counted(control=control, media=media, ticks=ticks, dropped=dropped))
+                    status, _, errors = gateway.finish(*["tick"] * (50 - ticks), "quit")
+                self.assertEqual(status, 0)
+                self.assertIn(f" strangers=0 {results} dropped={dropped} ", errors)
+
     def test_bad_lines_are_named(self):
         for text, line in (
             ("tack\n", 2),

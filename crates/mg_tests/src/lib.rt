@@ -18,8 +18,6 @@ mod recording;
 #[cfg(test)]
 mod reply;
 #[cfg(test)]
-mod resume;
-#[cfg(test)]
 mod rooms;
 #[cfg(test)]
 mod scripts;

@@ -2,11 +2,9 @@
 
 use crate::equality::assert_equal;
 use mg_clock::{
-    ClockFailed, Step, SystemWatch, TickSchedule, Timing, Watch, steps_due, time_to_step,
-    time_to_tick,
+    ClockFailed, Step, TickSchedule, Timing, Watch, steps_due, time_to_step, time_to_tick,
 };
-use std::test::Fail;
-use std::time::{Duration, Instant};
+use std::time::Duration;
 
 const MS: u64 = 1_000_000;
 
@@ -127,21 +125,4 @@ fn is_late_after_the_ticks_that_are_allowed(rt: HostRuntime) {
         };
         assert_equal(&rt, schedule.next_step(&mut watch), Ok(Step::Tick(timing)));
     }
-}
-
-/// With the system's clock, three steps of 20 ms take at least 60 ms, and less than ten seconds on any host.
-#[test]
-fn waits_by_the_system_clock(rt: HostRuntime) -> Result<(), Fail> {
-    let begun = Instant::now(&rt)?;
-    let mut watch = SystemWatch::start_now(&rt)?;
-    let mut schedule = TickSchedule::new(5);
-    for _ in 0..3 {
-        schedule.next_step(&mut watch)?;
-    }
-    let passed = begun.elapsed(&rt)?;
-    assert!(rt; passed >= Duration::from_millis(60));
-    assert!(rt; passed < Duration::from_secs(10));
-    assert!(rt; watch.now()? >= 60 * MS);
-    assert_equal(&rt, schedule.ticks, 3);
-    Ok(())
 }

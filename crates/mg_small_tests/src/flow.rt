@@ -1,6 +1,6 @@
 //! Masks of who is heard and who is silenced.
 
-use crate::equality::assert_equal;
+use crate::equality::assert_right;
 use mg_flow::{FlowTable, Place};
 use mg_topology::mask::{self, Mask};
 use mg_topology::{Association, Overlap, Triple};
@@ -224,7 +224,7 @@ fn first_wrong(alloc: Global, actions: &[Action<'_>]) -> Result<Option<usize>, A
 fn keeps_masks(rt: HostRuntime) -> Result<(), Fail> {
     for (name, actions) in &CASES {
         let wrong = first_wrong(rt.alloc(), actions)?;
-        assert_equal(&rt, (*name, wrong), (*name, None));
+        assert_right(&rt, name, wrong);
     }
     Ok(())
 }

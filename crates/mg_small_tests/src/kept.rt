@@ -1,7 +1,8 @@
 //! Kept replies.
 
+use crate::equality::assert_right;
 use mg_kept::Kept;
-use std::process::Abort;
+use std::alloc::{AllocError, Global};
 use std::test::Fail;
 
 const LOWER: &[u8] = b"<mgc.example>:2945";
@@ -10,82 +11,125 @@ const UPPER: &[u8] = b"<MGC.EXAMPLE>:2945";
 
 const OTHER: &[u8] = b"[127.0.0.1]:2946";
 
-fn keep(rt: &impl Abort, kept: &mut Kept, sender: &[u8], number: u32, text: &[u8]) {
-    assert!(rt; kept.find(sender, number).is_none(), "{number} is kept");
-    assert!(rt; sender.len() <= 72 && text.len() <= 16000);
+/// A call, or what is found after the calls before.
+enum Action<'a> {
+    /// The reply to the sender's request with this number is kept, which was not kept before.
+    Keep(&'a [u8], u32, &'a [u8]),
+    /// A reply is kept for each of these numbers, with the number as its text.
+    KeepAll(u8, u8),
+    /// The sender acknowledges the replies with these numbers.
+    Ack(&'a [u8], u32, u32),
+    /// This is the reply to the sender's request with this number.
+    Kept(&'a [u8], u32, &'a [u8]),
+    /// No reply is kept for the sender's request with this number.
+    Gone(&'a [u8], u32),
+}
+
+/// Calls while no reply is kept at first.
+const CASES: [(&str, &[Action<'static>]); 4] = [
+    (
+        "only the oldest is dropped",
+        &[
+            Action::KeepAll(1, 32),
+            Action::Kept(LOWER, 1, &[1]),
+            Action::KeepAll(33, 33),
+            Action::Gone(LOWER, 1),
+            Action::Kept(LOWER, 2, &[2]),
+            Action::Kept(LOWER, 33, &[33]),
+        ],
+    ),
+    (
+        "names ignore case",
+        &[
+            Action::Keep(LOWER, 7, b"lower"),
+            Action::Kept(UPPER, 7, b"lower"),
+            Action::Gone(OTHER, 7),
+            // Another sender may use the same number.
+            Action::Keep(OTHER, 7, b"other"),
+            Action::Kept(OTHER, 7, b"other"),
+            Action::Ack(UPPER, 7, 7),
+            Action::Gone(LOWER, 7),
+            Action::Kept(OTHER, 7, b"other"),
+        ],
+    ),
+    (
+        "an acknowledged range is dropped",
+        &[
+            Action::KeepAll(1, 32),
+            // A range whose first number exceeds its last is empty.
+            Action::Ack(LOWER, 9, 7),
+            Action::Kept(LOWER, 8, &[8]),
+            Action::Ack(LOWER, 7, 9),
+            Action::Kept(LOWER, 6, &[6]),
+            Action::Gone(LOWER, 7),
+            Action::Gone(LOWER, 9),
+            Action::Kept(LOWER, 10, &[10]),
+            // Three more fit, and the order is unchanged.
+            Action::KeepAll(33, 35),
+            Action::Kept(LOWER, 1, &[1]),
+            Action::KeepAll(36, 41),
+            Action::Gone(LOWER, 6),
+            Action::Kept(LOWER, 10, &[10]),
+        ],
+    ),
+    (
+        "the longest text is kept whole",
+        &[
+            Action::Keep(&[b'm'; 72], 1, &[b'x'; 16000]),
+            Action::Kept(&[b'M'; 72], 1, &[b'x'; 16000]),
+        ],
+    ),
+];
+
+/// Keeps a reply. Returns whether none was kept before.
+fn keep(kept: &mut Kept, sender: &[u8], number: u32, text: &[u8]) -> bool {
+    if kept.find(sender, number).is_some() || sender.len() > 72 || text.len() > 16000 {
+        return false;
+    }
     kept.keep(sender, number, text);
+    true
 }
 
-/// Returns whether this text is kept for the request.
-fn is_kept(kept: &Kept, sender: &[u8], number: u32, text: &[u8]) -> bool {
-    match kept.find(sender, number) {
-        Some(found) => found == text,
-        None => false,
-    }
-}
-
-/// Keeps a reply for each number, with the number as its text.
-fn keep_all(rt: &impl Abort, kept: &mut Kept, first: u8, last: u8) {
+/// Keeps a reply for each number. Returns whether none was kept before.
+fn keep_all(kept: &mut Kept, first: u8, last: u8) -> bool {
     for number in first..=last {
-        keep(rt, kept, LOWER, u32::from(number), &[number]);
+        if !keep(kept, LOWER, u32::from(number), &[number]) {
+            return false;
+        }
+    }
+    true
+}
+
+/// Carries out an action. Returns whether it has the given outcome.
+fn does(kept: &mut Kept, action: &Action<'_>) -> bool {
+    match action {
+        Action::Keep(sender, number, text) => keep(kept, sender, *number, text),
+        Action::KeepAll(first, last) => keep_all(kept, *first, *last),
+        Action::Ack(sender, first, last) => {
+            kept.ack(sender, *first, *last);
+            true
+        }
+        Action::Kept(sender, number, text) => kept.find(sender, *number) == Some(*text),
+        Action::Gone(sender, number) => kept.find(sender, *number).is_none(),
     }
 }
 
-#[test]
-fn only_oldest_is_dropped(rt: HostRuntime) -> Result<(), Fail> {
-    let mut kept = Kept::new(rt.alloc())?;
-    keep_all(&rt, &mut kept, 1, 32);
-    assert!(rt; is_kept(&kept, LOWER, 1, &[1]));
-    keep_all(&rt, &mut kept, 33, 33);
-    assert!(rt; kept.find(LOWER, 1).is_none());
-    assert!(rt; is_kept(&kept, LOWER, 2, &[2]));
-    assert!(rt; is_kept(&kept, LOWER, 33, &[33]));
-    Ok(())
+/// Returns the number of the first action that has another outcome, or `None` if there is no such action.
+fn first_wrong(alloc: Global, actions: &[Action<'_>]) -> Result<Option<usize>, AllocError> {
+    let mut kept = Kept::new(alloc)?;
+    for at in 0..actions.len() {
+        if !does(&mut kept, &actions[at]) {
+            return Ok(Some(at));
+        }
+    }
+    Ok(None)
 }
 
 #[test]
-fn names_ignore_case(rt: HostRuntime) -> Result<(), Fail> {
-    let mut kept = Kept::new(rt.alloc())?;
-    keep(&rt, &mut kept, LOWER, 7, b"lower");
-    assert!(rt; is_kept(&kept, UPPER, 7, b"lower"));
-    assert!(rt; kept.find(OTHER, 7).is_none());
-
-    // Another sender may use the same number.
-    keep(&rt, &mut kept, OTHER, 7, b"other");
-    assert!(rt; is_kept(&kept, OTHER, 7, b"other"));
-    kept.ack(UPPER, 7, 7);
-    assert!(rt; kept.find(LOWER, 7).is_none());
-    assert!(rt; is_kept(&kept, OTHER, 7, b"other"));
-    Ok(())
-}
-
-#[test]
-fn acknowledged_range_is_dropped(rt: HostRuntime) -> Result<(), Fail> {
-    let mut kept = Kept::new(rt.alloc())?;
-    keep_all(&rt, &mut kept, 1, 32);
-
-    // A range whose first number exceeds its last is empty.
-    kept.ack(LOWER, 9, 7);
-    assert!(rt; is_kept(&kept, LOWER, 8, &[8]));
-    kept.ack(LOWER, 7, 9);
-    assert!(rt; is_kept(&kept, LOWER, 6, &[6]));
-    assert!(rt; kept.find(LOWER, 7).is_none());
-    assert!(rt; kept.find(LOWER, 9).is_none());
-    assert!(rt; is_kept(&kept, LOWER, 10, &[10]));
-
-    // Three more fit, and the order is unchanged.
-    keep_all(&rt, &mut kept, 33, 35);
-    assert!(rt; is_kept(&kept, LOWER, 1, &[1]));
-    keep_all(&rt, &mut kept, 36, 41);
-    assert!(rt; kept.find(LOWER, 6).is_none());
-    assert!(rt; is_kept(&kept, LOWER, 10, &[10]));
-    Ok(())
-}
-
-#[test]
-fn longest_text_is_kept_whole(rt: HostRuntime) -> Result<(), Fail> {
-    let mut kept = Kept::new(rt.alloc())?;
-    keep(&rt, &mut kept, &[b'm'; 72], 1, &[b'x'; 16000]);
-    assert!(rt; is_kept(&kept, &[b'M'; 72], 1, &[b'x'; 16000]));
+fn keeps_replies(rt: HostRuntime) -> Result<(), Fail> {
+    for (name, actions) in &CASES {
+        let wrong = first_wrong(rt.alloc(), actions)?;
+        assert_right(&rt, name, wrong);
+    }
     Ok(())
 }

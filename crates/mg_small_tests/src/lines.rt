@@ -1,29 +1,41 @@
 //! Lines, and reading and writing in full.
 
-use crate::equality::assert_equal;
 use mg_lines::{READ_SIZE, read_some, without_return, write_whole};
-use std::test::Fail;
+use std::alloc::Global;
 
-#[test]
-fn reads_to_the_end(rt: HostRuntime) {
+fn reads_to_the_end() -> bool {
     let mut input: &[u8] = b"poll\n";
     let mut buffer = [0; READ_SIZE];
-    assert_equal(&rt, read_some(&mut input, &mut buffer), Ok(Some(5)));
-    assert_equal(&rt, &buffer[..5], b"poll\n".as_slice());
-    assert_equal(&rt, read_some(&mut input, &mut buffer), Ok(None));
+    read_some(&mut input, &mut buffer) == Ok(Some(5))
+        && &buffer[..5] == b"poll\n".as_slice()
+        && read_some(&mut input, &mut buffer) == Ok(None)
+}
+
+fn writes_whole(alloc: Global) -> bool {
+    let mut output = Vec::new(alloc);
+    write_whole(b"tick\n", &mut output).is_ok() && output.as_slice() == b"tick\n".as_slice()
+}
+
+/// Texts, and what is left of them.
+const TEXTS: [(&[u8], &[u8]); 4] = [
+    (b"tick\r", b"tick"),
+    (b"tick\r\r", b"tick\r"),
+    (b"\rtick", b"\rtick"),
+    (b"", b""),
+];
+
+fn drops_one_carriage_return() -> bool {
+    for (text, left) in &TEXTS {
+        if without_return(text) != *left {
+            return false;
+        }
+    }
+    true
 }
 
 #[test]
-fn writes_whole(rt: HostRuntime) {
-    let mut output = Vec::new(rt.alloc());
-    assert_equal(&rt, write_whole(b"tick\n", &mut output), Ok(()));
-    assert_equal(&rt, output.as_slice(), b"tick\n".as_slice());
-}
-
-#[test]
-fn drops_one_carriage_return(rt: HostRuntime) {
-    assert_equal(&rt, without_return(b"tick\r"), b"tick".as_slice());
-    assert_equal(&rt, without_return(b"tick\r\r"), b"tick\r".as_slice());
-    assert_equal(&rt, without_return(b"\rtick"), b"\rtick".as_slice());
-    assert_equal(&rt, without_return(b""), b"".as_slice());
+fn lines(rt: HostRuntime) {
+    assert!(rt; reads_to_the_end());
+    assert!(rt; writes_whole(rt.alloc()));
+    assert!(rt; drops_one_carriage_return());
 }

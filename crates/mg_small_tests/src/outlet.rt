@@ -1,13 +1,10 @@
 //! Writers that never wait for their reader.
 
-use crate::equality::assert_equal;
+use crate::equality::assert_right;
 use crate::failure::kind;
-use mg_outlet::{CHUNK, Outlet, OutletFault, Overflow, Ready, SystemReady};
-use mio::net::UnixStream;
+use mg_outlet::{CHUNK, Outlet, Overflow, Ready};
 use std::alloc::{AllocError, Global};
-use std::fs;
-use std::io::{self, Error, ErrorKind, PipeReader, PipeWriter, Read, Write};
-use std::os::fd::{AsRawFd, RawFd};
+use std::io::{self, Error, ErrorKind, Write};
 use std::test::Fail;
 
 const MIB: usize = 1024 * 1024;
@@ -292,10 +289,10 @@ const CASES: [Case<'static>; 11] = [
     },
 ];
 
-/// Returns bytes `from..to` of a text whose adjacent chunks differ.
-fn text(alloc: Global, from: u32, to: u32) -> Result<Vec<u8>, AllocError> {
+/// Returns a text of this length whose adjacent chunks differ.
+fn text(alloc: Global, len: u32) -> Result<Vec<u8>, AllocError> {
     let mut text = Vec::new(alloc);
-    for i in from..to {
+    for i in 0..len {
         text.push((i % 251) as u8)?;
     }
     Ok(text)
@@ -353,128 +350,10 @@ fn first_wrong(alloc: Global, case: &Case<'_>, long: &[u8]) -> Result<Option<usi
 
 #[test]
 fn queues_and_passes_on(rt: HostRuntime) -> Result<(), Fail> {
-    let long = text(rt.alloc(), 0, 1_500_000)?;
+    let long = text(rt.alloc(), 1_500_000)?;
     for case in &CASES {
         let wrong = first_wrong(rt.alloc(), case, long.as_slice())?;
-        assert_equal(&rt, (case.name, wrong), (case.name, None));
+        assert_right(&rt, case.name, wrong);
     }
-    Ok(())
-}
-
-/// Writes a text and flushes. Returns how many bytes are queued then.
-fn put<W: Write>(outlet: &mut Outlet<W, SystemReady>, text: &[u8]) -> io::Result<usize> {
-    outlet.write_all(text)?;
-    outlet.flush()?;
-    Ok(outlet.queued())
-}
-
-/// Reads from a pipe until this many bytes have arrived. Flushes before each read.
-fn receive(
-    alloc: Global,
-    outlet: &mut Outlet<PipeWriter, SystemReady>,
-    reader: &mut PipeReader,
-    len: usize,
-) -> io::Result<Vec<u8>> {
-    let mut received = Vec::new(alloc);
-    let mut buffer = [0; 10_000];
-    for _ in 0..1_000_000 {
-        if received.len() >= len {
-            break;
-        }
-        outlet.flush()?;
-        let n = reader.read(&mut buffer)?;
-        received.extend_from_slice(&buffer[..n])?;
-    }
-    Ok(received)
-}
-
-/// While nobody reads from a blocking pipe, every call still returns. Afterwards everything arrives, in order.
-#[test]
-fn never_waits_for_a_pipe(rt: HostRuntime) -> Result<(), Fail> {
-    let text = text(rt.alloc(), 0, 10_000_000)?;
-    let (mut reader, writer) = io::pipe(&rt)?;
-    let mut outlet = Outlet::watching(&rt, rt.alloc(), writer, 16 * MIB, Overflow::End)?;
-    let (first, second) = text.as_slice().split_at(text.len() / 2);
-    // A pipe holds 64 KiB, unless the system is set up differently. A flush passes on 1 MiB at most.
-    let queued = put(&mut outlet, first)?;
-    assert!(rt; queued > 3_900_000 && queued < 5_000_000);
-    let queued = put(&mut outlet, second)?;
-    assert_equal(&rt, put(&mut outlet, b"")?, queued);
-    let received = receive(rt.alloc(), &mut outlet, &mut reader, text.len())?;
-    assert_equal(&rt, (outlet.queued(), outlet.dropped()), (0, 0));
-    assert!(rt; received.as_slice() == text.as_slice());
-    Ok(())
-}
-
-/// A socket reports that its reader is gone, and the write fails instead of waiting.
-#[test]
-fn reports_that_the_reader_is_gone(rt: HostRuntime) -> Result<(), Fail> {
-    let text = text(rt.alloc(), 0, 1_000_000)?;
-    let (near, far) = UnixStream::pair(&rt)?;
-    let mut outlet = Outlet::watching(&rt, rt.alloc(), near, MIB, Overflow::End)?;
-    let queued = put(&mut outlet, text.as_slice())?;
-    assert!(rt; queued > 0 && queued < 1_000_000);
-    assert_equal(&rt, put(&mut outlet, b"")?, queued);
-    drop(far);
-    let kinds = (kind(outlet.flush()), kind(outlet.write(b"more")));
-    let gone = Some(ErrorKind::BrokenPipe);
-    assert_equal(&rt, kinds, (gone, gone));
-    Ok(())
-}
-
-#[test]
-fn writes_to_files_at_once(rt: HostRuntime) -> Result<(), Fail> {
-    let text = text(rt.alloc(), 0, 1_000_000)?;
-    let null = fs::create(&rt, "/dev/null")?;
-    let mut outlet = Outlet::watching(&rt, rt.alloc(), null, MIB, Overflow::End)?;
-    assert_equal(&rt, put(&mut outlet, text.as_slice())?, 0);
-    Ok(())
-}
-
-/// A descriptor that isn't open.
-#[derive(Drop)]
-struct Closed;
-
-impl AsRawFd for Closed {
-    fn as_raw_fd(&self) -> RawFd {
-        1_000_000
-    }
-}
-
-impl Write for Closed {
-    fn write(&mut self, _buf: &[u8]) -> io::Result<usize> {
-        Err(Error::from(ErrorKind::Other))
-    }
-
-    fn flush(&mut self) -> io::Result<()> {
-        Ok(())
-    }
-}
-
-/// Returns the text of the fault if an outlet can't be created.
-fn fault<W: Drop>(
-    alloc: Global,
-    made: Result<Outlet<W, SystemReady>, OutletFault>,
-) -> Result<Option<String>, AllocError> {
-    match made {
-        Ok(_) => Ok(None),
-        Err(fault) => Ok(Some(format!(in alloc; "{fault}")?)),
-    }
-}
-
-#[test]
-fn says_why_an_outlet_cannot_be_made(rt: HostRuntime) -> Result<(), Fail> {
-    let null = fs::create(&rt, "/dev/null")?;
-    let closed = Outlet::watching(&rt, rt.alloc(), Closed, MIB, Overflow::End);
-    let large = Outlet::watching(&rt, rt.alloc(), null, usize::MAX, Overflow::End);
-    let (closed, large) = (fault(rt.alloc(), closed)?, fault(rt.alloc(), large)?);
-    assert_equal(
-        &rt,
-        (closed.as_deref(), large.as_deref()),
-        (
-            Some("cannot watch file descriptor 1000000: Bad file descriptor (os error 9)"),
-            Some("no memory for 18446744073709551615 bytes of output"),
-        ),
-    );
     Ok(())
 }

@@ -1,8 +1,8 @@
 //! In-memory ports.
 
 use crate::equality::assert_equal;
-use crate::journal::{BROKEN, FULL, Fault, REFUSED, ends_in_line_feed, file};
-use mg_journal::{FileCall, MemoryFile, Opening};
+use crate::journal::{BROKEN, FULL, REFUSED, ends_in_line_feed, file};
+use mg_journal::{FileCall, InjectedFault, MemoryFile, Opening};
 use mg_ports::{
     AppendFault, Arrival, Call, Durability, FakePorts, Payload, Peer, PortFault, Ports, Receipt,
     Timing,
@@ -38,7 +38,7 @@ struct Case<'a> {
     /// The numbers of the receives and sends that fail.
     failing: &'a [u64],
     /// The faults of the journal's file, if there is a journal.
-    faults: Option<&'a [Fault]>,
+    faults: Option<&'a [InjectedFault]>,
     /// The length of the buffer for datagrams, at most 8.
     room: usize,
     actions: &'a [Action<'a>],
@@ -121,7 +121,18 @@ const CASES: [Case<'static>; 7] = [
     Case {
         name: "a journal refuses a line if the write fails, and is broken once a sync fails",
         failing: &[],
-        faults: Some(&[(FileCall::Write, 0, FULL), (FileCall::Sync, 0, FULL)]),
+        faults: Some(&[
+            InjectedFault {
+                call: FileCall::Write,
+                number: 0,
+                effect: FULL,
+            },
+            InjectedFault {
+                call: FileCall::Sync,
+                number: 0,
+                effect: FULL,
+            },
+        ]),
         room: 8,
         actions: &[
             Action::Append(b"one\n", Durability::Synced, REFUSED),
@@ -145,23 +156,38 @@ const CASES: [Case<'static>; 7] = [
     },
 ];
 
+/// The sockets and bytes of the datagrams of each case.
+const WAITING: [(usize, &[u8]); 3] = [(0, b"one"), (2, b"three"), (0, b"two")];
+
+fn arrival(alloc: Global, socket: usize, bytes: &[u8]) -> Result<Arrival, AllocError> {
+    Ok(Arrival {
+        socket,
+        source: CALLER,
+        payload: Payload::new(alloc, bytes)?,
+    })
+}
+
+/// Returns the datagrams of each case.
+fn arrivals(alloc: Global) -> Result<Vec<Arrival>, AllocError> {
+    let mut arrivals = Vec::new(alloc);
+    for (socket, bytes) in &WAITING {
+        arrivals.push(arrival(alloc, *socket, bytes)?)?;
+    }
+    Ok(arrivals)
+}
+
 /// Returns ports with the datagrams of each case.
 fn ports(alloc: Global, failing: &[u64]) -> Result<FakePorts, AllocError> {
-    let waiting: [(usize, &[u8]); 3] = [(0, b"one"), (2, b"three"), (0, b"two")];
-    let mut arrivals = Vec::new(alloc);
-    for (socket, bytes) in waiting {
-        let payload = Payload::new(alloc, bytes)?;
-        arrivals.push(Arrival {
-            socket,
-            source: CALLER,
-            payload,
-        })?;
-    }
-    Ok(FakePorts::new(alloc, arrivals, failing.to_vec(alloc)?))
+    let failing = failing.to_vec(alloc)?;
+    Ok(FakePorts::new(alloc, arrivals(alloc)?, failing))
 }
 
 /// Adds a journal to ports, in an empty file with these faults.
-fn with_journal(alloc: Global, ports: FakePorts, faults: &[Fault]) -> io::Result<FakePorts> {
+fn with_journal(
+    alloc: Global,
+    ports: FakePorts,
+    faults: &[InjectedFault],
+) -> io::Result<FakePorts> {
     let file = file(alloc, b"", faults)?;
     Ok(ports.with_journal(Opening::new(file)?.accept()?))
 }

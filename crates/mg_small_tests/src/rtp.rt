@@ -1,6 +1,5 @@
 //! Packets and faults.
 
-use crate::equality::assert_equal;
 use mg_rtp::{Header, PAYLOAD_LEN, Packet, RtpFault, read, write};
 use std::test::Fail;
 
@@ -10,8 +9,7 @@ const WHOLE: [u8; 28] = [
     0xbe, 0xde, 0x00, 0x01, 0xaa, 0xbb, 0xcc, 0xdd, 0xd5, 0xd5, 0x00, 0x02,
 ];
 
-#[test]
-fn each_part_is_passed_over(rt: HostRuntime) {
+fn passes_over_each_part() -> bool {
     let header = Header {
         marker: false,
         payload_type: 8,
@@ -24,50 +22,47 @@ fn each_part_is_passed_over(rt: HostRuntime) {
         header,
         payload: &payload,
     };
-    assert_equal(&rt, read(&WHOLE), Ok(packet));
+    read(&WHOLE) == Ok(packet)
 }
 
-#[test]
-fn padding_is_counted_by_the_last_byte(rt: HostRuntime) -> Result<(), Fail> {
+/// Returns whether a packet is read that starts with this byte and ends with that one, or what fault it has.
+fn has_payload(first: u8, last: u8) -> Result<bool, RtpFault> {
     let mut bytes = WHOLE;
-    bytes[27] = 4;
-    let packet = read(&bytes).ok().ok_or("the bytes are a packet")?;
-    assert!(rt; packet.payload.is_empty());
-    bytes[27] = 5;
-    assert_equal(&rt, read(&bytes), Err(RtpFault::Padding));
-    Ok(())
+    bytes[0] = first;
+    bytes[27] = last;
+    let packet = read(&bytes)?;
+    Ok(!packet.payload.is_empty())
 }
 
-#[test]
-fn fronts_of_a_packet(rt: HostRuntime) {
+/// The last byte counts the padding.
+fn counts_padding() -> bool {
+    has_payload(0xb1, 2) == Ok(true)
+        && has_payload(0xb1, 4) == Ok(false)
+        && has_payload(0xb1, 5) == Err(RtpFault::Padding)
+}
+
+fn refuses_other_versions() -> bool {
+    let other = Err(RtpFault::Version);
+    has_payload(0x31, 2) == other && has_payload(0x71, 2) == other && has_payload(0xf1, 2) == other
+}
+
+/// Returns the length of the first front of a packet that is read or has another fault than it should, or 28 if there is
+/// no such front.
+fn first_wrong_front() -> usize {
     for n in 0..28 {
         let fault = match n {
             0..=15 => RtpFault::Short,
             16..=23 => RtpFault::Extension,
             _ => RtpFault::Padding,
         };
-        assert_eq!(rt; read(&WHOLE[..n]), Err(fault), "at {n} bytes");
+        if read(&WHOLE[..n]) != Err(fault) {
+            return n;
+        }
     }
+    28
 }
 
-#[test]
-fn another_version(rt: HostRuntime) {
-    let mut bytes = WHOLE;
-    for first in [0x31, 0x71, 0xf1] {
-        bytes[0] = first;
-        assert_equal(&rt, read(&bytes), Err(RtpFault::Version));
-    }
-}
-
-#[test]
-fn a_fault_is_printed(rt: HostRuntime) -> Result<(), Fail> {
-    let text = RtpFault::Version.to_string(rt.alloc())?;
-    assert_equal(&rt, text.as_str(), "the version is not 2");
-    Ok(())
-}
-
-#[test]
-fn written_text_reads_back(rt: HostRuntime) {
+fn reads_what_is_written() -> bool {
     let header = Header {
         marker: true,
         payload_type: 0,
@@ -78,11 +73,27 @@ fn written_text_reads_back(rt: HostRuntime) {
     let payload = [0xffu8; PAYLOAD_LEN];
     let bytes = write(header, &payload);
     let head = [0x80u8, 0x80, 0, 0, 0, 0, 0, 0, 0, 0, 0, 1];
-    assert_equal(&rt, &bytes[..12], head.as_slice());
-    assert_equal(&rt, &bytes[12..], payload.as_slice());
     let packet = Packet {
         header,
         payload: &payload,
     };
-    assert_equal(&rt, read(&bytes), Ok(packet));
+    &bytes[..12] == head.as_slice()
+        && &bytes[12..] == payload.as_slice()
+        && read(&bytes) == Ok(packet)
+}
+
+#[test]
+fn packets(rt: HostRuntime) {
+    assert!(rt; passes_over_each_part());
+    assert!(rt; counts_padding());
+    assert!(rt; refuses_other_versions());
+    assert!(rt; first_wrong_front() == 28);
+    assert!(rt; reads_what_is_written());
+}
+
+#[test]
+fn a_fault_is_printed(rt: HostRuntime) -> Result<(), Fail> {
+    let text = RtpFault::Version.to_string(rt.alloc())?;
+    assert!(rt; text.as_str() == "the version is not 2");
+    Ok(())
 }

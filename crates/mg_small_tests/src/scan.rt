@@ -1,6 +1,5 @@
 //! Tokens and faults.
 
-use crate::equality::assert_equal;
 use mg_scan::{ScanFault, Scanner, TokenKind};
 
 /// What a scanner gives: a token of this kind with this text, a fault, or the end.
@@ -130,6 +129,6 @@ fn first_wrong(text: &[u8], wanted: &[Found<'_>]) -> Option<usize> {
 #[test]
 fn gives_tokens_and_faults(rt: HostRuntime) {
     for (text, wanted) in &CASES {
-        assert_equal(&rt, (*text, first_wrong(text, wanted)), (*text, None));
+        assert!(rt; first_wrong(text, wanted).is_none());
     }
 }

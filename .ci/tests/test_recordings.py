@@ -1,4 +1,7 @@
 """Recordings: a line for each event, and a replay that sends what the session sent."""
+import tempfile
+from pathlib import Path
+
 from media import add, conference, request, spoken
 from programs import FIRST, Commands, Gateway, ports, run, udp, waiting
 
@@ -51,3 +54,27 @@ class Recordings(Commands):
         self.assertEqual(found, wanted)
         for speech, heard in zip((b"\xde", b"\x21"), found.values()):
             self.assertIn(speech * 160, [it[12:] for it in heard])
+
+    def test_a_journal_has_the_same_flows(self):
+        with tempfile.TemporaryDirectory() as folder, udp() as caller:
+            path = Path(folder) / "journal.txt"
+            with Gateway("serve", "--record", "--journal", str(path), "--sync", *ports(0, 2)) as gateway:
+                gateway.tell("tick")
+                create = conference(*(add(caller.getsockname()[1]) for _ in range(2)))
+                change = request(2, "Context=1{Topology{RTP/1,RTP/2,Oneway}}")
+                # The second message is a retransmission.
+                sends = [(CONTROL, create), (CONTROL, create), (ONE, b"\x80x"), (CONTROL, change)]
+                for count, (to, message) in enumerate(sends, 1):
+                    caller.sendto(message, to)
+                    gateway.received(count - (count > 2), int(count > 2))
+                    gateway.tell("tick")
+                status, output, errors = gateway.finish("poll", "quit")
+                self.assertEqual((status, errors), (0, ""))
+            words = [*gateway.title.split()[2:], "--flows"]
+            flows = []
+            for text in (path.read_text(), "".join(gateway.lines) + output):
+                status, written, errors = run(*words, text=text)
+                self.assertEqual((status, errors), (0, ""))
+                flows.append([line for line in written.splitlines() if line.startswith("#")])
+        self.assertEqual(flows[0], flows[1])
+        self.assertTrue(flows[0])

@@ -2,10 +2,7 @@
 
 use crate::cases::compared;
 use crate::equality::assert_equal;
-use crate::sessions::{
-    ADD, CALLER, HEARTBEAT, Outcome, SESSION, Session, config, count, play, repeated,
-};
-use mg_core::{Shown, run};
+use crate::sessions::{ADD, CALLER, HEARTBEAT, Outcome, SESSION, Session, count, play, repeated};
 use mg_journal::FileCall;
 use mg_serve::{Durability, JournalReport};
 use std::alloc::{AllocError, Global};
@@ -233,20 +230,6 @@ fn lines_of(alloc: Global, text: &[u8], comments: bool) -> Result<Vec<u8>, Alloc
     Ok(kept)
 }
 
-/// Returns the comments that a run of a script writes to report its flows.
-fn flows_of(alloc: Global, script: &[u8]) -> Result<Vec<u8>, AllocError> {
-    let mut input = script;
-    let mut written = Vec::new(alloc);
-    let _ = run(
-        alloc,
-        config(),
-        Shown::SentAndFlows,
-        &mut input,
-        &mut written,
-    );
-    lines_of(alloc, written.as_slice(), true)
-}
-
 /// Returns whether the events of a recording begin with those of the journal's text, and go on as wanted.
 fn go_on(events: &[u8], text: &[u8], rest: &[u8]) -> bool {
     match events.strip_prefix(text) {
@@ -304,31 +287,5 @@ fn journals_sessions(rt: HostRuntime) -> Result<(), Fail> {
         let outcome = play(alloc, &case.session)?;
         compare(&rt, alloc, case, &outcome)?;
     }
-    Ok(())
-}
-
-#[test]
-fn runs_a_journal_with_the_same_flows(rt: HostRuntime) -> Result<(), Fail> {
-    let alloc = rt.alloc();
-    let session = Session {
-        journal: Some(Durability::Synced),
-        waiting: &[
-            (0, CALLER, ADD),
-            (0, CALLER, ADD),
-            (1, CALLER, b"\x80x"),
-            (0, CALLER, HEARTBEAT),
-        ],
-        failing: &[2],
-        lines: &[(1, b"tick\npoll\ntick\npoll\n")],
-        ..RECORDED
-    };
-    let outcome = play(alloc, &session)?;
-    let flows = flows_of(alloc, outcome.text.as_slice())?;
-    assert!(rt; !outcome.text.as_slice().starts_with(b"#") && !flows.is_empty());
-    assert_equal(
-        &rt,
-        flows.as_slice(),
-        flows_of(alloc, outcome.printed.as_slice())?.as_slice(),
-    );
     Ok(())
 }

@@ -1,9 +1,7 @@
-//! Recorded sessions over in-memory ports, and a replay of a recording.
+//! Recorded sessions over in-memory ports.
 
 use crate::cases::{CASE, Case, play_all};
-use crate::equality::assert_equal;
-use crate::sessions::{CALLER, HEARTBEAT, SESSION, Session, config};
-use mg_core::{Shown, run};
+use crate::sessions::{CALLER, HEARTBEAT, SESSION, Session};
 use mg_ports::Peer;
 use mg_serve::RunFault;
 use std::test::Fail;
@@ -64,20 +62,5 @@ const CASES: &[Case<'static>] = &[
 #[test]
 fn records_sessions(rt: HostRuntime) -> Result<(), Fail> {
     play_all(&rt, rt.alloc(), CASES)?;
-    Ok(())
-}
-
-#[test]
-fn runs_what_was_recorded(rt: HostRuntime) -> Result<(), Fail> {
-    let alloc = rt.alloc();
-    let mut input = RECORDING;
-    let mut written = Vec::new(alloc);
-    let outcome = run(alloc, config(), Shown::Sent, &mut input, &mut written);
-    assert!(rt;
-        matches!(outcome, Ok(counts) if counts.control == 1 && counts.media == 1 && counts.ticks == 1)
-    );
-    let wanted: &[u8] = b"say 127.0.0.1:40000 MEGACO/1 [127.0.0.1]:2944\\n\
-        Reply=2{Context=-{AuditValue=ROOT}}\n";
-    assert_equal(&rt, written.as_slice(), wanted);
     Ok(())
 }

@@ -289,8 +289,7 @@ query_in found = do
   until ← named_by date_of_text (codes "to") found
   Ok (record { listener = listener; talker = talker; from = from; until = until })
 
--- whether a page is asked for in a form that isn't its own: in a format, about a time, or about what
--- was audible
+-- whether an option is given that a page doesn't allow: --format, --at or --audible
 abbrev pub reshapes_page : List Row → Bool
 reshapes_page found =
     is_given (codes "format") found

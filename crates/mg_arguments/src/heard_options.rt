@@ -50,7 +50,7 @@ const NO_NUMBER: &str =
 /// The error message if it is asked whether a talker was audible at a single time.
 const NO_SINGLE_TIME: &str = "'--audible' can't be used with '--at'";
 
-/// The error message if a page is asked for in a form that is not its own.
+/// The error message for an option that a page doesn't allow.
 const NO_FORM: &str = "'--report' can't be used with '--format', '--at' or '--audible'";
 
 /// Creates an option that takes a text.
@@ -204,7 +204,7 @@ fn given_format(matches: &ArgMatches<'_>) -> Result<Option<Format>, &'static str
     }
 }
 
-/// Returns whether a page is asked for in a form that is not its own.
+/// Returns whether an option is given that a page doesn't allow.
 fn reshapes_page(matches: &ArgMatches<'_>) -> bool
     ensures value { result ≡ reshapes_page (rows_of (found_of matches.now)) }
 {

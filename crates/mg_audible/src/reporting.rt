@@ -35,7 +35,7 @@ fn hear_report<'a, R: Read, W: Write>(
     Ok((report, has_rtp))
 }
 
-/// Writes when a talker was audible while a script ran: a line for each interval that is asked for, and for each gap.
+/// Prints when a talker was audible in a script: one line per requested interval, and one per gap.
 /// The line for an interval is written when the interval ends. Returns whether the script has any RTP datagrams; without
 /// them, nothing is audible.
 pub fn write_audible<R: Read, W: Write>(

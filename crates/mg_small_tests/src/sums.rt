@@ -75,6 +75,18 @@ fn take(total: &mut [i32], row: &[i16]) -> bool
     false
 }
 
+fn change(total: &mut [i32], old: &[i16], new: &[i16]) -> bool
+    requires { (length total.old ≡ length old.now) × (length old.now ≡ length new.now) }
+{
+    assert_sample_range(old);
+    assert_sample_range(new);
+    if are_near(total) {
+        kernels::change_row(total, old, new);
+        return true;
+    }
+    false
+}
+
 fn write_difference(out: &mut [i32], total: &[i32], row: &[i16]) -> bool
     requires { (length out.old ≡ length row.now) × (length total.now ≡ length row.now) }
 {
@@ -113,11 +125,38 @@ fn added_up(total: &[i32; 161], samples: &[i16; 161], len: usize) -> Option<usiz
     Some(161)
 }
 
+/// Returns the first index at which a row is not replaced with another, or 161 if there is no such index. Returns `None`
+/// if a sum is too large to be added to.
+fn replaced(total: &[i32; 161], samples: &[i16; 161], len: usize) -> Option<usize> {
+    let mut sums = *total;
+    let mut others = [0; 161];
+    for i in 0..161 {
+        others[i] = sample_at(160 - i);
+    }
+    let (old, new) = (samples.get(..len)?, others.get(..len)?);
+    if !change(sums.get_mut(..len)?, old, new) {
+        return None;
+    }
+    for i in 0..161 {
+        let more = if i < len {
+            i32::from(others[i]) - i32::from(samples[i])
+        } else {
+            0
+        };
+        if sums[i].wrapping_sub(total[i]) != more {
+            return Some(i);
+        }
+    }
+    Some(161)
+}
+
 #[test]
 fn kernels_add_up_at_each_length(rt: HostRuntime) {
     let (total, samples) = (sums(), samples());
     for len in &LENGTHS {
         let right = added_up(&total, &samples, *len);
+        assert_equal(&rt, (*len, right), (*len, Some(161)));
+        let right = replaced(&total, &samples, *len);
         assert_equal(&rt, (*len, right), (*len, Some(161)));
     }
 }

@@ -8,8 +8,8 @@ use Rattle.mg_words.specs.Limits.{context_limit, termination_limit}
 use Rattle.mg_g711.specs.Frame.{IsFrame}
 use Rattle.mg_sums.specs.Samples.{sample, sum_of, nearest_sample, silence}
 
--- The state: for each row, its frame and the room that it is joined to, if any; and the number of
--- calls to row kernels, modulo 2^32.
+-- The state: for each row, its frame and the room that it is joined to, if any; and how often a row was
+-- added or subtracted, modulo 2^32.
 pub record SumsState : Type 0 where
   pub frames : List (List ℤ)
   pub rooms : List (Option ℕ)
@@ -83,11 +83,11 @@ pub record AreAllOfRoom (rooms : List (Option ℕ)) (room : ℕ) (rows : List �
   pub are : AreOfRoom rooms room rows
   pub all : (row : ℕ) → IsTrue (is_joined rooms room row) → Contains rows row
 
--- the work counter after this many more kernel calls
+-- the work counter after this many more additions and subtractions of a row
 abbrev pub work_after : ℕ → ℕ → ℕ
-work_after calls work = (work + calls) % 2 ^ 32
+work_after more work = (work + more) % 2 ^ 32
 
--- how many kernel calls are needed to set a row's frame: two if it is joined to a room
+-- how many additions and subtractions it takes to set a row's frame: two if it is joined to a room
 abbrev pub frame_calls : Option ℕ → ℕ
 frame_calls None = 0
 frame_calls (Some room) = 2

@@ -1,7 +1,7 @@
 //! Vector kernels on slices of equal length: they add, subtract and saturate rows.
 //!
 //! Samples are 16 bits wide, and sums are 32 bits wide. A kernel processes eight elements at a time, and the rest one
-//! by one. These kernels do not count their calls.
+//! by one.
 
 ghost use Rattle.std.specs.Prelude.{◌≡◌, ℕ, ◌+◌, ◌<◌, ◌≤◌, ◌+ℤ◌, ◌-ℤ◌, length, EachIndex, FitsSigned};
 ghost use Rattle.std.specs.Int.{w16, w32};
@@ -80,6 +80,45 @@ fn take_chunk(total: &mut [i32], at: usize, chunk: &[i16; LANES])
     let samples = i16x8::from_array(*chunk).cast::<i32>();
     let rest = i32x8::from_slice(&total[at..]).strict_sub(samples);
     rest.copy_to_slice(&mut total[at..]);
+}
+
+/// Subtracts one row from a total and adds another.
+pub fn change_row(total: &mut [i32], old: &[i16], new: &[i16])
+    requires same_length { length total.old ≡ length old.now }
+    requires same_lengths { length old.now ≡ length new.now }
+    requires fits { EachIndex total.old (λ i.
+        FitsSigned w32 (sample total.old i -ℤ sample old.now i +ℤ sample new.now i)) }
+    ensures sums { EachIndex total.new (λ i.
+        sample total.new i ≡ sample total.old i -ℤ sample old.now i +ℤ sample new.now i) }
+{
+    assert_sample_range(old);
+    assert_sample_range(new);
+    assert_sum_range(total);
+    let (before, _) = old.as_chunks::<LANES>();
+    let (after, _) = new.as_chunks::<LANES>();
+    for (i, chunk) in before.iter().enumerate() {
+        change_chunk(total, LANES * i, chunk, &after[i]);
+    }
+    for i in LANES * before.len()..old.len() {
+        total[i] += i32::from(new[i]) - i32::from(old[i]);
+    }
+}
+
+// Changes eight samples of a total, starting at index `at`.
+fn change_chunk(total: &mut [i32], at: usize, old: &[i16; LANES], new: &[i16; LANES])
+    requires within { at + 8 ≤ length total.old }
+    requires olds { (j : ℕ) → j < 8 → FitsSigned w16 (sample old.now j) }
+    requires news { (j : ℕ) → j < 8 → FitsSigned w16 (sample new.now j) }
+    requires sums { (j : ℕ) → j < 8 → FitsSigned w32 (sample total.old (at + j)) }
+    requires fits { (j : ℕ) → j < 8 →
+        FitsSigned w32 (sample total.old (at + j) -ℤ sample old.now j +ℤ sample new.now j) }
+    ensures { WritesChunk 8 total.old total.new at (λ j.
+        sample total.old (at + j) -ℤ sample old.now j +ℤ sample new.now j) }
+{
+    let less = i16x8::from_array(*old).cast::<i32>();
+    let change = i16x8::from_array(*new).cast::<i32>().strict_sub(less);
+    let sums = i32x8::from_slice(&total[at..]).strict_add(change);
+    sums.copy_to_slice(&mut total[at..]);
 }
 
 /// Writes the difference between a total and a row.

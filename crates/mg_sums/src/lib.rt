@@ -20,10 +20,9 @@
 //! assert_eq!(rt; sums.mix(room, Some(second), &[], Law::Mu), [0x80; 160]);
 //! ```
 //!
-//! [`Sums::work`] counts the calls to three row kernels: add a row, subtract a row, and write the difference of two.
-//! Joining or leaving takes one call, and setting the frame of a joined row takes two. A mix takes one call, and one
-//! more for each silenced row. Only the module `rows` sees the fields of a row; other code reads frames and totals
-//! through [`Sums::frame`] and [`Sums::total`].
+//! [`Sums::work`] counts how often a row is added or subtracted: once to join or to leave, twice to set the frame of a
+//! joined row, and in a mix once, and once more for each silenced row. Only the module `rows` sees the fields of a row;
+//! other code reads frames and totals through [`Sums::frame`] and [`Sums::total`].
 //!
 //! [`Sums::new`] allocates all memory; no other call allocates. `specs/Sums.antt` defines totals and mixes, and
 //! [`theorems`] states the consequences. The vector code is in [`kernels`]; [`ranges`] supplies proofs with the ranges

@@ -1,4 +1,4 @@
-//! The rows of a mixer, and the three kernels on them, which count their calls.
+//! The rows of a mixer, and the operations on them, which count the rows that they add or subtract.
 //!
 //! The fields of a row are private to this module.
 
@@ -48,7 +48,7 @@ impl Model for SumRow {
     ghost view = { λ row. row.sums };
 }
 
-/// Counts a kernel call.
+/// Counts an addition or a subtraction.
 fn count(work: &mut u32)
     ensures { work.new ≡ work_after 1 work.old }
 {
@@ -157,16 +157,18 @@ impl SumRow {
         kernels::take_row(&mut self.sums, &row.samples);
     }
 
-    /// Subtracts one row and adds another.
+    /// Subtracts one row and adds another, in one pass.
     pub fn replace(&mut self, old: &FrameRow, new: &FrameRow, work: &mut u32)
         requires near { AreNear (2 ^ 29) self.old }
         ensures sums { (i : ℕ) → i < 160 →
             sample self.new i ≡ sample self.old i -ℤ sample old.now i +ℤ sample new.now i }
         ensures work { work.new ≡ work_after 2 work.old }
     {
+        count(work);
+        count(work);
         frames_are_whole(&old.samples);
-        self.take(old, work);
-        self.add(new, work);
+        frames_are_whole(&new.samples);
+        kernels::change_row(&mut self.sums, &old.samples, &new.samples);
     }
 
     /// Writes the difference of two rows.

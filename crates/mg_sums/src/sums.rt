@@ -170,7 +170,7 @@ impl Sums {
         self.rooms[row.number()]
     }
 
-    /// Returns the number of calls to row kernels, modulo 2^32.
+    /// Returns how often a row was added or subtracted, modulo 2^32.
     pub fn work(&self) -> u32
         ensures { result ≡ self.now.work }
     {

@@ -1,13 +1,15 @@
-ghost use Rattle.std.specs.Prelude.{◌≡◌, ◌<◌, ◌++◌, List, [], ◌∷◌, length};
+ghost use Rattle.std.specs.Prelude.{◌≡◌, ◌<◌, ◌++◌, List, [], ◌∷◌, length, map};
+ghost use Rattle.mg_g711.specs.Law.{byte_of};
 ghost use Rattle.mg_engine.specs.declared.datagram.Datagram.{Datagram};
 ghost use Rattle.mg_engine.specs.aids.Shares.{IsPut, packet_at, payload_of};
 ghost use Rattle.mg_engine.specs.aids.Sending.{addressed};
 ghost use Rattle.mg_words.specs.declared.limits.TheConstants.{TERMINATIONS};
 
 use arrayvec::ArrayVec;
+use mg_g711::{Frame, Law, encode_frame};
 use mg_rooms::TERMINATIONS;
 use mg_rtp::{Header, PACKET_LEN, write_header, write_payload};
-use mg_words::{Peer, SAMPLES};
+use mg_words::Peer;
 
 /// An RTP packet to be sent.
 #[derive(Clone, Copy, Debug, PartialEq, Eq)]
@@ -53,14 +55,14 @@ impl Datagram {
 /// The packets of one tick, in order of termination number.
 pub type Outbox = ArrayVec<Datagram, TERMINATIONS>;
 
-/// Appends a packet with this payload to an outbox. The packet's header and addresses are set later.
-pub fn push_payload(outbox: &mut Outbox, payload: &[u8; SAMPLES])
+/// Appends a packet with a frame, encoded by this law, to an outbox. The packet's header and addresses are set later.
+pub fn push_payload(outbox: &mut Outbox, law: Law, frame: &Frame)
     requires room { length outbox.old.items < TERMINATIONS }
-    ensures put { IsPut outbox.old.items outbox.new.items payload.now }
+    ensures put { IsPut outbox.old.items outbox.new.items (map (byte_of law) frame.now) }
 {
     outbox.push(Datagram::default());
     let last = outbox.len() - 1;
-    write_payload(payload, &mut outbox[last].bytes);
+    write_payload(&encode_frame(law, frame), &mut outbox[last].bytes);
 }
 
 /// Sets the source port, the destination and the header of the last packet in an outbox.

@@ -58,7 +58,7 @@ use crate::topology_triple::{FEW_TRIPLES, TRIPLES, TopologyTriple};
 use crate::triples::{TopologyRoom, triples_of};
 use arrayvec::ArrayVec;
 use mg_flow::{FlowTable, Place};
-use mg_g711::{Law, encode_frame};
+use mg_g711::{Frame, Law};
 use mg_rooms::{ErrorNumber, MEMBERS, Record, Rooms, Settings, TERMINATIONS, Target};
 use mg_rtp::{Packet, RtpFault, read};
 use mg_sdp::Chosen;
@@ -699,8 +699,7 @@ impl Engine {
         ensures work { RisesAtMost (mix_work_now self.old sender.now) self.old.sums.work self.new.sums.work }
     {
         if is_loopback(sender.mode) {
-            let payload = encode_frame(law, self.sums.frame(Row::new(sender.slot)));
-            push_payload(outbox, &payload);
+            push_payload(outbox, law, self.sums.frame(Row::new(sender.slot)));
             return;
         }
         match place_of(&self.rooms, sender) {
@@ -739,16 +738,15 @@ impl Engine {
                 packet,
             },
         );
-        let payload = self.mix(listener, place, law);
-        push_payload(outbox, &payload);
+        let frame = self.mix(listener, place);
+        push_payload(outbox, law, &frame);
     }
 
-    /// Encodes a room's total, minus the listener's own frame and the frames of the talkers silenced for the listener.
-    fn mix(&mut self, listener: &Record, place: Place, law: Law) -> [u8; SAMPLES]
+    /// Returns a room's total, minus the listener's own frame and the frames of the talkers silenced for the listener.
+    fn mix(&mut self, listener: &Record, place: Place) -> Frame
         requires place { IsOnPlace self.old.rooms listener.now.number listener.now place }
         requires listens { IsTrue (listens listener.now.mode) }
-        ensures value { result ≡ map (byte_of law)
-            (map (λ i. nearest_sample (heard_now self.old listener.now i)) (range_with_len 0 160)) }
+        ensures value { result ≡ map (λ i. nearest_sample (heard_now self.old listener.now i)) (range_with_len 0 160) }
         ensures same { self.new ≡ with_mixes self.old self.new.sums.work self.old.shares }
         ensures work { RisesAtMost (1 + silenced_now self.old listener.now) self.old.sums.work self.new.sums.work }
     {
@@ -757,7 +755,6 @@ impl Engine {
             Room::new(place.room),
             own_row(listener),
             silenced.as_slice(),
-            law,
         )
     }
 }

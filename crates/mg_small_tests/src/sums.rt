@@ -228,22 +228,16 @@ fn leave(sums: &mut Sums, room: Room, row: Row) -> Result<(), Fail> {
     Ok(())
 }
 
-/// Returns the first byte of a mix whose bytes are all the same.
-fn mix(
-    sums: &mut Sums,
-    room: Room,
-    base: Option<Row>,
-    minus: &[Row],
-    law: Law,
-) -> Result<u8, Fail> {
+/// Returns the first sample of a mix whose samples are all the same.
+fn mix(sums: &mut Sums, room: Room, base: Option<Row>, minus: &[Row]) -> Result<i16, Fail> {
     let checked = base;
     if !can_mix(sums, room, checked, minus) {
         return Err("rows of the room".into());
     }
-    let payload = sums.mix(room, base, minus, law);
-    let first = payload[0];
-    if payload.iter().any(|byte| *byte != first) {
-        return Err("equal bytes".into());
+    let frame = sums.mix(room, base, minus);
+    let first = frame[0];
+    if frame.iter().any(|sample| *sample != first) {
+        return Err("equal samples".into());
     }
     Ok(first)
 }
@@ -277,14 +271,13 @@ fn limit_mixes(rt: &impl Abort, sums: &mut Sums, room: Room) -> Result<(), Fail>
     let (first, second, third) = (Row::new(0), Row::new(1), Row::new(2));
     assert_equal(rt, *sums.total(room, 0), 32124);
     let mixes = [
-        mix(sums, room, Some(first), &[], Law::Mu)?,
-        mix(sums, room, Some(third), &[], Law::Mu)?,
-        mix(sums, room, Some(third), &[], Law::A)?,
-        mix(sums, room, None, &[third], Law::Mu)?,
-        mix(sums, room, Some(first), &[second], Law::Mu)?,
+        mix(sums, room, Some(first), &[])?,
+        mix(sums, room, Some(third), &[])?,
+        mix(sums, room, None, &[third])?,
+        mix(sums, room, Some(first), &[second])?,
     ];
-    assert_equal(rt, mixes, [0xff, 0x80, 0xaa, 0x80, 0x00]);
-    assert_equal(rt, sums.work(), 3 + 3 + 2 + 2);
+    assert_equal(rt, mixes, [0, 32767, 32767, -32124]);
+    assert_equal(rt, sums.work(), 3 + 2 + 2 + 2);
     Ok(())
 }
 
@@ -296,13 +289,13 @@ fn keep_totals(rt: &impl Abort, sums: &mut Sums, room: Room) -> Result<(), Fail>
     join(sums, other, third)?;
     let totals = (*sums.total(room, 0), *sums.total(other, 159));
     assert_equal(rt, totals, (64248, -32124));
-    assert_equal(rt, mix(sums, room, None, &[], Law::Mu)?, 0x80);
+    assert_equal(rt, mix(sums, room, None, &[])?, 32767);
 
     sums.set_frame(second, None);
     assert_equal(rt, *sums.total(room, 0), 32124);
     assert_equal(rt, *sums.frame(second), [0; 160]);
     assert!(rt; sums.is_silent(second) && !sums.is_silent(third));
-    assert_equal(rt, sums.work(), 10 + 2 + 1 + 2);
+    assert_equal(rt, sums.work(), 9 + 2 + 1 + 2);
     Ok(())
 }
 

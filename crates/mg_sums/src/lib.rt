@@ -6,8 +6,7 @@
 //! need saturation: at most [`TERMINATIONS`] 16-bit samples are added.
 //!
 //! So a listener's mix doesn't need a sum over all talkers. It is the room's total minus the rows that the listener
-//! must not hear: the listener's own (the base) and the silenced ones. The mix is saturated once, to 16 bits, and
-//! encoded as G.711.
+//! must not hear: the listener's own (the base) and the silenced ones. The mix is saturated once, to 16 bits.
 //!
 //! ```rust
 //! let mut sums = Sums::new(alloc)?;
@@ -17,7 +16,7 @@
 //! sums.set_frame(first, Some(&[32124; 160]));
 //! sums.set_frame(second, Some(&[-100; 160]));
 //! assert_eq!(rt; *sums.total(room, 0), 32024);
-//! assert_eq!(rt; sums.mix(room, Some(second), &[], Law::Mu), [0x80; 160]);
+//! assert_eq!(rt; sums.mix(room, Some(second), &[]), [32124; 160]);
 //! ```
 //!
 //! [`Sums::work`] counts how often a row is added or subtracted: once to join or to leave, twice to set the frame of a

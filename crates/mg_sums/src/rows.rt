@@ -105,16 +105,6 @@ impl FrameRow {
     {
         &self.samples
     }
-
-    /// Writes the sums, each saturated to 16 bits.
-    pub fn limit(&mut self, sums: &SumRow)
-        ensures limits { (i : ℕ) → i < 160 →
-            sample self.new i ≡ nearest_sample (sample sums.now i) }
-        ensures long { length self.new ≡ 160 }
-    {
-        self.is_silent = false;
-        kernels::limit(&mut self.samples, &sums.sums);
-    }
 }
 
 impl SumRow {
@@ -131,6 +121,17 @@ impl SumRow {
         ensures { result.now ≡ sample self.now i }
     {
         &self.sums[i]
+    }
+
+    /// Returns the sums, each saturated to 16 bits.
+    pub fn limited(&self) -> Frame
+        ensures limits { (i : ℕ) → i < 160 →
+            sample result i ≡ nearest_sample (sample self.now i) }
+        ensures long { length result ≡ 160 }
+    {
+        let mut samples = [0; SAMPLES];
+        kernels::limit(&mut samples, &self.sums);
+        samples
     }
 
     /// Adds a row.

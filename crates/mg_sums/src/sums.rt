@@ -1,8 +1,7 @@
-ghost use Rattle.std.specs.Prelude.{◌≡◌, ℕ, ◌+◌, ◌*◌, ◌^◌, ◌<◌, ◌≤◌, ◌+ℤ◌, ◌-ℤ◌, [], unsigned_abs, length, All, map, replicate, slice_set, Some, None, IfOk, IsTrue};
+ghost use Rattle.std.specs.Prelude.{◌≡◌, ℕ, ◌+◌, ◌*◌, ◌^◌, ◌<◌, ◌≤◌, ◌+ℤ◌, ◌-ℤ◌, [], unsigned_abs, length, All, replicate, slice_set, Some, None, IfOk, IsTrue};
 ghost use Rattle.std.specs.Option.{option_copied};
 ghost use Rattle.mg_words.specs.Limits.{context_limit, termination_limit};
 ghost use Rattle.mg_g711.specs.Frame.{IsFrame};
-ghost use Rattle.mg_g711.specs.Law.{byte_of};
 ghost use Rattle.mg_sums.specs.Samples.{sample, sum_of, silence, frame_or_silence};
 ghost use Rattle.mg_sums.specs.Sums.{sample_in, left_out_by, work_after, frame_calls};
 ghost use Rattle.mg_sums.specs.aids.Totals.{total_limit, AreNear};
@@ -10,8 +9,8 @@ ghost use Rattle.mg_sums.specs.aids.Totals.{total_limit, AreNear};
 use crate::room::Room;
 use crate::row::Row;
 use crate::rows::{FrameRow, SumRow};
-use mg_g711::{Frame, Law, encode_frame};
-use mg_words::{CONTEXTS, SAMPLES, TERMINATIONS};
+use mg_g711::Frame;
+use mg_words::{CONTEXTS, TERMINATIONS};
 use std::alloc::{AllocError, Global};
 use std::marker::Model;
 
@@ -24,9 +23,8 @@ pub struct Sums {
     frames: Vec<FrameRow>,
     rooms: [Option<Room>; TERMINATIONS],
     totals: Vec<SumRow>,
-    // Scratch space for a mix: its sums and its samples.
+    // Scratch space for the sums of a mix.
     rest: SumRow,
-    mix: FrameRow,
     work: u32,
 }
 
@@ -61,7 +59,6 @@ impl Sums {
             rooms: [None; TERMINATIONS],
             totals: zero_totals(alloc)?,
             rest: SumRow::new(),
-            mix: FrameRow::new(None),
             work: 0,
         })
     }
@@ -113,15 +110,13 @@ impl Sums {
         self.frames[row.number()] = new;
     }
 
-    /// Returns the payload with what a listener hears in a room: the total minus the base and the rows of `minus`,
-    /// saturated once.
+    /// Returns what a listener hears in a room: the total minus the base and the rows of `minus`, saturated once.
     ///
     /// The base is the listener's own row, or `None` if the listener does not talk. `minus` lists the rows that are
     /// silenced for the listener. All these rows must be joined to the room, and no two may be the same.
-    pub fn mix(&mut self, room: Room, base: Option<Row>, minus: &[Row], law: Law) -> [u8; SAMPLES]
+    pub fn mix(&mut self, room: Room, base: Option<Row>, minus: &[Row]) -> Frame
         requires rows { AreOfRoom self.old.rooms room (left_out_by base minus.now) }
-        ensures mix { result
-            ≡ map (byte_of law) (mix_of self.old room (left_out_by base minus.now)) }
+        ensures mix { result ≡ mix_of self.old room (left_out_by base minus.now) }
         ensures heard { (i : ℕ) → total_of self.old room i
             ≡ sum_of (sample_in self.old.frames i) (left_out_by base minus.now)
             +ℤ heard_of self.old room (left_out_by base minus.now) i }
@@ -132,8 +127,7 @@ impl Sums {
         let total = &self.totals[room.number()];
         let frames = self.frames.as_slice();
         write_rest(&mut self.rest, total, frames, base, minus, &mut self.work);
-        self.mix.limit(&self.rest);
-        encode_frame(law, self.mix.frame())
+        self.rest.limited()
     }
 
     /// Returns sample `i` of a room's total, without saturation.

@@ -20,6 +20,6 @@ returns c =
         last = sent;
         all = ap (λ (xs : List Datagram). refill (length items) items (set xs i sent)) c.deref_mut.ensures.value
             ∙ refilled items i sent ∙ last_set old c.default.result sent items i c.push.ensures.items at;
-        same = c.write_payload.ensures.payload;
+        same = c.write_payload.ensures.payload ∙ c.encode_frame.ensures;
       };
     }

@@ -1,4 +1,4 @@
-use Rattle.mg_engine.proofs.Common.{ℕ, ◌+◌, ℤ, cond, List, length, map, Option, Some, None, sym, ap, subst, ◌∙◌, arith, byte_of, talks, sibling_place, SumsState, view}
+use Rattle.mg_engine.proofs.Common.{ℕ, ◌+◌, cond, List, length, Option, Some, None, sym, ap, subst, ◌∙◌, arith, talks, sibling_place, SumsState, view}
 use Rattle.mg_sums.specs.Sums.{AreOfRoom, left_out_by, mix_of}
 use Rattle.mg_engine.proofs.MixLemmas.{IsLeftAndHeard, left_out, how_many, mix_is}
 use Rattle.mg_engine.proofs.engine.Engine.mix.Goals as goal
@@ -46,15 +46,12 @@ returns-clause-value c =
     (subst (λ (b : Option ℕ). IsLeftAndHeard k.sums p.room (left_out_by b c.as_slice.result.now)) own
     (subst (λ (room : ℕ). IsLeftAndHeard k.sums room (left_out_by c.own_row.result c.as_slice.result.now))
     c.new.ensures c.mix.ensures.heard)) in
-    let law = c.args.law in
     rw (← c.self.view_is) (c.mix.ensures.mix
-    ∙ ap (λ (room : ℕ). map (byte_of law) (mix_of k.sums room (left_out_by c.own_row.result c.as_slice.result.now)))
-    c.new.ensures
-    ∙ ap (λ (b : Option ℕ). map (byte_of law) (mix_of k.sums p.room (left_out_by b c.as_slice.result.now))) own
-    ∙ ap (λ (m : List ℕ). map (byte_of law) (mix_of k.sums p.room
-    (left_out_by (cond (talks l.mode) (Some l.slot) None) m))) rows
-    ∙ ap (λ (xs : List ℤ). map (byte_of law) xs) (mix_is c.self.inside l p c.silenced.result.now c.self.invariant on
-    c.requires.listens c.silenced.ensures.kept c.silenced.ensures.held heard))
+    ∙ ap (λ (room : ℕ). mix_of k.sums room (left_out_by c.own_row.result c.as_slice.result.now)) c.new.ensures
+    ∙ ap (λ (b : Option ℕ). mix_of k.sums p.room (left_out_by b c.as_slice.result.now)) own
+    ∙ ap (λ (m : List ℕ). mix_of k.sums p.room (left_out_by (cond (talks l.mode) (Some l.slot) None) m)) rows
+    ∙ mix_is c.self.inside l p c.silenced.result.now c.self.invariant on c.requires.listens c.silenced.ensures.kept
+    c.silenced.ensures.held heard)
 
 pub returns-clause-work : goal.returns-clause-work
 returns-clause-work c =

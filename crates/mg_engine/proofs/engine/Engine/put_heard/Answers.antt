@@ -47,7 +47,7 @@ returns-clause-put c =
     record {
       last = put.last;
       all = put.all;
-      same = put.same ∙ c.mix-payload.ensures.value ∙ ap (λ (x : EngineState). map (byte_of c.args.law)
+      same = put.same ∙ ap (map (byte_of c.args.law)) c.mix-frame.ensures.value ∙ ap (λ (x : EngineState). map (byte_of c.args.law)
           (map (λ i. nearest_sample (heard_now x c.args.listener.now i)) (range_with_len 0 160))) c.self.view_is;
     }
 
@@ -60,14 +60,14 @@ returns-clause-shared c sent e =
     let here = ap (λ (x : EngineState). place_of x.rooms l) c.self.view_is ∙ c.requires.place.place in
     let lent = rw (← c.self.view_is) at c.requires.shared in
     let share : Share = record { talkers = c.open-talkers.result.now; law = c.args.law; packet = c.len-packet.result } in
-    let work = c.mix-payload.new.self.sums.work in
+    let work = c.mix-frame.new.self.sums.work in
     let payload = e ∙ sym (ap (λ (x : EngineState). map (byte_of c.args.law)
     (map (λ i. nearest_sample (heard_now x l i)) (range_with_len 0 160))) c.self.view_is) ∙
     payload_is_on k l p c.open-talkers.result.now here c.open-talkers.ensures.kept c.args.law in
     let now = now_shared k outbox sent work p.room share c.put.ensures.there c.len-packet.ensures.value payload lent in
-    subst (λ (x : EngineState). AreShared x (outbox ++ sent ∷ [])) (sym c.mix-payload.ensures.same)
+    subst (λ (x : EngineState). AreShared x (outbox ++ sent ∷ [])) (sym c.mix-frame.ensures.same)
     (subst (λ (s : List (List Share)). AreShared (with_mixes k work s) (outbox ++ sent ∷ []))
     (sym c.put.ensures.value) now)
 
 pub returns-clause-work : goal.returns-clause-work
-returns-clause-work c = rw (← c.self.view_is) c.mix-payload.ensures.work
+returns-clause-work c = rw (← c.self.view_is) c.mix-frame.ensures.work

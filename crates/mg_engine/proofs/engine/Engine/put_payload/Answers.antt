@@ -12,7 +12,7 @@ returns-then-is_loopback-clause-put c =
     let samples = list_is (sample_at k.sums.frames l.slot) c.frame.result.now 160 (pos 0) c.frame.ensures.frame.whole
     (λ i lt. ap (λ (xs : List ℤ). get_or xs i (pos 0)) frame) in
     let put = c.push_payload.ensures.put in
-    let payload = put.same ∙ c.encode_frame-payload.ensures ∙ ap (λ (xs : List ℤ). map (byte_of c.args.law) xs)
+    let payload = put.same ∙ ap (λ (xs : List ℤ). map (byte_of c.args.law) xs)
     (samples
     ∙ ap (λ (b : Bool). map (λ i. cond b (sample_at k.sums.frames l.slot i) (nearest_sample (heard_now k l i)))
     (range_with_len 0 160)) (sym c.if-is_loopback.true ∙ c.is_loopback.ensures.value)

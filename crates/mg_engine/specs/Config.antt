@@ -1,8 +1,8 @@
 -- The configuration of a gateway.
-use Rattle.std.specs.Prelude.{◌≢◌, ℕ, ◌+◌, ◌*◌, ◌<◌, [], ◌∷◌}
+use Rattle.std.specs.Prelude.{◌≡◌, ◌<◌, [], ◌∷◌, None}
 use Rattle.mg_words.specs.Limits.{termination_limit}
 use Rattle.mg_rooms.specs.declared.limits.Limits.{Limits}
-use Rattle.mg_rooms.specs.Limits.{AreValidLimits}
+use Rattle.mg_rooms.specs.Limits.{slot_at, AreValidLimits}
 use Rattle.mg_engine.specs.declared.config.Config.{Config}
 
 -- the configuration of a gateway on this machine, with all slots
@@ -31,10 +31,10 @@ limits_of c =
       first_context = c.first_context;
     }
 
--- the control port is not 0, and is not one of the media ports
+-- the control port is not 0, and no slot has it
 pub record HasControlPort (c : Config) : Type 0 where
   pub some : 0 < c.control_port
-  pub apart : (slot : ℕ) → slot < c.slots → c.control_port ≢ c.base_port + 2 * slot
+  pub apart : slot_at (limits_of c) c.control_port ≡ None
 
 -- a gateway can start with this configuration
 pub record IsValidConfig (c : Config) : Type 0 where

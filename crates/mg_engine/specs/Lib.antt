@@ -18,3 +18,4 @@ pub mod Isolation
 pub mod Unaffected
 pub mod Apart
 pub mod aids
+pub use Rattle.mg_rooms.specs.Limits

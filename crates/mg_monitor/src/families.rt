@@ -139,14 +139,12 @@ pub fn put_journal<W: Write>(report: &TickReport<'_>, page: &mut Page<'_, W>) ->
 
 /// Returns a port's number and totals, or `None` if no termination has the port and no datagram has arrived at it.
 fn seen_port(report: &TickReport<'_>, ports: &[PortTotals], slot: u8) -> Option<(u16, PortTotals)> {
-    if u16::from(slot) >= report.config.slots {
-        return None;
-    }
+    let rooms = report.core.rooms();
+    let port = rooms.port(slot)?;
     let totals = *ports.get(usize::from(slot))?;
-    if totals.packets == 0 && report.core.rooms().held(slot).is_none() {
+    if totals.packets == 0 && rooms.held(slot).is_none() {
         return None;
     }
-    let port = report.config.base_port.wrapping_add(2 * u16::from(slot));
     Some((port, totals))
 }
 

@@ -85,30 +85,30 @@ impl<'a, E: Write> Reports<'a, E> {
     fn print(&mut self, report: &TickReport<'_>) {
         print_totals(&report.counts, self.strangers, self.writer);
         for slot in 0..=u8::MAX {
-            if u16::from(slot) < report.config.slots {
-                self.print_slot(report, slot);
-            }
+            self.print_slot(report, slot);
         }
         let _ = self.writer.flush();
     }
 
     /// Prints what arrived at a slot's port, if the port had trouble, and resets the port's counts.
     fn print_slot(&mut self, report: &TickReport<'_>, slot: u8) {
-        let Some(port) = self.ports.get_mut(usize::from(slot)) else {
+        let rooms = report.core.rooms();
+        let (Some(port), Some(counts)) = (rooms.port(slot), self.ports.get_mut(usize::from(slot)))
+        else {
             return;
         };
-        let held = report.core.rooms().held(slot);
-        let silent = port.silent_ticks(expected(held), self.ticks);
-        if port.has_trouble() || silent >= self.every {
+        let held = rooms.held(slot);
+        let silent = counts.silent_ticks(expected(held), self.ticks);
+        if counts.has_trouble() || silent >= self.every {
             print_port(
-                report.config.base_port.wrapping_add(2 * u16::from(slot)),
-                held.map_or(0, |record| record.number),
                 port,
+                held.map_or(0, |record| record.number),
+                counts,
                 silent / TICKS,
                 self.writer,
             );
         }
-        port.clear();
+        counts.clear();
     }
 }
 

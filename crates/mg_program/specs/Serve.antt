@@ -1,9 +1,10 @@
 -- What the program does as a server.
-use Rattle.std.specs.Prelude.{◌≡◌, ◌≢◌, ◌⊎◌, ℕ, ◌+◌, ◌*◌, ◌<◌, ⊤, List, Option, None, Result, Err}
+use Rattle.std.specs.Prelude.{◌≡◌, ◌≢◌, ◌⊎◌, ℕ, ◌<◌, ⊤, List, Option, None, Result, Err}
 use Rattle.std.specs.Prelude.{IsSome, false}
 use Rattle.mg_clock.specs.Ticks.{clock_seen}
+use Rattle.mg_engine.specs.Limits.{slot_port}
 use Rattle.mg_engine.specs.declared.config.Config.{Config}
-use Rattle.mg_engine.specs.Config.{IsValidConfig}
+use Rattle.mg_engine.specs.Config.{IsValidConfig, limits_of}
 use Rattle.mg_core.specs.declared.counts.Counts.{Counts}
 use Rattle.mg_core.specs.World.{World}
 use Rattle.mg_journal.specs.Journal.{JournalState}
@@ -23,7 +24,7 @@ use Rattle.mg_program.specs.Status.{status_of}
 -- one of the ports of a gateway: the control port or a media port
 abbrev pub IsPortOf : Config → ℕ → Type 0
 IsPortOf config port = (port ≡ config.control_port)
-    ⊎ ((slot : ℕ) × (slot < config.slots) × (port ≡ config.base_port + 2 * slot))
+    ⊎ ((slot : ℕ) × (slot < config.slots) × (port ≡ slot_port (limits_of config) slot))
 
 -- The ports were bound, and a gateway ran with this outcome. Its sockets don't log their calls. The
 -- output is a recording if that was requested.

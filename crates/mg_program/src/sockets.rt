@@ -109,7 +109,7 @@ impl Sockets {
         let mut sockets = ArrayVec::new();
         sockets.push(Some(bind_socket(net, control_address, control)?));
         for slot in 0..config.slots {
-            let port = config.base_port + 2 * slot;
+            let port = config.limits().slot_port(slot as u8);
             let socket = bind_media(net, media_address, port, usize::from(slot) + 1, &readiness)?;
             sockets.push(Some(socket));
         }

@@ -1,11 +1,16 @@
 -- The limits on a gateway's terminations and contexts (not from a standard).
-use Rattle.std.specs.Prelude.{◌≡◌, ℕ, ◌+◌, ◌-◌, ◌*◌, ◌%◌, ◌<◌, ◌≤◌}
+use Rattle.std.specs.Prelude.{◌≡◌, ℕ, ◌+◌, ◌-◌, ◌*◌, ◌%◌, ◌<◌, ◌≤◌, ◌==◌, Option, find}
+use Rattle.std.specs.List.{range_with_len}
 use Rattle.mg_words.specs.Limits.{termination_limit, last_context}
 use Rattle.mg_rooms.specs.declared.limits.Limits.{Limits}
 
 -- the UDP port of a slot
 abbrev pub slot_port : Limits → ℕ → ℕ
 slot_port limits slot = limits.base_port + 2 * slot
+
+-- the slot with a UDP port
+abbrev pub slot_at : Limits → ℕ → Option ℕ
+slot_at limits port = find (λ slot. slot_port limits slot == port) (range_with_len 0 limits.slots)
 
 -- there is at least one slot, there are not too many, and each has an even UDP port
 pub record HasPool (limits : Limits) : Type 0 where

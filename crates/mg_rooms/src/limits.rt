@@ -1,5 +1,5 @@
-ghost use Rattle.std.specs.Prelude.{◌≡◌, ◌≢◌, ℕ, ◌<◌, ◌↔◌, None, IfSome, IsTrue};
-ghost use Rattle.mg_rooms.specs.Limits.{slot_port, AreValidLimits, HasPool, HasFirstNumbers};
+ghost use Rattle.std.specs.Prelude.{◌≡◌, ◌<◌, ◌↔◌, IsTrue};
+ghost use Rattle.mg_rooms.specs.Limits.{slot_port, slot_at, AreValidLimits, HasPool, HasFirstNumbers};
 
 use mg_words::{LAST_CONTEXT, TERMINATIONS};
 
@@ -41,12 +41,10 @@ impl Limits {
     /// Returns the slot of a UDP port, or `None` if no slot has this port.
     pub fn slot_at(&self, port: u16) -> Option<u8>
         requires valid { AreValidLimits self.now }
-        ensures some { IfSome result (λ slot. (slot < self.now.slots) × (slot_port self.now slot ≡ port)) }
-        ensures none { result ≡ None → (slot : ℕ) → slot < self.now.slots → slot_port self.now slot ≢ port }
+        ensures value { result ≡ slot_at self.now port }
     {
-        let offset = port.checked_sub(self.base_port)?;
-        let slot = offset / 2;
-        if offset % 2 == 0 && slot < self.slots {
+        let slot = port.saturating_sub(self.base_port) / 2;
+        if slot < self.slots && self.slot_port(slot as u8) == port {
             Some(slot as u8)
         } else {
             None

@@ -1,5 +1,5 @@
-ghost use Rattle.std.specs.Prelude.{◌≡◌, ◌<◌, ◌≤◌, None, IfOk, IfSome, IfNone, OnErr, length, option_map};
-ghost use Rattle.mg_rooms.specs.Limits.{AreValidLimits};
+ghost use Rattle.std.specs.Prelude.{◌≡◌, ◌<◌, ◌≤◌, nat_lt, if◌then◌else◌, Some, None, IfOk, IfSome, IfNone, OnErr, length, option_map};
+ghost use Rattle.mg_rooms.specs.Limits.{slot_port, AreValidLimits};
 ghost use Rattle.mg_rooms.specs.Registry.{start_of, record_at, context_at, members_at, holder_of};
 ghost use Rattle.mg_rooms.specs.Lasting.{Lasts, LeavesOthers};
 ghost use Rattle.mg_rooms.specs.Member.{ExistsAs};
@@ -84,6 +84,19 @@ impl Rooms {
         ensures value { result ≡ option_map (λ x. x.room) (context_at self.now context) }
     {
         self.tables.room(context)
+    }
+
+    /// Returns the UDP port of a slot, or `None` if there is no such slot.
+    pub fn port(&self, slot: u8) -> Option<u16>
+        ensures value { result ≡ (if nat_lt slot self.now.limits.slots then Some (slot_port self.now.limits slot) else
+            None) }
+    {
+        let limits = self.tables.limits;
+        if u16::from(slot) < limits.slots {
+            Some(limits.slot_port(slot))
+        } else {
+            None
+        }
     }
 
     /// Returns the termination in a slot, or `None` if the slot is free.

@@ -79,11 +79,7 @@ each_follow R one (x ∷ xs) w next p h = follow_as p (h.0 ++ h.1) h.3
 
 packets_follow : (setup : Setup) (packets : List Datagram) → Follow (sends_of setup (map Packet packets))
 packets_follow setup [] = tt
-packets_follow setup (packet ∷ packets) =
-    let s = (packet.from - setup.config.base_port) / 2 in
-    let next : s + 1 ≡ suc s = omega arith in
-    subst (λ (n : ℕ). Follow (Called (Send n packet.to packet.bytes) ∷ sends_of setup (map Packet packets))) (sym next)
-    (packets_follow setup packets)
+packets_follow setup (packet ∷ packets) = packets_follow setup packets
 
 answer_follows : (setup : Setup) (source : Peer) (answer : Option (List ℕ)) →
     AnswersFollow (Some source) (sends_of setup (answer_to source answer))

@@ -8,6 +8,8 @@ use Rattle.mg_serve.specs.Setup.{Setup, is_admitted}
 use Rattle.mg_words.specs.declared.peer.Peer.{Peer}
 use Rattle.mg_engine.specs.declared.datagram.Datagram.{Datagram}
 use Rattle.mg_engine.specs.declared.taken.Taken.{Taken}
+use Rattle.mg_rooms.specs.Limits.{slot_port}
+use Rattle.mg_engine.specs.Config.{limits_of}
 use Rattle.mg_core.specs.declared.event.Event.{Event}
 use Rattle.mg_core.specs.declared.event.Event.TheVariants as events
 use Rattle.mg_core.specs.declared.state.CoreState.{CoreState}
@@ -362,11 +364,11 @@ some_printed x y p before after logged =
 
 -- an RTP datagram at a media socket
 pub media_steps : (setup : Setup) (socket port : ℕ) (source : Peer) (bytes : List ℕ) (w next : World) (taken : Taken) →
-    1 ≤ socket → port ≡ setup.config.base_port + 2 * (socket - 1) → TakesMedia w port source bytes next taken →
+    1 ≤ socket → port ≡ slot_port (limits_of setup.config) (socket - 1) → TakesMedia w port source bytes next taken →
     Step w (event_at setup socket source bytes) [] next
 media_steps setup zero port source bytes w next taken first is takes = absurd (omega arith)
 media_steps setup (suc s) port source bytes w next taken first is takes =
     (taken, subst (λ (p : ℕ). TakesMedia w p source bytes next taken) (is ∙ same) takes, refl)
   where
-    same : setup.config.base_port + 2 * (suc s - 1) ≡ setup.config.base_port + 2 * s
+    same : slot_port (limits_of setup.config) (suc s - 1) ≡ slot_port (limits_of setup.config) s
     same = omega arith

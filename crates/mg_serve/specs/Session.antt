@@ -1,9 +1,11 @@
 -- A session: commands and their effects.
-use Rattle.std.specs.Prelude.{◌≡◌, ◌⊎◌, ℕ, zero, suc, ◌+◌, ◌-◌, ◌*◌, ◌/◌, ◌<◌, Bool, true, false}
-use Rattle.std.specs.Prelude.{All, List, [], ◌∷◌, ◌++◌, length, map, codes, Result, Ok, Err}
+use Rattle.std.specs.Prelude.{◌≡◌, ◌⊎◌, ℕ, zero, suc, ◌+◌, ◌<◌, Bool, true, false}
+use Rattle.std.specs.Prelude.{All, List, [], ◌∷◌, ◌++◌, length, map, codes, Result, Ok, Err, unwrap_or}
 use Rattle.std.specs.List.{range_with_len}
 use Rattle.mg_clock.specs.declared.timing.Timing.{Timing}
 use Rattle.mg_words.specs.declared.peer.Peer.{Peer}
+use Rattle.mg_rooms.specs.Limits.{slot_port, slot_at}
+use Rattle.mg_engine.specs.Config.{limits_of}
 use Rattle.mg_core.specs.declared.event.Event.{Event}
 use Rattle.mg_core.specs.declared.event.Event.TheVariants as events
 use Rattle.mg_core.specs.Recording.{IsDatagram, event_line}
@@ -31,11 +33,12 @@ Each R (x ∷ xs) w trace next =
 
 -- ## One event
 
--- A datagram is sent with one call: an answer on socket 0, a packet on the socket of its port.
+-- A datagram is sent with one call: an answer on socket 0, a packet on the socket of the slot that
+-- has its port. Each packet's port is a slot's.
 abbrev pub send_of : Setup → Sent → Call
 send_of setup (Reply to text) = Send 0 to text
 send_of setup (Packet packet) =
-    Send ((packet.from - setup.config.base_port) / 2 + 1) packet.to packet.bytes
+    Send (suc (unwrap_or (slot_at (limits_of setup.config) packet.from) 0)) packet.to packet.bytes
 
 abbrev pub sends_of : Setup → List Sent → List TraceEntry
 sends_of setup sent = map (λ datagram. Called (send_of setup datagram)) sent
@@ -49,7 +52,7 @@ HandlesEvent setup event w trace next =
 -- the event of a datagram that arrived at a socket
 abbrev pub event_at : Setup → ℕ → Peer → List ℕ → Event
 event_at setup zero source bytes = events.Control source bytes
-event_at setup (suc s) source bytes = events.Media (setup.config.base_port + 2 * s) source bytes
+event_at setup (suc s) source bytes = events.Media (slot_port (limits_of setup.config) s) source bytes
 
 -- If there is not enough memory to read a control datagram, the datagram is not an event, and this
 -- is noted.

@@ -1,5 +1,6 @@
-ghost use Rattle.std.specs.Prelude.{◌≡◌, ◌^◌, ◌<◌, ◌≤◌, ◌+◌, ◌*◌, ◌-◌, [], ◌∷◌, map, length, true, false, IfErr, IfOk, OnErr, OnOk};
-ghost use Rattle.mg_engine.specs.Config.{IsValidConfig};
+ghost use Rattle.std.specs.Prelude.{◌≡◌, ◌^◌, ◌<◌, ◌≤◌, ◌+◌, ◌-◌, [], ◌∷◌, map, length, true, false, IfErr, IfOk, OnErr, OnOk};
+ghost use Rattle.mg_rooms.specs.Limits.{slot_port};
+ghost use Rattle.mg_engine.specs.Config.{IsValidConfig, limits_of};
 ghost use Rattle.mg_core.specs.Step.{Packet, Step};
 ghost use Rattle.mg_core.specs.World.{World, StandsFor, counts_of};
 ghost use Rattle.mg_words.specs.Leads.{Leads};
@@ -68,13 +69,16 @@ fn send<P: Ports>(ports: &mut P, socket: usize, to: Peer, bytes: &[u8], sent: &m
 
 /// Returns the socket that a packet is sent from.
 fn socket_of(setup: &Setup<'_>, packet: &Datagram) -> usize
+    requires sound { IsValidConfig setup.now.config }
     ensures value { Send result packet.now.to packet.now.bytes ≡ send_of setup.now (Packet packet.now) }
 {
-    usize::from(packet.from.saturating_sub(setup.config().base_port)) / 2 + 1
+    let slot = setup.config().limits().slot_at(packet.from);
+    usize::from(slot.unwrap_or(0)) + 1
 }
 
 /// Sends packets in order. If a send fails, only that packet is lost.
 fn send_packets<P: Ports>(ports: &mut P, setup: &Setup<'_>, packets: &[Datagram], sent: &mut u64)
+    requires sound { IsValidConfig setup.now.config }
     ensures logged { Logged (P.calls ports.old) (P.calls ports.new)
         (map (λ packet. send_of setup.now (Packet packet)) packets.now) }
     ensures journal { P.journal ports.new ≡ P.journal ports.old }
@@ -114,9 +118,9 @@ fn media_port(setup: &Setup<'_>, socket: u16) -> u16
     requires sound { IsValidConfig setup.now.config }
     requires first { 1 ≤ socket }
     requires last { socket ≤ setup.now.config.slots }
-    ensures value { result ≡ setup.now.config.base_port + 2 * (socket - 1) }
+    ensures value { result ≡ slot_port (limits_of setup.now.config) (socket - 1) }
 {
-    setup.config().base_port + 2 * (socket - 1)
+    setup.config().limits().slot_port((socket - 1) as u8)
 }
 
 impl<'a, M: Monitor> Server<'a, M> {
@@ -375,6 +379,7 @@ impl<'a, M: Monitor> Server<'a, M> {
         timing: Timing,
         writer: &mut W,
     )
+        requires sound { IsValidConfig setup.now.config }
         requires few { self.old.journal.lacking + 1 < 2 ^ 64 }
         ensures value { LeadsByTrace self.old.core.state self.new.core.state
             (outside (ports_seen (P.calls ports.old) (P.journal ports.old)) (W.contents writer.old)

@@ -1,6 +1,9 @@
 ghost use Rattle.std.specs.Prelude.{◌≡◌, ◌<◌, ◌≤◌, ◌+◌, ◌*◌, ◌↔◌, [], true, length, Some, IfOk, OnOk, OnErr, Option, List, map, ℕ};
 ghost use Rattle.std.specs.List.{slice_get};
 ghost use Rattle.mg_rooms.specs.Limits.{slot_port};
+ghost use Rattle.mg_topology.specs.Mask.{has_seat};
+ghost use Rattle.mg_rooms.specs.declared.record.Record.{Record};
+ghost use Rattle.mg_rooms.specs.Registry.{record_at};
 ghost use Rattle.mg_rooms.specs.Consistent.{IsConsistent};
 ghost use Rattle.mg_engine.specs.Config.{IsValidConfig};
 ghost use Rattle.mg_engine.specs.Flow.{flow};
@@ -32,6 +35,7 @@ use mg_engine::{Config, Datagram, Engine, Outbox, Peer, Record, Rooms, StartFaul
 use mg_reply::{Bytes, HEAD_LIMIT, Reply, write_head};
 use mg_rooms::TERMINATIONS;
 use mg_text::{ErrorNumber, Message, REQUEST_LIMIT, read};
+use mg_topology::mask::Mask;
 use std::alloc::{AllocError, Global};
 use std::marker::Model;
 
@@ -283,6 +287,17 @@ impl Core {
         ensures headline { FlowIsRecomputed self.now.state talker listener result }
     {
         self.state.engine.flow(talker, listener)
+    }
+
+    /// Returns the seats of those members of a termination's context whose speech flows to the termination. The bits of
+    /// seats without a member say nothing.
+    pub fn talkers(&self, listener: &Record) -> Mask
+        requires there { record_at self.now.state.engine.rooms listener.now.number ≡ Some listener.now }
+        ensures value { (w : World) (talker : Record) → StandsFor self.now.state w →
+            record_at w.gateway.rooms talker.number ≡ Some talker → talker.context ≡ listener.now.context →
+            has_seat result talker.seat ≡ flow w.gateway talker.number listener.now.number }
+    {
+        self.state.engine.talkers(listener)
     }
 
     /// Returns the sum of sample `i` over all talkers of a context in this tick. The sum is not saturated to 16 bits.

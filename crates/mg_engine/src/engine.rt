@@ -23,6 +23,7 @@ ghost use Rattle.mg_engine.specs.Tick.{sends, sent_to, packets, all_played, all_
 ghost use Rattle.mg_g711.specs.Law.{byte_of};
 ghost use Rattle.mg_words.specs.Mode.{listens};
 ghost use Rattle.mg_flow.specs.Table as table;
+ghost use Rattle.mg_topology.specs.Mask.{has_seat};
 ghost use Rattle.mg_sums.specs.Sums.{AreValidSums, first_sums, frame_of_row, room_of};
 ghost use Rattle.mg_engine.specs.aids.Seating.{place_count};
 ghost use Rattle.mg_rtp.specs.aids.Read.{reading_of};
@@ -63,7 +64,8 @@ use mg_rooms::{ErrorNumber, MEMBERS, Record, Rooms, Settings, TERMINATIONS, Targ
 use mg_rtp::{Packet, RtpFault, read};
 use mg_sdp::Chosen;
 use mg_sums::{Room, Row, Sums};
-use mg_topology::{Overlap, mask};
+use mg_topology::Overlap;
+use mg_topology::mask::{self, Mask};
 use mg_words::{Peer, SAMPLES, Stats};
 use std::alloc::{AllocError, Global};
 use std::marker::Model;
@@ -458,6 +460,18 @@ impl Engine {
             }
             _ => false,
         }
+    }
+
+    /// Returns the seats of those members of a termination's context whose speech flows to the termination. The bits of
+    /// seats without a member say nothing.
+    pub fn talkers(&self, listener: &Record) -> Mask
+        requires there { record_at self.now.rooms listener.now.number ≡ Some listener.now }
+        ensures value { (w : Gateway) (talker : Record) → StandsFor self.now w →
+            record_at w.rooms talker.number ≡ Some talker → talker.context ≡ listener.now.context →
+            has_seat result talker.seat ≡ flow w talker.number listener.now.number }
+    {
+        let place = place_of(&self.rooms, listener).unwrap();
+        *self.flows.open(place)
     }
 
     /// Returns whether `listener` hears `talker`, regardless of modes.

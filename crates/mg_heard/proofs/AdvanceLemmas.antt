@@ -47,13 +47,13 @@ continued_flow : (earlier : List OpenInterval) (x : OpenInterval) → (continued
 unfolding begun_at
 continued_flow earlier x = same_flow_at x (beginning_among earlier x.flow)
 
-new_flows : (earlier : List OpenInterval) (now : Moment) (next : List OpenFlow) →
+pub new_flows : (earlier : List OpenInterval) (now : Moment) (next : List OpenFlow) →
     flows_of (map (continued earlier) (map (beginning_at now) next)) ≡ next
 new_flows earlier now [] = refl
 new_flows earlier now (x ∷ next) =
     λ i. continued_flow earlier (beginning_at now x) i ∷ new_flows earlier now next i
 
-new_rising : (earlier xs : List OpenInterval) → IsRising xs → IsRising (map (continued earlier) xs)
+pub new_rising : (earlier xs : List OpenInterval) → IsRising xs → IsRising (map (continued earlier) xs)
 new_rising earlier xs h =
     let R = λ (x later : OpenInterval). key_of x.flow < key_of later.flow in
     all_from_pairs R (map (continued earlier) xs) (pairs_map R R (continued earlier) xs

@@ -190,8 +190,8 @@ unused = record {
 }
 
 -- what a call leaves in all places
-pub written : (n : ℕ) (items new : List OpenInterval) → n ≡ length items → length new ≡ length items →
+pub written : {X : Type 0} (n : ℕ) (items new : List X) → n ≡ length items → length new ≡ length items →
     take n (new ++ drop (length new) items) ≡ new
 written n items new e long =
-    ap (take n) (ap (λ (l : List OpenInterval). new ++ l) (drop_all (length new) items (omega arith)) ∙ append-nil new)
+    ap (take n) (ap (λ l. new ++ l) (drop_all (length new) items (omega arith)) ∙ append-nil new)
     ∙ take_all n new (omega arith)

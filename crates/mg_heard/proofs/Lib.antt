@@ -9,8 +9,10 @@ pub mod LawLemmas
 pub mod WalkLemmas
 pub mod ContinueLemmas
 pub mod PartyLemmas
+pub mod HearerLemmas
 pub mod FillLemmas
 pub mod AdvanceLemmas
+pub mod RowLemmas
 pub mod KeepingLemmas
 pub mod WatchLemmas
 pub mod FindingLemmas

@@ -1,13 +1,16 @@
 -- The test of sameness decides equality.
-use Rattle.std.proofs.Common.{◌≡◌, eqb, true, List, [], ◌∷◌, Option, Some, None, refl, ap, inl, inr}
+use Rattle.std.proofs.Common.{◌≡◌, eqb, ◌&&◌, true, List, [], ◌∷◌, Option, Some, None, refl, ap, inl, inr}
 use Rattle.std.specs.Bool.{Decides}
 use Rattle.std.specs.Option.{option_eq}
 use Rattle.std.specs.Str.{bytes_eq}
-use Rattle.std.proofs.lemmas.Bool.{or_cases, or_left, or_right}
+use Rattle.std.proofs.lemmas.Bool.{and_parts, eqb-true, or_cases, or_left, or_right}
 use Rattle.std.proofs.lemmas.Bool.Decides.{Decides-eqb, Decides-and, Decides-like}
 use Rattle.std.proofs.lemmas.Slice.Eq.{bytes_eq-Decides}
 use Rattle.mg_words.specs.declared.peer.Peer.{Peer}
 use Rattle.mg_heard.specs.declared.open_flow.OpenFlow.{OpenFlow}
+use Rattle.mg_heard.specs.aids.Hearers.{is_same_hearer, is_same_seated}
+use Rattle.mg_heard.specs.declared.hearer.Hearer.{Hearer}
+use Rattle.mg_heard.specs.declared.seated.Seated.{Seated}
 use Rattle.mg_heard.specs.OpenFlow.{has, is_same, is_same_peer}
 use Rattle.mg_heard.proofs.Members.{In}
 
@@ -59,3 +62,23 @@ pub has_from_in : (flows : List OpenFlow) (x : OpenFlow) → In x flows → has 
 has_from_in [] x h = absurd h
 has_from_in (y ∷ flows) x (inl e) = or_left (is_same x y) (has flows x) ((same x y).1 e)
 has_from_in (y ∷ flows) x (inr h) = or_right (is_same x y) (has flows x) (has_from_in flows x h)
+
+pub same_seated : (a b : Seated) → is_same_seated a b ≡ true → a ≡ b
+same_seated a b h =
+    let (p, seat) = and_parts (eqb a.party.number b.party.number && (eqb a.party.context b.party.context
+    && option_eq is_same_peer a.party.at b.party.at)) (eqb a.seat b.seat) h in
+    let (number, q) = and_parts (eqb a.party.number b.party.number) (eqb a.party.context b.party.context
+    && option_eq is_same_peer a.party.at b.party.at) p in
+    let (context, at) = and_parts (eqb a.party.context b.party.context) (option_eq is_same_peer a.party.at b.party.at) q in
+    let n = eqb-true a.party.number b.party.number number in
+    let c = eqb-true a.party.context b.party.context context in
+    let r = (same_remote a.party.at b.party.at).0 at in
+    let s = eqb-true a.seat b.seat seat in
+    λ i. record { party = record { number = n i; context = c i; at = r i }; seat = s i }
+
+pub same_hearer : (a b : Hearer) → is_same_hearer a b ≡ true → a ≡ b
+same_hearer a b h =
+    let (talkers, seated) = and_parts (eqb a.talkers b.talkers) (is_same_seated a.seated b.seated) h in
+    let t = eqb-true a.talkers b.talkers talkers in
+    let s = same_seated a.seated b.seated seated in
+    λ i. record { seated = s i; talkers = t i }

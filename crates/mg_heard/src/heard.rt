@@ -11,9 +11,10 @@ ghost use Rattle.mg_heard.specs.declared.open_flow.OpenFlow.{OpenFlow};
 
 use crate::clock::Clock;
 use crate::clock_fault::ClockFault;
-use crate::open_intervals::OpenIntervals;
+use crate::open_rows::OpenRows;
+use crate::rows::Rows;
 use crate::sink::Sink;
-use crate::telling::{tell_gap, tell_intervals};
+use crate::telling::{tell_gap, tell_rows};
 use crate::theorems::{intervals_tell_the_flow, only_control_changes_intervals};
 use mg_core::{Core, Event, Follower, Stopped};
 use std::alloc::{AllocError, Global};
@@ -27,9 +28,9 @@ pub(crate) struct Heard<S: Sink> {
     pub(crate) fault: Option<ClockFault>,
     /// Whether the open flows may have changed since the stored intervals were last compared with them.
     pub(crate) is_changed: bool,
-    pub(crate) open: OpenIntervals,
+    pub(crate) open: OpenRows,
     /// The intervals that ended with the last change.
-    ended: OpenIntervals,
+    ended: Rows,
 }
 
 impl<S: Sink> Heard<S> {
@@ -46,8 +47,8 @@ impl<S: Sink> Heard<S> {
             clock: Clock::new(),
             fault: None,
             is_changed: true,
-            open: OpenIntervals::new(alloc)?,
-            ended: OpenIntervals::new(alloc)?,
+            open: OpenRows::new(alloc)?,
+            ended: Rows::new(alloc)?,
         })
     }
 
@@ -82,7 +83,7 @@ impl<S: Sink> Heard<S> {
         let now = self.clock.now();
         self.open.advance(&mut self.ended, core, now);
         self.is_changed = false;
-        tell_intervals(self.ended.as_slice(), Some(now), &mut self.sink)
+        tell_rows(self.ended.as_slice(), Some(now), &mut self.sink)
     }
 
     /// Reports the intervals that have not ended at the end of a script. `core` is the gateway's state at that point.
@@ -94,7 +95,7 @@ impl<S: Sink> Heard<S> {
         mg_core::theorems::outcomes_are_unique();
         intervals_tell_the_flow();
         self.update(core)?;
-        tell_intervals(self.open.as_slice(), None, &mut self.sink)
+        tell_rows(self.open.as_slice(), None, &mut self.sink)
     }
 }
 

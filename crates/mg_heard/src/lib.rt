@@ -16,7 +16,7 @@
 //! An interval contains a tick for a pair if and only if the talker's speech flows to the listener in the world before
 //! that tick (`specs/Laws.antt`). The intervals follow from the flows that are open before each tick
 //! (`specs/Intervals.antt`). Intervals that have not ended are stored, and compared with the flows before the next
-//! tick.
+//! tick. Each listener has a row of intervals, and a row is only looked at if its flows may have changed.
 //!
 //! Dates come from the script's comments. No proof covers dates or gaps.
 #![tactic(auto)]
@@ -37,12 +37,14 @@ mod format;
 mod gap;
 mod heard;
 mod heard_fault;
+mod hearer;
 mod hearing;
 mod instant;
 mod interval;
 mod keys;
 mod line;
 mod line_writer;
+mod listener_row;
 mod moment;
 mod name;
 mod name_fault;
@@ -51,14 +53,18 @@ mod names;
 mod open_flow;
 mod open_interval;
 mod open_intervals;
+mod open_rows;
 mod party;
 mod party_name;
 mod query;
 mod remark;
 mod report;
 mod reporting;
+mod row;
+mod rows;
 mod rule;
 mod scale;
+mod seated;
 mod sink;
 mod style;
 mod telling;

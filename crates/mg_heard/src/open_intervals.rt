@@ -1,5 +1,4 @@
 ghost use Rattle.std.specs.Prelude.{◌≡◌, ◌≤◌, ◌∷◌, [], length, map, take, IfOk, List};
-ghost use Rattle.mg_rooms.specs.Consistent.{IsConsistent};
 ghost use Rattle.mg_core.specs.World.{World, StandsFor};
 ghost use Rattle.mg_heard.specs.Intervals.{ending};
 ghost use Rattle.mg_heard.specs.OpenFlows.{open_flows};
@@ -53,20 +52,6 @@ impl OpenIntervals {
         &self.places[..self.len]
     }
 
-    /// Advances to a moment. Afterwards, an interval is stored for each flow that is open in the core, and `ended`
-    /// holds the intervals that end at this moment.
-    pub(crate) fn advance(&mut self, ended: &mut OpenIntervals, core: &Core, now: Moment)
-        ensures value { (w : World) (past : List (List OpenFlow)) → StandsFor core.now.state w →
-            now.tick ≡ length past → AreLasting past self.old →
-            AreLasting (open_flows w.gateway ∷ past) self.new
-            × (map (ended_at now.tick) ended.new ≡ ending past (open_flows w.gateway)) }
-    {
-        mem::swap(self, ended);
-        self.fill(core, now);
-        self.continue_from(ended);
-        ended.remove_continued(self);
-    }
-
     /// Advances to a moment at which exactly these flows count as open. Afterwards, an interval is stored for each of
     /// them, and `ended` holds the intervals that end at this moment. The flows are in order of their pairs.
     pub fn advance_to(&mut self, ended: &mut OpenIntervals, flows: &[OpenFlow], now: Moment)
@@ -94,7 +79,6 @@ impl OpenIntervals {
     pub(crate) fn fill(&mut self, core: &Core, first: Moment)
         ensures value { (w : World) → StandsFor core.now.state w →
             self.new ≡ map (beginning_at first) (open_flows w.gateway) }
-        ensures consistent { IsConsistent core.now.state.engine.rooms }
     {
         self.len = fill_places(&mut self.places, core, first);
     }
@@ -117,7 +101,7 @@ impl OpenIntervals {
 
 /// Gives each interval in the first `len` places the beginning of the earlier interval of the same flow, if there is
 /// one.
-fn continue_front(places: &mut [OpenInterval], len: usize, earlier: &[OpenInterval])
+pub(crate) fn continue_front(places: &mut [OpenInterval], len: usize, earlier: &[OpenInterval])
     requires within { len ≤ length places.old }
     ensures value { IsRising (take len places.old) → IsRising earlier.now →
         take len places.new ≡ map (continued earlier.now) (take len places.old) }
@@ -127,7 +111,7 @@ fn continue_front(places: &mut [OpenInterval], len: usize, earlier: &[OpenInterv
 
 /// Keeps only those intervals in the first `len` places whose flows have no interval in `next`. Returns how many it
 /// keeps.
-fn keep_front(places: &mut [OpenInterval], len: usize, next: &[OpenInterval]) -> usize
+pub(crate) fn keep_front(places: &mut [OpenInterval], len: usize, next: &[OpenInterval]) -> usize
     requires within { len ≤ length places.old }
     ensures within { result ≤ len }
     ensures value { IsRising (take len places.old) → IsRising next.now →

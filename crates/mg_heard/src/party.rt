@@ -1,13 +1,11 @@
-ghost use Rattle.std.specs.Prelude.{◌≡◌, ◌≤◌, length};
-ghost use Rattle.mg_rooms.specs.Consistent.{IsConsistent};
+ghost use Rattle.std.specs.Prelude.{◌≡◌};
 ghost use Rattle.mg_engine.specs.Gateway.{Gateway};
-ghost use Rattle.mg_core.specs.World.{World, StandsFor};
 ghost use Rattle.mg_heard.specs.OpenFlows.{open_flow};
-ghost use Rattle.mg_heard.specs.aids.Parties.{party_of, AreParties, IsParty};
+ghost use Rattle.mg_heard.specs.aids.Hearers.{flow_between};
+ghost use Rattle.mg_heard.specs.aids.Parties.{party_of, IsParty};
 
 use crate::open_flow::OpenFlow;
-use arrayvec::ArrayVec;
-use mg_core::{Core, Peer, Record, TERMINATIONS};
+use mg_core::{Peer, Record};
 
 /// What an interval says about a termination.
 #[derive(Clone, Copy, Debug, Default, PartialEq, Eq)]
@@ -41,6 +39,7 @@ impl Party {
     pub fn flow_to(&self, listener: &Party) -> OpenFlow
         ensures value { (w : Gateway) → IsParty w self.now → IsParty w listener.now →
             result ≡ open_flow w listener.now.number self.now.number }
+        ensures parties { result ≡ flow_between listener.now self.now }
     {
         OpenFlow {
             listener: listener.number,
@@ -50,17 +49,4 @@ impl Party {
             talker_at: self.at,
         }
     }
-}
-
-/// Returns the terminations of a core, in order of their numbers.
-pub(crate) fn parties_of(core: &Core) -> ArrayVec<Party, TERMINATIONS>
-    ensures few { length result.items ≤ TERMINATIONS }
-    ensures consistent { IsConsistent core.now.state.engine.rooms }
-    ensures value { (w : World) → StandsFor core.now.state w → AreParties w.gateway result.items }
-{
-    let mut parties = ArrayVec::new();
-    for place in 0..core.terminations() {
-        let _ = parties.try_push(Party::of(&core.termination(place)));
-    }
-    parties
 }

@@ -1,8 +1,8 @@
 -- Terminations, as an interval describes them.
-use Rattle.std.specs.Prelude.{◌≡◌, List, map, All}
+use Rattle.std.specs.Prelude.{◌≡◌}
 use Rattle.std.specs.Option.{option_map}
 use Rattle.mg_rooms.specs.declared.record.Record.{Record}
-use Rattle.mg_engine.specs.Gateway.{Gateway, context_of, numbers_of}
+use Rattle.mg_engine.specs.Gateway.{Gateway, context_of}
 use Rattle.mg_heard.specs.OpenFlows.{remote_of}
 use Rattle.mg_heard.specs.declared.party.Party.{Party}
 
@@ -17,8 +17,3 @@ party_of r = record {
 pub record IsParty (w : Gateway) (p : Party) : Type 0 where
   pub context : p.context ≡ context_of w p.number
   pub at : p.at ≡ remote_of w p.number
-
--- all terminations of a gateway, in order of their numbers
-pub record AreParties (w : Gateway) (parties : List Party) : Type 0 where
-  pub each : All (IsParty w) parties
-  pub numbers : map (λ p. p.number) parties ≡ numbers_of w

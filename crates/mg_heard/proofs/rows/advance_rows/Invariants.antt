@@ -1,0 +1,5 @@
+use Rattle.mg_heard.proofs.RowLemmas.{Advances}
+use Rattle.mg_heard.proofs.rows.advance_rows.Given as goal
+
+abbrev pub invariant-loop-place : goal.invariant-loop-place
+invariant-loop-place l = Advances l.fn.old l.old l.rows l.hearers l.now l.place

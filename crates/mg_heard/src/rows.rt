@@ -1,0 +1,155 @@
+ghost use Rattle.std.specs.Prelude.{◌≡◌, ◌≤◌, ◌<◌, ℕ, true, [], get_or, length, map, take, All, IfNone, IfOk, IfSome};
+ghost use Rattle.mg_words.specs.Limits.{member_limit, termination_limit};
+ghost use Rattle.mg_heard.specs.aids.Hearers.{flows_among, flows_heard, number_of, seats_of, AreRising};
+ghost use Rattle.mg_heard.specs.aids.Opening.{beginning_at, continued, without_flows};
+ghost use Rattle.mg_heard.specs.aids.Rows.{intervals_of, listeners_of, AreRows};
+ghost use Rattle.mg_heard.specs.declared.listener_row.ListenerRow.{ListenerRow};
+
+use crate::hearer::Hearer;
+use crate::listener_row::ListenerRow;
+use crate::moment::Moment;
+use mg_core::TERMINATIONS;
+use std::alloc::{AllocError, Global};
+use std::marker::Model;
+
+/// Listeners with their intervals, in order of their numbers.
+#[derive(Drop)]
+pub(crate) struct Rows {
+    /// A place for each possible listener. The first `len` places are in use.
+    places: Vec<ListenerRow>,
+    len: usize,
+}
+
+impl Model for Rows {
+    ghost use Rattle.std.specs.Prelude.{◌≡◌, ◌≤◌, List, length, take};
+    ghost use Rattle.mg_words.specs.Limits.{termination_limit};
+    ghost use Rattle.mg_heard.specs.declared.listener_row.ListenerRow.{ListenerRow};
+
+    ghost Value = { List ListenerRow };
+
+    ghost view = { λ x. take x.len x.places.items };
+
+    ghost invariant = { λ x. (length x.places.items ≡ termination_limit) × (x.len ≤ termination_limit) };
+}
+
+impl Rows {
+    /// Creates an empty store. No other call allocates.
+    pub(crate) fn new(alloc: Global) -> Result<Self, AllocError>
+        ensures value { IfOk result (λ x. x ≡ []) }
+    {
+        let mut places = Vec::with_capacity(alloc, TERMINATIONS)?;
+        for _ in 0..TERMINATIONS {
+            places.push(ListenerRow::new(alloc)?)?;
+        }
+        Ok(Rows { places, len: 0 })
+    }
+
+    pub(crate) fn as_slice(&self) -> &[ListenerRow]
+        ensures value { result.now ≡ self.now }
+    {
+        &self.places[..self.len]
+    }
+
+    /// Replaces the rows with one for each of these listeners. Intervals continue those of `old`, which afterwards has
+    /// the intervals that are not continued.
+    pub(crate) fn advance(&mut self, old: &mut Rows, hearers: &[Hearer], now: Moment)
+        requires many { length hearers.now ≤ termination_limit }
+        requires few { All (λ h. length (flows_heard (seats_of hearers.now) h) ≤ member_limit) hearers.now }
+        requires rising { AreRising hearers.now }
+        requires rows { AreRows old.old }
+        ensures rows { AreRows self.new }
+        ensures value { intervals_of self.new ≡ map (continued (intervals_of old.old))
+            (map (beginning_at now) (flows_among hearers.now)) }
+        ensures ended { intervals_of old.new ≡ without_flows (flows_among hearers.now) (intervals_of old.old) }
+    {
+        advance_front(&mut self.places, &mut old.places, old.len, hearers, now);
+        self.len = hearers.len();
+    }
+}
+
+/// Returns whether the rows are those of these terminations, except for whose speech flows to whom.
+fn are_same(rows: &[ListenerRow], hearers: &[Hearer]) -> bool
+    ensures value { result ≡ true → seats_of (listeners_of rows.now) ≡ seats_of hearers.now }
+{
+    if rows.len() != hearers.len() {
+        return false;
+    }
+    for place in 0..rows.len() {
+        if !rows[place].listener.seated.is_same(&hearers[place].seated) {
+            return false;
+        }
+    }
+    true
+}
+
+/// Returns the place of a listener's row, or `None` if the listener has none. The search begins at a place that is
+/// likely.
+fn place_of(rows: &[ListenerRow], number: u32, likely: usize) -> Option<usize>
+    ensures some { IfSome result (λ place. (place < length rows.now)
+        × ((d : ListenerRow) → number_of (get_or rows.now place d).listener ≡ number)) }
+    ensures none { IfNone result ((place : ℕ) (d : ListenerRow) → place < length rows.now →
+        number_of (get_or rows.now place d).listener ≡ number → ⊥) }
+{
+    if likely < rows.len() && rows[likely].listener.seated.party.number == number {
+        return Some(likely);
+    }
+    for place in 0..rows.len() {
+        if rows[place].listener.seated.party.number == number {
+            return Some(place);
+        }
+    }
+    None
+}
+
+/// Replaces the first rows with one for each of these listeners. Intervals continue those of the first `len` rows of
+/// `old`, which afterwards have the intervals that are not continued.
+fn advance_front(
+    rows: &mut [ListenerRow],
+    old: &mut [ListenerRow],
+    len: usize,
+    hearers: &[Hearer],
+    now: Moment,
+)
+    requires within { len ≤ length old.old }
+    requires room { length hearers.now ≤ length rows.old }
+    requires few { All (λ h. length (flows_heard (seats_of hearers.now) h) ≤ member_limit) hearers.now }
+    requires rising { AreRising hearers.now }
+    requires rows { AreRows (take len old.old) }
+    ensures rows { AreRows (take (length hearers.now) rows.new) }
+    ensures value { intervals_of (take (length hearers.now) rows.new) ≡
+        map (continued (intervals_of (take len old.old))) (map (beginning_at now) (flows_among hearers.now)) }
+    ensures ended { intervals_of (take len old.new) ≡
+        without_flows (flows_among hearers.now) (intervals_of (take len old.old)) }
+{
+    let is_same = are_same(&old[..len], hearers);
+    advance_rows(rows, &mut old[..len], hearers, is_same, now);
+}
+
+/// Replaces the first rows with one for each of these listeners. Intervals continue those of `old`, which afterwards
+/// has the intervals that are not continued.
+fn advance_rows(
+    rows: &mut [ListenerRow],
+    old: &mut [ListenerRow],
+    hearers: &[Hearer],
+    is_same: bool,
+    now: Moment,
+)
+    requires room { length hearers.now ≤ length rows.old }
+    requires few { All (λ h. length (flows_heard (seats_of hearers.now) h) ≤ member_limit) hearers.now }
+    requires rising { AreRising hearers.now }
+    requires rows { AreRows old.old }
+    requires same { is_same ≡ true → seats_of (listeners_of old.old) ≡ seats_of hearers.now }
+    ensures rows { AreRows (take (length hearers.now) rows.new) }
+    ensures value { intervals_of (take (length hearers.now) rows.new) ≡ map (continued (intervals_of old.old))
+        (map (beginning_at now) (flows_among hearers.now)) }
+    ensures ended { intervals_of old.new ≡ without_flows (flows_among hearers.now) (intervals_of old.old) }
+{
+    for (place, hearer) in hearers.iter().enumerate() {
+        match place_of(old, hearer.seated.party.number, place) {
+            Some(earlier) => {
+                rows[place].advance(&mut old[earlier], hearers, hearer, is_same, now)
+            }
+            None => rows[place].start(hearers, hearer, now),
+        }
+    }
+}

@@ -21,7 +21,7 @@ use Rattle.mg_commands.specs.DescriptorFault.{descriptors_fault, properties_faul
 use Rattle.mg_commands.specs.Part.{stream_parts, media_parts, descriptor_parts, parts_of}
 use Rattle.mg_commands.specs.Search.{first_of, first_after}
 use Rattle.mg_commands.specs.Support.{property_fault}
-use Rattle.mg_commands.specs.aids.Findings.{nothing_found, with_part, with_parts, Reads}
+use Rattle.mg_commands.specs.aids.Findings.{no_parameters, asked_with, nothing_found, with_part, with_parts, Reads}
 use Rattle.mg_commands.specs.Outcome.{unless}
 use Rattle.mg_commands.specs.aids.Steps.{check_descriptors}
 use Rattle.mg_commands.specs.aids.Words.{stream_word, controls_within, descriptor_word, media_within, audit_words_within}
@@ -53,14 +53,45 @@ after_others source a xs =
       fault = option_or a.fault (first_of (property_fault source) xs);
     }
 
-all_after : (source : List ℕ) (a : Findings) (xs : List Part) → with_parts source a xs ≡ after_others source a xs
-unfolding first_of
-all_after source a [] = simp (or_none_else, or_false)
-all_after source a (x ∷ xs) = all_after source (with_part source a x) xs ∙ simp (option_or-assoc, or_assoc)
+-- what descriptors ask for, by what was found in them
+abbrev pub by_fault : Option ErrorNumber → Findings → Result CommandParameters ErrorNumber
+by_fault (Some e) a = Err e
+by_fault None a = Ok a.parameters
 
-pub all_found : (source : List ℕ) (xs : List Descriptor) → with_parts source nothing_found (parts_of xs) ≡
-    record { parameters = parameters_of source xs; fault = properties_fault source xs }
-all_found source xs = all_after source nothing_found (parts_of xs)
+abbrev by_result : Findings → Result CommandParameters ErrorNumber
+by_result a = by_fault a.fault a
+
+abbrev found : CommandParameters → Option ErrorNumber → Findings
+found p o = record { parameters = p; fault = o }
+
+stays : (source : List ℕ) (p : CommandParameters) (e : ErrorNumber) (xs : List Part) →
+    with_parts source (found p (Some e)) xs ≡ found p (Some e)
+stays source p e [] = refl
+stays source p e (x ∷ xs) = stays source p e xs
+
+goes_on : (source : List ℕ) (p : CommandParameters) (o : Option ErrorNumber) (xs : List Part) →
+    ((q : CommandParameters) → by_result (with_parts source (found q None) xs) ≡
+    by_result (after_others source (found q None) xs)) →
+    by_result (with_parts source (found p o) xs) ≡ by_result (after_others source (found p o) xs)
+goes_on source p (Some e) xs h = ap by_result (stays source p e xs)
+goes_on source p None xs h = h p
+
+ends : (source : List ℕ) (p : CommandParameters) → found p None ≡ after_others source (found p None) []
+unfolding first_of
+ends source p = simp (or_none_else, or_false)
+
+extends : (source : List ℕ) (p : CommandParameters) (x : Part) (xs : List Part) →
+    after_others source (found (asked_with source p x) (property_fault source x)) xs ≡
+    after_others source (found p None) (x ∷ xs)
+unfolding first_of
+extends source p x xs = simp (option_or-assoc, or_assoc)
+
+all_after : (source : List ℕ) (p : CommandParameters) (xs : List Part) →
+    by_result (with_parts source (found p None) xs) ≡ by_result (after_others source (found p None) xs)
+all_after source p [] = ap by_result (ends source p)
+all_after source p (x ∷ xs) =
+    goes_on source (asked_with source p x) (property_fault source x) xs (λ q. all_after source q xs)
+    ∙ ap by_result (extends source p x xs)
 
 -- ## Parts that are read one after another
 
@@ -105,11 +136,6 @@ descriptor_parts_are (descriptors.Media xs) = refl
 descriptor_parts_are (descriptors.Audit ws) = ap (λ (l : List Part). Audit ∷ l) (append-nil (map Audited ws))
 descriptor_parts_are (descriptors.Other w h) = refl
 
--- what descriptors ask for, by what was found in them
-abbrev pub by_fault : Option ErrorNumber → Findings → Result CommandParameters ErrorNumber
-by_fault (Some e) a = Err e
-by_fault None a = Ok a.parameters
-
 by_properties : (o : Option ErrorNumber) (p : CommandParameters) →
     by_fault o (record { parameters = p; fault = o }) ≡ (unless o >>= (λ _. Ok p))
 by_properties (Some e) p = refl
@@ -124,8 +150,8 @@ checked {source} {a} {r} xs h is = ap (λ (o : Option ErrorNumber). by_fault o a
         Reads source (descriptors_fault source xs) (parts_of xs) nothing_found a r →
         by_fault (option_or r a.fault) a ≡ check_descriptors source xs
     by_reading (Some e) h = rw (sym h.value) refl
-    by_reading None h = rw (sym h.value, h.found ∙ all_found source xs)
-        (by_properties (properties_fault source xs) (parameters_of source xs))
+    by_reading None h = rw (sym h.value) (ap by_result h.found ∙ all_after source no_parameters (parts_of xs)
+        ∙ by_properties (properties_fault source xs) (parameters_of source xs))
 
 -- ## Walks
 

@@ -41,12 +41,14 @@ fn setting_of(source: &[u8], text: Span) -> MediaSetting
     }
 }
 
-fn mode_in(part: Part) -> Option<Mode>
-    ensures value { result ≡ mode_in part }
+/// Stores a part's mode, unless a mode is already stored.
+fn keep_mode(kept: &mut Option<Mode>, part: Part)
+    ensures value { kept.new ≡ option_or kept.old (mode_in part) }
 {
-    match part {
-        Part::Control(_, ControlPart::Mode(mode)) => Some(mode),
-        _ => None,
+    if kept.is_none() {
+        if let Part::Control(_, ControlPart::Mode(mode)) = part {
+            *kept = Some(mode);
+        }
     }
 }
 
@@ -61,30 +63,34 @@ fn depth_in(source: &[u8], part: Part) -> Option<u16>
     }
 }
 
-fn local_in(source: &[u8], part: Part) -> Option<MediaSetting>
-    ensures value { result ≡ local_in source.now part }
+/// Stores a part's depth, unless a depth is already stored.
+fn keep_depth(kept: &mut Option<u16>, source: &[u8], part: Part)
+    ensures value { kept.new ≡ option_or kept.old (depth_in source.now part) }
 {
-    match part {
-        Part::Local(_, text) => Some(setting_of(source, text)),
-        _ => None,
+    if kept.is_none() {
+        *kept = depth_in(source, part);
     }
 }
 
-fn remote_in(source: &[u8], part: Part) -> Option<MediaSetting>
-    ensures value { result ≡ remote_in source.now part }
+/// Stores the content of a Local, unless that of an earlier one is already stored.
+fn keep_local(kept: &mut Option<MediaSetting>, source: &[u8], part: Part)
+    ensures value { kept.new ≡ option_or kept.old (local_in source.now part) }
 {
-    match part {
-        Part::Remote(_, text) => Some(setting_of(source, text)),
-        _ => None,
+    if kept.is_none() {
+        if let Part::Local(_, text) = part {
+            *kept = Some(setting_of(source, text));
+        }
     }
 }
 
-/// Stores `found` in `kept`, unless a value is already stored there.
-pub fn keep_first<T: Drop>(kept: &mut Option<T>, found: Option<T>)
-    ensures value { kept.new ≡ option_or kept.old found }
+/// Stores the content of a Remote, unless that of an earlier one is already stored.
+fn keep_remote(kept: &mut Option<MediaSetting>, source: &[u8], part: Part)
+    ensures value { kept.new ≡ option_or kept.old (remote_in source.now part) }
 {
-    if kept.is_none() && found.is_some() {
-        *kept = found;
+    if kept.is_none() {
+        if let Part::Remote(_, text) = part {
+            *kept = Some(setting_of(source, text));
+        }
     }
 }
 
@@ -105,10 +111,10 @@ impl CommandParameters {
     pub fn take(&mut self, source: &[u8], part: Part)
         ensures value { self.new ≡ asked_with source.now self.old part }
     {
-        keep_first(&mut self.settings.mode, mode_in(part));
-        keep_first(&mut self.settings.depth, depth_in(source, part));
-        keep_first(&mut self.settings.local, local_in(source, part));
-        keep_first(&mut self.settings.remote, remote_in(source, part));
+        keep_mode(&mut self.settings.mode, part);
+        keep_depth(&mut self.settings.depth, source, part);
+        keep_local(&mut self.settings.local, source, part);
+        keep_remote(&mut self.settings.remote, source, part);
         match part {
             Part::Audit => self.has_audit = true,
             Part::Audited(AuditWord::Media) => self.audits_media = true,

@@ -3,7 +3,7 @@ ghost use Rattle.mg_commands.specs.declared.part.Part.TheVariants.{Audited};
 ghost use Rattle.mg_commands.specs.DescriptorFault.{fault_of};
 ghost use Rattle.mg_commands.specs.aids.Findings.{nothing_found, with_part, with_parts, Reads};
 
-use crate::command_parameters::{CommandParameters, keep_first};
+use crate::command_parameters::CommandParameters;
 use crate::part::Part;
 use crate::support::{is_unserved, property_fault};
 use mg_text::{AuditWord, ErrorNumber};
@@ -11,7 +11,7 @@ use mg_text::{AuditWord, ErrorNumber};
 /// What the walk over a command's descriptors has found so far.
 #[derive(Drop)]
 pub struct Findings {
-    /// What the command asks for.
+    /// What the command asks for, up to the fault.
     pub parameters: CommandParameters,
     /// The first fault in a property or a stream's number, if any. A faulty descriptor outranks it, even a later one.
     pub fault: Option<ErrorNumber>,
@@ -38,12 +38,14 @@ impl Findings {
         }
     }
 
-    /// Adds a part.
+    /// Adds a part, unless a fault was found.
     pub fn add(&mut self, source: &[u8], part: Part)
         ensures value { self.new ≡ with_part source.now self.old part }
     {
-        keep_first(&mut self.fault, property_fault(source, part));
-        self.parameters.take(source, part);
+        if self.fault.is_none() {
+            self.fault = property_fault(source, part);
+            self.parameters.take(source, part);
+        }
     }
 
     /// Adds a part, unless it is faulty: it repeats a word, or its content is unsupported. Returns the fault, if any.

@@ -66,7 +66,7 @@ impl OpenIntervals {
         ended.remove_continued(self);
     }
 
-    /// Replaces the stored intervals with one for each of these flows. Each of them begins at this moment.
+    /// Replaces the stored intervals with one per flow, all beginning at this moment.
     fn replace(&mut self, flows: &[OpenFlow], first: Moment)
         requires few { length flows.now ≤ FLOWS }
         ensures value { self.new ≡ map (beginning_at first) flows.now }

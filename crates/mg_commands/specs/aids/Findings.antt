@@ -1,5 +1,5 @@
 -- What a walk over a command's descriptors finds, part by part.
-use Rattle.std.specs.Prelude.{◌≡◌, ℕ, ◌||◌, false, List, Option, None, IfNone}
+use Rattle.std.specs.Prelude.{◌≡◌, ℕ, ◌||◌, false, List, Option, None, Some, IfNone}
 use Rattle.std.specs.List.{fold}
 use Rattle.std.specs.Option.{option_or}
 use Rattle.mg_words.specs.declared.error_number.ErrorNumber.{ErrorNumber}
@@ -36,12 +36,16 @@ asked_with source a x =
 abbrev pub nothing_found : Findings
 nothing_found = record { parameters = no_parameters; fault = None }
 
+-- what was found before, if there was a fault
+abbrev pub unless_faulty : Option ErrorNumber → (before after : Findings) → Findings
+unless_faulty (Some e) before after = before
+unless_faulty None before after = after
+
 abbrev pub with_part : List ℕ → Findings → Part → Findings
-with_part source a x =
-    record {
-      parameters = asked_with source a.parameters x;
-      fault = option_or a.fault (property_fault source x);
-    }
+with_part source a x = unless_faulty a.fault a (record {
+  parameters = asked_with source a.parameters x;
+  fault = property_fault source x;
+})
 
 abbrev pub with_parts : List ℕ → Findings → List Part → Findings
 with_parts source a xs = fold (with_part source) a xs

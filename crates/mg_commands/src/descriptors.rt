@@ -30,7 +30,7 @@ fn read_controls(
     for (i, part) in parts.iter().enumerate() {
         let (before, _) = parts.split_at(i);
         let appeared = appeared_in_control(source, part, before);
-        if let Some(fault) = found.add_sound(source, appeared, Part::Control(stream, *part)) {
+        if let Some(fault) = found.add_control(source, stream, appeared, part) {
             return Some(fault);
         }
     }

@@ -1,12 +1,12 @@
 ghost use Rattle.std.specs.Prelude.{◌≡◌, [], ◌∷◌, map};
-ghost use Rattle.mg_commands.specs.declared.part.Part.TheVariants.{Audited};
+ghost use Rattle.mg_commands.specs.declared.part.Part.TheVariants.{Audited, Control};
 ghost use Rattle.mg_commands.specs.DescriptorFault.{fault_of};
 ghost use Rattle.mg_commands.specs.aids.Findings.{nothing_found, with_part, with_parts, Reads};
 
 use crate::command_parameters::CommandParameters;
 use crate::part::Part;
 use crate::support::{is_unserved, property_fault};
-use mg_text::{AuditWord, ErrorNumber};
+use mg_text::{AuditWord, ControlPart, ErrorNumber};
 
 /// What the walk over a command's descriptors has found so far.
 #[derive(Drop)]
@@ -57,6 +57,28 @@ impl Findings {
             self.add(source, part);
         }
         fault
+    }
+
+    /// Adds a part of a LocalControl, unless it repeats a word. Returns the fault, if any.
+    ///
+    /// A message can contain about 2,000 properties, so a part that follows a fault isn't even copied.
+    pub fn add_control(
+        &mut self,
+        source: &[u8],
+        stream: u32,
+        appeared: bool,
+        part: &ControlPart,
+    ) -> Option<ErrorNumber>
+        ensures reads { Reads source.now (fault_of appeared (Control stream part.now)) (Control stream part.now ∷ [])
+            self.old self.new result }
+    {
+        if appeared {
+            return Some(ErrorNumber::DescriptorTwice);
+        }
+        if self.fault.is_none() {
+            self.add(source, Part::Control(stream, *part));
+        }
+        None
     }
 
     /// Adds the words of an Audit descriptor.

@@ -1,4 +1,4 @@
-/// A [`Follower`](crate::Follower) refuses to go on, because it has found what it was looking for, or because it can't
-/// write. Only the follower knows why.
+/// The error with which a [`Follower`](crate::Follower) ends a run: it has found what it was looking for, or it can't
+/// write. The follower keeps the reason.
 #[derive(Clone, Copy, Debug, PartialEq, Eq)]
 pub struct Stopped;

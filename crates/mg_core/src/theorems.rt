@@ -126,7 +126,8 @@ pub fn port_order_is_irrelevant()
     mg_commands::theorems::requests_are_consistent();
 }
 
-/// In each tick, a listener's packet does not depend on the terminations that the listener does not hear in that tick.
+/// In each tick, a listener's packet does not depend on what arrives from terminations that the listener does not hear in
+/// that tick.
 ///
 /// Suppose two gateways receive the same events, except for RTP datagrams at the ports of some terminations. In the
 /// next tick, both gateways send the same bytes to every listener that hears none of those terminations in that tick.

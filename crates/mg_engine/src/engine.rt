@@ -463,7 +463,7 @@ impl Engine {
     }
 
     /// Returns the seats of those members of a termination's context whose speech flows to the termination. The bits of
-    /// seats without a member say nothing.
+    /// empty seats are unspecified.
     pub fn talkers(&self, listener: &Record) -> Mask
         requires there { record_at self.now.rooms listener.now.number ≡ Some listener.now }
         ensures value { (w : Gateway) (talker : Record) → StandsFor self.now w →

@@ -45,9 +45,9 @@ impl RoomShares {
 
     /// Finds a recent packet that mixes exactly these talkers and uses this law. Returns `None` if there is none.
     ///
-    /// If everybody in a room talks, no two members hear the same sum. The room then has a packet for each member, and
-    /// searching all of them for every member would be quadratic. Members that only listen find their sum among the
-    /// newest packets.
+    /// If everybody in a room talks, each member usually hears a sum of his own. The room then has a packet for each
+    /// member, and searching all of them for every member would be quadratic. Members that only listen find their sum
+    /// among the newest packets.
     pub fn find(&self, talkers: Mask, law: Law) -> Option<u8>
         ensures found { IfSome result
             (λ packet. Contains self.now (record { talkers = talkers; law = law; packet = packet })) }

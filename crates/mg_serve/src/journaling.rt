@@ -22,12 +22,13 @@ const BATCH: usize = 1000;
 /// The lines for the maximum number of ticks in one append.
 const TICK_LINES: [[u8; 5]; BATCH] = [*b"tick\n"; BATCH];
 
-/// How many ticks the journal may lack before they are appended: one second's worth.
-const SECOND: u64 = 50;
+/// How many ticks the journal may lack before they are appended: 0.2 seconds' worth. `heard --never` reports a broken
+/// rule only once the journal has the tick after the message.
+const TOGETHER: u64 = 10;
 
 /// The state of a session's journal, if it has one: how many ticks the journal lacks.
 ///
-/// A message is appended before it is handled. Ticks are appended about once a second, and before each message.
+/// A message is appended before it is handled. Ticks are appended five times a second, and before each message.
 #[derive(Drop)]
 pub struct Journaling {
     durability: Option<Durability>,
@@ -162,7 +163,7 @@ impl Journaling {
         append(ports, self.line.as_slice(), durability, &mut self.failed)
     }
 
-    /// Counts a tick that has passed. If the journal lacks at least one second's worth of ticks, tries one append.
+    /// Counts a tick that has passed. If the journal lacks at least ten ticks, tries one append.
     pub fn end_tick<P: Ports>(&mut self, ports: &mut P)
         requires few { self.old.lacking + 1 < 2 ^ 64 }
         ensures few { self.new.lacking ≤ self.old.lacking + 1 }
@@ -173,7 +174,7 @@ impl Journaling {
             return;
         }
         self.lacking += 1;
-        if self.lacking >= SECOND {
+        if self.lacking >= TOGETHER {
             let _ = self.append_ticks(ports);
         }
     }

@@ -36,9 +36,9 @@ use std::io::{Read, Write};
 /// script again. If printing fails, the current input line is still executed in full, and nothing more is printed.
 ///
 /// If there is a journal, each control message is appended to the journal before the message is handled, and is dropped
-/// if the append fails. Ticks are appended before the next message, and otherwise once a second. A tick's packets are
-/// sent whether or not appends work. The journal's text contains the session's events, except for RTP datagrams and for
-/// ticks that it still lacks.
+/// if the append fails. Ticks are appended before the next message, and otherwise five times a second. A tick's packets
+/// are sent whether or not appends work. The journal's text contains the session's events, except for RTP datagrams and
+/// for ticks that it still lacks.
 ///
 /// Reports datagrams and ticks to the monitor.
 ///

@@ -136,16 +136,16 @@ const CASES: &[Case<'static>] = &[
         },
     },
     Case {
-        name: "ticks are appended once a second",
+        name: "ticks are appended five times a second",
         session: Session {
             journal: Some(Durability::Synced),
-            lines: &[(1, b"poll\n"), (51, b"tick\n")],
+            lines: &[(1, b"poll\n"), (11, b"tick\n")],
             ..RECORDED
         },
         call_log: b"n0n1n2w0",
         comments: b"# a title\n# ready\n",
-        start: &[(50, b"tick\n")],
-        lines: 50,
+        start: &[(10, b"tick\n")],
+        lines: 10,
         synced: 0,
         rest: b"tick\n",
         report: JournalReport {
@@ -159,13 +159,13 @@ const CASES: &[Case<'static>] = &[
         session: Session {
             journal: Some(Durability::Written),
             faults: &[(FileCall::Write, 0, 2)],
-            lines: &[(1, b"poll\n"), (53, b"tick\n")],
+            lines: &[(1, b"poll\n"), (13, b"tick\n")],
             ..RECORDED
         },
         call_log: b"n0n1n2r0r1w2",
         comments: b"# a title\n# ready\n",
-        start: &[(52, b"tick\n")],
-        lines: 52,
+        start: &[(12, b"tick\n")],
+        lines: 12,
         synced: 0,
         rest: b"tick\n",
         report: JournalReport {
@@ -180,7 +180,7 @@ const CASES: &[Case<'static>] = &[
         session: Session {
             journal: Some(Durability::Synced),
             waiting: &[(0, CALLER, HEARTBEAT)],
-            faults: &[(FileCall::Write, 0, 953)],
+            faults: &[(FileCall::Write, 0, 993)],
             lines: &[(1002, b"tick\n"), (1, b"poll\n")],
             ..RECORDED
         },
@@ -192,7 +192,7 @@ const CASES: &[Case<'static>] = &[
         rest: b"",
         report: JournalReport {
             lacking: 1002,
-            failed: 953,
+            failed: 993,
             unjournaled: 0,
         },
     },

@@ -4,8 +4,8 @@ use Rattle.mg_serve.specs.aids.Outside.{JournalView}
 use Rattle.mg_serve.proofs.Appending.{counted, tick_then_batch}
 use Rattle.mg_serve.proofs.journaling.Journaling.end_tick.Goals as goal
 
-pub returns-then-self-ge-SECOND-clause-value : goal.returns-then-self-ge-SECOND-clause-value
-returns-then-self-ge-SECOND-clause-value g c =
+pub returns-then-self-ge-TOGETHER-clause-value : goal.returns-then-self-ge-TOGETHER-clause-value
+returns-then-self-ge-TOGETHER-clause-value g c =
     let j : JournalView = record { durability = c.self.inside.durability; lacking = c.self.inside.lacking } in
     rw (← c.self.view_is) (tick_then_batch c.append_ticks.result
     (ports_seen (g.P.Ports.calls c.args.ports.now) (g.P.Ports.journal c.args.ports.now))

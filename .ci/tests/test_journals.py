@@ -193,6 +193,9 @@ class Journals(Commands):
         for text, option, wanted in (
             ("tick\n", "--report=0", ": line 1 isn't the title of a journal\n"),
             ("# a comment\ntick\n", "--report=0", ": line 1 isn't the title of a journal\n"),
+            ("notes", "--report=0", ": line 1 isn't the title of a journal\n"),
+            ("# mg_bridge live", "--report=0", ": line 1 isn't the title of a journal\n"),
+            (self.TITLE[:-1] + " " * 1000, "--report=0", ": line 1 isn't the title of a journal\n"),
             (self.TITLE, "--slots=3", ": line 1 has another --slots\n"),
             (bad, "--slots=2", ": line 5 isn't a line of a script\n"),
         ):
@@ -218,6 +221,35 @@ class Journals(Commands):
                 # The next lines are a seal, a date and the caller's message.
                 self.assertRegex(found[len(title) :], r"\A(# .*\n)*control 127\.0\.0\.1:[0-9]+ [0-9a-f]+\n\Z")
                 self.assertEqual(found[: len(title)], title)
+
+    def test_a_title_that_was_not_written_completely(self):
+        words = [*ports(0, 2), "--ssrc=7", "--journal", self.path]
+        for text in ("", "#", self.TITLE[:40], self.TITLE[:-1]):
+            with self.subTest(text=text):
+                Path(self.path).write_text(text)
+                self.assertEqual(run("serve", *words, text="tick\nquit\n")[0], 0)
+                self.assertRegex(Path(self.path).read_text(), r"\A# mg_bridge replay --.* --ssrc=7 .*\n(# .*\n)*")
+
+    def test_one_gateway_at_a_time(self):
+        os.remove(self.path)
+        words = [*ports(0, 2), "--journal", self.path]
+        with Gateway("serve", *words) as gateway:
+            self.assertEqual(gateway.ready, "ready\n")
+            self.ends(6, "", f"journal {self.path}: in use by another gateway\n", "serve", *words, text="quit\n")
+            self.assertEqual(gateway.finish("quit")[0], 0)
+        self.assertEqual(run("serve", *words, text="quit\n")[0], 0)
+
+    def test_metrics_do_not_replace_it(self):
+        with tempfile.TemporaryDirectory() as folder:
+            for journal, metrics in (("one", "one"), ("one.new", "one")):
+                journal, metrics = f"{folder}/{journal}", f"{folder}/{metrics}"
+                words = [*ports(0, 2), "--journal", journal, "--metrics", metrics]
+                message = f"cannot write {metrics}: this would replace the journal\n"
+                self.ends(3, "", message, "live", *words)
+                self.assertEqual(Path(journal).read_bytes(), b"")
+            status, output, errors = run("live", *ports(0, 2), "--metrics", folder)
+            self.assertEqual((status, output, errors.partition(": ")[0]), (3, "", f"cannot write {folder}"))
+            self.assertFalse(Path(f"{folder}.new").exists())
 
     def test_files_that_cannot_be_opened(self):
         for path, error in (

@@ -3,6 +3,7 @@ use Rattle.std.proofs.Common.{◌≡◌, ℕ, ◌+◌, ◌-◌, ◌<◌, ◌≤�
 use Rattle.std.proofs.lemmas.List.{drop-append-le, drop_all, length-drop, length-take, length-take-le, take-append-drop, take-append-le, take_all, take_at}
 use Rattle.std.proofs.Math.Seq.{drop-append-add}
 use Rattle.std.specs.Option.{option_map}
+use Rattle.std.specs.Io.{StartsWith}
 use Rattle.std.specs.Io.KnownBytes.{Consumes}
 use Rattle.std.proofs.KnownBytes.{starts_with_rest}
 use Rattle.mg_journal.specs.declared.extent.Extent.{Extent}
@@ -115,6 +116,29 @@ peeked (Ok n) file new extent most buffer rest is within some size reads = (
       (length-take-le n buffer reads.0) (reads.1 (omega (arith, some, size)))),
 )
 peeked (Err error) file new extent most buffer rest is within some size reads = tt
+
+-- the front of what follows the whole lines was copied
+part_at : (known synced : Option (List ℕ)) (at : ℕ) (part : List ℕ) → IfSome known (λ bytes. at ≡ length (whole_lines bytes))
+    → HasAt (record { bytes = known; synced = synced }) at part
+    → IfSome known (λ bytes. StartsWith (drop (length (whole_lines bytes)) bytes) part)
+part_at None synced at part is has = tt
+part_at (Some bytes) synced at part is has = subst (λ (n : ℕ). StartsWith (drop n bytes) part) is has.0
+
+whole_of : (known : Option (List ℕ)) (extent : Extent) → IfSome known (λ bytes. IsExtent extent bytes)
+    → IfSome known (λ bytes. extent.whole ≡ length (whole_lines bytes))
+whole_of None extent is = tt
+whole_of (Some bytes) extent is = is.0
+
+pub peeked_partial : {E : Type 0} (result : Result ℕ E) (file new : FileState) (extent : Extent) (most : ℕ)
+    (buffer rest : List ℕ) → HasExtent file extent → 0 < most → length buffer ≡ most
+    → ReadsAt extent.whole buffer file new result
+    → IfOk result (λ n. IfSome file.bytes (λ bytes. StartsWith (drop (length (whole_lines bytes)) bytes) (take n (buffer ++ rest))))
+peeked_partial (Ok n) file new extent most buffer rest is some size reads =
+    subst (λ (l : List ℕ). IfSome file.bytes (λ bytes. StartsWith (drop (length (whole_lines bytes)) bytes) l))
+    (sym (take-append-le n buffer rest reads.0))
+    (part_at file.bytes file.synced extent.whole (take n buffer) (whole_of file.bytes extent is)
+    (reads.1 (omega (arith, some, size))))
+peeked_partial (Err error) file new extent most buffer rest is some size reads = tt
 
 -- ## Cutting
 

@@ -1,6 +1,7 @@
 ghost use Rattle.std.specs.Prelude.{◌≡◌, IfOk};
 
 use crate::journal_file::JournalFile;
+use crate::lock_file::LockFile;
 use crate::opening::Opening;
 use std::fs::{Files, OpenFile, OpenOptions};
 use std::io::{self, ErrorKind, Read, Seek, SeekFrom, Write};
@@ -11,11 +12,14 @@ pub struct DiskFile<T: Read + Write + Seek + OpenFile + Drop> {
     file: T,
 }
 
-/// Opens a journal's file and finds its complete lines. Creates the file if it doesn't exist.
+/// Opens a journal's file, locks it, and finds its complete lines. Creates the file if it doesn't exist.
 ///
-/// Nothing else may write to the file from now on, but no lock enforces this. If this call creates the file, a crash of
-/// the machine can lose the file, even after a sync, until the system has written the directory.
+/// Fails with `WouldBlock` if another program has locked the file. Nothing else may write to it from now on. If this call
+/// creates the file, a crash of the machine can lose the file, even after a sync, until the system has written the
+/// directory.
 pub fn open_journal<R: Files>(files: &R, path: &str) -> io::Result<Opening<DiskFile<R::File>>>
+where
+    R::File: LockFile,
     ensures start { IfOk result (λ o. o.read ≡ 0) }
 {
     let file = OpenOptions::new()
@@ -23,6 +27,7 @@ pub fn open_journal<R: Files>(files: &R, path: &str) -> io::Result<Opening<DiskF
         .append(true)
         .create(true)
         .open(files, path)?;
+    file.lock_alone()?;
     Opening::new(DiskFile { file })
 }
 

@@ -1,4 +1,5 @@
-ghost use Rattle.std.specs.Prelude.{◌≡◌, ◌≢◌, ℕ, ◌+◌, ◌<◌, ◌≤◌, true, false, [], length, take, List, Option, IfOk, IfSome, OnOk};
+ghost use Rattle.std.specs.Prelude.{◌≡◌, ◌≢◌, ℕ, ◌+◌, ◌<◌, ◌≤◌, true, false, [], length, drop, take, List, Option, IfOk, IfSome, OnOk};
+ghost use Rattle.std.specs.Io.{StartsWith};
 ghost use Rattle.std.specs.Io.KnownBytes.{Consumes};
 ghost use Rattle.mg_journal.specs.Text.{whole_lines};
 ghost use Rattle.mg_journal.specs.Opening.{IsSound, left_to_read, text_in};
@@ -143,6 +144,21 @@ impl<F: JournalFile> Opening<F> {
             return Ok(0);
         }
         self.file.read(0, &mut buffer[..most])
+    }
+
+    /// Copies the beginning of the partial last line into the buffer, and returns the number of bytes copied, or 0 if
+    /// there is no partial line. The next read is not affected.
+    pub fn peek_partial(&mut self, buffer: &mut [u8]) -> io::Result<usize>
+        ensures same { self.new ≡ self.old }
+        ensures within { IfOk result (λ n. n ≤ length buffer.new) }
+        ensures front { IfOk result (λ n. IfSome self.old.file.bytes (λ bytes.
+            StartsWith (drop (length (whole_lines bytes)) bytes) (take n buffer.new))) }
+    {
+        let most = self.partial().min(buffer.len() as u64) as usize;
+        if most == 0 {
+            return Ok(0);
+        }
+        self.file.read(self.extent.whole, &mut buffer[..most])
     }
 
     /// Cuts off a partial last line. Returns the journal, ready for appends. Reads the file's last part again, for the

@@ -11,6 +11,7 @@ use crate::system::System;
 use crate::verify::verify;
 use mg_arguments::{Invocation, requested_run};
 use mg_hearing::{audible, heard, watch};
+use mg_journal::LockFile;
 use mg_options::{Status, report_error};
 use mg_sealing::seal;
 use std::alloc::Global;
@@ -31,6 +32,8 @@ fn run<N: Net, C: Clock, G: RandomSource, F: Files, R: Read, W: Write, E: Write,
     errors: &mut E,
     reports: &mut T,
 ) -> Status
+where
+    F::File: LockFile,
     ensures runs { Runs R.remaining W.contents (errors.new ≡ errors.old) input.old input.new output.old output.new
         invocation.now result }
 {
@@ -62,12 +65,13 @@ fn run<N: Net, C: Clock, G: RandomSource, F: Files, R: Read, W: Write, E: Write,
 ///
 /// The status is 0 on success, 1 for a bad script line, and 2 for invalid arguments, an invalid configuration or a
 /// gateway that doesn't answer. It is 3 if a read or a write failed, if the clock can't be read, or if the system has
-/// no random numbers. It is 4 if memory ran out, 5 for a port that can't be bound, and 6 for a journal that can't be
-/// used. If the status is nonzero, an error message goes to `errors`. A gateway's periodic reports go to `reports`.
+/// no random numbers. It is 4 if memory ran out, 5 for a port that can't be bound, and 6 for a journal or another file
+/// that can't be used. With these statuses, an error message goes to `errors`. A gateway's periodic reports go to
+/// `reports`.
 ///
-/// For a question about a given time, 1 means that the talker could not be heard, and 2 that the script doesn't say. For
-/// rules, 1 means that the script breaks one. For a check of seals, 1 means that a text was changed, and 2 that it has no
-/// seals. There is no message then.
+/// Some statuses are answers, without a message. To a question about a given time, 1 means that the talker could not be
+/// heard, and 2 that the script doesn't say. For rules, 1 means that the script breaks one. For a check of seals, 1 means
+/// that a text was changed, and 2 that it has no seals.
 pub fn program<
     'a,
     N: Net,
@@ -88,6 +92,8 @@ pub fn program<
     errors: &mut E,
     reports: &mut T,
 ) -> u8
+where
+    F::File: LockFile,
     ensures status { result ≤ 6 }
     // The status says whether the program did what the arguments request and, if not, why.
     ensures ends { EndsWith

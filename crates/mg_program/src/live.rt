@@ -21,7 +21,7 @@ use crate::udp_ports::UdpPorts;
 use mg_arguments::{Draws, Service, title_of};
 use mg_clock::{SystemWatch, Watch};
 use mg_core::{Config, Core, RunFault};
-use mg_journal::{Journal, JournalFile};
+use mg_journal::{Journal, JournalFile, LockFile};
 use mg_monitor::{Both, Metrics, Reports};
 use mg_options::{Status, VERSION};
 use mg_ports::Ports;
@@ -119,6 +119,8 @@ pub fn live<N: Net, C: Clock, G: RandomSource, F: Files, W: Write, E: Write, T: 
     errors: &mut E,
     reports: &mut T,
 ) -> Status
+where
+    F::File: LockFile,
     ensures value { ServesByClock W.contents config service.now draws late output.old output.new result }
 {
     match prepare(

@@ -2,7 +2,7 @@ use arrayvec::{ArrayString, ArrayVec};
 use mg_arguments::FilePath;
 use mg_monitor::Sink;
 use std::fs::{self, Files};
-use std::io::{self, Write};
+use std::io::{self, ErrorKind, Write};
 
 /// The maximum length of a temporary file's path, in bytes.
 const MAX_PATH: usize = 4095;
@@ -62,8 +62,27 @@ fn temporary_path(path: &FilePath) -> ArrayString<MAX_PATH> {
     temporary
 }
 
-/// Checks that metrics can be written, by creating the temporary file next to this path.
+/// Returns whether metrics with this path would replace the journal.
+pub fn replaces_journal(path: &FilePath, journal: &Option<FilePath>) -> bool {
+    let Some(journal) = journal else {
+        return false;
+    };
+    journal.as_str() == path.as_str() || journal.as_str() == temporary_path(path).as_str()
+}
+
+/// Returns whether there is a folder with this path.
+fn is_folder<F: Files>(files: &F, path: &FilePath) -> bool {
+    match fs::metadata(files, path.as_str()) {
+        Ok(found) => found.is_dir(),
+        Err(_) => false,
+    }
+}
+
+/// Checks that metrics can be written: no folder has this path, and the temporary file next to it can be created.
 pub fn can_write_metrics<F: Files>(files: &F, path: &FilePath) -> io::Result<()> {
+    if is_folder(files, path) {
+        return Err(io::Error::from(ErrorKind::IsADirectory));
+    }
     let _file = fs::create(files, temporary_path(path).as_str())?;
     Ok(())
 }

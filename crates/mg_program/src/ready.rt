@@ -4,7 +4,7 @@ ghost use Rattle.mg_engine.specs.Config.{IsValidConfig};
 ghost use Rattle.mg_journal.specs.Journal.{no_journal};
 ghost use Rattle.mg_start.specs.Start.{CanResume, CanStart, FailsToStart};
 
-use crate::metrics_file::can_write_metrics;
+use crate::metrics_file::{can_write_metrics, replaces_journal};
 use crate::serve::bind;
 use crate::sockets::Sockets;
 use crate::system::System;
@@ -43,6 +43,14 @@ fn check_metrics<F: Files, E: Write>(
     let Some(path) = &service.metrics else {
         return Ok(());
     };
+    if replaces_journal(path, &service.journal) {
+        let path = path.as_str();
+        let _ = writeln!(
+            errors,
+            "cannot write {path}: this would replace the journal"
+        );
+        return Err(Status::Failed);
+    }
     match can_write_metrics(files, path) {
         Ok(()) => Ok(()),
         Err(error) => {

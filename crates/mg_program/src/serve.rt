@@ -18,7 +18,7 @@ use crate::system::System;
 use crate::udp_ports::UdpPorts;
 use mg_arguments::{ConfigFault, Draws, Service, title_of};
 use mg_core::{Config, Core, Counts, RunFault};
-use mg_journal::{Journal, JournalFile};
+use mg_journal::{Journal, JournalFile, LockFile};
 use mg_monitor::Reports;
 use mg_options::Status;
 use mg_ports::Ports;
@@ -138,6 +138,8 @@ pub fn serve<N: Net, C: Clock, G: RandomSource, F: Files, R: Read, W: Write, E: 
     errors: &mut E,
     reports: &mut T,
 ) -> Status
+where
+    F::File: LockFile,
     ensures value { Serves R.remaining W.contents config service.now input.old input.new output.old output.new result }
     ensures quiet { result ≡ Status.Done → errors.new ≡ errors.old }
 {

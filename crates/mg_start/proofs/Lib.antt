@@ -1,2 +1,3 @@
 pub mod JournalLemmas
 pub mod ResumeLemmas
+pub mod TitleLemmas

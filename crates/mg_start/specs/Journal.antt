@@ -1,6 +1,7 @@
 -- What a gateway finds in its journal, and what it appends to it before it starts.
 use Rattle.std.specs.Prelude.{◌≡◌, ◌≢◌, ◌==◌, ℕ, false, List, [], ◌++◌, codes, decimal, Option, Some, None}
-use Rattle.std.specs.Prelude.{IfSome, if◌then◌else◌}
+use Rattle.std.specs.Prelude.{IfSome, if◌then◌else◌, Bool, ◌||◌, nat_eq}
+use Rattle.std.specs.List.{starts_with}
 use Rattle.std.specs.Io.KnownBytes.{append_known}
 use Rattle.mg_dates.specs.declared.timeline.Timeline.{Timeline}
 use Rattle.mg_engine.specs.declared.config.Config.{Config}
@@ -14,6 +15,12 @@ use Rattle.mg_serve.specs.Journaled.{tick_lines}
 abbrev pub KeepsTimes : Option Timeline → (found : Option (List ℕ)) → Type 0
 KeepsTimes None found = IfSome found (λ text. text ≡ [])
 KeepsTimes (Some timeline) found = IfSome found (λ text. text ≢ [])
+
+-- the beginning of a title, or a text that begins like one
+abbrev pub may_be_title : List ℕ → Bool
+may_be_title text =
+    let start = codes "# mg_bridge replay " in
+    starts_with nat_eq text start || starts_with nat_eq start text
 
 -- A new journal, for which no times are known, begins with its title.
 abbrev pub title_before : Option Timeline → Config → List ℕ

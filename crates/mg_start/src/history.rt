@@ -1,8 +1,10 @@
-ghost use Rattle.std.specs.Prelude.{◌≡◌, ◌≢◌, IfOk, IfSome, IsSome, None, []};
+ghost use Rattle.std.specs.Prelude.{◌≡◌, ◌≢◌, true, IfOk, IfSome, IsSome, None, []};
+ghost use Rattle.mg_journal.specs.Text.{whole_lines};
 ghost use Rattle.mg_journal.specs.Opening.{left_to_read, text_in};
 ghost use Rattle.mg_core.specs.Resume.{IsResumed};
 ghost use Rattle.mg_engine.specs.Config.{IsValidConfig};
 ghost use Rattle.mg_arguments.specs.Given.{Agrees};
+ghost use Rattle.mg_start.specs.Journal.{may_be_title};
 
 use crate::journal_fault::JournalFault;
 use mg_arguments::{ConfigFault, Given, titled};
@@ -14,6 +16,9 @@ use std::io::{self, ErrorKind};
 
 /// The title and its line feed must fit into this many bytes at the journal's start. A title is at most 512 bytes long.
 const FRONT: usize = 1024;
+
+/// How a title's line begins.
+const TITLE_START: &[u8] = b"# mg_bridge replay ";
 
 /// A gateway in the state that a journal's events lead to.
 #[derive(Drop)]
@@ -29,6 +34,31 @@ fn title_in(front: &[u8]) -> Option<&[u8]> {
     front[..end].strip_prefix(b"# ".as_slice())
 }
 
+/// Returns whether a text is the beginning of a title, or begins like one.
+fn may_be_title(text: &[u8]) -> bool
+    ensures value { result ≡ may_be_title text.now }
+{
+    text.starts_with(TITLE_START) || TITLE_START.starts_with(text)
+}
+
+/// Checks that a file without a complete line is empty, or that its title wasn't written completely. The rest of the
+/// program cuts off such a title, and must not destroy any other file.
+fn check_partial<F: JournalFile>(opening: &mut Opening<F>) -> Result<(), JournalFault>
+    ensures same { opening.new ≡ opening.old }
+    ensures title { IfOk result (λ _. IfSome opening.old.file.bytes (λ bytes.
+        whole_lines bytes ≡ [] → may_be_title bytes ≡ true)) }
+{
+    let mut buffer = [0; FRONT];
+    let n = match opening.peek_partial(&mut buffer) {
+        Ok(n) => n,
+        Err(error) => return Err(JournalFault::Read(error)),
+    };
+    if n as u64 != opening.partial() || !may_be_title(&buffer[..n]) {
+        return Err(JournalFault::NoTitle);
+    }
+    Ok(())
+}
+
 /// Returns the configuration in the title of a journal, or `None` if the journal is empty.
 fn config_in<F: JournalFile>(
     alloc: Global,
@@ -36,9 +66,12 @@ fn config_in<F: JournalFile>(
 ) -> Result<Option<Config>, JournalFault>
     ensures same { opening.new ≡ opening.old }
     ensures empty { IfOk result (λ config. config ≡ None → IfSome (text_in opening.old.file) (λ text. text ≡ [])) }
+    ensures title { IfOk result (λ config. config ≡ None →
+        IfSome opening.old.file.bytes (λ bytes. may_be_title bytes ≡ true)) }
     ensures lines { IfOk result (λ config. IsSome config → IfSome (text_in opening.old.file) (λ text. text ≢ [])) }
 {
     if !opening.has_lines() {
+        check_partial(opening)?;
         return Ok(None);
     }
     let mut buffer = [0; FRONT];
@@ -88,6 +121,8 @@ impl History {
     ) -> Result<Option<History>, JournalFault>
         requires front { opening.old.read ≡ 0 }
         ensures empty { IfOk result (λ found. found ≡ None → IfSome (text_in opening.old.file) (λ text. text ≡ [])) }
+        ensures title { IfOk result (λ found. found ≡ None →
+            IfSome opening.old.file.bytes (λ bytes. may_be_title bytes ≡ true)) }
         ensures lines { IfOk result (λ found. IsSome found → IfSome (text_in opening.old.file) (λ text. text ≢ [])) }
         ensures sound { IfOk result (λ found. IfSome found (λ h. IsValidConfig h.config)) }
         ensures agrees { IfOk result (λ found. IfSome found (λ h. Agrees given.now wanted.now h.config)) }

@@ -10,6 +10,8 @@ use thiserror::Error;
 pub enum JournalFault {
     #[error("cannot be opened: {0}")]
     Open(io::Error),
+    #[error("in use by another gateway")]
+    InUse,
     #[error("cannot be read: {0}")]
     Read(io::Error),
     #[error("line 1 isn't the title of a journal")]

@@ -14,11 +14,11 @@ use crate::journal_fault::JournalFault;
 use arrayvec::ArrayVec;
 use mg_arguments::{ConfigFault, Draws, FilePath, Service};
 use mg_core::{Config, Core, RunFault, StartFault};
-use mg_journal::{DiskFile, JournalFile, Opening, open_journal};
+use mg_journal::{DiskFile, JournalFile, LockFile, Opening, open_journal};
 use mg_options::Status;
 use std::alloc::Global;
 use std::fs::Files;
-use std::io::Write;
+use std::io::{self, ErrorKind, Write};
 use std::random::RandomSource;
 
 /// A gateway and its journal, before the ports are bound and before anything is appended.
@@ -140,6 +140,14 @@ where
     }
 }
 
+/// Returns why a journal couldn't be opened.
+fn opening_fault(error: io::Error) -> JournalFault {
+    match error.kind() {
+        ErrorKind::WouldBlock => JournalFault::InUse,
+        _ => JournalFault::Open(error),
+    }
+}
+
 /// Prepares a gateway: a new one, or one that resumes from the journal. If that fails, reports the fault to `errors`
 /// and returns the program's exit status.
 ///
@@ -153,6 +161,8 @@ pub fn prepare<G: RandomSource, F: Files, E: Write>(
     draws: Draws,
     errors: &mut E,
 ) -> Result<Prepared<DiskFile<F::File>>, Status>
+where
+    F::File: LockFile,
     ensures sound { IfOk result (λ p. IsValidConfig p.config) }
     ensures chosen { IfOk result (λ p. IsChosen service.now.journal service.now.given draws config p.config) }
     ensures resumed { IfOk result (λ p. CanResume service.now.journal p.config p.core.state) }
@@ -165,7 +175,7 @@ pub fn prepare<G: RandomSource, F: Files, E: Write>(
     };
     let opening = match open_journal(files, path.as_str()) {
         Ok(opening) => opening,
-        Err(error) => return Err(JournalFault::Open(error).report(path, errors)),
+        Err(error) => return Err(opening_fault(error).report(path, errors)),
     };
     resume_or_create(random, alloc, config, service, path, draws, opening, errors)
 }

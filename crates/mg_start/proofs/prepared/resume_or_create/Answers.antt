@@ -1,4 +1,3 @@
-use Rattle.std.proofs.Common.{◌≡◌}
 use Rattle.mg_journal.specs.Opening.{text_in}
 use Rattle.mg_start.proofs.ResumeLemmas.{if_ok_map, new_resumed}
 use Rattle.mg_start.proofs.prepared.resume_or_create.Goals as goal

@@ -51,6 +51,8 @@ class Arguments(Commands):
             ["heard", "--audible"],
             ["heard", "--audible", "--talker", "192.0.2.7"],
             ["heard", "--audible", "--talker", "RTP/1", "--at", "2026-11-27T14:03:20Z"],
+            ["heard", "--at", "2026-11-27T14:03:20Z", "--from", "2026-11-27T14:03:20Z"],
+            ["heard", "--at", "2026-11-27T14:03:20Z", "--to", "2026-11-27T14:03:20Z"],
             ["verify", "one.txt", "two.txt"],
             ["verify", ""],
             ["seal", "one.txt"],

@@ -249,11 +249,10 @@ class Intervals(Commands):
 
 class Formats(Commands):
     def test_reports(self):
-        both = (
-            "RTP/1 could hear RTP/2 in context 1 from 2026-11-27T14:03:20Z (tick 0) until 2026-11-27T14:03:20.04Z (tick 2)\n"
-            "gap from 2026-11-27T14:03:20.06Z (tick 3) until 2026-11-27T14:03:20.1Z (tick 5)\n"
-            "RTP/2 could hear RTP/1 in context 1 from 2026-11-27T14:03:20Z (tick 0) until the end\n"
-        )
+        hour = "2026-11-27T14:03"
+        interval = f"RTP/1 could hear RTP/2 in context 1 from {hour}:20Z (tick 0) until {hour}:20.04Z (tick 2)\n"
+        gap = f"gap from {hour}:20.06Z (tick 3) until {hour}:20.1Z (tick 5)\n"
+        both = interval + gap + f"RTP/2 could hear RTP/1 in context 1 from {hour}:20Z (tick 0) until the end\n"
         table = (
             f"{HEAD}\n"
             "heard,RTP/1,,RTP/2,,1,0,2,2026-11-27T14:03:20Z,2026-11-27T14:03:20.04Z,,\n"
@@ -269,6 +268,9 @@ class Formats(Commands):
             (["--format=text"], both),
             (["--format=csv"], table),
             (["--format=json", "--listener=RTP/2"], second),
+            (["--listener=RTP/1", "--from=2026-11-27T14:03:20.1Z"], ""),
+            (["--listener=RTP/1", "--from=2026-11-27T14:03:20.099Z"], gap),
+            (["--listener=RTP/1", "--to=2026-11-27T14:03:20.06Z"], interval),
         ):
             self.ends(0, wanted, "", "heard", *words, text=TITLE + DATED)
 

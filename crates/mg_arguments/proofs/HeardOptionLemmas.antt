@@ -15,9 +15,8 @@ use Rattle.mg_heard.specs.declared.asked_query.AskedQuery.{AskedQuery}
 use Rattle.mg_arguments.specs.declared.file_path_fault.FilePathFault.{FilePathFault}
 use Rattle.mg_arguments.specs.declared.heard_request.HeardRequest.{HeardRequest}
 use Rattle.mg_arguments.specs.declared.invocation.Invocation.{Invocation}
-use Rattle.mg_arguments.specs.declared.invocation.Invocation.TheVariants.{Heard}
 use Rattle.mg_arguments.specs.declared.printing.Printing.{Printing}
-use Rattle.mg_arguments.specs.Options.{asked_in, audible_in, audible_of, file_in, form_in, format_of, heard_in, is_set, named_by, printing_in, query_in, request_in, reshapes_page, valid, valid_value}
+use Rattle.mg_arguments.specs.Options.{asked_in, file_in, form_in, format_of, is_set, named_by, printing_in, query_in, request_in, reshapes_page, valid, valid_value}
 use Rattle.mg_arguments.specs.ZoneName.{zone_name}
 
 abbrev read_by : {A : Type 0} → (Text → Option A) → Option Text → Result (Option A) Kinds
@@ -282,30 +281,24 @@ refuses_file rows query time printing fault is timed formed none =
 
 -- ## What a request asks for
 
-pub asks_heard : (rows : List Row) (request : HeardRequest) → request_in rows ≡ Ok request →
-    heard_in rows ≡ Ok (Heard request)
-asks_heard rows request is = goes_on request (request_in rows) (λ r. Ok (Heard r)) is
+asks : (f : HeardRequest → Result Invocation Kinds) (rows : List Row) (request : HeardRequest)
+    (answer : Result Invocation Kinds) → request_in rows ≡ Ok request → f request ≡ answer →
+    (request_in rows >>= f) ≡ answer
+asks f rows request answer is e = goes_on request (request_in rows) f is ∙ e
 
-pub refuses_heard : (rows : List Row) → request_in rows ≡ Err (ValueValidation ∷ []) →
-    heard_in rows ≡ Err (ValueValidation ∷ [])
-refuses_heard rows none = ends (ValueValidation ∷ []) (request_in rows) (λ r. Ok (Heard r)) none
+pub refuses_request : (f : HeardRequest → Result Invocation Kinds) (rows : List Row) →
+    request_in rows ≡ Err (ValueValidation ∷ []) → (request_in rows >>= f) ≡ Err (ValueValidation ∷ [])
+refuses_request f rows none = ends (ValueValidation ∷ []) (request_in rows) f none
 
-pub asks_audible : (rows : List Row) (request : HeardRequest) (answer : Result Invocation Kinds) →
-    request_in rows ≡ Ok request → audible_of request ≡ answer → audible_in rows ≡ answer
-asks_audible rows request answer is e = goes_on request (request_in rows) audible_of is ∙ e
+pub answers : {E : Type 0} (f : HeardRequest → Result Invocation Kinds) (rows : List Row) (request : HeardRequest)
+    (result : Result Invocation E) → request_in rows ≡ Ok request → IfOk result (λ run. f request ≡ Ok run) →
+    IfOk result (λ run. (request_in rows >>= f) ≡ Ok run)
+answers f rows request (Ok run) is h = asks f rows request (Ok run) is h
+answers f rows request (Err error) is h = tt
 
-pub refuses_audible : (rows : List Row) → request_in rows ≡ Err (ValueValidation ∷ []) →
-    audible_in rows ≡ Err (ValueValidation ∷ [])
-refuses_audible rows none = ends (ValueValidation ∷ []) (request_in rows) audible_of none
-
-pub answers_audible : {E : Type 0} (rows : List Row) (request : HeardRequest) (result : Result Invocation E) →
-    request_in rows ≡ Ok request → IfOk result (λ run. audible_of request ≡ Ok run) →
-    IfOk result (λ run. audible_in rows ≡ Ok run)
-answers_audible rows request (Ok run) is h = asks_audible rows request (Ok run) is h
-answers_audible rows request (Err error) is h = tt
-
-pub refuses_of : {E : Type 0} (rows : List Row) (request : HeardRequest) (result : Result Invocation E) →
-    request_in rows ≡ Ok request → IfErr result (λ e. audible_of request ≡ Err (ValueValidation ∷ [])) →
-    IfErr result (λ e. audible_in rows ≡ Err (ValueValidation ∷ []))
-refuses_of rows request (Ok run) is h = tt
-refuses_of rows request (Err error) is h = asks_audible rows request (Err (ValueValidation ∷ [])) is h
+pub refuses_of : {E : Type 0} (f : HeardRequest → Result Invocation Kinds) (rows : List Row) (request : HeardRequest)
+    (result : Result Invocation E) → request_in rows ≡ Ok request →
+    IfErr result (λ e. f request ≡ Err (ValueValidation ∷ [])) →
+    IfErr result (λ e. (request_in rows >>= f) ≡ Err (ValueValidation ∷ []))
+refuses_of f rows request (Ok run) is h = tt
+refuses_of f rows request (Err error) is h = asks f rows request (Err (ValueValidation ∷ [])) is h

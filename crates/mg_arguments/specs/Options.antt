@@ -1,7 +1,7 @@
 -- The command line, as its parser sees it, and what the arguments request.
 use Rattle.std.specs.Prelude.{ℕ, Bool, true, false, if◌then◌else◌, List, [], ◌∷◌, Option, Some}
 use Rattle.std.specs.Prelude.{None, is_none, is_some, unwrap_or, option_and_then, Result, Ok, Err, codes}
-use Rattle.std.specs.Prelude.{fold, ◌||◌}
+use Rattle.std.specs.Prelude.{fold, ◌||◌, ◌&&◌}
 use Rattle.std.specs.Option.{option_map_or}
 use Rattle.std.specs.Str.{bytes_eq}
 use Rattle.clap.specs.Walk.{Row, Rule, Text, all_of, first_of}
@@ -325,11 +325,20 @@ request_in found = do
     at = time;
   })
 
+-- a single time and a period; nobody can mean both
+abbrev pub asks_for_two_times : HeardRequest → Bool
+asks_for_two_times request =
+    is_some request.at && (is_some request.query.from || is_some request.query.until)
+
+abbrev pub heard_of : HeardRequest → Result Invocation Kinds
+heard_of request =
+    if asks_for_two_times request then Err (ValueValidation ∷ []) else Ok (Heard request)
+
 -- who could hear whom
 abbrev pub heard_in : List Row → Result Invocation Kinds
 heard_in found = do
   request ← request_in found
-  Ok (Heard request)
+  heard_of request
 
 -- the number that a key is, if it is one
 abbrev pub number_named : Option Asked → Option ℕ

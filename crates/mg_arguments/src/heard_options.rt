@@ -6,7 +6,7 @@ ghost use Rattle.clap.specs.Words.{app_of, found_of, kind_of, rows_of, rule_of, 
 ghost use Rattle.mg_dates.specs.Dates.{date_of_text};
 ghost use Rattle.mg_options.specs.Line.{text_rule};
 ghost use Rattle.mg_arguments.specs.ZoneName.{zone_name};
-ghost use Rattle.mg_arguments.specs.Options.{asked_in, audible_in, audible_of, form_in, format_of, heard_in, heard_line, heard_options, named_by, never_rule, number_named, printing_in, query_in, request_in, reshapes_page, rules_in, script_in, script_rule, selects_part, watch_in};
+ghost use Rattle.mg_arguments.specs.Options.{asked_in, asks_for_two_times, audible_in, audible_of, form_in, format_of, heard_in, heard_line, heard_of, heard_options, named_by, never_rule, number_named, printing_in, query_in, request_in, reshapes_page, rules_in, script_in, script_rule, selects_part, watch_in};
 
 use crate::audible_request::AudibleRequest;
 use crate::heard_request::HeardRequest;
@@ -49,6 +49,9 @@ const NO_NUMBER: &str =
 
 /// The error message if it is asked whether a talker was audible at a single time.
 const NO_SINGLE_TIME: &str = "'--audible' can't be used with '--at'";
+
+/// The error message for a period around a single time.
+const NO_PERIOD: &str = "'--at' can't be used with '--from' or '--to'";
 
 /// The error message for an option that a page doesn't allow.
 const NO_FORM: &str = "'--report' can't be used with '--format', '--at' or '--audible'";
@@ -105,10 +108,14 @@ fn with_period<'a>(alloc: Global, command: Command<'a>) -> Result<Command<'a>, E
     ensures memory { IfErr result (λ error. kind_of error ≡ ErrorKind.OutOfMemory) }
 {
     let command = with_question(alloc, command)?
-        .arg(option(alloc, "from", "TIME").help("Only what ended after this time"))?
-        .arg(option(alloc, "to", "TIME").help("Only what began before this time"))?
+        .arg(option(alloc, "from", "TIME").help(
+            "Leave out intervals and gaps that ended by this time",
+        ))?
+        .arg(option(alloc, "to", "TIME").help(
+            "Leave out intervals and gaps that began at this time or later",
+        ))?
         .arg(flag(alloc, "audible").help(
-            "Only when the talker's speech reached the listener, from a full recording; needs --talker RTP/1",
+            "Only when the talker's speech changed what the listener was sent; needs a full recording and --talker RTP/1",
         ))?
         .arg(never_option(alloc))?;
     Ok(command)
@@ -122,15 +129,13 @@ pub(crate) fn heard_command<'a>(alloc: Global) -> Result<Command<'a>, Error>
     let about = "Say who could hear whom, and when, from a journal or a recording";
     let command = with_period(alloc, Command::new(alloc, "heard").about(about))?
         .arg(option(alloc, "zone", "ZONE").help(
-            "Print times in this time zone: an offset such as +01:00, or a name such as Europe/Berlin [default: UTC]",
+            "Print times in this time zone, as in --zone Europe/Berlin, --zone +01:00 or --zone=-05:00 [default: UTC]",
         ))?
         .arg(option(alloc, "names", "FILE").help(
             "CSV file with names: in each line RTP/1 or an address as for --listener, and a name",
         ))?
         .arg(option(alloc, "format", "FORMAT").help("text, csv or json [default: text]"))?
-        .arg(flag(alloc, "report").help(
-            "Write a page (HTML) with a table and a timeline, to hand on or to print",
-        ))?;
+        .arg(flag(alloc, "report").help("Write an HTML page with a table and a timeline"))?;
     Ok(command)
 }
 
@@ -296,13 +301,31 @@ fn request_in(matches: &ArgMatches<'_>) -> Result<HeardRequest, &'static str>
     })
 }
 
+/// Returns whether a single time and a period are asked about.
+fn asks_for_two_times(request: &HeardRequest) -> bool
+    ensures value { result ≡ asks_for_two_times request.now }
+{
+    request.at.is_some() && (request.query.from.is_some() || request.query.until.is_some())
+}
+
+/// Returns the question who could hear whom, or the error message if it asks about a single time and a period.
+fn heard_of(request: HeardRequest) -> Result<Invocation, &'static str>
+    ensures run { IfOk result (λ run. heard_of request ≡ Ok run) }
+    ensures refused { IfErr result (λ _. heard_of request ≡ Err (ValueValidation ∷ [])) }
+{
+    if asks_for_two_times(&request) {
+        return Err(NO_PERIOD);
+    }
+    Ok(Invocation::Heard(request))
+}
+
 /// Returns who could hear whom, as the options ask, or the error message.
 fn heard_in(matches: &ArgMatches<'_>) -> Result<Invocation, &'static str>
     ensures run { IfOk result (λ run. heard_in (rows_of (found_of matches.now)) ≡ Ok run) }
     ensures refused { IfErr result (λ _. heard_in (rows_of (found_of matches.now)) ≡ Err (ValueValidation ∷ [])) }
 {
     let request = request_in(matches)?;
-    Ok(Invocation::Heard(request))
+    heard_of(request)
 }
 
 /// Returns the number that a key is, if it is one.

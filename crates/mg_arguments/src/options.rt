@@ -134,7 +134,7 @@ fn on_sockets<'a>(alloc: Global, name: &'a str, about: &'a str) -> Result<Comman
         .arg(file_option(alloc, "journal").help(
             "File for a journal of messages and ticks, from which a restarted gateway continues",
         ))?
-        .arg(flag(alloc, "sync").help("Answer each message only once it is on the disk"))?;
+        .arg(flag(alloc, "sync").help("Sync each message to disk before answering it"))?;
     Ok(command)
 }
 

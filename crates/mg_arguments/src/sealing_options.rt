@@ -18,7 +18,7 @@ pub(crate) fn verify_command<'a>(alloc: Global) -> Result<Command<'a>, Error>
     ensures memory { IfErr result (λ error. kind_of error ≡ ErrorKind.OutOfMemory) }
 {
     let command = Command::new(alloc, "verify")
-        .about("Say whether a journal or a recording is as it was written")
+        .about("Check the seals of a journal or a recording")
         .arg(script_argument(alloc))?;
     Ok(command)
 }

@@ -14,6 +14,7 @@ use Rattle.mg_heard.specs.OpenFlow.{is_same_peer}
 use Rattle.mg_heard.specs.declared.entry.Entry.{Entry}
 use Rattle.mg_heard.specs.declared.entry.Entry.TheVariants as entries
 use Rattle.mg_heard.specs.declared.interval.Interval.{Interval}
+use Rattle.mg_heard.specs.declared.moment.Moment.{Moment}
 use Rattle.mg_heard.specs.declared.party_name.PartyName.{PartyName}
 use Rattle.mg_heard.specs.declared.party_name.PartyName.TheVariants.{Termination, Address, Remote}
 use Rattle.mg_heard.specs.declared.query.Query.{Query}
@@ -42,20 +43,24 @@ is_named (Remote remote) number (Some peer) = is_same_peer peer remote
 abbrev pub is_asked : Option (List PartyName) → ℕ → Option Peer → Bool
 is_asked keys number at = option_map_or (list_any (λ k. is_named k number at)) keys true
 
--- without a date, an interval may begin before any time
-abbrev pub begins_before : Interval → Date → Bool
-begins_before x time = option_map_or (λ date. nat_lt date.millis time.millis) x.first.date true
+-- without a date, a moment may precede any time
+abbrev pub may_precede : Moment → Date → Bool
+may_precede x time = option_map_or (λ date. nat_lt date.millis time.millis) x.date true
 
--- without an end, or without the end's date, an interval may end after any time
-abbrev pub ends_after : Interval → Date → Bool
-ends_after x time = option_map_or
-    (λ end. option_map_or (λ date. nat_lt time.millis date.millis) end.date true) x.end true
+-- without a date, a moment may follow any time
+abbrev pub may_follow : Moment → Date → Bool
+may_follow x time = option_map_or (λ date. nat_lt time.millis date.millis) x.date true
+
+-- a period, perhaps without an end, may overlap the times asked about
+abbrev pub may_overlap : Query → (first : Moment) → (end : Option Moment) → Bool
+may_overlap q first end =
+    option_map_or (λ time. option_map_or (λ x. may_follow x time) end true) q.from true
+    && option_map_or (may_precede first) q.until true
 
 abbrev pub selects : Query → Interval → Bool
 selects q x =
     is_asked q.listener x.flow.listener x.flow.listener_at
-    && (is_asked q.talker x.flow.talker x.flow.talker_at
-    && (option_map_or (ends_after x) q.from true && option_map_or (begins_before x) q.until true))
+    && (is_asked q.talker x.flow.talker x.flow.talker_at && may_overlap q x.first x.end)
 
 -- without a date, an interval began before the script's first date
 abbrev pub has_begun : Interval → Date → Bool
@@ -70,8 +75,8 @@ lasts_beyond x time = option_map_or
 abbrev pub covers : Interval → Date → Bool
 covers x time = has_begun x time && lasts_beyond x time
 
--- each gap is asked for
+-- a gap is asked for by its time alone
 abbrev pub selects_entry : Query → Entry → Bool
 selects_entry q (entries.Interval x) = selects q x
-selects_entry q (entries.Gap gap) = true
+selects_entry q (entries.Gap gap) = may_overlap q gap.first (Some gap.end)
 selects_entry q (entries.Audible x) = selects q x

@@ -18,7 +18,7 @@ use std::io::Read;
 /// Runs a script, and answers whether a listener could hear a talker at a given time, for the listeners and talkers
 /// that `query` selects.
 ///
-/// No contract says that the dates, the gaps and the extent are those of the script.
+/// Dates, gaps and the extent are only tested.
 pub fn hear_at<R: Read>(
     alloc: Global,
     config: Config,

@@ -4,7 +4,7 @@ ghost use Rattle.mg_heard.specs.Asked.{asked_by};
 use crate::name::Name;
 use crate::party_name::PartyName;
 
-/// How a question names terminations.
+/// A key, or a name from a file of names, as given in a question.
 #[derive(Drop)]
 pub enum Asked {
     /// Each termination to which this key applies.

@@ -70,7 +70,7 @@ fn put(places: &mut [OpenInterval], place: usize, interval: OpenInterval) -> usi
     place + 1
 }
 
-/// Stores an interval for each of these flows, from the first place on.
+/// Writes an interval for each of these flows, starting at the first place.
 pub(crate) fn put_flows(places: &mut [OpenInterval], flows: &[OpenFlow], first: Moment)
     requires room { length flows.now ≤ length places.old }
     ensures value { take (length flows.now) places.new ≡ map (beginning_at first) flows.now }

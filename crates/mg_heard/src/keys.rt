@@ -13,7 +13,7 @@ use mg_core::Peer;
 use std::alloc::Global;
 use std::marker::Model;
 
-/// The terminations that a question is about: those that match one of these keys.
+/// Which terminations a question is about: those that match any of these keys.
 #[derive(Drop)]
 pub struct Keys {
     keys: Vec<PartyName>,

@@ -52,7 +52,7 @@ fn keys_with(alloc: Global, name: &[u8], lines: &[Named]) -> Result<Vec<PartyNam
 }
 
 impl Names {
-    /// Creates names without a line: no termination has a name.
+    /// Creates an empty list of names.
     pub fn none(alloc: Global) -> Names
         ensures value { result ≡ [] }
     {

@@ -7,7 +7,7 @@ use mg_core::{Peer, peer_of};
 use mg_reply::{Bytes, write_address};
 use mg_words::{address_of, number_of};
 
-/// How a question names terminations.
+/// A key that selects terminations: a number, an address, or an address with a port.
 #[derive(Clone, Copy, Debug, PartialEq, Eq)]
 pub enum PartyName {
     /// The termination with this number, as in `RTP/7`.

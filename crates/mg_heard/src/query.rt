@@ -1,23 +1,24 @@
 ghost use Rattle.std.specs.Prelude.{◌≡◌, ◌&&◌, None, true};
 ghost use Rattle.std.specs.Option.{option_map_or};
-ghost use Rattle.mg_heard.specs.Query.{begins_before, covers, ends_after, has_begun, is_asked, lasts_beyond, selects, selects_entry};
+ghost use Rattle.mg_heard.specs.Query.{covers, has_begun, is_asked, lasts_beyond, may_follow, may_overlap, may_precede, selects, selects_entry};
 
 use crate::entry::Entry;
 use crate::interval::Interval;
 use crate::keys::Keys;
+use crate::moment::Moment;
 use mg_core::Peer;
 use mg_dates::Date;
 
-/// A selection of intervals by listener, talker and time.
+/// A selection of intervals by listener, talker and time, and of gaps by time.
 #[derive(Drop)]
 pub struct Query {
     /// The listener, or `None` for any listener.
     pub listener: Option<Keys>,
     /// The talker, or `None` for any talker.
     pub talker: Option<Keys>,
-    /// Leaves out intervals that end at this time or earlier.
+    /// Leaves out intervals and gaps that end at this time or earlier.
     pub from: Option<Date>,
-    /// Leaves out intervals that begin at this time or later.
+    /// Leaves out intervals and gaps that begin at this time or later.
     pub until: Option<Date>,
 }
 
@@ -31,46 +32,42 @@ pub(crate) fn is_asked(keys: &Option<Keys>, number: u32, at: Option<Peer>) -> bo
     }
 }
 
-/// Returns whether an interval may begin before a time. An interval may begin at any time if its beginning has no date.
-fn begins_before(interval: &Interval, time: Date) -> bool
-    ensures value { result ≡ begins_before interval.now time }
+/// Returns whether a moment may precede a time: a moment without a date may precede any time.
+fn may_precede(moment: Moment, time: Date) -> bool
+    ensures value { result ≡ may_precede moment time }
 {
-    match interval.first.date {
+    match moment.date {
         Some(date) => date.millis < time.millis,
         None => true,
     }
 }
 
-/// Returns whether an interval may end after a time. An interval may end at any time if it has no end, or if its end
-/// has no date.
-fn ends_after(interval: &Interval, time: Date) -> bool
-    ensures value { result ≡ ends_after interval.now time }
+/// Returns whether a moment may follow a time: a moment without a date may follow any time.
+fn may_follow(moment: Moment, time: Date) -> bool
+    ensures value { result ≡ may_follow moment time }
 {
-    let Some(end) = interval.end else {
-        return true;
-    };
-    match end.date {
+    match moment.date {
         Some(date) => time.millis < date.millis,
         None => true,
     }
 }
 
-/// Returns whether an interval may end after the time `from`, or true if `from` is `None`.
-fn ends_after_from(interval: &Interval, from: Option<Date>) -> bool
-    ensures value { result ≡ option_map_or (ends_after interval.now) from true }
+/// Returns whether a period may last beyond the time `from`, or true if `from` is `None`. A period without an end lasts.
+fn lasts_beyond_from(end: Option<Moment>, from: Option<Date>) -> bool
+    ensures value { result ≡ option_map_or (λ time. option_map_or (λ x. may_follow x time) end true) from true }
 {
-    match from {
-        Some(time) => ends_after(interval, time),
-        None => true,
-    }
+    let (Some(moment), Some(time)) = (end, from) else {
+        return true;
+    };
+    may_follow(moment, time)
 }
 
-/// Returns whether an interval may begin before the time `until`, or true if `until` is `None`.
-fn begins_before_until(interval: &Interval, until: Option<Date>) -> bool
-    ensures value { result ≡ option_map_or (begins_before interval.now) until true }
+/// Returns whether a period may begin before the time `until`, or true if `until` is `None`.
+fn begins_before_until(first: Moment, until: Option<Date>) -> bool
+    ensures value { result ≡ option_map_or (may_precede first) until true }
 {
     match until {
-        Some(time) => begins_before(interval, time),
+        Some(time) => may_precede(first, time),
         None => true,
     }
 }
@@ -88,13 +85,20 @@ impl Query {
         }
     }
 
-    /// Returns whether the query selects an entry. A query selects every gap.
+    /// Returns whether a period, perhaps without an end, may overlap the query's times.
+    fn may_overlap(&self, first: Moment, end: Option<Moment>) -> bool
+        ensures value { result ≡ may_overlap self.now first end }
+    {
+        lasts_beyond_from(end, self.from) && begins_before_until(first, self.until)
+    }
+
+    /// Returns whether the query selects an entry. A gap is selected by its time alone.
     pub fn selects_entry(&self, entry: &Entry) -> bool
         ensures value { result ≡ selects_entry self.now entry.now }
     {
         match entry {
             Entry::Interval(interval) => self.selects(interval),
-            Entry::Gap(_) => true,
+            Entry::Gap(gap) => self.may_overlap(gap.first, Some(gap.end)),
             Entry::Audible(interval) => self.selects(interval),
         }
     }
@@ -106,8 +110,7 @@ impl Query {
         let flow = &interval.flow;
         is_asked(&self.listener, flow.listener, flow.listener_at)
             && is_asked(&self.talker, flow.talker, flow.talker_at)
-            && ends_after_from(interval, self.from)
-            && begins_before_until(interval, self.until)
+            && self.may_overlap(interval.first, interval.end)
     }
 
     /// Returns whether the query selects an interval and the interval contains this time. The script must cover the

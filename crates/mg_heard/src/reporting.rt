@@ -94,7 +94,7 @@ fn write_verdict<W: Write>(
 /// Runs a script, and writes one line that answers whether a listener could hear a talker at a given time, for the
 /// listeners and talkers that `query` selects. Returns the answer.
 ///
-/// No contract says that the dates, the gaps and the extent are those of the script.
+/// Dates, gaps and the extent are only tested.
 pub fn write_answer<R: Read, W: Write>(
     alloc: Global,
     config: Config,

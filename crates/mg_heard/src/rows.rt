@@ -50,8 +50,8 @@ impl Rows {
         &self.places[..self.len]
     }
 
-    /// Replaces the rows with one for each of these listeners. Intervals continue those of `old`, which afterwards has
-    /// the intervals that are not continued.
+    /// Replaces all rows with one row per listener. A flow that is still open keeps its beginning from `old`; only the
+    /// intervals that have ended remain in `old`.
     pub(crate) fn advance(&mut self, old: &mut Rows, hearers: &[Hearer], now: Moment)
         requires many { length hearers.now ≤ termination_limit }
         requires few { All (λ h. length (flows_heard (seats_of hearers.now) h) ≤ member_limit) hearers.now }
@@ -67,7 +67,7 @@ impl Rows {
     }
 }
 
-/// Returns whether the rows are those of these terminations, except for whose speech flows to whom.
+/// Returns whether the rows belong to exactly these terminations, regardless of who hears whom.
 fn are_same(rows: &[ListenerRow], hearers: &[Hearer]) -> bool
     ensures value { result ≡ true → seats_of (listeners_of rows.now) ≡ seats_of hearers.now }
 {
@@ -101,8 +101,8 @@ fn place_of(rows: &[ListenerRow], number: u32, likely: usize) -> Option<usize>
     None
 }
 
-/// Replaces the first rows with one for each of these listeners. Intervals continue those of the first `len` rows of
-/// `old`, which afterwards have the intervals that are not continued.
+/// Fills the first places with one row per listener. A flow that is still open keeps its beginning from the first `len`
+/// rows of `old`; only the intervals that have ended remain there.
 fn advance_front(
     rows: &mut [ListenerRow],
     old: &mut [ListenerRow],
@@ -125,8 +125,8 @@ fn advance_front(
     advance_rows(rows, &mut old[..len], hearers, is_same, now);
 }
 
-/// Replaces the first rows with one for each of these listeners. Intervals continue those of `old`, which afterwards
-/// has the intervals that are not continued.
+/// Fills the first places with one row per listener. A flow that is still open keeps its beginning from `old`; only the
+/// intervals that have ended remain there.
 fn advance_rows(
     rows: &mut [ListenerRow],
     old: &mut [ListenerRow],

@@ -1,7 +1,7 @@
 use crate::entry::Entry;
 use crate::extent::Extent;
 
-/// The ticks between which a page draws its bars. No contract says which.
+/// The range of ticks that a page's timeline covers. No contract specifies it.
 #[derive(Clone, Copy, Debug, PartialEq, Eq)]
 pub struct Scale {
     /// The first tick of the intervals so far, or 2^64 - 1 if there is none.

@@ -8,7 +8,7 @@ use thiserror::Error;
 pub(crate) enum NamesFault {
     #[error("cannot be read")]
     Read,
-    #[error("line {0}: not two columns: RTP/1 or an IPv4 address with or without a port; and a name of 1 to 64 bytes")]
+    #[error("line {0}: not two columns: RTP/1 or an IPv4 address with or without a port; and a name of 1 to 64 bytes of UTF-8 without quotes")]
     BadLine(u64),
     #[error("more than 1024 lines")]
     TooMany,

@@ -1,13 +1,20 @@
 use Rattle.clap.specs.Words.{found_of, rows_of}
-use Rattle.mg_arguments.proofs.HeardOptionLemmas.{asks_heard, refuses_heard}
+use Rattle.mg_arguments.specs.Options.{heard_of}
+use Rattle.mg_arguments.proofs.HeardOptionLemmas.{answers, refuses_of, refuses_request}
 use Rattle.mg_arguments.proofs.InvocationLemmas.{at_error}
 use Rattle.mg_arguments.proofs.heard_options.heard_in.Goals as goal
 
 pub returns-in_err-request-clause-refused : goal.returns-in_err-request-clause-refused
 returns-in_err-request-clause-refused c =
     at_error c.from_residual.result
-    (refuses_heard (rows_of (found_of c.args.matches.now)) c.in_err-request.ensures.refused)
+    (refuses_request heard_of (rows_of (found_of c.args.matches.now)) c.in_err-request.ensures.refused)
 
-pub returns-clause-run : goal.returns-clause-run
-returns-clause-run c = asks_heard (rows_of (found_of c.args.matches.now)) c.in_ok-request.request
-    c.in_ok-request.ensures.request
+pub returns : goal.returns
+returns c =
+    let rows = rows_of (found_of c.args.matches.now) in
+    let request = c.in_ok-request.request in
+    let is = c.in_ok-request.ensures.request in
+    record {
+      run = answers heard_of rows request c.heard_of.result is c.heard_of.ensures.run;
+      refused = refuses_of heard_of rows request c.heard_of.result is c.heard_of.ensures.refused;
+    }

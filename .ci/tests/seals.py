@@ -18,14 +18,24 @@ def seal(text):
     return seal_of(part(text))
 
 
+def is_seal(line):
+    """Whether a line is a seal, right or wrong."""
+    return line.startswith("# sha256 ") and line.endswith("\n")
+
+
 def sealed(text, minute=3000):
-    """A recording with a seal after the ticks of each minute."""
+    """A recording with a seal after the ticks of each minute, and one at its end. None is added next to a seal."""
     found, ticks = "", 0
     for line in text.splitlines(keepends=True):
+        if ticks == minute:
+            ticks = 0
+            if not is_seal(line):
+                found += seal(found)
         found += line
         ticks += line == "tick\n"
-        if line == "tick\n" and ticks % minute == 0:
-            found += seal(found)
+    last = found[found.rfind("\n", 0, -1) + 1 :]
+    if last.endswith("\n") and not is_seal(last):
+        found += seal(found)
     return found
 
 

@@ -16,6 +16,23 @@ class Seals(Commands):
         self.verifies(0, "seals hold: 2, the last in line 12003; lines after it: 2001", sealed(text))
         self.ends(0, "", "", "seal", text="")
 
+    def test_last_seal(self):
+        for text in ("tick\n", "\n", "# a comment\ntick\n", "tick\n" * 3000, "# sha256 \n# sha256\n"):
+            whole = text + seal(text)
+            self.ends(0, whole, "", "seal", text=text)
+        text = "# a comment\ntick\n"
+        self.verifies(0, "seals hold: 1, the last in line 3; lines after it: 0", text + seal(text))
+        # After a seal, right or wrong, and after a partial line there is none.
+        for text in (text + seal(text), "# sha256 \n", "tick\n# sha256 00\n", "tick", "tick\n\ntick", "tick\n# sha256"):
+            self.ends(0, text, "", "seal", text=text)
+
+    def test_sealed_text_stays_unchanged(self):
+        minute = "tick\n" * 3000
+        for text in (minute + "# sha256 00\ntick\n", minute + "# sha256 00", minute + minute + "tick\ntick"):
+            self.ends(0, sealed(text), "", "seal", text=text)
+            self.ends(0, sealed(text), "", "seal", text=sealed(text))
+        self.verifies(0, "seals hold: 3, the last in line 7003; lines after it: 0", sealed("tick\n" * 7000))
+
     def test_right(self):
         first = "# a comment\ntick\n"
         one = first + seal(first)

@@ -1,5 +1,5 @@
 -- A change before a seal makes the seal wrong.
-use Rattle.std.proofs.Common.{◌≡◌, ◌⊎◌, inl, inr, ⊎_elim, ◌<◌, take, ℕ, zero, suc, ◌+◌, ◌≤◌, Bool, true, false, eqb, cond, List, [], ◌∷◌, ◌++◌, Option, None, Some, length, drop, refl, sym, ap, subst, ◌∙◌, arith, append_assoc, append-nil, length-append, codes}
+use Rattle.std.proofs.Common.{◌≡◌, ◌⊎◌, inl, inr, ⊎_elim, ◌<◌, take, ℕ, zero, suc, ◌+◌, ◌≤◌, Bool, true, false, cond, List, [], ◌∷◌, ◌++◌, Option, None, Some, length, drop, refl, sym, ap, subst, ◌∙◌, arith, append_assoc, append-nil, length-append, codes}
 use Rattle.std.proofs.lemmas.List.{take-append-drop}
 use Rattle.std.proofs.lemmas.Slice.Eq.{bytes_eq-Decides}
 use Rattle.std.specs.Prelude.{bytes_eq}
@@ -8,7 +8,7 @@ use Rattle.mg_chain.specs.declared.seals.Seals.{Seals}
 use Rattle.mg_chain.specs.Seals.{after_line, after_lines, is_seal, is_whole, judged, last_part, no_seals, seal_end, seal_of}
 use Rattle.mg_chain.proofs.PartLemmas.{begins}
 use Rattle.mg_chain.proofs.ReadLemmas.{shorter}
-use Rattle.mg_sealing.proofs.LineLemmas.{IsLine, cut, first_line, is_line, joined, same_hash, whole_part}
+use Rattle.mg_sealing.proofs.LineLemmas.{IsLine, cut, first_line, is_line, joined, parts, same_hash, whole_part}
 use Rattle.mg_sealing.specs.Laws.{ChangesShow, HasNoWrong, HaveCollision}
 
 -- ## A wrong seal stays one
@@ -39,32 +39,7 @@ lines_none (suc most) seals number before (b ∷ bs) none =
     (lines_none most (after_line seals number before (take_through 10 (b ∷ bs))) (number + 1)
     (before ++ take_through 10 (b ∷ bs)) (drop_through 10 (b ∷ bs)) none)
 
--- ## A text of whole lines, and more
-
-abbrev Parts : (text more : List ℕ) → Type 0
-Parts text more =
-    (take_through 10 (text ++ more) ≡ take_through 10 text) × (drop_through 10 (text ++ more) ≡ drop_through 10 text ++ more)
-    × (is_whole (drop_through 10 text) ≡ true) × (take_through 10 text ++ drop_through 10 text ≡ text)
-
-parts_at : (b : ℕ) (bs more : List ℕ) (is : Bool) → eqb b 10 ≡ is → (is ≡ false → Parts bs more) → (is ≡ true → is_whole bs ≡ true)
-    → Parts (b ∷ bs) more
-parts_at b bs more true e rest whole = (
-  rw e refl,
-  rw e refl,
-  rw e (whole refl),
-  rw e refl,
-)
-parts_at b bs more false e rest whole =
-    let p = rest refl in (
-      rw e (ap (λ (l : List ℕ). b ∷ l) p.0),
-      rw e p.1,
-      rw e p.2,
-      rw e (ap (λ (l : List ℕ). b ∷ l) p.3),
-    )
-
-parts : (b : ℕ) (bs more : List ℕ) → is_whole (b ∷ bs) ≡ true → Parts (b ∷ bs) more
-parts b [] more whole = parts_at b [] more true whole (λ other. absurd cc) (λ same. refl)
-parts b (c ∷ cs) more whole = parts_at b (c ∷ cs) more (eqb b 10) refl (λ other. parts c cs more whole) (λ same. whole)
+-- ## Lines that are read
 
 -- what is left after some lines, with a seal record in which no seal is wrong
 record Later (before tail : List ℕ) : Type 0 where

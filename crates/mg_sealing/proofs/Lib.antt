@@ -2,3 +2,4 @@ mod LineLemmas
 mod LawLemmas
 mod ReportLemmas
 mod SealedLemmas
+mod TwiceLemmas

@@ -29,7 +29,7 @@ joined (b ∷ bs) = at (eqb b 10) (joined bs)
     at true rest = refl
     at false rest = ap (λ (l : List ℕ). b ∷ l) rest
 
-taken_twice : (text : List ℕ) → take_through 10 (take_through 10 text) ≡ take_through 10 text
+pub taken_twice : (text : List ℕ) → take_through 10 (take_through 10 text) ≡ take_through 10 text
 taken_twice [] = refl
 taken_twice (b ∷ bs) = at (eqb b 10) refl (taken_twice bs)
   where
@@ -77,6 +77,33 @@ ends front =
     let last : length (front ++ 10 ∷ []) - 1 ≡ length front = omega (arith, length-append front (10 ∷ [])) in
     ap (λ (n : ℕ). pointwise nat_eq (10 ∷ []) (drop n (front ++ 10 ∷ []))) last
     ∙ ap (λ (l : List ℕ). pointwise nat_eq (10 ∷ []) l) (drop_front front (10 ∷ []))
+
+-- ## A text of whole lines, and more
+
+abbrev pub Parts : (text more : List ℕ) → Type 0
+Parts text more =
+    (take_through 10 (text ++ more) ≡ take_through 10 text) × (drop_through 10 (text ++ more) ≡ drop_through 10 text ++ more)
+    × (is_whole (drop_through 10 text) ≡ true) × (take_through 10 text ++ drop_through 10 text ≡ text)
+
+parts_at : (b : ℕ) (bs more : List ℕ) (is : Bool) → eqb b 10 ≡ is → (is ≡ false → Parts bs more) → (is ≡ true → is_whole bs ≡ true)
+    → Parts (b ∷ bs) more
+parts_at b bs more true e rest whole = (
+  rw e refl,
+  rw e refl,
+  rw e (whole refl),
+  rw e refl,
+)
+parts_at b bs more false e rest whole =
+    let p = rest refl in (
+      rw e (ap (λ (l : List ℕ). b ∷ l) p.0),
+      rw e p.1,
+      rw e p.2,
+      rw e (ap (λ (l : List ℕ). b ∷ l) p.3),
+    )
+
+pub parts : (b : ℕ) (bs more : List ℕ) → is_whole (b ∷ bs) ≡ true → Parts (b ∷ bs) more
+parts b [] more whole = parts_at b [] more true whole (λ other. absurd cc) (λ same. refl)
+parts b (c ∷ cs) more whole = parts_at b (c ∷ cs) more (eqb b 10) refl (λ other. parts c cs more whole) (λ same. whole)
 
 -- ## The line of a seal
 

@@ -1,92 +1,125 @@
 -- Copying a recording line by line.
-use Rattle.std.proofs.Common.{◌≡◌, ℕ, zero, suc, ◌+◌, ◌<◌, ◌≤◌, Bool, true, false, cond, eqb, codes, append-nil, List, [], ◌∷◌, ◌++◌, Option, None, Some, IfSome, length, refl, sym, ap, subst, ◌∙◌, arith}
+use Rattle.std.proofs.Common.{◌≡◌, ℕ, zero, suc, ◌<◌, ◌≤◌, Bool, true, false, cond, eqb, not, append-nil, length-append, List, [], ◌∷◌, ◌++◌, Option, None, Some, IfSome, length, refl, sym, ap, subst, ◌∙◌, arith}
+use Rattle.std.proofs.lemmas.Bool.{eqb-true}
 use Rattle.std.proofs.BufReadLemmas.{take_through_nonempty}
-use Rattle.std.proofs.lemmas.Slice.Eq.{bytes_eq-Decides}
-use Rattle.std.specs.Prelude.{bytes_eq}
+use Rattle.std.specs.Prelude.{◌&&◌, OnOk, Result, Ok, Err}
 use Rattle.std.specs.Io.KnownBytes.{Appends, IsAtEnd}
 use Rattle.std.specs.Io.BufRead.{take_through, drop_through, DropsThrough}
 use Rattle.sha2.specs.declared.Sha256.{Sha256}
 use Rattle.sha2.specs.Hashers.{Holds256}
-use Rattle.mg_chain.specs.Seals.{is_whole, last_part, seal_of}
-use Rattle.mg_chain.proofs.PartLemmas.{part_nil}
+use Rattle.mg_chain.specs.Seals.{is_seal, is_whole, last_part, seal_of}
+use Rattle.mg_chain.proofs.PartLemmas.{part_nil, whole_tail}
 use Rattle.mg_chain.proofs.ReadLemmas.{line_whole, shorter, whole_append}
-use Rattle.mg_sealing.proofs.LineLemmas.{is_line}
-use Rattle.mg_sealing.specs.Sealed.{printed_with, seal_after, sealed, sealed_with, ticks_left, ticks_with}
+use Rattle.mg_sealing.proofs.LineLemmas.{is_line, joined, parts, taken_twice}
+use Rattle.mg_sealing.specs.Sealed.{ended, last_line, needs_seal, printed_with, seal_before, sealed, sealed_with, ticks_left, ticks_with}
 use Rattle.mg_sealing.specs.aids.Copying.{Copying, Copies}
 
--- nothing is left to copy at the end
-at_end : (most ticks : ℕ) (printed : List ℕ) → sealed_with most ticks printed [] ≡ printed
+-- at the end, nothing is left to copy, and a last seal may be due
+pub at_end : (most ticks : ℕ) (printed : List ℕ) → sealed_with most ticks printed [] ≡ ended printed
 unfolding sealed_with
 at_end zero ticks printed = refl
 at_end (suc most) ticks printed = refl
 
-pub copied : (text rest start contents : Option (List ℕ)) (hasher : Sha256) (ticks : ℕ)
-    → Copies text rest start contents hasher ticks → IsAtEnd rest
+copied : (text rest start old contents : Option (List ℕ)) (hasher : Sha256) (ticks : ℕ) (due : Bool)
+    → Copies text rest start old hasher ticks due → IsAtEnd rest
+    → ((printed : List ℕ) (start : Option (List ℕ)) → due ≡ needs_seal (last_line printed) → Holds256 hasher (last_part printed)
+    → Appends start old printed → Appends start contents (ended printed))
     → IfSome text (λ all. Appends start contents (sealed all))
-copied None rest start contents hasher ticks copies end = tt
-copied (Some all) rest start contents hasher ticks copies end =
+copied None rest start old contents hasher ticks due copies end prints = tt
+copied (Some all) rest start old contents hasher ticks due copies end prints =
     let none : copies.left ≡ [] = subst (λ r. IsAtEnd r) copies.remaining end in
     subst (λ (l : List ℕ). Appends start contents l)
     (sym (at_end copies.most ticks copies.printed)
-    ∙ (ap (λ left. sealed_with copies.most ticks copies.printed left) (sym none) ∙ copies.is)) copies.prints
+    ∙ (ap (λ left. sealed_with copies.most ticks copies.printed left) (sym none) ∙ copies.is))
+    (prints copies.printed start copies.last copies.holds copies.prints)
 
--- a seal is a complete line, and so is a tick before it
-after_whole : (ticks : ℕ) (text : List ℕ) → is_whole (seal_after ticks text) ≡ true
-after_whole ticks text = at (eqb ticks 3000)
+-- the same, if the last seal could be printed
+pub copied_if : {T E : Type 0} (printed : Result T E) (text rest start old contents : Option (List ℕ)) (hasher : Sha256)
+    (ticks : ℕ) (due : Bool) → Copies text rest start old hasher ticks due → IsAtEnd rest
+    → ((printed_text : List ℕ) (start : Option (List ℕ)) → due ≡ needs_seal (last_line printed_text)
+    → Holds256 hasher (last_part printed_text) → Appends start old printed_text
+    → OnOk printed (Appends start contents (ended printed_text)))
+    → OnOk printed (IfSome text (λ all. Appends start contents (sealed all)))
+copied_if (Ok done) text rest start old contents hasher ticks due copies end prints =
+    copied text rest start old contents hasher ticks due copies end prints
+copied_if (Err error) text rest start old contents hasher ticks due copies end prints = tt
+
+-- a seal is a complete line
+pub before_whole : (ticks : ℕ) (printed line : List ℕ) → is_whole printed ≡ true
+    → is_whole (printed ++ seal_before ticks printed line) ≡ true
+before_whole ticks printed line whole =
+    whole_append printed (seal_before ticks printed line) whole (at (eqb ticks 3000 && not (is_seal line)))
   where
-    at : (is : Bool) → is_whole (cond is (seal_of (last_part text)) []) ≡ true
-    at true = (is_line (last_part text)).whole
+    at : (is : Bool) → is_whole (cond is (seal_of (last_part printed)) []) ≡ true
+    at true = (is_line (last_part printed)).whole
     at false = refl
 
-printed_whole : (ticks : ℕ) (printed line : List ℕ) → is_whole printed ≡ true → is_whole line ≡ true
+pub printed_whole : (ticks : ℕ) (printed line : List ℕ) → is_whole printed ≡ true → is_whole line ≡ true
     → is_whole (printed_with ticks printed line) ≡ true
 printed_whole ticks printed line whole more =
-    whole_append (printed ++ line) (seal_after (ticks_with ticks line) (printed ++ line)) (whole_append printed line whole more)
-    (after_whole (ticks_with ticks line) (printed ++ line))
+    whole_append (printed ++ seal_before ticks printed line) line (before_whole ticks printed line whole) more
 
--- a seal is due only after a tick, which is a complete line
-pub tick_whole : (ticks next : ℕ) (printed line : List ℕ) → ticks < 3000 → next ≡ ticks_with ticks line → 3000 ≤ next
-    → is_whole printed ≡ true → is_whole (printed ++ line) ≡ true
-tick_whole ticks next printed line few is due whole = at (bytes_eq line (codes "tick\n")) refl is
-  where
-    at : (same : Bool) → bytes_eq line (codes "tick\n") ≡ same → next ≡ cond same (ticks + 1) ticks
-        → is_whole (printed ++ line) ≡ true
-    at true same counted =
-        whole_append printed line whole (ap is_whole ((bytes_eq-Decides line (codes "tick\n")).0 same))
-    at false other counted = absurd (omega (arith, few, due, counted))
-
--- then it is the seal of the last part with this tick
-due : (ticks next : ℕ) (line : List ℕ) → ticks < 3000 → next ≡ ticks_with ticks line → 3000 ≤ next
-    → ticks_with ticks line ≡ 3000
-due ticks next line few is late = at (bytes_eq line (codes "tick\n")) is
-  where
-    at : (same : Bool) → next ≡ cond same (ticks + 1) ticks → cond same (ticks + 1) ticks ≡ 3000
-    at true counted = omega (arith, few, late, counted)
-    at false counted = absurd (omega (arith, few, late, counted))
-
-pub sealed_hash : (ticks next : ℕ) (printed line : List ℕ) (old middle new : Sha256) → ticks < 3000
-    → next ≡ ticks_with ticks line → 3000 ≤ next → is_whole printed ≡ true → Holds256 old (last_part printed)
-    → ((text : List ℕ) → is_whole text ≡ true → Holds256 old (last_part text) → Holds256 middle (last_part (text ++ line)))
+-- a line, and the seal before it
+pub sealed_hash : {T E : Type 0} (result : Result T E) (ticks : ℕ) (printed line : List ℕ) (middle new : Sha256)
+    → is_whole printed ≡ true → Holds256 middle (last_part (printed ++ seal_before ticks printed line))
     → ((text : List ℕ) → is_whole text ≡ true → Holds256 middle (last_part text)
-    → Holds256 new (last_part (text ++ seal_of (last_part text))))
-    → Holds256 new (last_part (printed_with ticks printed line))
-sealed_hash ticks next printed line old middle new few is late whole holds adds seals =
-    subst (λ (n : ℕ). Holds256 new (last_part ((printed ++ line) ++ seal_after n (printed ++ line))))
-    (sym (due ticks next line few is late))
-    (seals (printed ++ line) (tick_whole ticks next printed line few is late whole) (adds printed whole holds))
+    → OnOk result (Holds256 new (last_part (text ++ line))))
+    → OnOk result (Holds256 new (last_part (printed_with ticks printed line)))
+sealed_hash result ticks printed line middle new whole holds adds =
+    adds (printed ++ seal_before ticks printed line) (before_whole ticks printed line whole) holds
 
-step : (all printed left line : List ℕ) (most ticks next : ℕ) (new start contents : Option (List ℕ)) (after : Sha256)
+-- ## The last line
+
+pub if_none : (n : ℕ) (x y : List ℕ) → n ≡ 0 → cond (eqb n 0) x y ≡ x
+if_none n x y none = rw none refl
+
+pub if_some : (n : ℕ) (x y : List ℕ) → 0 < n → cond (eqb n 0) x y ≡ y
+if_some n x y some = at (eqb n 0) refl
+  where
+    at : (is : Bool) → eqb n 0 ≡ is → cond is x y ≡ y
+    at true e = absurd (omega (arith, some, eqb-true n 0 e))
+    at false e = refl
+
+pub none_left : (line : List ℕ) → take_through 10 line ≡ line → length (drop_through 10 line) ≡ 0
+none_left line one =
+    omega (arith, ap length (joined line), length-append (take_through 10 line) (drop_through 10 line), ap length one)
+
+pub last_after : (text line : List ℕ) → is_whole text ≡ true → take_through 10 line ≡ line → 0 < length line
+    → last_line (text ++ line) ≡ line
+unfolding last_line
+last_after [] [] whole one some = absurd (omega (arith, some))
+last_after [] (b ∷ bs) whole one some =
+    if_none (length (drop_through 10 (b ∷ bs))) (b ∷ bs) (last_line bs) (none_left (b ∷ bs) one)
+last_after (b ∷ bs) line whole one some =
+    if_some (length (drop_through 10 (b ∷ (bs ++ line)))) (b ∷ (bs ++ line)) (last_line (bs ++ line))
+    (omega (arith, ap length (parts b bs line whole).1, length-append (drop_through 10 (b ∷ bs)) line, some))
+    ∙ last_after bs line (whole_tail b bs whole) one some
+
+-- after a line, whether a seal is due at the end
+last_is : (ticks : ℕ) (printed line : List ℕ) → is_whole printed ≡ true → take_through 10 line ≡ line
+    → 0 < length line → needs_seal line ≡ needs_seal (last_line (printed_with ticks printed line))
+last_is ticks printed line whole one some =
+    sym (ap needs_seal (last_after (printed ++ seal_before ticks printed line) line (before_whole ticks printed line whole)
+    one some))
+
+none_due : false ≡ needs_seal (last_line [])
+unfolding last_line
+none_due = refl
+
+-- ## Line by line
+
+step : (all printed left line : List ℕ) (most ticks next : ℕ) (due : Bool) (new start contents : Option (List ℕ)) (after : Sha256)
     → length left ≤ most → sealed_with most ticks printed left ≡ sealed all
     → (0 < length left → is_whole printed ≡ true) → line ≡ take_through 10 left → 0 < length line
     → new ≡ Some (drop_through 10 left) → Holds256 after (last_part (printed_with ticks printed line))
-    → Appends start contents (printed_with ticks printed line) → next ≡ ticks_left (ticks_with ticks line)
-    → Copying all new start contents after next
+    → Appends start contents (printed_with ticks printed line) → next ≡ ticks_with (ticks_left ticks) line
+    → due ≡ needs_seal line → Copying all new start contents after next due
 unfolding sealed_with
-step all printed [] line most ticks next new start contents after enough is whole taken some dropped holds prints counted =
+step all printed [] line most ticks next due new start contents after enough is whole taken some dropped holds prints counted kept =
     absurd (omega (arith, ap length taken))
-step all printed (b ∷ bs) line zero ticks next new start contents after enough is whole taken some dropped holds prints counted =
+step all printed (b ∷ bs) line zero ticks next due new start contents after enough is whole taken some dropped holds prints counted kept =
     absurd (omega arith)
-step all printed (b ∷ bs) line (suc most) ticks next new start contents after enough is whole taken some dropped holds prints counted =
+step all printed (b ∷ bs) line (suc most) ticks next due new start contents after enough is whole taken some dropped holds prints counted kept =
     record {
       printed = printed_with ticks printed line;
       left = drop_through 10 (b ∷ bs);
@@ -96,14 +129,17 @@ step all printed (b ∷ bs) line (suc most) ticks next new start contents after 
           (ap is_whole taken ∙ line_whole (b ∷ bs) more);
       holds = holds;
       prints = prints;
+      last = kept
+          ∙ last_is ticks printed line (whole (omega arith)) (ap (λ l. take_through 10 l) taken
+          ∙ (taken_twice (b ∷ bs) ∙ sym taken)) some;
       enough = omega (arith, shorter b bs);
       is = ap (λ n. sealed_with most n (printed_with ticks printed line) (drop_through 10 (b ∷ bs))) counted
-          ∙ (ap (λ l. sealed_with most (ticks_left (ticks_with ticks l)) (printed_with ticks printed l)
+          ∙ (ap (λ l. sealed_with most (ticks_with (ticks_left ticks) l) (printed_with ticks printed l)
           (drop_through 10 (b ∷ bs))) taken ∙ is);
     }
 
 -- before the first line
-pub starts : (text start : Option (List ℕ)) (hasher : Sha256) → Holds256 hasher [] → Copies text text start start hasher 0
+pub starts : (text start : Option (List ℕ)) (hasher : Sha256) → Holds256 hasher [] → Copies text text start start hasher 0 false
 starts None start hasher holds = tt
 starts (Some all) start hasher holds = record {
   printed = [];
@@ -113,6 +149,7 @@ starts (Some all) start hasher holds = record {
   whole = λ more. refl;
   holds = subst (λ (l : List ℕ). Holds256 hasher l) (sym part_nil) holds;
   prints = nothing start;
+  last = none_due;
   enough = omega arith;
   is = refl;
 }
@@ -123,16 +160,17 @@ starts (Some all) start hasher holds = record {
 
 -- one more line was copied
 pub goes_on : (text rest new start old contents : Option (List ℕ)) (hasher after : Sha256) (ticks next : ℕ)
-    (before items line : List ℕ)
-    → Copies text rest start old hasher ticks → IfSome rest (λ xs. items ≡ before ++ take_through 10 xs) → before ≡ []
-    → line ≡ items → 0 < length line → DropsThrough rest new 10 → next ≡ ticks_left (ticks_with ticks line)
+    (was due : Bool) (before items line : List ℕ)
+    → Copies text rest start old hasher ticks was → IfSome rest (λ xs. items ≡ before ++ take_through 10 xs) → before ≡ []
+    → line ≡ items → 0 < length line → DropsThrough rest new 10 → next ≡ ticks_with (ticks_left ticks) line
+    → due ≡ needs_seal line
     → ((printed : List ℕ) → is_whole printed ≡ true → Holds256 hasher (last_part printed)
     → Holds256 after (last_part (printed_with ticks printed line)))
     → ((printed : List ℕ) (start : Option (List ℕ)) → is_whole printed ≡ true → Holds256 hasher (last_part printed)
     → Appends start old printed → Appends start contents (printed_with ticks printed line))
-    → Copies text new start contents after next
-goes_on None rest new start old contents hasher after ticks next before items line copies bytes empty same some drops counted holds prints = tt
-goes_on (Some all) rest new start old contents hasher after ticks next before items line copies bytes empty same some drops counted holds prints =
+    → Copies text new start contents after next due
+goes_on None rest new start old contents hasher after ticks next was due before items line copies bytes empty same some drops counted kept holds prints = tt
+goes_on (Some all) rest new start old contents hasher after ticks next was due before items line copies bytes empty same some drops counted kept holds prints =
     let bytes : items ≡ before ++ take_through 10 copies.left =
     subst (λ r. IfSome r (λ xs. items ≡ before ++ take_through 10 xs)) copies.remaining bytes in
     let taken : line ≡ take_through 10 copies.left =
@@ -141,6 +179,6 @@ goes_on (Some all) rest new start old contents hasher after ticks next before it
     subst (λ r. DropsThrough r new 10) copies.remaining drops in
     let whole : is_whole copies.printed ≡ true =
     copies.whole (take_through_nonempty 10 copies.left (omega (arith, some, ap length taken))) in
-    step all copies.printed copies.left line copies.most ticks next new start contents after copies.enough copies.is
+    step all copies.printed copies.left line copies.most ticks next due new start contents after copies.enough copies.is
     copies.whole taken some dropped (holds copies.printed whole copies.holds)
-    (prints copies.printed start whole copies.holds copies.prints) counted
+    (prints copies.printed start whole copies.holds copies.prints) counted kept

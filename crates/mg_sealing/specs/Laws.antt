@@ -1,7 +1,8 @@
--- What right seals show.
+-- What right seals show, and what sealing twice does.
 use Rattle.std.specs.Prelude.{◌≡◌, ◌≢◌, ◌⊎◌, true, ℕ, List, ◌++◌, None}
 use Rattle.sha2.specs.Sha256.{sha256}
 use Rattle.mg_chain.specs.Seals.{is_whole, last_part, seal_of, seals_of}
+use Rattle.mg_sealing.specs.Sealed.{sealed}
 
 -- no seal of a text is wrong
 abbrev pub HasNoWrong : List ℕ → Type 0
@@ -26,3 +27,7 @@ abbrev pub ChangesShow : Type 0
 ChangesShow = (part one two rest more : List ℕ) → is_whole one ≡ true → is_whole two ≡ true
     → HasNoWrong (one ++ (seal_of part ++ rest)) → HasNoWrong (two ++ (seal_of part ++ more))
     → (one ≡ two) ⊎ HaveCollision (one ++ (seal_of part ++ rest)) (two ++ (seal_of part ++ more))
+
+-- a sealed recording stays unchanged if it is sealed again
+abbrev pub SealedStays : Type 0
+SealedStays = (text : List ℕ) → sealed (sealed text) ≡ sealed text

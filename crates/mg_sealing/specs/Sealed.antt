@@ -1,30 +1,46 @@
 -- A recording with seals.
 use Rattle.std.specs.Prelude.{ℕ, zero, suc, ◌+◌, ◌==◌, List, [], ◌∷◌, ◌++◌, length, codes, bytes_eq, if◌then◌else◌}
+use Rattle.std.specs.Prelude.{Bool, ◌&&◌, not, nat_eq}
 use Rattle.std.specs.Io.BufRead.{take_through, drop_through}
-use Rattle.mg_chain.specs.Seals.{last_part, seal_of}
+use Rattle.std.specs.List.{ends_with}
+use Rattle.mg_chain.specs.Seals.{is_seal, last_part, seal_of}
 
--- the ticks since the last seal, with this line
+-- the ticks of a minute, with this line
 abbrev pub ticks_with : ℕ → (line : List ℕ) → ℕ
 ticks_with ticks line = if bytes_eq line (codes "tick\n") then ticks + 1 else ticks
 
--- a seal is due after the ticks of a minute
-abbrev pub seal_after : ℕ → (printed : List ℕ) → List ℕ
-seal_after ticks printed = if ticks == 3000 then seal_of (last_part printed) else []
-
+-- after the ticks of a minute, another minute begins
 abbrev pub ticks_left : ℕ → ℕ
 ticks_left ticks = if ticks == 3000 then 0 else ticks
 
--- what is printed, with this line, and a seal if one is due then
-abbrev pub printed_with : ℕ → (printed line : List ℕ) → List ℕ
-printed_with ticks printed line = (printed ++ line) ++ seal_after (ticks_with ticks line) (printed ++ line)
+-- then a seal is due before the next line, unless that is a seal, right or wrong
+abbrev pub seal_before : ℕ → (printed line : List ℕ) → List ℕ
+seal_before ticks printed line = if ticks == 3000 && not (is_seal line) then seal_of (last_part printed) else []
 
--- What is printed in the end, given how many ticks followed the last seal, what has been printed,
--- and the rest of the recording. It has at most as many lines as bytes.
+-- what is printed, with this line, and a seal before it if one is due
+abbrev pub printed_with : ℕ → (printed line : List ℕ) → List ℕ
+printed_with ticks printed line = (printed ++ seal_before ticks printed line) ++ line
+
+-- the last line of a text, complete or not
+unfoldable pub last_line : List ℕ → List ℕ
+last_line [] = []
+last_line (b ∷ bs) = if length (drop_through 10 (b ∷ bs)) == 0 then b ∷ bs else last_line bs
+
+-- whether a last line is complete and isn't a seal, right or wrong
+abbrev pub needs_seal : List ℕ → Bool
+needs_seal line = ends_with nat_eq line (10 ∷ []) && not (is_seal line)
+
+-- at the end, a last seal if the last line needs one
+abbrev pub ended : (printed : List ℕ) → List ℕ
+ended printed = if needs_seal (last_line printed) then printed ++ seal_of (last_part printed) else printed
+
+-- What is printed in the end, given the ticks of this minute so far, what has been printed, and the
+-- rest of the recording. It has at most as many lines as bytes.
 unfoldable pub sealed_with : (most : ℕ) → ℕ → (printed rest : List ℕ) → List ℕ
-sealed_with zero ticks printed rest = printed
-sealed_with (suc most) ticks printed [] = printed
+sealed_with zero ticks printed rest = ended printed
+sealed_with (suc most) ticks printed [] = ended printed
 sealed_with (suc most) ticks printed (b ∷ bs) =
-    sealed_with most (ticks_left (ticks_with ticks (take_through 10 (b ∷ bs))))
+    sealed_with most (ticks_with (ticks_left ticks) (take_through 10 (b ∷ bs)))
     (printed_with ticks printed (take_through 10 (b ∷ bs))) (drop_through 10 (b ∷ bs))
 
 -- a recording with its seals

@@ -1,10 +1,12 @@
-ghost use Rattle.std.specs.Prelude.{◌≡◌, ◌<◌, ◌++◌, codes, IfOk, IfSome, List, OnOk, Option, true, ℕ};
+ghost use Rattle.std.specs.Prelude.{◌≡◌, ◌≤◌, ◌++◌, codes, IfSome, List, OnOk, Option, true, ℕ};
 ghost use Rattle.std.specs.Io.KnownBytes.{Appends};
 ghost use Rattle.sha2.specs.Hashers.{Holds256};
-ghost use Rattle.mg_chain.specs.Seals.{is_whole, last_part, seal_of};
+ghost use Rattle.mg_chain.specs.Seals.{is_seal, is_whole, last_part, seal_of};
 ghost use Rattle.mg_sealing.specs.Seal.{SealsInput};
-ghost use Rattle.mg_sealing.specs.Sealed.{printed_with, sealed, ticks_left, ticks_with};
+ghost use Rattle.mg_sealing.specs.Sealed.{ended, last_line, needs_seal, printed_with, seal_before, sealed};
+ghost use Rattle.mg_sealing.specs.Sealed.{ticks_left, ticks_with};
 
+use crate::theorems::sealed_stays;
 use crate::verifying::status_of;
 use mg_chain::{Chain, END, MARK};
 use mg_options::Status;
@@ -49,36 +51,75 @@ fn put_seal<W: Write>(chain: &mut Chain, output: &mut W) -> io::Result<()>
     put(&line, chain, output)
 }
 
-/// Returns the ticks since the last seal, with this line.
+/// Returns the ticks of a minute after this line, given those before it.
 fn ticks_with(ticks: u32, line: &[u8]) -> u32
-    requires few { ticks < TICKS }
-    ensures value { result ≡ ticks_with ticks line.now }
+    requires few { ticks ≤ TICKS }
+    ensures few { result ≤ TICKS }
+    ensures value { result ≡ ticks_with (ticks_left ticks) line.now }
 {
+    let before = if ticks < TICKS { ticks } else { 0 };
     if line == b"tick\n".as_slice() {
-        ticks + 1
+        before + 1
     } else {
-        ticks
+        before
     }
 }
 
-/// Prints a line, and a seal if one is due then. Returns the ticks since the last seal.
-fn put_line<W: Write>(ticks: u32, line: &[u8], chain: &mut Chain, output: &mut W) -> io::Result<u32>
-    requires few { ticks < TICKS }
-    ensures few { IfOk result (λ next. next < TICKS) }
-    ensures ticks { IfOk result (λ next. next ≡ ticks_left (ticks_with ticks line.now)) }
+/// Returns whether a line is a seal, right or wrong.
+fn is_seal(line: &[u8]) -> bool
+    ensures value { result ≡ is_seal line.now }
+{
+    line.starts_with(MARK) && line.ends_with(b"\n")
+}
+
+/// Returns whether a line is complete and isn't a seal.
+fn needs_seal(line: &[u8]) -> bool
+    ensures value { result ≡ needs_seal line.now }
+{
+    line.ends_with(b"\n") && !is_seal(line)
+}
+
+/// Prints a seal if one is due before this line.
+fn put_seal_before<W: Write>(
+    ticks: u32,
+    line: &[u8],
+    chain: &mut Chain,
+    output: &mut W,
+) -> io::Result<()>
+    ensures prints { (printed : List ℕ) (start : Option (List ℕ)) →
+        Holds256 chain.old (last_part printed) → Appends start (W.contents output.old) printed →
+        OnOk result (Appends start (W.contents output.new) (printed ++ seal_before ticks printed line.now)) }
+    ensures hash { (printed : List ℕ) → is_whole printed ≡ true → Holds256 chain.old (last_part printed) →
+        OnOk result (Holds256 chain.new (last_part (printed ++ seal_before ticks printed line.now))) }
+{
+    if ticks == TICKS && !is_seal(line) {
+        put_seal(chain, output)?;
+    }
+    Ok(())
+}
+
+/// Prints a line, and before it a seal if one is due.
+fn put_line<W: Write>(ticks: u32, line: &[u8], chain: &mut Chain, output: &mut W) -> io::Result<()>
     ensures prints { (printed : List ℕ) (start : Option (List ℕ)) → is_whole printed ≡ true →
         Holds256 chain.old (last_part printed) → Appends start (W.contents output.old) printed →
         OnOk result (Appends start (W.contents output.new) (printed_with ticks printed line.now)) }
     ensures hash { (printed : List ℕ) → is_whole printed ≡ true → Holds256 chain.old (last_part printed) →
         OnOk result (Holds256 chain.new (last_part (printed_with ticks printed line.now))) }
 {
-    put(line, chain, output)?;
-    let ticks = ticks_with(ticks, line);
-    if ticks < TICKS {
-        return Ok(ticks);
+    put_seal_before(ticks, line, chain, output)?;
+    put(line, chain, output)
+}
+
+/// Prints the last seal, if one is due at the end.
+fn put_last_seal<W: Write>(is_due: bool, chain: &mut Chain, output: &mut W) -> io::Result<()>
+    ensures prints { (printed : List ℕ) (start : Option (List ℕ)) → is_due ≡ needs_seal (last_line printed) →
+        Holds256 chain.old (last_part printed) → Appends start (W.contents output.old) printed →
+        OnOk result (Appends start (W.contents output.new) (ended printed)) }
+{
+    if is_due {
+        put_seal(chain, output)?;
     }
-    put_seal(chain, output)?;
-    Ok(0)
+    Ok(())
 }
 
 /// Copies a recording to its end, with seals. The longest line has to fit in memory.
@@ -93,12 +134,16 @@ fn write_sealed<R: BufRead, W: Write>(
     let mut chain = Chain::new();
     let mut line = Vec::new(alloc);
     let mut ticks = 0;
+    let mut is_due = false;
     for _ in 0..u64::MAX {
         line.clear();
         if reader.read_until(b'\n', &mut line)? == 0 {
-            return Ok(());
+            return put_last_seal(is_due, &mut chain, output);
         }
-        ticks = put_line(ticks, line.as_slice(), &mut chain, output)?;
+        let text = line.as_slice();
+        put_line(ticks, text, &mut chain, output)?;
+        ticks = ticks_with(ticks, text);
+        is_due = needs_seal(text);
     }
     Err(Error::from(ErrorKind::FileTooLarge))
 }
@@ -112,8 +157,10 @@ fn seal_text<R: Read, W: Write>(alloc: Global, reader: &mut R, output: &mut W) -
     write_sealed(alloc, &mut buffered, output)
 }
 
-/// Copies a recording from the input to the output, with a seal after the ticks of each minute. Returns the exit
-/// status. A fault is reported to `errors`.
+/// Copies a recording from the input to the output, with a seal after the ticks of each minute and a last one at the
+/// end. The last one is left out after a seal, after a line without a line feed (it would become part of that line), and
+/// if the input is empty. If a seal follows the ticks of a minute, none is added, so a recording that was sealed stays
+/// unchanged. Returns the exit status. A fault is reported to `errors`.
 pub fn seal<R: Read, W: Write, E: Write>(
     alloc: Global,
     input: &mut R,
@@ -123,6 +170,7 @@ pub fn seal<R: Read, W: Write, E: Write>(
     ensures value { SealsInput (R.remaining input.old) (W.contents output.old) (W.contents output.new)
         (errors.new ≡ errors.old) result }
 {
+    sealed_stays();
     match seal_text(alloc, input, output) {
         Ok(()) => Status::Done,
         Err(error) => {

@@ -83,13 +83,13 @@ def install(system):
     copy = f"install -m 600 {CONFIG}.example {CONFIG}"
     wrong_start(system, "a configuration that is no Erlang", f"{copy}; echo '}}' >> {CONFIG}", "syntax error")
     wrong_start(system, "a wrong value", f"{copy}; sed -i 's/returns => 1000/returns => -1/' {CONFIG}",
-                "returns is a whole number from 0 to 20000, not -1")
+                "returns must be a whole number from 0 to 20000, not -1")
     system.run(f"{copy}; systemctl enable --now {UNIT}")
     return before
 
 
 def service(system):
-    serves = soon(lambda: "<<\"2\">> serves" in system.run(f"journalctl -u {UNIT} -o cat"), 60)
+    serves = soon(lambda: "<<\"2\">> is in service" in system.run(f"journalctl -u {UNIT} -o cat"), 60)
     main, = system.show(UNIT, "MainPID")
     user = system.run(f"stat -c %u /proc/{main}")
     exposure = system.run(f"systemd-analyze security --no-pager {UNIT} | tail -n 1")
@@ -114,7 +114,7 @@ def failures(system):
 def reboot(system):
     system.power_off()
     system.boot()
-    serves = soon(lambda: system.tried(f"journalctl -b -u {UNIT} -o cat | grep -q '\"2\">> serves'").returncode == 0, 60)
+    serves = soon(lambda: system.tried(f"journalctl -b -u {UNIT} -o cat | grep -q '\"2\">> is in service'").returncode == 0, 60)
     caller = Caller()
     check(f"after a reboot: it serves: {serves}; a call: both hear each other: {caller.hear()}", serves and caller.hear())
     caller.end()

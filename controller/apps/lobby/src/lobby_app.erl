@@ -12,7 +12,7 @@ run([File]) ->
     case application:ensure_all_started(lobby) of
         {ok, _} -> _ = spawn(fun watch/0), ok;
         {error, {lobby, {{shutdown, {failed_to_start_child, lobby_store, {unknown_version, Table}}}, _}}} ->
-            stop(2, io_lib:format("~s: a later release has written here. Nothing was changed", [Table]));
+            stop(2, io_lib:format("~s was written by a later release. Nothing was changed", [Table]));
         {error, Reason} -> stop(1, io_lib:format("~0P", [Reason, 30]))
     end.
 
@@ -44,7 +44,7 @@ configured(File) ->
         {ok, #{pair := none}} -> none;
         {ok, #{pair := Pair}} -> case lobby_pair:distribute(Pair) of
             ok -> Pair;
-            {error, Reason} -> stop(1, io_lib:format("no node ~0p: ~0P", [maps:get(self, Pair), Reason, 30]))
+            {error, Reason} -> stop(1, io_lib:format("can't start the node ~0p: ~0P", [maps:get(self, Pair), Reason, 30]))
         end
     end.
 
@@ -54,7 +54,7 @@ watch() ->
     receive
         {'DOWN', Monitor, process, _, Reason} -> case init:get_status() of
             {stopping, _} -> ok;
-            _ -> stop(1, io_lib:format("ended: ~0P", [Reason, 30]))
+            _ -> stop(1, io_lib:format("the application ended: ~0P", [Reason, 30]))
         end
     end.
 

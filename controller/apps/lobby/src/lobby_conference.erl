@@ -7,7 +7,7 @@
 %%%
 %%% A member is never audible before the rules hold. Members leave first, and whoever is to say or hear less is
 %%% silenced. Then flows are closed, and others opened. A single newcomer is added together with his Topology; several
-%%% are added inactive and let in after it.
+%%% are added before it. Whoever has a flow to be closed is added inactive and let in once it is closed.
 -module(lobby_conference).
 
 -export([new/0, member/4, join/2, leave/2, update/3, set_rules/2, take/2, give/3, drop/1, forget/1]).
@@ -50,7 +50,7 @@
 %% What a request is for.
 -opaque step() :: {subtract, [place()]} | {modify, [{id(), lobby_h248:mode()}]}
                 | {connect, lobby_rules:flows()} | {add, [{id(), lobby_h248:mode()}], lobby_rules:flows()}
-                | {move, id(), lobby_rules:flows()} | {settle, [id()]} | audit | inventory.
+                | {move, {id(), lobby_h248:mode()}, lobby_rules:flows()} | {settle, [id()]} | audit | inventory.
 %% `lost': the gateway no longer has this context, or not all of it.
 -type event() :: {joined, id()} | {changed, id()} | {rejected, id(), Code :: pos_integer()} | repaired
                | {lost, lobby_h248:context() | new}.
@@ -102,7 +102,8 @@ set_rules(Rules, C) ->
     agree(true, C#conference{rules = Rules}).
 
 %% @doc Takes a member out, with what the gateway has for him, so that another conference on the same gateway can move
-%% him. The rules that name him stay until `leave/2', because he may come back.
+%% him. Until then, he is still connected with everyone in this context, so he should be inactive before he is taken out.
+%% The rules that name him stay until `leave/2', because he may come back.
 -spec take(id(), conference()) -> {ok, member(), held(), conference()} | {error, no_member}.
 take(Id, C = #conference{members = Members, rules = Rules, context = Context, held = Held, arriving = Arriving}) ->
     case lists:keyfind(Id, #member.id, Members) of
@@ -216,9 +217,10 @@ move(C = #conference{context = Context, members = Members, arriving = Arriving})
     [{Id, {_, Has = #held{termination = T, mode = Mode}}} | _] = maps:to_list(Arriving),
     Member = lists:keyfind(Id, #member.id, Members),
     {Triples, After} = entering(Member, C),
+    First = first_mode(Triples, common(Mode, mode(Member))),
     With = C#conference{held = (C#conference.held)#{Id => Has}},
-    {#{context => Context, topology => by_termination(Triples, With),
-       commands => [{move, T, #{mode => common(Mode, mode(Member))}}]}, {move, Id, After}}.
+    {#{context => Context, topology => by_termination(Triples, With), commands => [{move, T, #{mode => First}}]},
+     {move, {Id, First}, After}}.
 
 add(C = #conference{members = Members, held = Held}) ->
     case [Member || Member = #member{id = Id} <- Members, not is_map_key(Id, Held)] of
@@ -229,9 +231,15 @@ add(C = #conference{members = Members, held = Held}) ->
 
 add_one(Member = #member{id = Id}, C = #conference{context = Context}) ->
     {Triples, After} = entering(Member, C),
+    First = first_mode(Triples, mode(Member)),
     Names = fun(Name) when Name =:= Id -> new; (Name) -> termination(Name, C) end,
     {#{context => Context, topology => [{Names(A), Names(B), How} || {A, B, How} <- Triples],
-       commands => [{add_optional, settings(Member, mode(Member))}]}, {add, [{Id, mode(Member)}], After}}.
+       commands => [{add_optional, settings(Member, First)}]}, {add, [{Id, First}], After}}.
+
+%% The gateway runs commands before triples. If it refuses a triple, for example because somebody else has ended the
+%% other termination, the newcomer is there all the same, connected both ways with everyone.
+first_mode([], Mode) -> Mode;
+first_mode(_, _) -> inactive.
 
 add_some(Missing, C = #conference{context = Context}) ->
     New = [Id || #member{id = Id} <- Missing],
@@ -304,19 +312,22 @@ done({subtract, Some}, _, C = #conference{leaving = Leaving}) ->
     {[], ended(C#conference{leaving = Leaving -- Some})};
 done(Step, Reply = #{results := Results}, C) ->
     case {maps:get(error, Reply, none), Step} of
-        {none, {move, Id, After}} -> moved(Id, After, Reply, C);
+        {none, {move, Moved, After}} -> moved(Moved, After, Reply, C);
         {none, {add, New, After}} -> added(New, After, Reply, C);
         {none, {settle, Ids}} -> changed(Ids, Results, C);
         {none, {modify, Modes}} -> kept(Results, C, fun() -> {[], lists:foldl(fun set_mode/2, C, Modes)} end);
         {none, {connect, After}} -> kept(Results, C, fun() -> {[], agree(true, C#conference{open = After})} end);
         {none, audit} -> compared(maps:get(topology, Reply, []), C);
         {none, inventory} -> found(Results, C);
+        {410, {add, New, After}} -> refused(New, After, Reply, C);
         {_, _} -> lost(C)
     end.
 
-%% Whatever is left of the context is ended, and the conference made again.
-lost(C = #conference{context = new}) -> {[{lost, new}], forget(C)};
-lost(C = #conference{context = Context}) -> {[{lost, Context}], (forget(C))#conference{leaving = [{Context, all}]}}.
+%% Whatever is left of the context is ended, and the conference made again. What is in other contexts stays there until it
+%% is ended or moved.
+lost(C = #conference{context = Context, leaving = Leaving, arriving = Arriving}) ->
+    Left = [{Context, all} || Context =/= new] ++ [Place || Place = {In, _} <- Leaving, In =/= Context],
+    {[{lost, Context}], (forget(C))#conference{leaving = Left, arriving = Arriving}}.
 
 %% The gateway ends a context with its last member.
 ended(C = #conference{context = Context, held = Held, leaving = Leaving}) when map_size(Held) =:= 0 ->
@@ -338,7 +349,17 @@ set_mode({Id, Mode}, C = #conference{held = Held}) ->
     #{Id := Has} = Held,
     C#conference{held = Held#{Id := Has#held{mode = Mode}}}.
 
-added(New, After, #{context := Context, results := Results}, C) ->
+added(New, After, Reply = #{results := Results}, C) ->
+    case [no_context || {add, _, {error, 411}} <- Results] of
+        [] -> entered(New, After, Reply, C);
+        _ -> lost(C)
+    end.
+
+%% A refused newcomer's triples are refused, too, because they name what his Add would have created.
+refused(New, After, Reply = #{results := [{add, _, {error, _}}]}, C) -> added(New, After, Reply, C);
+refused(_, _, _, C) -> lost(C).
+
+entered(New, After, #{context := Context, results := Results}, C) ->
     {Events, Made} = lists:mapfoldl(fun added/2, C, lists:zip(New, Results)),
     Gone = [Id || {rejected, Id, _} <- Events],
     Added = ended(Made#conference{context = Context, open = lists:foldl(fun without/2, After, Gone)}),
@@ -351,13 +372,12 @@ added({{Id, Mode}, {add, T, #{local := Local}}}, C = #conference{members = Membe
 added({{Id, _}, {add, _, {error, Code}}}, C) ->
     {{rejected, Id, Code}, leave(Id, C)}.
 
-moved(Id, After, #{context := Context, results := [{move, _, #{}}]}, C = #conference{members = Members, held = Held}) ->
-    #{Id := {_, Has = #held{mode = Mode}}} = C#conference.arriving,
-    Member = lists:keyfind(Id, #member.id, Members),
-    {[{changed, Id}], C#conference{context = Context, arriving = maps:remove(Id, C#conference.arriving), open = After,
-                                   held = Held#{Id => Has#held{mode = common(Mode, mode(Member))}}}};
+moved({Id, Mode}, After, #{context := Context, results := [{move, _, #{}}]}, C = #conference{held = Held}) ->
+    {{_, Has}, Others} = maps:take(Id, C#conference.arriving),
+    {[{changed, Id}], C#conference{context = Context, arriving = Others, open = After,
+                                   held = Held#{Id => Has#held{mode = Mode}}}};
 %% A member who can't be moved is removed and added again.
-moved(Id, _, _, C = #conference{arriving = Arriving, leaving = Leaving}) ->
+moved({Id, _}, _, _, C = #conference{arriving = Arriving, leaving = Leaving}) ->
     {[], C#conference{arriving = maps:remove(Id, Arriving), leaving = places(Id, C) ++ Leaving}}.
 
 changed(Ids, Results, C) ->

@@ -42,7 +42,7 @@ pair(#{store := memory}) ->
     wrong("a pair needs {store,disc}", []);
 pair(Config = #{pair := Pair}) ->
     case values("the pair", ?PAIR, Pair) of
-        {ok, #{self := Node, peer := Node}} -> wrong("the pair has ~0p twice", [Node]);
+        {ok, #{self := Node, peer := Node}} -> wrong("self and peer are both ~0p", [Node]);
         {ok, Checked} -> gateways(Config#{pair := Checked});
         Error -> Error
     end.
@@ -53,7 +53,7 @@ pair(Config = #{pair := Pair}) ->
 load(File) ->
     case file:consult(File) of
         {ok, [Applications]} -> set(File, Applications);
-        {ok, _} -> wrong("~ts has to have one list, with a full stop behind it", [File]);
+        {ok, _} -> wrong("~ts must contain one list, followed by a full stop", [File]);
         {error, Reason} -> wrong("~ts: ~ts", [File, file:format_error(Reason)])
     end.
 
@@ -63,7 +63,7 @@ set(File, Applications) ->
             {ok, Config} -> ok = application:set_env(Applications), {ok, Config};
             Error -> Error
         end;
-        false -> wrong("~ts has to have a list such as [{lobby,[{gateways,[..]}]}]", [File])
+        false -> wrong("~ts must contain a list such as [{lobby,[{gateways,[..]}]}]", [File])
     end.
 
 gateways(Config = #{gateways := Gateways}) ->
@@ -78,19 +78,19 @@ gateways(Config = #{gateways := Gateways}) ->
 values(What, Kinds, Values) when is_map(Values) ->
     case maps:keys(Values) -- maps:keys(Kinds) of
         [] -> maps:fold(fun(Key, Kind, Acc) -> value(What, Key, Kind, Values, Acc) end, {ok, #{}}, Kinds);
-        [Unknown | _] -> wrong("~s has no ~0p", [What, Unknown])
+        [Unknown | _] -> wrong("~s has the unknown key ~0p", [What, Unknown])
     end;
 values(What, _, Other) ->
-    wrong("~s is a map, not ~0p", [What, Other]).
+    wrong("~s must be a map, not ~0p", [What, Other]).
 
 value(_, _, _, _, Error = {error, _}) ->
     Error;
 value(What, Key, {Kind, Default}, Values, {ok, Checked}) ->
     Value = maps:get(Key, Values, Default),
     case {Value, is(Kind, Value)} of
-        {required, _} -> wrong("~s needs ~0p", [What, Key]);
+        {required, _} -> wrong("~s must have the key ~0p", [What, Key]);
         {_, true} -> {ok, Checked#{Key => Value}};
-        {_, false} -> wrong("~0p is ~s, not ~0p", [Key, described(Kind), Value])
+        {_, false} -> wrong("~0p must be ~s, not ~0p", [Key, described(Kind), Value])
     end.
 
 is(applications, Value) ->
@@ -125,15 +125,15 @@ is_token(_) -> false.
 
 described(pair) -> "a map or none";
 described(node) -> "a node's name such as 'lobby@10.0.0.20'";
-described(secret) -> "a binary of sixteen bytes or more, and less than 256";
+described(secret) -> "a binary of 16 to 255 bytes";
 described(lease) -> "address or {file,\"/path\"}";
 described(file) -> "a path such as \"/path\"";
 described(store) -> "memory or disc";
 described(networks) -> "a list of networks such as {{192,0,2,0},24}";
-described(users) -> "a map of passwords by name, both binaries that aren't empty";
-described(tokens) -> "a list of tokens such as {<<\"sixteen bytes or more\">>,operator} or ..,viewer}";
+described(users) -> "a map from names to passwords, all of them non-empty binaries";
+described(tokens) -> "a list of tokens such as {<<\"sixteen bytes or more\">>,operator} (or viewer)";
 described(gateways) -> "a list of at least one gateway";
-described(text) -> "a binary that isn't empty";
+described(text) -> "a non-empty binary";
 described(ip) -> "an IPv4 address such as {127,0,0,1}";
 described(address) -> "an IPv4 address and a port such as {{127,0,0,1},2944}";
 described({Min, Max}) -> io_lib:format("a whole number from ~b to ~b", [Min, Max]).

@@ -19,7 +19,7 @@ run(Socket) ->
             Reason;
         {error, too_many} ->
             _ = gen_tcp:send(Socket, [head("503 Service Unavailable", "application/json"),
-                                      lobby_json:encode(#{error => <<"too many watch the events">>})]),
+                                      lobby_json:encode(#{error => <<"too many clients are watching the events">>})]),
             {tcp_closed, Socket}
     end,
     self() ! End,

@@ -190,7 +190,7 @@ entered(away, Data = #data{config = #{returns := Returns}}) ->
 entered(resuming, Data = #data{config = #{returns := Returns, retry := Retry, tries := Tries}}) ->
     {keep_state, Data, [{state_timeout, max(Returns, Retry * Tries), not_back}, {{timeout, probe}, 0, again}]};
 entered(serving, Data = #data{config = #{name := Name, audit := Interval}, handle = Handle}) ->
-    logger:notice("gateway ~p serves", [Name]),
+    logger:notice("gateway ~p is in service", [Name]),
     ok = lobby_events:publish({gateway, Name, serving}),
     tell(waiting, {?MODULE, Handle, serving}),
     {keep_state, Data, [{{timeout, audit}, Interval, again}]}.
@@ -229,13 +229,13 @@ end_context(Context, Acc) ->
 gone(Why, Data = #data{config = #{returns := 0}}) ->
     lost(Why, Data);
 gone(Why, Data = #data{config = #{name := Name}, transactions = T}) ->
-    logger:warning("gateway ~p is awaited: ~p", [Name, Why]),
+    logger:warning("gateway ~p: ~p; waiting for it to return", [Name, Why]),
     Away = keep(away, Data#data{transactions = lobby_transactions:hold(T), refused = none, away = now_ms()}),
     ok = lobby_events:publish({gateway, Name, away}),
     {away, Away, []}.
 
 returned(Data = #data{config = #{name := Name}, handle = Handle, away = Since, contexts = Contexts}) ->
-    logger:notice("gateway ~p came back with what it had, after ~b ms", [Name, now_ms() - Since]),
+    logger:notice("gateway ~p returned with its conferences after ~b ms", [Name, now_ms() - Since]),
     ok = lobby_events:count(lobby_gateway_returns_total, Name),
     ok = lobby_events:publish({gateway, Name, returned}),
     tell({gateway, Name}, {?MODULE, Handle, returned}),
@@ -267,10 +267,10 @@ submit(Purpose, Action, State, Data) ->
 received({ok, {reply, Number, Reply}}, State, Data = #data{transactions = T}) ->
     effects(lobby_transactions:received(Number, Reply, now_ms(), T), State, Data);
 received({ok, {error, Code}}, _, #data{config = #{name := Name}}) ->
-    logger:warning("gateway ~p refuses a message: error ~b", [Name, Code]),
+    logger:warning("gateway ~p rejected a message: error ~b", [Name, Code]),
     keep_state_and_data;
 received({error, not_understood}, _, #data{config = #{name := Name}}) ->
-    logger:warning("gateway ~p: a datagram isn't understood", [Name]),
+    logger:warning("gateway ~p sent a datagram that can't be decoded", [Name]),
     keep_state_and_data.
 
 effects(Effects, State, Data) ->
@@ -325,7 +325,7 @@ answered({request, From = {Pid, _}}, #{context := Context}, Reply, State, Data) 
 answered({probe, Remote}, _, {ok, #{context := Context, results := [{add, T, #{}}]}}, probing, Data) ->
     {cleaning, Data#data{sentinel = {Context, T, Remote}}, []};
 answered({probe, _}, _, Reply, probing, Data = #data{config = #{name := Name}}) ->
-    logger:warning("gateway ~p refuses an Add: ~0p", [Name, Reply]),
+    logger:warning("gateway ~p rejected an Add: ~0p", [Name, Reply]),
     {probing, Data, [{{timeout, probe}, 1000, again}]};
 answered(audit, _, Reply, State, Data = #data{config = #{audit := Interval}}) ->
     case {is_own(Reply, Data), State} of

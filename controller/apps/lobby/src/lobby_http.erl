@@ -59,16 +59,25 @@ answer("GET", [<<"openapi.json">>], _, _) ->
 answer(Method, Path, Headers, Body) ->
     Matching = [{Known, Name, Handler} || {Known, Route, Handler} <- routes(), Name <- name(Route, Path)],
     case {role(Headers), Matching} of
-        {none, _} -> denied(401, {'www-authenticate', "Bearer"}, <<"a token is needed: Authorization: Bearer TOKEN">>);
-        {_, []} -> {404, failure(<<"there is nothing of this name">>)};
+        {none, _} -> denied(401, {'www-authenticate', "Bearer"}, <<"a valid token is required: Authorization: Bearer TOKEN">>);
+        {_, []} -> {404, failure(<<"there is no such path">>)};
         {Role, Routes} -> case lists:keyfind(Method, 1, Routes) of
-            {"GET", Name, Handler} -> Handler(Name, #{});
-            {_, _, _} when Role =:= viewer -> {403, failure(<<"this token only reads">>)};
-            {_, Name, Handler} -> with_object(Body, fun(Object) -> Handler(Name, Object) end);
+            {"GET", Name, Handler} -> in_time(fun() -> Handler(Name, #{}) end);
+            {_, _, _} when Role =:= viewer -> {403, failure(<<"this token can only read">>)};
+            {_, Name, Handler} -> with_object(Body, fun(Object) -> in_time(fun() -> Handler(Name, Object) end) end);
             false ->
                 Allowed = lists:join(", ", [Known || {Known, _, _} <- Routes]),
-                denied(405, {allow, lists:append(Allowed)}, iolist_to_binary(["the methods are ", Allowed]))
+                denied(405, {allow, lists:append(Allowed)}, iolist_to_binary(["allowed methods: ", Allowed]))
         end
+    end.
+
+%% A room can wait for its gateway for long, and a call for its room.
+in_time(Answer) ->
+    try
+        Answer()
+    catch
+        exit:{Reason, {_, call, _}} when Reason =:= timeout; element(1, Reason) =:= timeout ->
+            {504, failure(<<"the gateway hasn't answered yet">>)}
     end.
 
 denied(Status, Header, Text) ->
@@ -132,14 +141,13 @@ routes() ->
 
 %%% Rooms and gateways.
 
-%% A room can end while it is asked, and wait for its gateway for long.
+%% A room can end while it is asked.
 in_room(Name, Answer) ->
     case lists:member(Name, lobby_rooms:names()) of
         true ->
             try
                 Answer()
             catch
-                exit:{timeout, {gen_server, call, _}} -> {504, failure(<<"the gateway doesn't answer yet">>)};
                 exit:{Reason, {gen_server, call, _}} when Reason =:= normal; Reason =:= noproc -> no_room()
             end;
         false -> no_room()
@@ -175,7 +183,7 @@ lock(Name, Locked) -> changed(lobby_room:lock(Name, Locked)).
 
 gateways() -> [lobby_json:gateway(Handle, Load) || {Handle, Load} <- lobby_gateway:serving()].
 
-no_name() -> {400, failure(<<"a room's name has 1 to 32 letters, digits and _.-">>)}.
+no_name() -> {400, failure(<<"a room's name must be 1 to 32 letters, digits or _.-">>)}.
 
 %%% Members.
 
@@ -231,16 +239,16 @@ changed_in(Room, Change) ->
 changed(ok) -> {200, #{}};
 changed({ok, _}) -> {200, #{}};
 changed({error, {refused, Code}}) ->
-    {502, failure(<<"the gateway refuses it: error ", (integer_to_binary(Code))/binary>>)};
+    {502, failure(<<"the gateway rejected the request: error ", (integer_to_binary(Code))/binary>>)};
 changed({error, Reason}) ->
     {Status, Text} = reason(Reason),
     {Status, failure(Text)}.
 
 reason(no_member) -> {404, <<"there is no such member">>};
-reason(no_listener) -> {404, <<"the listener is no member of the room">>};
-reason(same_room) -> {409, <<"the member is in this room">>};
+reason(no_listener) -> {404, <<"the listener isn't in the member's room">>};
+reason(same_room) -> {409, <<"the member is already in this room">>};
 reason(room_full) -> {409, <<"the room is full">>};
-reason(too_many_rules) -> {409, <<"the room has too many rules">>};
+reason(too_many_rules) -> {409, <<"the room would have too many rules">>};
 reason(too_many_rooms) -> {409, <<"there are too many rooms">>};
-reason(no_room) -> {503, <<"no gateway has room">>};
-reason(not_yet) -> {503, <<"the gateway refuses the change for now; the room keeps it and asks again">>}.
+reason(no_room) -> {503, <<"no gateway has enough capacity">>};
+reason(not_yet) -> {503, <<"the gateway hasn't accepted the change yet; the controller keeps trying">>}.

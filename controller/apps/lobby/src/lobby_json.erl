@@ -28,14 +28,14 @@ encode(Json) ->
 rules(#{<<"preset">> := Preset}) ->
     case lists:keyfind(Preset, 1, [{atom_to_binary(P), P} || P <- [plain, lecture, coaching, monitored]]) of
         {_, Known} -> {ok, lobby_rules:preset(Known)};
-        false -> {error, <<"preset is one of plain, lecture, coaching, monitored">>}
+        false -> {error, <<"\"preset\" must be plain, lecture, coaching or monitored">>}
     end;
 rules(#{<<"rules">> := Rules}) when is_list(Rules) ->
     Read = [rule(Rule) || Rule <- Rules],
     case lists:member(error, Read) of
         false -> {ok, Read};
-        true -> {error, <<"a rule is {\"hears\": true or false, \"talker\": PARTY, \"listener\": PARTY}, "
-                          "and a party is \"everyone\", {\"role\": TEXT} or {\"member\": ID}">>}
+        true -> {error, <<"a rule must be {\"hears\": true or false, \"talker\": PARTY, \"listener\": PARTY}, "
+                          "where PARTY is \"everyone\", {\"role\": TEXT} or {\"member\": ID}">>}
     end;
 rules(_) ->
     {error, <<"\"rules\" or \"preset\" is missing">>}.
@@ -61,7 +61,7 @@ party(_) -> error.
 text(Key, Object) ->
     case Object of
         #{Key := Text} when is_binary(Text), byte_size(Text) >= 1, byte_size(Text) =< 32 -> {ok, Text};
-        #{} -> {error, <<"\"", Key/binary, "\" is a text of 1 to 32 bytes">>}
+        #{} -> {error, <<"\"", Key/binary, "\" must be a string of 1 to 32 bytes">>}
     end.
 
 %% @doc A room, with what the gateway says of its topology and with callers' names by id.

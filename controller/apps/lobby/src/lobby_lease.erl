@@ -66,7 +66,7 @@ settled_after() ->
     case persistent_term:get(?MODULE, none) of none -> 0; _ -> ?SETTLED end.
 
 within(Passed, Gap) when Passed =< Gap -> ok;
-within(Passed, _) -> stop(io_lib:format("~b ms without a look at the lease", [Passed])).
+within(Passed, _) -> stop(io_lib:format("the lease wasn't checked for ~b ms", [Passed])).
 
 -spec init({#{pair := lobby_pair:config(), sip := lobby_sip_message:peer()}, supervisor:child_spec()}) -> {ok, #state{}}.
 init({#{pair := Pair = #{gap := Gap, lease := Lease, ready := Ready}, sip := {Address, _}}, Serving}) ->
@@ -95,13 +95,13 @@ handle_info(tick, State = #state{seen = Seen}) ->
     {noreply, beaten(watched(looked(State)))};
 handle_info({?MODULE, Node, {serving, Later}}, #state{pair = #{peer := Node}, role = serving, term = Term})
   when Later > Term ->
-    stop("the other node has begun to serve");
+    stop("the other node has started to serve");
 handle_info({?MODULE, Node, Role}, State = #state{pair = #{peer := Node}}) ->
     {noreply, State#state{peer = {Role, now_ms()}}};
 handle_info({mnesia_system_event, {inconsistent_database, _, _}}, #state{role = standby}) ->
-    stop("the nodes were apart, and the other one serves");
+    stop("the nodes were disconnected, and the other one serves");
 handle_info({Ready, {exit_status, Status}}, #state{ready = Ready}) ->
-    stop(io_lib:format("the program that says whether this node is ready ended with status ~b", [Status]));
+    stop(io_lib:format("the program that reports this node's priority exited with status ~b", [Status]));
 handle_info(_, State) ->
     {noreply, State}.
 
@@ -114,7 +114,7 @@ looked(State = #state{role = waiting}) ->
 looked(State = #state{role = Role, lease = Lease}) ->
     case {Role, has(Lease)} of
         {standby, true} -> serve(State);
-        {serving, false} -> stop("the lease is another node's");
+        {serving, false} -> stop("another node has the lease");
         {_, _} -> State
     end.
 
@@ -153,7 +153,7 @@ next_term() ->
 started({ok, _}) -> ok;
 %% The supervisor has started it again, after this process failed.
 started({error, {already_started, _}}) -> ok;
-started({error, {Reason, _}}) -> stop(io_lib:format("it can't serve: ~0P", [Reason, 20])).
+started({error, {Reason, _}}) -> stop(io_lib:format("it can't start to serve: ~0P", [Reason, 20])).
 
 %% Is the other node there? One that hangs would hold up what is written.
 watched(State = #state{role = serving, pair = #{peer := Peer, gap := Gap}, peer = {_, Since}}) ->
@@ -163,7 +163,7 @@ watched(State = #state{role = serving, pair = #{peer := Peer, gap := Gap}, peer 
     end;
 watched(State = #state{role = standby, peer = {{serving, _}, Since}}) ->
     case now_ms() - Since > ?ALONE of
-        true -> stop("the other node served and is silent, but this one doesn't have the lease");
+        true -> stop("the serving node is silent, but this node doesn't have the lease");
         false -> State
     end;
 watched(State) ->
@@ -213,5 +213,5 @@ now_ms() ->
 
 -spec stop(iodata()) -> no_return().
 stop(Why) ->
-    io:format(standard_error, "lobby: this node ends: ~ts~n", [Why]),
+    io:format(standard_error, "lobby: this node ends itself: ~ts~n", [Why]),
     halt(3, [{flush, false}]).

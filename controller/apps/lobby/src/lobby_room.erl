@@ -85,7 +85,7 @@ update(Name, Id, Change) ->
 add_rules(Name, Rules) ->
     call(Name, {add_rules, Rules}).
 
--spec set_rules(name(), [lobby_rules:rule()]) -> ok.
+-spec set_rules(name(), [lobby_rules:rule()]) -> ok | {error, error()}.
 set_rules(Name, Rules) ->
     call(Name, {set_rules, Rules}).
 
@@ -105,8 +105,8 @@ give(Name, Id, Given) ->
 describe(Name) ->
     call(Name, describe).
 
-%% @doc Whether the gateway has what the room wants. Without a gateway, nobody hears anyone, and what comes next will have
-%% it.
+%% @doc Whether a gateway has what the room wants. A lost gateway doesn't count: if it is only out of reach, it may still
+%% mix as before.
 -spec agrees(name()) -> boolean().
 agrees(Name) ->
     call(Name, agrees).
@@ -168,22 +168,22 @@ handle_call({leave, Id}, _, State = #state{conference = C}) ->
 handle_call({update, Id, Change}, _, State = #state{conference = C}) ->
     changed(Id, change(lobby_conference:update(Id, Change, C), State));
 handle_call({add_rules, Rules}, _, State = #state{conference = C}) ->
-    case lobby_rules:add(Rules, lobby_conference:rules(C)) of
-        {ok, All} -> {reply, ok, change(lobby_conference:set_rules(All, C), State)};
-        {error, Reason} -> {reply, {error, Reason}, State}
-    end;
-handle_call({set_rules, Rules}, _, State = #state{conference = C}) ->
-    {reply, ok, change(lobby_conference:set_rules(Rules, C), State)};
-handle_call({take, Id}, _, State = #state{conference = C, gateway = Gateway}) ->
-    case lobby_conference:take(Id, C) of
-        {ok, Member, Held, Rest} -> {reply, {ok, {Member, Held, Gateway}}, change(Rest, State)};
-        {error, Reason} -> replied({error, Reason}, State)
+    ruled(lobby_rules:add(Rules, lobby_conference:rules(C)), State);
+handle_call({set_rules, Rules}, _, State) ->
+    ruled(lobby_rules:add(Rules, []), State);
+handle_call({take, Id}, _, State = #state{conference = C}) ->
+    %% Until he is moved, he is still connected with the others here, and with newcomers. So he is inactive until then.
+    Silent = #state{conference = C1, gateway = Gateway} =
+        change(lobby_conference:update(Id, #{direction => inactive}, C), State),
+    case {lobby_conference:take(Id, C), lobby_conference:take(Id, C1)} of
+        {{ok, Member, _, _}, {ok, _, Held, Rest}} -> {reply, {ok, {Member, Held, Gateway}}, change(Rest, Silent)};
+        {_, {error, Reason}} -> replied({error, Reason}, Silent)
     end;
 handle_call(audit, _, State) ->
     {Result, State1} = audited(State),
     {reply, Result, State1};
-handle_call(agrees, _, State = #state{conference = C, gateway = Gateway}) ->
-    {reply, Gateway =:= none orelse lobby_conference:next(C) =:= settled, State};
+handle_call(agrees, _, State = #state{conference = C}) ->
+    {reply, lobby_conference:next(C) =:= settled, State};
 handle_call(describe, _, State) ->
     {reply, described(State), State}.
 
@@ -239,6 +239,11 @@ entered(Id, Conference, State = #state{conference = Before}) ->
 
 change(Conference, State) ->
     settle(State#state{conference = Conference, events = []}).
+
+ruled({ok, Rules}, State = #state{conference = C}) ->
+    {reply, ok, change(lobby_conference:set_rules(Rules, C), State)};
+ruled({error, Reason}, State) ->
+    replied({error, Reason}, State).
 
 changed(Id, State = #state{conference = C}) ->
     case {rejection(Id, State), lobby_conference:local(Id, C), lobby_conference:find(Id, C)} of
@@ -328,7 +333,8 @@ published(State = #state{name = Name}) ->
 
 %% Sends requests until the gateway has what the room wants, or no gateway has room.
 converge(State, 0) ->
-    logger:error("room ~ts: the gateway doesn't get to what the room wants", [State#state.name]),
+    logger:error("room ~ts: after ~b requests, the gateway still doesn't have what the room wants",
+                 [State#state.name, ?MAX_REQUESTS]),
     wait(State);
 converge(State = #state{conference = C, gateway = none}, Left) ->
     case {lobby_conference:ids(C), lobby_placement:choose(length(lobby_conference:ids(C)), lobby_gateway:serving())} of
@@ -360,7 +366,7 @@ request({Action, Step}, State = #state{name = Name, conference = C, gateway = Ga
         {error, lost} ->
             {ok, detach(State)};
         {error, Reason} ->
-            logger:warning("room ~ts: its gateway refuses a request: ~p", [Name, Reason]),
+            logger:warning("room ~ts: a request to its gateway failed: ~0p", [Name, Reason]),
             {later, State}
     end.
 

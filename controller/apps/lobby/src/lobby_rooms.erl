@@ -18,7 +18,12 @@ is_name(Text) ->
 %% @doc A room that stays when its last member leaves.
 -spec create(lobby_room:name(), [lobby_rules:rule()]) -> ok | {error, error()}.
 create(Name, Rules) ->
-    in_room(Name, fun() -> ok = lobby_room:keep(Name), lobby_room:set_rules(Name, Rules) end, ?TRIES).
+    in_room(Name, fun() ->
+        case lobby_room:set_rules(Name, Rules) of
+            ok -> lobby_room:keep(Name);
+            {error, Reason} -> {error, Reason}
+        end
+    end, ?TRIES).
 
 %% @doc Lets a member into a room. Creates the room if it doesn't exist.
 -spec join(lobby_room:name(), lobby_rules:id(), lobby_conference:member()) ->

@@ -19,12 +19,12 @@ top_test_() ->
     Gateways = {gateways, [#{name => <<"a">>, address => ?ADDRESS}]},
     [?_assertEqual({error, Text}, lobby_config:check([Gateways, Wrong]))
      || {Text, Wrong} <-
-            [{"the configuration has no port", {port, 1}},
-             {"callers is a list of networks such as {{192,0,2,0},24}, not [{{192,0,2,0},33}]", {callers, [{{192, 0, 2, 0}, 33}]}},
-             {"users is a map of passwords by name, both binaries that aren't empty, not #{<<\"a\">> => <<>>}", {users, #{<<"a">> => <<>>}}},
-             {"tokens is a list of tokens such as {<<\"sixteen bytes or more\">>,operator} or ..,viewer}, not [{<<\"short\">>,viewer}]",
+            [{"the configuration has the unknown key port", {port, 1}},
+             {"callers must be a list of networks such as {{192,0,2,0},24}, not [{{192,0,2,0},33}]", {callers, [{{192, 0, 2, 0}, 33}]}},
+             {"users must be a map from names to passwords, all of them non-empty binaries, not #{<<\"a\">> => <<>>}", {users, #{<<"a">> => <<>>}}},
+             {"tokens must be a list of tokens such as {<<\"sixteen bytes or more\">>,operator} (or viewer), not [{<<\"short\">>,viewer}]",
               {tokens, [{<<"short">>, viewer}]}},
-             {"max_calls is a whole number from 1 to 100000, not 0", {max_calls, 0}}]]
+             {"max_calls must be a whole number from 1 to 100000, not 0", {max_calls, 0}}]]
     ++ [?_assertMatch({ok, #{callers := [_], users := #{}, tokens := [_]}},
                       lobby_config:check([Gateways, {callers, [{{10, 0, 0, 0}, 8}]}, {tokens, [{<<"0123456789abcdef">>, viewer}]}]))].
 
@@ -35,27 +35,27 @@ pair_test_() ->
      | [?_assertEqual({error, Text}, lobby_config:check([Gateways, {store, Store}, {pair, Wrong}]))
         || {Text, Store, Wrong} <-
                [{"a pair needs {store,disc}", memory, Pair},
-                {"the pair has 'lobby@10.0.0.21' twice", disc, Pair#{peer := 'lobby@10.0.0.21'}},
-                {"the pair needs peer", disc, maps:remove(peer, Pair)},
-                {"self is a node's name such as 'lobby@10.0.0.20', not lobby", disc, Pair#{self := lobby}},
-                {"cookie is a binary of sixteen bytes or more, and less than 256, not <<\"a\">>", disc, Pair#{cookie := <<"a">>}},
-                {"lease is address or {file,\"/path\"}, not true", disc, Pair#{lease => true}},
-                {"pair is a map or none, not []", disc, []}]]].
+                {"self and peer are both 'lobby@10.0.0.21'", disc, Pair#{peer := 'lobby@10.0.0.21'}},
+                {"the pair must have the key peer", disc, maps:remove(peer, Pair)},
+                {"self must be a node's name such as 'lobby@10.0.0.20', not lobby", disc, Pair#{self := lobby}},
+                {"cookie must be a binary of 16 to 255 bytes, not <<\"a\">>", disc, Pair#{cookie := <<"a">>}},
+                {"lease must be address or {file,\"/path\"}, not true", disc, Pair#{lease => true}},
+                {"pair must be a map or none, not []", disc, []}]]].
 
 refused_test_() ->
     [?_assertEqual({error, Text}, check(Gateways))
      || {Text, Gateways} <-
-            [{"gateways is a list of at least one gateway, not []", []},
-             {"gateways is a list of at least one gateway, not a", a},
-             {"a gateway is a map, not a", [a]},
-             {"a gateway needs address", [#{name => <<"a">>}]},
-             {"a gateway has no port", [#{name => <<"a">>, address => ?ADDRESS, port => 1}]},
-             {"name is a binary that isn't empty, not \"a\"", [#{name => "a", address => ?ADDRESS}]},
-             {"address is an IPv4 address and a port such as {{127,0,0,1},2944}, not {{127,0,0,1},0}",
+            [{"gateways must be a list of at least one gateway, not []", []},
+             {"gateways must be a list of at least one gateway, not a", a},
+             {"a gateway must be a map, not a", [a]},
+             {"a gateway must have the key address", [#{name => <<"a">>}]},
+             {"a gateway has the unknown key port", [#{name => <<"a">>, address => ?ADDRESS, port => 1}]},
+             {"name must be a non-empty binary, not \"a\"", [#{name => "a", address => ?ADDRESS}]},
+             {"address must be an IPv4 address and a port such as {{127,0,0,1},2944}, not {{127,0,0,1},0}",
               [#{name => <<"a">>, address => {{127, 0, 0, 1}, 0}}]},
-             {"here is an IPv4 address such as {127,0,0,1}, not \"127.0.0.1\"",
+             {"here must be an IPv4 address such as {127,0,0,1}, not \"127.0.0.1\"",
               [#{name => <<"a">>, address => ?ADDRESS, here => "127.0.0.1"}]},
-             {"retry is a whole number from 10 to 5000, not 9", [#{name => <<"a">>, address => ?ADDRESS, retry => 9}]},
+             {"retry must be a whole number from 10 to 5000, not 9", [#{name => <<"a">>, address => ?ADDRESS, retry => 9}]},
              {"two gateways have the name <<\"a\">>", [#{name => <<"a">>, address => ?ADDRESS}, #{name => <<"a">>, address => ?ADDRESS}]}]].
 
 %% A file is taken whole or not at all, and what is wrong with it is said.
@@ -68,14 +68,14 @@ files_test_() ->
              ?assertEqual(undefined, application:get_env(lobby, gateways))
          end) || {Error, Text} <-
              [{"FILE: 1: syntax error before: '}'", "[{lobby, [}]}]."},
-              {"FILE has to have one list, with a full stop behind it", ""},
-              {"FILE has to have one list, with a full stop behind it", "[]. []."},
-              {"FILE has to have a list such as [{lobby,[{gateways,[..]}]}]", "[]."},
-              {"FILE has to have a list such as [{lobby,[{gateways,[..]}]}]", "{lobby, []}."},
-              {"FILE has to have a list such as [{lobby,[{gateways,[..]}]}]", "[{lobby, [{1, 2}]}]."},
-              {"FILE has to have a list such as [{lobby,[{gateways,[..]}]}]", "[{lobby, [" ++ Gateways ++ "]}, mnesia]."},
-              {"the configuration needs gateways", "[{lobby, []}]."},
-              {"the configuration has no port", "[{lobby, [" ++ Gateways ++ ", {port, 1}]}]."}]]
+              {"FILE must contain one list, followed by a full stop", ""},
+              {"FILE must contain one list, followed by a full stop", "[]. []."},
+              {"FILE must contain a list such as [{lobby,[{gateways,[..]}]}]", "[]."},
+              {"FILE must contain a list such as [{lobby,[{gateways,[..]}]}]", "{lobby, []}."},
+              {"FILE must contain a list such as [{lobby,[{gateways,[..]}]}]", "[{lobby, [{1, 2}]}]."},
+              {"FILE must contain a list such as [{lobby,[{gateways,[..]}]}]", "[{lobby, [" ++ Gateways ++ "]}, mnesia]."},
+              {"the configuration must have the key gateways", "[{lobby, []}]."},
+              {"the configuration has the unknown key port", "[{lobby, [" ++ Gateways ++ ", {port, 1}]}]."}]]
         ++ [?_test(begin
              ok = file:write_file(File, ["[{lobby, [", Gateways, "]}, {mnesia, [{dir, \"x\"}]}]."]),
              ?assertMatch({ok, #{gateways := [_]}}, lobby_config:load(File)),

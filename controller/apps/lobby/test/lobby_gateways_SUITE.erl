@@ -7,7 +7,8 @@
 -compile([export_all]).
 
 all() ->
-    [the_rules_hold_on_the_gateway, a_newcomer_enters_with_his_rules, mutes_and_holds_are_modes, members_move, a_move_that_fails_changes_nothing, refused_media,
+    [the_rules_hold_on_the_gateway, a_newcomer_enters_with_his_rules, mutes_and_holds_are_modes, members_move, a_member_between_rooms_is_inactive,
+     a_move_that_fails_changes_nothing, refused_media, a_refused_newcomer_disturbs_nobody,
      a_lecture_of_sixty, a_killed_gateway_is_replaced, one_that_begins_anew_is_noticed,
      one_that_begins_with_the_same_numbers_is_noticed, one_that_was_out_of_reach_is_cleaned, of_a_pair_it_is_cleaned_later,
      a_room_waits_for_a_gateway, one_with_a_journal_comes_back, one_that_comes_back_soon_is_not_missed, one_that_comes_back_soon_is_seen,
@@ -125,6 +126,21 @@ members_move(_) ->
     ?assertEqual([<<"break">>], lobby_rooms:names()),
     ?assertEqual({error, no_member}, lobby_rooms:move(dave, <<"break">>, <<"main">>)).
 
+%% He is still connected with a customer who comes meanwhile, and who isn't to hear him.
+a_member_between_rooms_is_inactive(_) ->
+    G = gateway:start(),
+    run([{<<"a">>, G}]),
+    [ok = lobby_rooms:create(Room, lobby_rules:preset(coaching)) || Room <- [<<"desk">>, <<"break">>]],
+    join(<<"desk">>, bob, <<"agent">>),
+    Local = join(<<"desk">>, carol, <<"coach">>),
+    #{context := Desk, members := #{carol := #{termination := T}}} = lobby_room:describe(<<"desk">>),
+    {ok, Given} = lobby_room:take(<<"desk">>, carol),
+    join(<<"desk">>, alice, <<"customer">>),
+    ?assertMatch(#{T := 'Inactive'}, gateway:modes(Desk, G)),
+    ?assertEqual({ok, Local}, lobby_room:give(<<"break">>, carol, Given)),
+    #{context := Break} = lobby_room:describe(<<"break">>),
+    ?assertEqual(#{T => 'SendReceive'}, gateway:modes(Break, G)).
+
 %% He is in his room as before: isolated, and in the second room alone.
 a_move_that_fails_changes_nothing(_) ->
     G = gateway:start(),
@@ -147,6 +163,18 @@ refused_media(_) ->
     Local = join(<<"100">>, alice, <<"member">>),
     ?assertEqual({error, {refused, 515}}, lobby_room:update(<<"100">>, alice, #{media => Bad})),
     ?assertEqual({ok, Local}, lobby_room:update(<<"100">>, alice, #{muted => false})).
+
+%% The gateway refuses his Add, and also the triples with him.
+a_refused_newcomer_disturbs_nobody(_) ->
+    G = gateway:start(),
+    run([{<<"a">>, G}]),
+    ok = lobby_rooms:create(<<"100">>, lobby_rules:preset(coaching)),
+    [join(<<"100">>, Id, Role) || {Id, Role} <- [{alice, <<"customer">>}, {bob, <<"agent">>}]],
+    Before = lobby_room:describe(<<"100">>),
+    Bad = {{{127, 0, 0, 1}, 0}, pcmu},
+    ?assertEqual({error, {refused, 515}}, lobby_rooms:join(<<"100">>, x, lobby_conference:member(x, <<"coach">>, Bad, sendrecv))),
+    ?assertEqual(Before, lobby_room:describe(<<"100">>)),
+    ?assertEqual([{alice, bob}, {bob, alice}], heard(<<"100">>, #{<<"a">> => G})).
 
 %% So many that the topology takes several requests and can't be audited.
 a_lecture_of_sixty(_) ->
@@ -254,8 +282,11 @@ a_room_waits_for_a_gateway(_) ->
     gateway:stop(G),
     lobby_case:until(fun() -> maps:get(gateway, lobby_room:describe(<<"100">>)) =:= none end),
     ?assertEqual({error, no_room}, lobby_rooms:join(<<"100">>, x, lobby_conference:member(x, <<"member">>, media(40000), sendrecv))),
+    %% The gateway may still mix, so a change isn't said to be made.
+    ?assertNot(lobby_room:agrees(<<"100">>)),
     gateway:continue(G),
     lobby_case:until(fun() -> maps:get(gateway, lobby_room:describe(<<"100">>)) =:= <<"a">> end),
+    ?assert(lobby_room:agrees(<<"100">>)),
     ?assertEqual([{alice, bob}, {bob, alice}], heard(<<"100">>, #{<<"a">> => G})).
 
 %%% With a journal.

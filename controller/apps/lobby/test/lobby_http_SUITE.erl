@@ -10,7 +10,7 @@
 -define(VIEWER, "viewer-token-000001").
 
 all() ->
-    [a_room_is_steered, rooms_are_created_and_closed, tokens, errors, what_the_gateway_says, what_the_gateway_refuses, metrics, the_page, everything_is_described, events, watchers_are_limited, a_watcher_that_does_not_read, supervisors_fail, anything].
+    [a_room_is_steered, rooms_are_created_and_closed, tokens, errors, what_the_gateway_says, what_the_gateway_refuses, what_takes_too_long, metrics, the_page, everything_is_described, events, watchers_are_limited, a_watcher_that_does_not_read, supervisors_fail, anything].
 
 init_per_testcase(Case, Config) ->
     {ok, _} = application:ensure_all_started(inets),
@@ -146,20 +146,20 @@ errors(Config) ->
     Phone = call("100", Config),
     [Id] = [binary_to_list(I) || I <- members("100", Config)],
     Member = "/members/" ++ Id,
-    Party = <<"a rule is {\"hears\": true or false, \"talker\": PARTY, \"listener\": PARTY}, "
-              "and a party is \"everyone\", {\"role\": TEXT} or {\"member\": ID}">>,
+    Party = <<"a rule must be {\"hears\": true or false, \"talker\": PARTY, \"listener\": PARTY}, "
+              "where PARTY is \"everyone\", {\"role\": TEXT} or {\"member\": ID}">>,
     [?assertEqual({Method, Path, Body, {Status, #{<<"error">> => Text}}}, {Method, Path, Body, ask(Method, Path, Body, Config)})
      || {Status, Text, Method, Path, Body} <-
-            [{404, <<"there is nothing of this name">>, get, "/nothing", ""},
+            [{404, <<"there is no such path">>, get, "/nothing", ""},
              {404, <<"there is no such room">>, get, "/rooms/none", ""},
-             {404, <<"there is nothing of this name">>, post, "/nothing", "{}"},
-             {404, <<"there is nothing of this name">>, get, "/../lobby_http.erl", ""},
+             {404, <<"there is no such path">>, post, "/nothing", "{}"},
+             {404, <<"there is no such path">>, get, "/../lobby_http.erl", ""},
              {400, <<"the body is not JSON: truncated_json at byte 2">>, put, "/rooms/1", "{"},
              {400, <<"the body is not a JSON object">>, put, "/rooms/1", "[]"},
              {400, <<"\"rules\" or \"preset\" is missing">>, put, "/rooms/1", "{}"},
              {400, <<"\"rules\" or \"preset\" is missing">>, put, "/rooms/1", ""},
-             {400, <<"a room's name has 1 to 32 letters, digits and _.-">>, put, "/rooms/a%20b", "{\"rules\": []}"},
-             {400, <<"preset is one of plain, lecture, coaching, monitored">>, put, "/rooms/1", "{\"preset\": 1}"},
+             {400, <<"a room's name must be 1 to 32 letters, digits or _.-">>, put, "/rooms/a%20b", "{\"rules\": []}"},
+             {400, <<"\"preset\" must be plain, lecture, coaching or monitored">>, put, "/rooms/1", "{\"preset\": 1}"},
              {400, Party, post, "/rooms/100/rules", "{\"rules\": [1]}"},
              {400, Party, post, "/rooms/100/rules", "{\"rules\": [{\"hears\": true, \"talker\": 1, \"listener\": \"everyone\"}]}"},
              {400, Party, post, "/rooms/100/rules", "{\"rules\": [{\"hears\": true, \"talker\": {}, \"listener\": \"everyone\"}]}"},
@@ -168,16 +168,16 @@ errors(Config) ->
              {404, <<"there is no such room">>, delete, "/rooms/none", ""},
              {404, <<"there is no such member">>, post, "/members/none/mute", ""},
              {404, <<"there is no such member">>, post, "/members/none/hang_up", ""},
-             {404, <<"there is nothing of this name">>, post, Member ++ "/dance", ""},
-             {400, <<"\"role\" is a text of 1 to 32 bytes">>, post, Member ++ "/role", "{}"},
-             {400, <<"\"role\" is a text of 1 to 32 bytes">>, post, Member ++ "/role", "{\"role\": \"" ++ lists:duplicate(33, $a) ++ "\"}"},
-             {404, <<"the listener is no member of the room">>, post, Member ++ "/oneway", "{\"listener\": \"x\"}"},
-             {400, <<"\"room\" is a text of 1 to 32 bytes">>, post, Member ++ "/move", "{\"room\": 1}"},
-             {409, <<"the member is in this room">>, post, Member ++ "/move", "{\"room\": \"100\"}"},
-             {400, <<"a room's name has 1 to 32 letters, digits and _.-">>, post, Member ++ "/move", "{\"room\": \"a b\"}"},
-             {405, <<"the methods are GET">>, post, "/rooms", "{}"},
-             {405, <<"the methods are GET, PUT, DELETE">>, post, "/rooms/100", "{}"},
-             {405, <<"the methods are POST">>, get, Member ++ "/mute", ""}]],
+             {404, <<"there is no such path">>, post, Member ++ "/dance", ""},
+             {400, <<"\"role\" must be a string of 1 to 32 bytes">>, post, Member ++ "/role", "{}"},
+             {400, <<"\"role\" must be a string of 1 to 32 bytes">>, post, Member ++ "/role", "{\"role\": \"" ++ lists:duplicate(33, $a) ++ "\"}"},
+             {404, <<"the listener isn't in the member's room">>, post, Member ++ "/oneway", "{\"listener\": \"x\"}"},
+             {400, <<"\"room\" must be a string of 1 to 32 bytes">>, post, Member ++ "/move", "{\"room\": 1}"},
+             {409, <<"the member is already in this room">>, post, Member ++ "/move", "{\"room\": \"100\"}"},
+             {400, <<"a room's name must be 1 to 32 letters, digits or _.-">>, post, Member ++ "/move", "{\"room\": \"a b\"}"},
+             {405, <<"allowed methods: GET">>, post, "/rooms", "{}"},
+             {405, <<"allowed methods: GET, PUT, DELETE">>, post, "/rooms/100", "{}"},
+             {405, <<"allowed methods: POST">>, get, Member ++ "/mute", ""}]],
     {ok, {_, Allowed, _}} = httpc:request(post, {url("/rooms", Config), auth(?OPERATOR), "application/json", "{}"}, [], []),
     ?assertEqual("GET", proplists:get_value("allow", Allowed)),
     {ok, {_, Denied, _}} = httpc:request(get, {url("/rooms", Config), []}, [], []),
@@ -186,7 +186,9 @@ errors(Config) ->
     %% Too many rules.
     Many = fun(N) -> "{\"rules\": [" ++ lists:append(lists:join(",", ["{\"hears\": true, \"talker\": {\"role\": \"" ++ integer_to_list(I) ++
                      "\"}, \"listener\": \"everyone\"}" || I <- lists:seq(1, N)])) ++ "]}" end,
-    ?assertMatch({409, #{<<"error">> := <<"the room has too many rules">>}}, ask(post, "/rooms/100/rules", Many(257), Config)),
+    ?assertMatch({409, #{<<"error">> := <<"the room would have too many rules">>}}, ask(post, "/rooms/100/rules", Many(257), Config)),
+    ?assertMatch({409, #{<<"error">> := <<"the room would have too many rules">>}}, ask(put, "/rooms/1", Many(257), Config)),
+    ?assertEqual({200, #{<<"rooms">> => [<<"100">>]}}, ask(get, "/rooms", Config)),
     ?assertEqual([list_to_binary(Id)], members("100", Config)),
     phone:close(Phone).
 
@@ -209,7 +211,7 @@ what_the_gateway_refuses(Config) ->
     {200, #{<<"flows">> := Flows}} = ask(get, "/rooms/100", Config),
     ok = relay:refuse(proplists:get_value(relay, Config), <<"TP{">>),
     Isolate = "/members/" ++ binary_to_list(A) ++ "/isolate",
-    NotYet = {503, #{<<"error">> => <<"the gateway refuses the change for now; the room keeps it and asks again">>}},
+    NotYet = {503, #{<<"error">> => <<"the gateway hasn't accepted the change yet; the controller keeps trying">>}},
     ?assertEqual(NotYet, ask(post, Isolate, "", Config)),
     ?assertMatch({200, #{<<"audited">> := true, <<"rules">> := [_, _], <<"flows">> := Flows}}, ask(get, "/rooms/100", Config)),
     ?assertEqual(2, flows("100", Config)),
@@ -218,6 +220,19 @@ what_the_gateway_refuses(Config) ->
     ok = relay:pass(proplists:get_value(relay, Config)),
     lobby_case:until(fun() -> flows("100", Config) =:= 0 end),
     ?assertMatch({200, _}, ask(post, Isolate, "", Config)).
+
+%% A room that doesn't answer for half a minute, as if it waited for its gateway.
+what_takes_too_long(Config) ->
+    call("100", Config),
+    [Id] = members("100", Config),
+    Member = "/members/" ++ binary_to_list(Id),
+    ok = sys:suspend(lobby_registry:whereis_name({room, <<"100">>})),
+    Parent = self(),
+    Requests = [{get, "/rooms/100", ""}, {put, "/rooms/100", "{\"rules\": []}"}, {post, Member ++ "/mute", ""},
+                {post, Member ++ "/move", "{\"room\": \"200\"}"}],
+    [spawn_link(fun() -> Parent ! {Request, ask(Method, Path, Body, Config)} end) || Request = {Method, Path, Body} <- Requests],
+    TooLong = {504, #{<<"error">> => <<"the gateway hasn't answered yet">>}},
+    [?assertEqual({Request, TooLong}, receive Answer = {Request, _} -> Answer end) || Request <- Requests].
 
 metrics(Config) ->
     call("100", Config),

@@ -14,9 +14,9 @@ rules_test() ->
     ?assertEqual({ok, [{allow, {role, <<"x">>}, everyone}]},
                  lobby_json:rules(#{<<"rules">> => [Rule#{<<"hears">> := true, <<"talker">> := #{<<"role">> => <<"x">>}}]})),
     ?assertEqual({ok, lobby_rules:preset(coaching)}, lobby_json:rules(#{<<"preset">> => <<"coaching">>})),
-    ?assertMatch({error, <<"preset is one of", _/binary>>}, lobby_json:rules(#{<<"preset">> => <<"party">>})),
+    ?assertMatch({error, <<"\"preset\" must be ", _/binary>>}, lobby_json:rules(#{<<"preset">> => <<"party">>})),
     ?assertMatch({error, <<"\"rules\" or", _/binary>>}, lobby_json:rules(#{})),
-    [?assertMatch({error, <<"a rule is", _/binary>>}, lobby_json:rules(#{<<"rules">> => [Wrong]}))
+    [?assertMatch({error, <<"a rule must be", _/binary>>}, lobby_json:rules(#{<<"rules">> => [Wrong]}))
      || Wrong <- [1, #{}, maps:remove(<<"hears">>, Rule), Rule#{<<"hears">> := 1}, Rule#{<<"talker">> := <<"nobody">>},
                   Rule#{<<"talker">> := #{}}, Rule#{<<"talker">> := #{<<"role">> => 1}},
                   Rule#{<<"listener">> := #{<<"role">> => <<"a">>, <<"member">> => <<"b">>}},
@@ -24,7 +24,7 @@ rules_test() ->
 
 texts_test() ->
     ?assertEqual({ok, <<"x">>}, lobby_json:text(<<"role">>, #{<<"role">> => <<"x">>})),
-    [?assertMatch({error, <<"\"role\" is a text", _/binary>>}, lobby_json:text(<<"role">>, Wrong))
+    [?assertMatch({error, <<"\"role\" must be a string", _/binary>>}, lobby_json:text(<<"role">>, Wrong))
      || Wrong <- [#{}, #{<<"role">> => 1}, #{<<"role">> => <<>>}, #{<<"role">> => binary:copy(<<"a">>, 33)}]].
 
 %% One caller's name must not break the list for all.

@@ -1,7 +1,7 @@
 %% A gateway as a value, by its profile: what requests do to contexts, terminations and the topology.
 -module(model_gateway).
 
--export([new/2, run/2, disturb/2, mode/2, context_of/2, open/3, terminations/1]).
+-export([new/2, run/2, disturb/2, end_one/2, mode/2, context_of/2, open/3, terminations/1]).
 
 -record(gateway, {next_context, next_termination, limit, contexts = #{}, terminations = #{}}).
 
@@ -9,6 +9,8 @@
 new(First, Limit) ->
     #gateway{next_context = First, next_termination = First, limit = Limit}.
 
+run(#{context := Context, commands := [{audit, all, _}]}, G = #gateway{terminations = Ts}) ->
+    {#{context => Context, results => [{audit, T, #{mode => Mode}} || {T, {In, Mode}} <- maps:to_list(Ts), In =:= Context]}, G};
 run(Action = #{context := Context}, G) ->
     {Results, Now, New, G1} = commands(maps:get(commands, Action, []), Context, none, [], G),
     Reply = #{context => Now, results => Results},
@@ -18,10 +20,23 @@ run(Action = #{context := Context}, G) ->
         {true, _, _} -> {Reply, G1};
         {false, [], false} -> {Reply, G1};
         {false, Triples, Audit} when is_map_key(Now, G1#gateway.contexts) ->
-            G2 = triples(Triples, Now, New, G1),
-            {case Audit of true -> Reply#{topology => audited(Now, G2)}; false -> Reply end, G2};
+            case error_of(Triples, Now, New, G1) of
+                none ->
+                    G2 = triples(Triples, Now, New, G1),
+                    {case Audit of true -> Reply#{topology => audited(Now, G2)}; false -> Reply end, G2};
+                Code ->
+                    {Reply#{error => Code}, G1}
+            end;
         _ -> {Reply#{error => 411}, G1}
     end.
+
+%% Triples have to name members, or what the action's first Add has created. The commands before them have been run
+%% even if they don't.
+error_of(Triples, Context, New, #gateway{contexts = Cs}) ->
+    #{Context := {Members, _}} = Cs,
+    Wrong = [case T of new -> 410; _ -> 435 end
+             || {A, B, _} <- Triples, T <- [A, B], T =/= all, not lists:member(case T of new -> New; _ -> T end, Members)],
+    hd(Wrong ++ [none]).
 
 is_error({_, _, {error, _}}) -> true;
 is_error(_) -> false.
@@ -111,7 +126,7 @@ triples(Triples, Context, New, G) ->
 
 triple({A, B, How}, Context, New, G = #gateway{contexts = Cs}) ->
     #{Context := {Members, Closed}} = Cs,
-    Named = fun(all) -> Members; (new) -> [New]; (T) -> true = lists:member(T, Members), [T] end,
+    Named = fun(all) -> Members; (new) -> [New]; (T) -> [T] end,
     Pairs = [{X, Y} || X <- Named(A), Y <- Named(B), X =/= Y],
     true = How =/= oneway orelse (A =/= all andalso B =/= all),
     Both = Pairs ++ [{Y, X} || {X, Y} <- Pairs],
@@ -134,6 +149,9 @@ audited(Context, #gateway{contexts = Cs}) ->
 %% Somebody else isolates everybody in all contexts, or lets everybody hear everybody.
 disturb(How, G = #gateway{contexts = Cs}) ->
     lists:foldl(fun(Context, Acc) -> triple({all, all, How}, Context, none, Acc) end, G, maps:keys(Cs)).
+
+%% Somebody else ends a termination.
+end_one(T, G) -> exit_from(T, context_of(T, G), G).
 
 mode(T, #gateway{terminations = Ts}) -> element(2, maps:get(T, Ts)).
 

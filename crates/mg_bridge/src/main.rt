@@ -8,8 +8,8 @@
 //! `tick` advances by 20 ms and sends the packets, `stats` prints the counts, and `quit` ends the run. Another program,
 //! `mg_pace`, writes `poll` and `tick` when the clock says that they are due.
 //!
-//! With `--record`, `live` and `serve` print a recording: a script of all events. While they run, `live` and `serve`
-//! don't wait for the readers of standard output and standard error; the other subcommands do.
+//! With `--record`, `live` and `serve` print a recording: a script of all events. While they run, they don't wait for the
+//! readers of standard output and standard error; the other subcommands (`check`, `heard`, `verify`, `seal`) do.
 #![tactic(auto)]
 
 mod live_output;

@@ -70,7 +70,7 @@ fn put(places: &mut [OpenInterval], place: usize, interval: OpenInterval) -> usi
     place + 1
 }
 
-/// Writes an interval for each of these flows, starting at the first place.
+/// Fills the first places with one interval per flow.
 pub(crate) fn put_flows(places: &mut [OpenInterval], flows: &[OpenFlow], first: Moment)
     requires room { length flows.now ≤ length places.old }
     ensures value { take (length flows.now) places.new ≡ map (beginning_at first) flows.now }

@@ -13,7 +13,7 @@ use mg_core::Peer;
 use std::alloc::Global;
 use std::marker::Model;
 
-/// Which terminations a question is about: those that match any of these keys.
+/// Keys that select terminations. A termination has to match only one of them.
 #[derive(Drop)]
 pub struct Keys {
     keys: Vec<PartyName>,

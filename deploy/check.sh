@@ -160,7 +160,7 @@ END
     completes '--control-address --control-port --controller' mg_bridge live --c
     completes --flows mg_bridge replay --fl
     completes '' mg_bridge serve --slots ''
-    completes serve mg_bridge help s
+    completes 'seal serve' mg_bridge help s
     touch "$work/gateway.prom"
     completes "$work/gateway.prom" mg_bridge live --metrics "$work/gateway.p"
     completes --ticks mg_pace --t

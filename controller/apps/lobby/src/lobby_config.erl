@@ -26,7 +26,7 @@
                    terminations => {{1, 256}, 256}, contexts => {{1, 64}, 64}}).
 
 -define(PAIR, #{self => {node, required}, peer => {node, required}, cookie => {secret, required},
-                lease => {lease, address}, ready => {file, none}, gap => {{100, 10000}, 400}}).
+                lease => {lease, address}, ready => {file, none}, gap => {{100, 250}, 250}}).
 
 %% @doc The configuration with defaults, or what is wrong with it.
 -spec check([{atom(), term()}]) -> {ok, config()} | {error, string()}.

@@ -1,54 +1,43 @@
 %%% @doc Which node of a pair serves: the one whose host has the lease. That is the SIP port's address, which keepalived
-%%% (VRRP) gives to one host at a time, or a file, for another cluster manager.
+%%% (VRRP) gives to one host at a time, or a file, for another cluster manager. `lobby_lease_core' decides; this process
+%%% looks at the lease, hears the other node, and acts.
 %%%
 %%% A node that serves ends itself if it loses the lease, if its own timer shows a gap in which it may have lost it (so
 %%% nothing is sent after such a gap), or if the other node serves that began later. A standby ends itself if it can't
 %%% know any more what the other node changes. It is started again, and copies what the other node has. So no two nodes
-%%% change the same conferences, and none serves with what is out of date.
+%%% change the same conferences, and none serves with less than what was answered.
 %%%
 %%% Each node says to keepalived what it is good for, through a program that notices also if the node hangs or ends: one
-%%% that serves, and reaches a gateway, is to go on, and if two were apart and both do, the one that began later; one that
-%%% has reached none for a while is worse than a standby.
+%%% that serves, and reaches a gateway, is to go on, and if two were apart and both do, the one that began later; one
+%%% that has reached none for a while is worse than a standby.
 -module(lobby_lease).
 -behaviour(gen_server).
 
--export([start_link/2, hold/0, settled_after/0]).
+-export([start_link/2, hold/0, durable/0, settled_after/0]).
 -export([init/1, handle_call/3, handle_cast/2, handle_info/2]).
 -export_type([lease/0]).
 
 %% The address that only one host has.
 -type lease() :: {address, inet:ip4_address()} | {file, file:filename()}.
-%% Milliseconds: between looks at the lease, between messages to the other node, and until a standby ends itself that
-%% doesn't hear the other node.
+%% Milliseconds: between looks at the lease, and between looks at the gateways.
 -define(TICK, 20).
--define(BEAT, 100).
--define(ALONE, 3000).
+-define(GATEWAYS, 100).
 %% Milliseconds after which keepalived has taken the lease from one of two nodes that were apart.
 -define(SETTLED, 1000).
-%% Milliseconds for mnesia to notice that the other node isn't connected.
+%% Milliseconds for mnesia to notice that the other node isn't connected, and for the other node's port to answer.
 -define(DISCONNECT, 100).
-%% Milliseconds until a node that reaches no gateway says so, and how often it looks.
--define(UNREACHED, 10000).
-%% What is said to keepalived: added to a priority of 100. With -254, a node doesn't get the lease.
--define(WAITING, -254).
--define(STANDBY, 0).
--define(SERVING, 20).
--define(TERMS, 100).
--define(USELESS, -20).
+-define(ANSWER, 200).
+%% In the array of times: when the lease was last looked at, and until when what is written isn't durable.
+-define(SEEN, 1).
+-define(LIMIT, 2).
+-define(NEVER, -(1 bsl 62)).
 
--record(state, {pair :: lobby_pair:config(), lease :: lease(), serving :: supervisor:child_spec(),
-                role = waiting :: waiting | standby | serving,
-                %% How often a node has begun to serve, up to this one.
-                term = 0 :: non_neg_integer(), reached = 0 :: integer(), seen :: atomics:atomics_ref(),
-                ready :: port() | none, beat = now_ms() - ?BEAT :: integer(),
-                %% What the other node said last, and when.
-                peer = none :: {waiting | standby | {serving, Term :: pos_integer()}, integer()} | none,
-                %% Whether the next start of this standby waits for the other node.
-                follows = false :: boolean()}).
+-record(state, {core :: lobby_lease_core:state(), peer :: node(), lease :: lease(), serving :: supervisor:child_spec(),
+                times :: atomics:atomics_ref(), ready :: port() | none}).
+-type config() :: #{pair := lobby_pair:config(), sip := lobby_sip_message:peer()}.
 
 %% @doc With the supervisor that is to be started while this node serves.
--spec start_link(#{pair := lobby_pair:config(), sip := lobby_sip_message:peer()}, supervisor:child_spec()) ->
-          gen_server:start_ret().
+-spec start_link(config(), supervisor:child_spec()) -> gen_server:start_ret().
 start_link(Config, Serving) ->
     gen_server:start_link({local, ?MODULE}, ?MODULE, {Config, Serving}, []).
 
@@ -57,27 +46,54 @@ start_link(Config, Serving) ->
 hold() ->
     case persistent_term:get(?MODULE, none) of
         none -> ok;
-        {Seen, Gap} -> within(now_ms() - atomics:get(Seen, 1), Gap)
+        {Times, Gap} -> within(now_ms() - atomics:get(Times, ?SEEN), Gap)
     end.
+
+within(Passed, Gap) when Passed =< Gap -> ok;
+within(Passed, _) -> stop(io_lib:format("the lease wasn't checked for ~b ms", [Passed])).
+
+%% @doc Whether a node that takes over has whatever was written before this call. If not, the change that was written
+%% can't be answered yet: ask again after so many milliseconds. To be called after the write has returned.
+-spec durable() -> ok | {wait, Milliseconds :: pos_integer()}.
+durable() ->
+    case persistent_term:get({?MODULE, durable}, none) of
+        none -> ok;
+        {Times, Peer} -> durable(is_copied(Peer), atomics:get(Times, ?LIMIT) - now_ms())
+    end.
+
+%% If the other node ends meanwhile, the wait does, too.
+durable(false, Left) when Left > 0 -> {wait, min(Left, ?TICK)};
+durable(_, _) -> ok.
+
+%% What is written is on the other node before the write returns, unless that node was dropped meanwhile. Mnesia has
+%% forgotten a node that was dropped before such a write returns, and counts it again only after it has started again.
+is_copied(Peer) ->
+    lists:member(Peer, mnesia:system_info(running_db_nodes)).
 
 %% @doc Milliseconds after which nodes that were apart agree about who serves: 0 without another node.
 -spec settled_after() -> non_neg_integer().
 settled_after() ->
     case persistent_term:get(?MODULE, none) of none -> 0; _ -> ?SETTLED end.
 
-within(Passed, Gap) when Passed =< Gap -> ok;
-within(Passed, _) -> stop(io_lib:format("the lease wasn't checked for ~b ms", [Passed])).
-
--spec init({#{pair := lobby_pair:config(), sip := lobby_sip_message:peer()}, supervisor:child_spec()}) -> {ok, #state{}}.
-init({#{pair := Pair = #{gap := Gap, lease := Lease, ready := Ready}, sip := {Address, _}}, Serving}) ->
+-spec init({config(), supervisor:child_spec()}) -> {ok, #state{}}.
+init({#{pair := #{gap := Gap, lease := Lease, ready := Ready, peer := Peer}, sip := {Address, _}}, Serving}) ->
     _ = process_flag(priority, high),
+    %% Since an earlier process looked.
+    ok = hold(),
     {ok, _} = mnesia:subscribe(system),
-    Seen = atomics:new(1, [{signed, true}]),
-    ok = atomics:put(Seen, 1, now_ms()),
-    ok = persistent_term:put(?MODULE, {Seen, Gap}),
+    ok = net_kernel:monitor_nodes(true),
+    Times = atomics:new(2, [{signed, true}]),
+    ok = atomics:put(Times, ?SEEN, now_ms()),
+    {Core, Actions} = lobby_lease_core:new(#{gap => Gap, run => make_ref(), now => now_ms(),
+                                             permit => persistent_term:get({?MODULE, permit}, free)}),
+    State = acted(Actions, #state{core = Core, peer = Peer, serving = Serving, times = Times,
+                                  ready = lobby_pair:open_ready(Ready),
+                                  lease = case Lease of address -> {address, Address}; _ -> Lease end}),
+    ok = persistent_term:put(?MODULE, {Times, Gap}),
+    ok = persistent_term:put({?MODULE, durable}, {Times, Peer}),
     self() ! tick,
-    {ok, #state{pair = Pair, serving = Serving, seen = Seen, ready = lobby_pair:open_ready(Ready),
-                lease = case Lease of address -> {address, Address}; _ -> Lease end}}.
+    self() ! gateways,
+    {ok, State}.
 
 -spec handle_call(term(), gen_server:from(), #state{}) -> {reply, {error, unknown_call}, #state{}}.
 handle_call(_, _, State) ->
@@ -88,34 +104,43 @@ handle_cast(_, State) ->
     {noreply, State}.
 
 -spec handle_info(term(), #state{}) -> {noreply, #state{}}.
-handle_info(tick, State = #state{seen = Seen}) ->
+handle_info(tick, State = #state{times = Times}) ->
     ok = hold(),
-    ok = atomics:put(Seen, 1, now_ms()),
+    Before = now_ms(),
+    %% What is seen was so before the time of the event. So who hangs in between doesn't take it for newer than it is.
+    Seen = seen(State),
+    Next = event({tick, Seen, now_ms()}, State),
+    ok = atomics:put(Times, ?SEEN, Before),
     _ = erlang:send_after(?TICK, self(), tick),
-    {noreply, beaten(watched(looked(State)))};
-handle_info({?MODULE, Node, {serving, Later}}, #state{pair = #{peer := Node}, role = serving, term = Term})
-  when Later > Term ->
-    stop("the other node has started to serve");
-handle_info({?MODULE, Node, Role}, State = #state{pair = #{peer := Node}}) ->
-    {noreply, State#state{peer = {Role, now_ms()}}};
-handle_info({mnesia_system_event, {inconsistent_database, _, _}}, #state{role = standby}) ->
-    stop("the nodes were disconnected, and the other one serves");
-handle_info({Ready, {exit_status, Status}}, #state{ready = Ready}) ->
-    stop(io_lib:format("the program that reports this node's priority exited with status ~b", [Status]));
-handle_info(_, State) ->
-    {noreply, State}.
+    {noreply, Next};
+handle_info(Message, State) ->
+    {noreply, lists:foldl(fun event/2, State, events(Message, State))}.
 
-%% Begins or ends to serve.
-looked(State = #state{role = waiting}) ->
-    case lobby_store:is_open() of
-        true -> looked(State#state{role = standby});
-        false -> State
-    end;
-looked(State = #state{role = Role, lease = Lease}) ->
-    case {Role, has(Lease)} of
-        {standby, true} -> serve(State);
-        {serving, false} -> stop("another node has the lease");
-        {_, _} -> State
+events(gateways, _) ->
+    _ = erlang:send_after(?GATEWAYS, self(), gateways),
+    [{reaches, now_ms()} || whereis(lobby_serving) =/= undefined andalso lobby_gateway:any_serves()];
+events({?MODULE, Node, Said = #{}}, #state{peer = Node}) -> [{heard, Said, now_ms()}];
+events({nodeup, Node}, #state{peer = Node}) -> [{connected, now_ms()}];
+events({nodedown, Node}, #state{peer = Node}) -> [{lost, now_ms()}];
+events({gone, Asked}, _) -> [{gone, Asked}];
+events({mnesia_system_event, {inconsistent_database, _, _}}, _) -> [inconsistent];
+events({Ready, {exit_status, Status}}, #state{ready = Ready}) ->
+    stop(io_lib:format("the program that reports this node's priority exited with status ~b", [Status]));
+events(_, _) -> [].
+
+event(Event, State = #state{core = Core}) ->
+    {Next, Actions} = lobby_lease_core:handle(Event, Core),
+    acted(Actions, State#state{core = Next}).
+
+seen(#state{peer = Peer, lease = Lease}) ->
+    Open = lobby_store:is_open(),
+    #{open => Open, term => case Open of true -> last_term(); false -> 0 end, lease => has(Lease),
+      connected => lists:member(Peer, nodes()), copied => is_copied(Peer)}.
+
+last_term() ->
+    case lobby_store:get(lobby_settings, term) of
+        {ok, Term} -> Term;
+        error -> 0
     end.
 
 has({address, Address}) ->
@@ -124,89 +149,53 @@ has({address, Address}) ->
 has({file, File}) ->
     filelib:is_regular(File).
 
-%% If the other node served until now, it has lost the lease or hangs. It's told, and what is written doesn't wait for it.
-serve(State0 = #state{pair = #{peer := Peer}, serving = Serving, peer = Said}) ->
-    State = State0#state{role = serving, term = next_term(), reached = now_ms()},
-    ok = say(State),
-    _ = [disconnect(Peer, ?DISCONNECT) || {{serving, _}, _} <- [Said]],
-    ok = lobby_store:put(lobby_settings, term, State#state.term),
-    ok = lobby_store:follow(none),
-    logger:notice("this node serves"),
-    %% That may take longer than nobody looks at the lease.
-    _ = spawn_link(fun() -> started(supervisor:start_child(lobby_sup, Serving)) end),
-    State#state{peer = none, follows = false}.
+acted(Actions, State) ->
+    lists:foreach(fun(Action) -> ok = act(Action, State) end, Actions),
+    State.
 
-%% Until mnesia has heard of it.
-disconnect(Peer, Left) ->
+act({limit, Limit}, #state{times = Times}) ->
+    atomics:put(Times, ?LIMIT, case Limit of none -> ?NEVER; _ -> Limit end);
+act({say, Said}, #state{peer = Peer}) ->
+    _ = erlang:send({?MODULE, Peer}, {?MODULE, node(), Said}, [noconnect, nosuspend]),
+    ok;
+act({ready, Value}, #state{ready = Ready}) ->
+    lobby_pair:say_ready(Ready, Value);
+act({ask, Asked}, #state{peer = Peer}) ->
+    Self = self(),
+    _ = spawn_link(fun() -> [Self ! {gone, Asked} || lobby_pair:has_ended(Peer, ?ANSWER)] end),
+    ok;
+act({keep, Permit}, _) ->
+    persistent_term:put({?MODULE, permit}, Permit);
+act(follow, #state{peer = Peer}) ->
+    lobby_store:follow(Peer);
+act(drop, #state{peer = Peer}) ->
     _ = erlang:disconnect_node(Peer),
-    case lists:member(Peer, mnesia:system_info(running_db_nodes)) of
-        true when Left > 0 -> timer:sleep(1), disconnect(Peer, Left - 1);
-        _ -> ok
-    end.
+    ok;
+%% That may take longer than nobody looks at the lease.
+act({serve, Term}, #state{peer = Peer, serving = Serving}) ->
+    logger:notice("this node serves"),
+    _ = spawn_link(fun() -> serve(Term, Peer, Serving) end),
+    ok;
+act({stop, Why}, _) ->
+    stop(Why).
 
-next_term() ->
-    case lobby_store:get(lobby_settings, term) of
-        {ok, Term} -> Term + 1;
-        error -> 1
+serve(Term, Peer, Serving) ->
+    ok = noticed(Peer, ?DISCONNECT),
+    ok = lobby_store:put(lobby_settings, term, Term),
+    ok = lobby_store:follow(none),
+    started(supervisor:start_child(lobby_sup, Serving)).
+
+%% Mnesia hears a little later of a node that was dropped.
+noticed(Peer, Left) ->
+    case is_copied(Peer) andalso not lists:member(Peer, nodes()) of
+        true when Left > 0 -> timer:sleep(1), noticed(Peer, Left - 1);
+        _ -> ok
     end.
 
 started({ok, _}) -> ok;
 %% The supervisor has started it again, after this process failed.
 started({error, {already_started, _}}) -> ok;
 started({error, {Reason, _}}) -> stop(io_lib:format("it can't start to serve: ~0P", [Reason, 20])).
-
-%% Is the other node there? One that hangs would hold up what is written.
-watched(State = #state{role = serving, pair = #{peer := Peer, gap := Gap}, peer = {_, Since}}) ->
-    case now_ms() - Since > Gap of
-        true -> ok = disconnect(Peer, ?DISCONNECT), State#state{peer = none};
-        false -> State
-    end;
-watched(State = #state{role = standby, peer = {{serving, _}, Since}}) ->
-    case now_ms() - Since > ?ALONE of
-        true -> stop("the serving node is silent, but this node doesn't have the lease");
-        false -> State
-    end;
-watched(State) ->
-    State.
-
-%% A standby follows the node that serves, so that it doesn't begin with what is out of date.
-beaten(State = #state{beat = Last, ready = Ready}) ->
-    case now_ms() - Last >= ?BEAT of
-        true ->
-            ok = say(State),
-            Reached = reached(State),
-            ok = lobby_pair:say_ready(Ready, value(Reached)),
-            follow(Reached#state{beat = now_ms()});
-        false ->
-            State
-    end.
-
-say(#state{role = Role, term = Term, pair = #{peer := Peer}}) ->
-    What = case Role of serving -> {serving, Term}; _ -> Role end,
-    _ = erlang:send({?MODULE, Peer}, {?MODULE, node(), What}, [noconnect, nosuspend]),
-    ok.
-
-reached(State = #state{role = serving}) ->
-    case lobby_gateway:any_serves() of
-        false -> State;
-        true -> State#state{reached = now_ms()}
-    end;
-reached(State) ->
-    State.
-
-value(#state{role = waiting}) -> ?WAITING;
-value(#state{role = standby}) -> ?STANDBY;
-value(#state{role = serving, term = Term, reached = Since}) ->
-    case now_ms() - Since > ?UNREACHED of
-        true -> ?USELESS;
-        false -> ?SERVING + Term rem ?TERMS
-    end.
-
-follow(State = #state{role = standby, follows = false, pair = #{peer := Peer}, peer = {{serving, _}, _}}) ->
-    ok = lobby_store:follow(Peer),
-    State#state{follows = true};
-follow(State) ->
-    State.
 
 now_ms() ->
     erlang:monotonic_time(millisecond).

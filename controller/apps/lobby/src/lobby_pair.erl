@@ -1,7 +1,7 @@
 %%% @doc Two nodes, of which one serves: how they find each other, and the commands for whoever runs them.
 -module(lobby_pair).
 
--export([distribute/1, command/2, open_ready/1, say_ready/2]).
+-export([distribute/1, command/2, has_ended/2, open_ready/1, say_ready/2]).
 -export_type([config/0, command/0]).
 
 %% `lease': who serves, see `lobby_lease'. `ready': the file that keepalived tracks. `gap': after so many milliseconds
@@ -41,6 +41,16 @@ command(leave, #{peer := Peer}) ->
         {error, Reason} -> {error, Reason}
     catch
         error:{erpc, Reason} -> {error, Reason}
+    end.
+
+%% @doc Whether the other node's port refuses connections, because the node has ended. One that hangs still accepts
+%% them, and one that was cut off doesn't answer.
+-spec has_ended(node(), Milliseconds :: pos_integer()) -> boolean().
+has_ended(Node, Timeout) ->
+    [Name, Host] = string:split(atom_to_list(Node), "@"),
+    case erl_epmd:port_please(Name, Host, Timeout) of
+        {port, Port, _} -> {error, econnrefused} =:= gen_tcp:connect(Host, Port, [], Timeout);
+        _ -> false
     end.
 
 %% @doc Starts the program that says in the file what this node is good for.

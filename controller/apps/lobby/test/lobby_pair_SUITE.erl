@@ -7,8 +7,11 @@
 -compile([export_all]).
 
 all() ->
-    [the_other_node_takes_over, a_node_that_hung_ends_itself, a_node_without_the_lease_ends, a_standby_alone_ends_and_waits,
-     both_end_and_begin, a_node_leaves_and_joins, without_the_other_node].
+    [the_other_node_takes_over, a_node_that_hung_ends_itself, after_a_gap_nothing_is_sent,
+     a_node_without_the_lease_ends, nobody_serves_without_the_lease, a_standby_alone_ends_and_waits,
+     both_end_and_begin, a_node_leaves_and_joins, without_the_other_node, what_the_standby_lacks_is_not_durable, what_the_standby_lacks_was_not_answered,
+     a_standby_that_ended_costs_nothing, a_standby_that_hangs, a_standby_whose_process_is_started_again,
+     nobody_takes_over].
 
 init_per_testcase(Case, Config) ->
     Folder = string:trim(os:cmd("mktemp -d")),
@@ -44,7 +47,7 @@ other(a) -> b;
 other(b) -> a.
 
 pair(Name, Config) ->
-    #{self => name(Name), peer => name(other(Name)), cookie => <<"0123456789abcdef">>, gap => 2000,
+    #{self => name(Name), peer => name(other(Name)), cookie => <<"0123456789abcdef">>, gap => 250,
       lease => {file, file(Name, lease, Config)}, ready => file(Name, ready, Config)}.
 
 %% A node with its name and configuration.
@@ -184,6 +187,23 @@ a_node_that_hung_ends_itself(Config0) ->
     ?assert(serves(B)),
     ?assertMatch(#{rules := [_]}, room(B)).
 
+%% While it hung, the other node might have taken over.
+after_a_gap_nothing_is_sent(Config0) ->
+    Config = [{a, A} | _] = with_pids_first(Config0),
+    Phone = phone:start(sip(Config)),
+    signal("STOP", A, Config),
+    Calling = phone:invite(phone:sdp(Phone), Phone),
+    timer:sleep(600),
+    signal("CONT", A, Config),
+    ended(A),
+    ?assertEqual(none, phone:status(phone:recv(Calling, 100))).
+
+%% Nor does the other one serve without it.
+nobody_serves_without_the_lease(Config) ->
+    ok = file:delete(file(a, lease, Config)),
+    ended(get(a, Config)),
+    ended(get(b, Config)).
+
 a_node_without_the_lease_ends(Config) ->
     A = get(a, Config),
     {_, _} = call(Config),
@@ -257,3 +277,93 @@ without_the_other_node(Config0) ->
     ok = started(B1),
     lobby_case:until(fun() -> serves(B1) end),
     ?assertMatch(#{members := Members} when map_size(Members) =:= 1, room(B1)).
+
+%%% What is written while the other node is away.
+
+durable(Peer) -> peer:call(Peer, lobby_lease, durable, []).
+
+%% Milliseconds until what this node writes may be answered. A write to a node that is away returns once mnesia knows
+%% that it is away, which it looks at once a second.
+until_durable(Peer) ->
+    Start = erlang:monotonic_time(millisecond),
+    write(Peer),
+    First = durable(Peer),
+    _ = lobby_case:until(fun() -> durable(Peer) =:= ok end),
+    {First, erlang:monotonic_time(millisecond) - Start}.
+
+write(Peer) -> ok = peer:call(Peer, lobby_store, put, [lobby_settings, written, last]).
+
+%% Each node knows what the other one does.
+settle() -> timer:sleep(500).
+
+%% Once it is durable, the standby can't take over any more, because it lacks what was written.
+what_the_standby_lacks_is_not_durable(Config0) ->
+    Config = [{a, A}, {b, B} | _] = with_pids_first(Config0),
+    settle(),
+    ?assertMatch({ok, Passed} when Passed < 500, until_durable(A)),
+    true = peer:call(A, erlang, disconnect_node, [name(b)]),
+    ?assertMatch({{wait, _}, Passed} when Passed > 2500 andalso Passed < 3500, until_durable(A)),
+    signal("KILL", A, Config),
+    lease(b, Config),
+    ended(B).
+
+%% Until then, the standby may take over, so that nobody waits for a node that is lost.
+what_the_standby_lacks_was_not_answered(Config0) ->
+    Config = [{a, A}, {b, B} | _] = with_pids_first(Config0),
+    settle(),
+    true = peer:call(A, erlang, disconnect_node, [name(b)]),
+    write(A),
+    ?assertMatch({wait, _}, durable(A)),
+    signal("KILL", A, Config),
+    lease(b, Config),
+    lobby_case:until(fun() -> serves(B) end),
+    ?assertEqual(error, peer:call(B, lobby_store, get, [lobby_settings, written])),
+    ?assertMatch({ok, Passed} when Passed < 500, until_durable(B)).
+
+%% Except for a write that was under way, see above.
+a_standby_that_ended_costs_nothing(Config0) ->
+    Config = [{a, A}, {b, B} | _] = with_pids_first(Config0),
+    settle(),
+    signal("KILL", B, Config),
+    ended(B),
+    ?assertMatch({_, Passed} when Passed < 1500, until_durable(A)),
+    B1 = started_node(b, Config),
+    lobby_case:until(fun() -> is_open(B1) end),
+    settle(),
+    ok = peer:call(B1, init, stop, []),
+    ended(B1),
+    ?assertMatch({_, Passed} when Passed < 1500, until_durable(A)).
+
+a_standby_that_hangs(Config0) ->
+    Config = [{a, A}, {b, B} | _] = with_pids_first(Config0),
+    settle(),
+    signal("STOP", B, Config),
+    ?assertMatch({{wait, _}, Passed} when Passed > 2500 andalso Passed < 3500, until_durable(A)),
+    signal("CONT", B, Config),
+    ended(B).
+
+%% The new process knows that it may not take over with what the node has.
+a_standby_whose_process_is_started_again(Config0) ->
+    Config = [{a, A}, {b, B} | _] = with_pids_first(Config0),
+    settle(),
+    true = peer:call(A, erlang, disconnect_node, [name(b)]),
+    timer:sleep(2000),
+    true = peer:call(B, erlang, exit, [peer:call(B, erlang, whereis, [lobby_lease]), kill]),
+    _ = until_durable(A),
+    signal("KILL", A, Config),
+    lease(b, Config),
+    ended(B).
+
+%% The standby lacks nothing, but can't know that. It waits for the node that served.
+nobody_takes_over(Config0) ->
+    Config = [{a, A}, {b, B} | _] = with_pids_first(Config0),
+    settle(),
+    ok = file:delete(file(a, lease, Config)),
+    signal("KILL", A, Config),
+    ended(B),
+    lease(b, Config),
+    B1 = started_node(b, Config),
+    timer:sleep(1000),
+    ?assertNot(is_open(B1)),
+    A1 = started_node(a, Config),
+    lobby_case:until(fun() -> is_open(A1) andalso serves(B1) end).

@@ -61,7 +61,7 @@ now_ms() -> erlang:monotonic_time(millisecond).
 pair(Name, Folder) ->
     Own = Folder ++ "/" ++ atom_to_list(Name),
     {Self, Peer} = case Name of a -> {'lobby@127.0.1.1', 'lobby@127.0.1.2'}; b -> {'lobby@127.0.1.2', 'lobby@127.0.1.1'} end,
-    #{self => Self, peer => Peer, cookie => <<"0123456789abcdef">>, gap => 2000, lease => {file, Own ++ "/lease"}, ready => none}.
+    #{self => Self, peer => Peer, cookie => <<"0123456789abcdef">>, gap => 250, lease => {file, Own ++ "/lease"}, ready => none}.
 
 node_of(Name, Folder, Port, Common) ->
     Own = Folder ++ "/" ++ atom_to_list(Name),

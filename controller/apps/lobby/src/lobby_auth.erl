@@ -1,75 +1,146 @@
-%%% @doc Who may call: by his address, and by a digest of his password (RFC 3261, section 22, and RFC 2617).
+%%% @doc Who somebody is: by his address, by a digest of his password (RFC 3261, section 22, RFC 8760), or by what a trusted
+%%% proxy says (RFC 3325).
 %%%
-%%% A nonce is the time with a signature that also covers the caller's address. So nothing has to be kept, and a nonce
-%%% that was overheard is of no use to anybody else.
+%%% A nonce has a signature that also covers the method, the caller's address, and the time. So it is kept only if somebody
+%%% has used it with a right password, and how often. When the process that asks is started again, all nonces end.
 -module(lobby_auth).
 
 -include_lib("p1_sip/include/esip.hrl").
 
--export([is_allowed/2, check/4]).
--export_type([network/0, users/0]).
+-export([is_in/2, new/1, check/4, identity/1, asserted/2, may_offer/3]).
+-export_type([network/0, users/0, algorithm/0, auth/0]).
 
 -type network() :: {inet:ip4_address(), Bits :: 0..32}.
 %% Passwords by name. Without users, callers aren't asked.
 -type users() :: #{Name :: binary() => Password :: binary()}.
+-type algorithm() :: md5 | sha256.
+-record(auth, {secret :: binary(), algorithms :: [algorithm()],
+               %% The last count of a nonce that was used.
+               used = #{} :: #{Nonce :: binary() => Count :: non_neg_integer()}}).
+-opaque auth() :: #auth{}.
 %% Seconds for which a nonce is taken.
 -define(AGE, 300).
+-define(MAX_USED, 1000).
 
-%% @doc Returns whether an address may call: it lies in one of the networks, or no networks are configured.
--spec is_allowed(inet:ip4_address(), [network()]) -> boolean().
-is_allowed(_, []) ->
-    true;
-is_allowed(Address, Networks) ->
+%% @doc Returns whether an address lies in one of the networks.
+-spec is_in(inet:ip4_address(), [network()]) -> boolean().
+is_in(Address, Networks) ->
     lists:any(fun({Network, Bits}) ->
         number(Address) bsr (32 - Bits) =:= number(Network) bsr (32 - Bits)
     end, Networks).
 
 number({A, B, C, D}) -> (A bsl 24) bor (B bsl 16) bor (C bsl 8) bor D.
 
-%% @doc Whether a request from this address proves a user's password; if not, the challenge for a 401.
--spec check(lobby_sip_message:message(), inet:ip4_address(), users(), Secret :: binary()) ->
-          ok | {challenge, {atom(), term()}}.
-check(_, _, Users, _) when map_size(Users) =:= 0 ->
-    ok;
-check(Request = #sip{method = Method, body = Body}, Address, Users, Secret) ->
+%% @doc Returns whether media may be sent to the address that a caller offers: it is his own, it lies in one of the
+%% networks, or a trusted proxy sent the offer.
+-spec may_offer(Offered :: inet:ip4_address(), Source :: inet:ip4_address(),
+                #{media := [network()], proxies := [network()], _ => _}) -> boolean().
+may_offer({0, 0, 0, 0}, _, _) -> true;
+may_offer(Source, Source, _) -> true;
+may_offer(Offered, Source, #{media := Media, proxies := Proxies}) -> is_in(Offered, Media) orelse is_in(Source, Proxies).
+
+%% @doc Challenges name these algorithms, and no others are taken.
+-spec new([algorithm()]) -> auth().
+new(Algorithms) ->
+    #auth{secret = crypto:strong_rand_bytes(32), algorithms = Algorithms}.
+
+%% @doc Whether a request from this address proves a user's password, and whose; if not, the challenges for a 401.
+-spec check(lobby_sip_message:message(), inet:ip4_address(), users(), auth()) ->
+          {ok, Name :: binary(), auth()} | {challenge, [{atom(), term()}]}.
+check(Request, Address, Users, Auth) ->
     Now = erlang:system_time(second),
-    case lobby_sip_message:header(authorization, Request) of
-        Given = {<<"Digest">>, Params} ->
-            [User, Nonce, Uri] = [esip:unquote(proplists:get_value(Key, Params, <<>>))
-                                  || Key <- [<<"username">>, <<"nonce">>, <<"uri">>]],
-            Proved = is_map_key(User, Users) andalso is_same(Uri, Request)
-                andalso esip:check_auth(Given, Method, Body, maps:get(User, Users)),
-            case {Proved, age(Nonce, Address, Secret, Now)} of
-                {true, Age} when Age >= 0, Age =< ?AGE -> ok;
-                {true, Age} when is_integer(Age) -> challenge(Address, Secret, Now, [{<<"stale">>, <<"true">>}]);
-                {_, _} -> challenge(Address, Secret, Now, [])
+    Given = [{Algorithm, maps:from_list([{Key, esip:unquote(Value)} || {Key, Value} <- Params])}
+             || {authorization, {Scheme, Params}} <- Request#sip.hdrs, string:equal(Scheme, "digest", true),
+                Algorithm <- [algorithm(proplists:get_value(<<"algorithm">>, Params, <<"MD5">>))],
+                lists:member(Algorithm, Auth#auth.algorithms)],
+    case [{Values, Algorithm} || {Algorithm, Values} <- Given, is_proved(Algorithm, Values, Request, Users)] of
+        [{#{<<"username">> := User, <<"nonce">> := Nonce, <<"nc">> := Count}, _} | _] ->
+            Age = age(Nonce, Request#sip.method, Address, Auth, Now),
+            case {Age, counted(Nonce, Count, Auth)} of
+                {Age, {ok, Counted}} when Age >= 0, Age =< ?AGE -> {ok, User, forgotten(Now, Counted)};
+                {unknown, _} -> challenges(Request, Address, Auth, Now, []);
+                {_, _} -> challenges(Request, Address, Auth, Now, [{<<"stale">>, <<"true">>}])
             end;
-        _ ->
-            challenge(Address, Secret, Now, [])
+        [] ->
+            challenges(Request, Address, Auth, Now, [])
     end.
 
-%% The digest is for this room.
+algorithm(Text) ->
+    proplists:get_value(string:uppercase(esip:unquote(Text)), [{<<"MD5">>, md5}, {<<"SHA-256">>, sha256}], unknown).
+
+%% RFC 7616, section 3.4.1. The digest is for this room.
+is_proved(Algorithm, Values, Request = #sip{method = Method}, Users) ->
+    case Values of
+        #{<<"username">> := User, <<"realm">> := <<"lobby">>, <<"nonce">> := Nonce, <<"uri">> := Uri, <<"qop">> := <<"auth">>,
+          <<"nc">> := Count, <<"cnonce">> := Chosen, <<"response">> := <<Response/binary>>} when is_map_key(User, Users) ->
+            A1 = hash(Algorithm, [User, ":lobby:", maps:get(User, Users)]),
+            A2 = hash(Algorithm, [Method, ":", Uri]),
+            Right = hash(Algorithm, [A1, ":", Nonce, ":", Count, ":", Chosen, ":auth:", A2]),
+            byte_size(Response) =:= byte_size(Right) andalso crypto:hash_equals(string:lowercase(Response), Right)
+                andalso is_same(Uri, Request);
+        #{} -> false
+    end.
+
+hash(Algorithm, Text) ->
+    Type = case Algorithm of md5 -> md5; sha256 -> sha256 end,
+    string:lowercase(binary:encode_hex(crypto:hash(Type, Text))).
+
 is_same(Text, #sip{uri = #uri{user = User, host = Host}}) ->
-    case esip_codec:decode_uri(Text) of
-        #uri{user = User, host = Host} -> true;
-        _ -> false
+    try lobby_sip_decoder:uri(Text) of
+        Uri -> {Uri#uri.user, Uri#uri.host} =:= {User, Host}
+    catch error:_ -> false
     end.
 
-challenge(Address, Secret, Now, More) ->
-    Params = [{<<"realm">>, <<"\"lobby\"">>}, {<<"nonce">>, esip:quote(nonce(Address, Secret, Now))},
-              {<<"algorithm">>, <<"MD5">>}, {<<"qop">>, <<"\"auth\"">>} | More],
-    {challenge, {'www-authenticate', {<<"Digest">>, Params}}}.
-
-nonce(Address, Secret, Time) ->
-    <<Signature:16/binary, _/binary>> = crypto:mac(hmac, sha256, Secret, term_to_binary({nonce, Address, Time})),
-    <<(integer_to_binary(Time))/binary, "-", (binary:encode_hex(Signature))/binary>>.
-
-%% Of a nonce that was made here for this address, in seconds.
-age(Nonce, Address, Secret, Now) ->
-    case string:to_integer(Nonce) of
-        {Time, _} when is_integer(Time) -> case nonce(Address, Secret, Time) of
-            Nonce -> Now - Time;
-            _ -> unknown
+%% A count that isn't above the last one is of a request that was overheard, or came twice.
+counted(Nonce, Text, Auth = #auth{used = Used}) ->
+    case re:run(Text, "^[0-9A-Fa-f]{8}$", [dollar_endonly]) of
+        {match, _} -> case {binary_to_integer(Text, 16), maps:get(Nonce, Used, 0)} of
+            {Count, Last} when Count > Last -> {ok, Auth#auth{used = Used#{Nonce => Count}}};
+            {_, _} -> repeated
         end;
-        {error, _} -> unknown
+        nomatch -> repeated
     end.
+
+forgotten(Now, Auth = #auth{used = Used}) when map_size(Used) > ?MAX_USED ->
+    Auth#auth{used = maps:filter(fun(Nonce, _) -> Now - time(Nonce) =< ?AGE end, Used)};
+forgotten(_, Auth) ->
+    Auth.
+
+challenges(#sip{method = Method}, Address, Auth, Now, More) ->
+    Nonce = nonce(Now, crypto:strong_rand_bytes(8), Method, Address, Auth),
+    {challenge, [{'www-authenticate', {<<"Digest">>, [{<<"realm">>, <<"\"lobby\"">>}, {<<"nonce">>, esip:quote(Nonce)},
+                                                      {<<"algorithm">>, Name}, {<<"qop">>, <<"\"auth\"">>} | More]}}
+                 || Algorithm <- Auth#auth.algorithms,
+                    Name <- [case Algorithm of md5 -> <<"MD5">>; sha256 -> <<"SHA-256">> end]]}.
+
+nonce(Time, Random, Method, Address, #auth{secret = Secret}) ->
+    Signed = <<Time:64, Random/binary>>,
+    <<Signature:16/binary, _/binary>> = crypto:mac(hmac, sha256, Secret, term_to_binary({Signed, Method, Address})),
+    binary:encode_hex(<<Signed/binary, Signature/binary>>).
+
+%% Of a nonce that was made here for this address and method, in seconds.
+age(Nonce, Method, Address, Auth, Now) ->
+    try binary:decode_hex(Nonce) of
+        <<Time:64, Random:8/binary, _:16/binary>> ->
+            case nonce(Time, Random, Method, Address, Auth) of Nonce -> Now - Time; _ -> unknown end;
+        _ -> unknown
+    catch error:_ -> unknown
+    end.
+
+time(Nonce) ->
+    <<Time:64, _/binary>> = binary:decode_hex(Nonce),
+    Time.
+
+%% @doc Who sent an INVITE, if that was proved: of a request that was let in, P-Asserted-Identity is always true.
+-spec identity(lobby_sip_message:message()) -> binary() | none.
+identity(Invite) ->
+    case lobby_sip_message:headers('p-asserted-identity', Invite) of
+        [{_, #uri{user = User}, _} | _] when User =/= <<>> -> User;
+        _ -> none
+    end.
+
+%% @doc The request with this identity, and with no other.
+-spec asserted(Name :: binary() | none, lobby_sip_message:message()) -> lobby_sip_message:message().
+asserted(Name, Request = #sip{hdrs = Headers}) ->
+    Others = [Header || Header = {Key, _} <- Headers, Key =/= 'p-asserted-identity'],
+    Request#sip{hdrs = Others ++ [{'p-asserted-identity', [{<<>>, #uri{user = Name}, []}]} || Name =/= none]}.

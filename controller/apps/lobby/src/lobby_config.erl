@@ -6,8 +6,10 @@
 
 -type config() :: #{gateways := [lobby_gateway:config()],
                     sip := lobby_sip_message:peer(), t1 := pos_integer(), min_se := pos_integer(),
-                    callers := [lobby_auth:network()], users := lobby_auth:users(),
-                    max_calls := pos_integer(), max_calls_from := pos_integer(),
+                    callers := [lobby_auth:network()], proxies := [lobby_auth:network()], media := [lobby_auth:network()],
+                    users := lobby_auth:users(), digest := [lobby_auth:algorithm()],
+                    max_calls := pos_integer(), max_calls_from := pos_integer(), max_rooms_from := pos_integer(),
+                    messages_from := pos_integer(), new_calls_from := pos_integer(),
                     silent_after := pos_integer(), room_audit := pos_integer(),
                     store := memory | disc, pair := lobby_pair:config() | none,
                     http := lobby_sip_message:peer(), tokens := [{binary(), operator | viewer}]}.
@@ -15,8 +17,10 @@
 %% The kinds of values, with the default, by name.
 -define(TOP, #{gateways => {gateways, required},
                sip => {address, {{127, 0, 0, 1}, 5060}}, t1 => {{10, 5000}, 500}, min_se => {{1, 3600}, 90},
-               callers => {networks, []}, users => {users, #{}},
-               max_calls => {{1, 100000}, 1024}, max_calls_from => {{1, 100000}, 1024},
+               callers => {networks, []}, proxies => {networks, []}, media => {networks, []},
+               users => {users, #{}}, digest => {digest, [md5]},
+               max_calls => {{1, 100000}, 1024}, max_calls_from => {share, quarter}, max_rooms_from => {share, quarter},
+               messages_from => {{1, 100000}, 1000}, new_calls_from => {{1, 100000}, 50},
                silent_after => {{1000, 3600000}, 30000}, room_audit => {{500, 600000}, 5000},
                store => {store, memory}, pair => {pair, none},
                http => {address, {{127, 0, 0, 1}, 8080}}, tokens => {tokens, []}}).
@@ -72,8 +76,15 @@ gateways(Config = #{gateways := Gateways}) ->
     case {[Error || Error = {error, _} <- Checked], Names -- lists:usort(Names)} of
         {[Error | _], _} -> Error;
         {[], [Name | _]} -> wrong("two gateways have the name ~0p", [Name]);
-        {[], []} -> {ok, Config#{gateways := [Gateway || {ok, Gateway} <- Checked]}}
+        {[], []} -> {ok, shares(Config#{gateways := [Gateway || {ok, Gateway} <- Checked]})}
     end.
+
+%% By default, one address gets a quarter of what the gateways have.
+shares(Config = #{gateways := Gateways, max_calls_from := Calls, max_rooms_from := Rooms}) ->
+    Share = fun(quarter, Key) -> max(1, lists:sum([maps:get(Key, Gateway) || Gateway <- Gateways]) div 4);
+               (Number, _) -> Number
+            end,
+    Config#{max_calls_from := Share(Calls, terminations), max_rooms_from := Share(Rooms, contexts)}.
 
 values(What, Kinds, Values) when is_map(Values) ->
     case maps:keys(Values) -- maps:keys(Kinds) of
@@ -105,6 +116,8 @@ is(secret, Value) -> is_binary(Value) andalso byte_size(Value) >= 16 andalso byt
 is(lease, {file, File}) -> is_path(File);
 is(lease, Value) -> Value =:= address;
 is(file, Value) -> Value =:= none orelse is_path(Value);
+is(share, Value) -> Value =:= quarter orelse is({1, 100000}, Value);
+is(digest, Value) -> lists:member(Value, [[md5], [sha256], [sha256, md5], [md5, sha256]]);
 is(store, Value) -> lists:member(Value, [memory, disc]);
 is(networks, Value) -> is_list(Value) andalso lists:all(fun is_network/1, Value);
 is(users, Value) ->
@@ -128,6 +141,8 @@ described(node) -> "a node's name such as 'lobby@10.0.0.20'";
 described(secret) -> "a binary of 16 to 255 bytes";
 described(lease) -> "address or {file,\"/path\"}";
 described(file) -> "a path such as \"/path\"";
+described(share) -> "quarter or a whole number from 1 to 100000";
+described(digest) -> "a list of md5 and sha256";
 described(store) -> "memory or disc";
 described(networks) -> "a list of networks such as {{192,0,2,0},24}";
 described(users) -> "a map from names to passwords, all of them non-empty binaries";

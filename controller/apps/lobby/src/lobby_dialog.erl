@@ -3,7 +3,8 @@
 
 -include_lib("p1_sip/include/esip.hrl").
 
--export([new/2, received/2, refreshed/2, request/4, ack/3, contact/1, target/2, key/1, caller/1]).
+-export([new/2, received/2, is_same_transaction/2, after_refusal/1, refreshed/2, request/4, ack/3, contact/1, target/2, key/1,
+         caller/1]).
 -export_type([dialog/0, own/0]).
 
 %% The transport and the own address.
@@ -38,6 +39,28 @@ received(Request, D = #dialog{sequence = Last}) ->
         Last -> repeated;
         _ -> old
     end.
+
+%% @doc Whether a request is of the transaction of this INVITE, or of the INVITE with this response (section 17.2.3): a
+%% copy of it, a CANCEL, or the ACK to a refusal. An INVITE with the same number and no tag in To that isn't came by
+%% another way: 482 (section 8.2.2.2). A CANCEL that isn't cancels nothing: 481 (section 9.2).
+-spec is_same_transaction(lobby_sip_message:message(), lobby_sip_message:message()) -> boolean().
+is_same_transaction(Request, Invite) ->
+    transaction(Request) =:= transaction(Invite).
+
+%% Branches without this beginning, which RFC 2543 didn't know, aren't unique.
+transaction(Message) ->
+    #via{host = Host, port = Port, params = Params} = hd(lobby_sip_message:header(via, Message)),
+    case proplists:get_value(<<"branch">>, Params) of
+        Branch = <<"z9hG4bK", _, _/binary>> -> {Branch, Host, Port};
+        Branch -> {Branch, Host, Port, key(Message), lobby_sip_message:sequence(Message)}
+    end.
+
+%% @doc What a refusal of our re-INVITE means for the call (sections 12.2.1.2 and 14.1): it ended, we try again soon, since
+%% both sides have invited each other, or it goes on as before.
+-spec after_refusal(Status :: 300..699) -> ended | again | goes_on.
+after_refusal(Status) when Status =:= 408; Status =:= 481 -> ended;
+after_refusal(491) -> again;
+after_refusal(_) -> goes_on.
 
 %% @doc A re-INVITE, an UPDATE or the answer to ours may have another Contact (section 12.2).
 -spec refreshed(lobby_sip_message:message(), dialog()) -> dialog().
@@ -106,5 +129,5 @@ key(Request) -> {lobby_sip_message:header('call-id', Request), lobby_sip_message
 
 %% @doc How the caller names himself.
 -spec caller(dialog()) -> binary().
-caller(#dialog{remote = {<<>>, Uri, _}}) -> lobby_sip_message:shown(iolist_to_binary(esip_codec:encode_uri(Uri)));
-caller(#dialog{remote = {Name, _, _}}) -> lobby_sip_message:shown(binary:replace(Name, <<"\"">>, <<>>, [global])).
+caller(#dialog{remote = {<<>>, Uri, _}}) -> iolist_to_binary(esip_codec:encode_uri(Uri));
+caller(#dialog{remote = {Name, _, _}}) -> binary:replace(Name, <<"\"">>, <<>>, [global]).

@@ -9,12 +9,14 @@
 -export([init/1, handle_continue/2, handle_call/3, handle_cast/2, handle_info/2]).
 -export_type([config/0]).
 
-%% The limits are of calls: all, and those from one address.
--type config() :: #{sip := lobby_sip_message:peer(), max_calls := pos_integer(), max_calls_from := pos_integer(),
-                    callers := [lobby_auth:network()], users := lobby_auth:users()}.
+-type config() :: #{sip := lobby_sip_message:peer(), users := lobby_auth:users(), digest := [lobby_auth:algorithm()],
+                    callers := [lobby_auth:network()], proxies := [lobby_auth:network()], _ => _}.
 %% A call's process that has so many messages to handle gets no more.
 -define(MAX_WAITING, 100).
--record(state, {config :: config(), socket :: gen_udp:socket(), calls = #{} :: #{pid() => inet:ip4_address()}}).
+%% Bytes. What is longer goes over TCP (RFC 3261, section 18.1.1).
+-define(MAX_DATAGRAM, 8192).
+-record(state, {config :: config(), socket :: gen_udp:socket(), admission :: lobby_admission:admission(),
+                auth :: lobby_auth:auth()}).
 
 -spec start_link(config()) -> gen_server:start_ret().
 start_link(Config) ->
@@ -47,23 +49,24 @@ own() ->
 %% @doc Our tag in the dialog with a caller: always the same for his INVITE, however often it comes.
 -spec own_tag(lobby_sip_message:message()) -> binary().
 own_tag(Request) ->
-    <<Tag:8/binary, _/binary>> = crypto:mac(hmac, sha256, own_secret(), term_to_binary(lobby_dialog:key(Request))),
-    string:lowercase(binary:encode_hex(Tag)).
+    tag_in(lobby_dialog:key(Request)).
 
-own_secret() ->
-    element(3, persistent_term:get(?MODULE)).
+tag_in(Key) ->
+    {_, _, Secret} = persistent_term:get(?MODULE),
+    <<Tag:8/binary, _/binary>> = crypto:mac(hmac, sha256, Secret, term_to_binary(Key)),
+    string:lowercase(binary:encode_hex(Tag)).
 
 -spec allow() -> {allow, [binary()]}.
 allow() ->
-    {allow, [<<"INVITE">>, <<"ACK">>, <<"BYE">>, <<"CANCEL">>, <<"OPTIONS">>, <<"UPDATE">>]}.
+    lobby_sip_message:allow().
 
 -spec init(config()) -> {ok, #state{}, {continue, restore}} | {stop, {cannot_bind, lobby_sip_message:peer(), inet:posix()}}.
-init(Config = #{sip := Own}) ->
-    ok = esip_codec:start(),
+init(Config = #{sip := Own, digest := Algorithms}) ->
     case open(Own, 50) of
         {ok, Socket} ->
             ok = persistent_term:put(?MODULE, {Socket, Own, secret()}),
-            {ok, #state{config = Config, socket = Socket}, {continue, restore}};
+            {ok, #state{config = Config, socket = Socket, admission = lobby_admission:new(Config),
+                        auth = lobby_auth:new(Algorithms)}, {continue, restore}};
         {error, Reason} ->
             {stop, {cannot_bind, Own, Reason}}
     end.
@@ -84,7 +87,7 @@ open(Own = {Address, Port}, Tries) ->
         Opened -> Opened
     end.
 
-%% It is kept, so that tags and nonces stay as they are when this process is started again, or a node takes over.
+%% It is kept, so that tags stay as they are when this process is started again, or a node takes over.
 secret() ->
     case lobby_store:get(lobby_settings, secret) of
         {ok, Secret} -> Secret;
@@ -94,12 +97,9 @@ secret() ->
             Secret
     end.
 
-address(Source) ->
-    element(1, lobby_sip_message:peer(Source)).
-
 -spec handle_call(term(), gen_server:from(), #state{}) -> {reply, ok | {error, unknown_call}, #state{}}.
 handle_call({received, Message, Source}, _, State) ->
-    {reply, ok, handle(lobby_sip_message:decode(Message, Source), Source, State)};
+    {reply, ok, let_in(Message, Source, State)};
 handle_call(_, _, State) ->
     {reply, {error, unknown_call}, State}.
 
@@ -108,38 +108,77 @@ handle_cast(_, State) ->
     {noreply, State}.
 
 -spec handle_info(term(), #state{}) -> {noreply, #state{}}.
-handle_info({udp, Socket, Address, Port, Datagram}, State = #state{socket = Socket}) ->
-    {noreply, handle(lobby_sip_message:decode(Datagram, {Address, Port}), {Address, Port}, State)};
+handle_info({udp, Socket, Address, Port, Datagram}, State = #state{socket = Socket}) when byte_size(Datagram) =< ?MAX_DATAGRAM ->
+    {noreply, let_in(Datagram, {Address, Port}, State)};
 handle_info({udp_passive, Socket}, State = #state{socket = Socket}) ->
     ok = inet:setopts(Socket, [{active, 100}]),
     {noreply, State};
 handle_info({restored, Restored}, State) ->
     {noreply, restored(Restored, State)};
-handle_info({'DOWN', _, process, Pid, _}, State = #state{calls = Calls}) ->
-    {noreply, State#state{calls = maps:remove(Pid, Calls)}};
+handle_info({'DOWN', _, process, Pid, _}, State = #state{admission = Admission}) ->
+    {noreply, State#state{admission = lobby_admission:left(Pid, Admission)}};
 handle_info(_, State) ->
     {noreply, State}.
 
-handle({ok, Message}, Source, State) ->
-    case lobby_registry:whereis_name({call, key(Message)}) of
-        undefined -> without_process(Message, Source, State);
-        Pid -> forward(Pid, {sip, Message, Source}), State
+%% Nothing is read of what isn't let in.
+let_in(Message, Source, State = #state{admission = Admission}) ->
+    case lobby_admission:message(address(Source), now_ms(), Admission) of
+        {true, A} -> handle(lobby_sip_message:decode(Message, Source), Source, State#state{admission = A});
+        {false, A} -> State#state{admission = A}
+    end.
+
+address(Source) ->
+    element(1, lobby_sip_message:peer(Source)).
+
+now_ms() ->
+    erlang:monotonic_time(millisecond).
+
+handle({ok, Request = #sip{type = request}}, Source, State) ->
+    case lobby_sip_message:refusal(Request) of
+        none -> request(Request, Source, State);
+        {Status, Headers} -> answer(Status, Headers, Request, Source, State)
     end;
-handle({bad_request, #sip{method = <<"ACK">>}}, _, State) ->
+%% In an answer to our request, the caller's tag is in To, and ours in From.
+handle({ok, Response}, Source, State) ->
+    Key = {lobby_sip_message:header('call-id', Response), lobby_sip_message:tag(to, Response)},
+    case lobby_sip_message:tag(from, Response) =:= tag_in(Key) of
+        true -> in_call(Key, Response, Source, State);
+        false -> State
+    end;
+handle({refused, _, #sip{method = <<"ACK">>}}, _, State) ->
     State;
-handle({bad_request, Request}, Source, State) ->
-    answer(400, [], Request, Source, State);
+handle({refused, Status, Request}, Source, State) ->
+    answer(Status, [], Request, Source, State);
 handle({error, not_sip}, _, State) ->
     State.
 
-without_process(Message = #sip{type = Type}, Source, State) ->
-    case {lobby_call:restore(key(Message)), Type} of
+%% A dialog is known by both tags and the Call-ID (RFC 3261, section 12). What has no tag in To is of no dialog, or is the
+%% first INVITE of one, or cancels that.
+request(Request = #sip{method = Method}, Source, State) ->
+    Own = own_tag(Request),
+    case {string:lowercase(lobby_sip_message:tag(to, Request)), Method} of
+        {Own, _} -> in_call(lobby_dialog:key(Request), Request, Source, State);
+        {_, <<"ACK">>} -> State;
+        {<<>>, _} when Method =:= <<"INVITE">>; Method =:= <<"CANCEL">> ->
+            in_call(lobby_dialog:key(Request), Request, Source, State);
+        {<<>>, <<"OPTIONS">>} -> answer(200, [allow(), lobby_sip_message:accept()], Request, Source, State);
+        {_, _} -> answer(481, [], Request, Source, State)
+    end.
+
+in_call(Key, Message, Source, State) ->
+    case lobby_registry:whereis_name({call, Key}) of
+        undefined -> without_process(Key, Message, Source, State);
+        Pid -> forward(Pid, {sip, Message, Source}), State
+    end.
+
+without_process(Key, Message = #sip{type = Type}, Source, State) ->
+    case {lobby_call:restore(Key), Type} of
         {Restored = {ok, Pid, _}, _} -> forward(Pid, {sip, Message, Source}), restored(Restored, State);
         {error, request} -> unknown(Message, Source, State);
         {error, response} -> State
     end.
 
-restored({ok, Pid, Source}, State) -> watch({Pid, address(Source)}, State);
+restored({ok, Pid, Source}, State) -> watch({Pid, address(Source)}, <<>>, State);
 restored(error, State) -> State.
 
 %% What is dropped is sent again by whoever wants an answer.
@@ -149,70 +188,51 @@ forward(Pid, Message) ->
         _ -> ok
     end.
 
-%% In an answer to our request, the caller's tag is in To.
-key(Request = #sip{type = request}) -> lobby_dialog:key(Request);
-key(Response) -> {lobby_sip_message:header('call-id', Response), lobby_sip_message:tag(to, Response)}.
-
-%% A request of no call.
+%% A request of no call. With our tag it is of one that has ended: the answer to his BYE was lost (section 17.2.2).
 unknown(#sip{method = <<"ACK">>}, _, State) ->
     State;
 unknown(Request = #sip{method = Method}, Source, State) ->
-    {allow, Known} = allow(),
-    case {lobby_sip_message:tag(to, Request), lobby_sip_message:headers(require, Request) -- [<<"timer">>], Method} of
-        {<<>>, [_ | _] = Extensions, _} -> answer(420, [{unsupported, Extensions}], Request, Source, State);
-        {<<>>, [], <<"INVITE">>} -> invite(Request, Source, State);
-        {<<>>, [], <<"OPTIONS">>} -> answer(200, [allow(), accept()], Request, Source, State);
-        {Tag, _, <<"BYE">>} -> bye(Tag, Request, Source, State);
-        {_, _, _} -> case lists:member(Method, Known) of
-            true -> answer(481, [], Request, Source, State);
-            false -> answer(405, [allow()], Request, Source, State)
-        end
-    end.
-
-%% Our tag shows that the call was here. So it has ended, and the answer to his BYE was lost (section 17.2.2).
-bye(Tag, Request, Source, State) ->
-    case own_tag(Request) of
-        Tag -> answer(200, [], Request, Source, State);
-        _ -> answer(481, [], Request, Source, State)
-    end.
-
-accept() -> {accept, [{<<"application/sdp">>, []}]}.
-
-invite(Request = #sip{uri = #uri{user = Room}}, Source, State) ->
-    Address = address(Source),
-    case refusal(Request, Address, State) of
-        {Status, Headers} ->
-            answer(Status, Headers, Request, Source, State);
-        none ->
-            {ok, Pid} = supervisor:start_child(lobby_call_sup, [Room, Request, Source]),
-            watch({Pid, Address}, State)
+    case {lobby_sip_message:tag(to, Request), Method} of
+        {<<>>, <<"INVITE">>} -> invite(Request, Source, State);
+        {<<_, _/binary>>, <<"BYE">>} -> answer(200, [], Request, Source, State);
+        {_, _} -> answer(481, [], Request, Source, State)
     end.
 
 %% The cheapest test comes first.
-refusal(Request = #sip{uri = #uri{user = Room}}, Address, #state{config = Config, calls = Calls}) ->
-    #{callers := Networks, users := Users, max_calls := Max, max_calls_from := MaxFrom} = Config,
-    Tests = [fun() -> [{403, []} || not lobby_auth:is_allowed(Address, Networks)] end,
-             fun() -> [{503, [{'retry-after', {10, []}}]} || map_size(Calls) >= Max] end,
-             fun() -> [{486, []} || length([A || A <- maps:values(Calls), A =:= Address]) >= MaxFrom] end,
-             fun() -> [{404, []} || not lobby_rooms:is_name(Room)] end,
-             fun() -> [{401, [Header]} || {challenge, Header} <- [challenge(Request, Address, Users)]] end],
-    first(Tests).
-
-challenge(Request, Address, Users) ->
-    lobby_auth:check(Request, Address, Users, own_secret()).
-
-first([]) -> none;
-first([Test | Tests]) ->
-    case Test() of
-        [Refusal] -> Refusal;
-        [] -> first(Tests)
+invite(Request = #sip{uri = #uri{user = Room}}, Source, State) ->
+    case lobby_rooms:is_name(Room) andalso identified(Request, address(Source), State) of
+        false -> answer(404, [], Request, Source, State);
+        {challenge, Headers} -> answer(401, Headers, Request, Source, State);
+        {ok, Name, State1} -> admitted(lobby_auth:asserted(Name, Request), Source, State1)
     end.
 
-watch({Pid, _}, State = #state{calls = Calls}) when is_map_key(Pid, Calls) ->
-    State;
-watch({Pid, Address}, State = #state{calls = Calls}) ->
+%% What a trusted proxy asserts needs no password.
+identified(Request, Address, State = #state{config = #{users := Users, proxies := Proxies}, auth = Auth}) ->
+    case {lobby_auth:is_in(Address, Proxies) andalso lobby_auth:identity(Request), map_size(Users)} of
+        {Name, _} when is_binary(Name) -> {ok, Name, State};
+        {_, 0} -> {ok, none, State};
+        {_, _} -> case lobby_auth:check(Request, Address, Users, Auth) of
+            {ok, Name, Auth1} -> {ok, Name, State#state{auth = Auth1}};
+            Challenge -> Challenge
+        end
+    end.
+
+admitted(Request = #sip{uri = #uri{user = Room}}, Source, State = #state{admission = Before}) ->
+    Address = address(Source),
+    IsNew = lobby_store:get(lobby_rooms, Room) =:= error,
+    {Verdict, Admission} = lobby_admission:call(Address, {Room, IsNew}, now_ms(), Before),
+    State1 = State#state{admission = Admission},
+    case Verdict of
+        ok ->
+            {ok, Pid} = supervisor:start_child(lobby_call_sup, [Room, Request, Source]),
+            watch({Pid, Address}, Room, State1);
+        too_many -> answer(486, [], Request, Source, State1);
+        _ -> answer(503, [{'retry-after', {10, []}}], Request, Source, State1)
+    end.
+
+watch({Pid, Address}, Room, State = #state{admission = Admission}) ->
     _ = monitor(process, Pid),
-    State#state{calls = Calls#{Pid => Address}}.
+    State#state{admission = lobby_admission:entered(Pid, Address, Room, Admission)}.
 
 answer(Status, Headers, Request, Source, State) ->
     Response = lobby_sip_message:response(Status, Request, own_tag(Request), {Headers, <<>>}),

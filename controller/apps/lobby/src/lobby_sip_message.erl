@@ -1,48 +1,100 @@
-%%% @doc SIP messages (RFC 3261): esip's codec, with checks that what the controller relies on is there.
-%%%
-%%% esip doesn't decode IPv6 addresses in URIs, and a header with one would count as missing. So they are hidden as host
-%%% names under `.invalid' (RFC 2606) while a message is handled.
+%%% @doc SIP messages (RFC 3261), in esip's records, with checks that what the controller relies on is there.
 -module(lobby_sip_message).
 
 -include_lib("p1_sip/include/esip.hrl").
 
--export([decode/2, encode/1, response/4, response_target/2, peer/1, transport/1]).
--export([header/2, headers/2, tag/2, sequence/1, body/1, branch/0, shown/1]).
+-export([decode/2, encode/1, refusal/1, response/4, response_target/2, peer/1, transport/1]).
+-export([header/2, headers/2, tag/2, sequence/1, body/1, branch/0, allow/0, accept/0]).
 -export_type([message/0, peer/0, target/0]).
 
 -type message() :: #sip{}.
 -type peer() :: {inet:ip4_address(), inet:port_number()}.
 %% Over UDP, or over this connection.
 -type target() :: peer() | {tcp, Connection :: pid(), peer()}.
--define(HIDDEN, ".ipv6.invalid").
+%% Methods of RFCs that aren't served.
+-define(OTHER_METHODS, [<<"REGISTER">>, <<"SUBSCRIBE">>, <<"NOTIFY">>, <<"PUBLISH">>, <<"REFER">>, <<"MESSAGE">>, <<"INFO">>,
+                        <<"PRACK">>]).
 
-%% @doc A datagram from this address. `bad_request': a request that lacks something, but can be answered.
--spec decode(binary(), Source :: target()) -> {ok, message()} | {bad_request, message()} | {error, not_sip}.
-decode(Datagram, Source) ->
-    case esip_codec:decode(hidden(Datagram)) of
-        {ok, Message = #sip{}} -> checked(received(Message, peer(Source)));
-        _ -> {error, not_sip}
+%% @doc A message from this address. `refused': a request that isn't as it should be, but can be answered.
+-spec decode(binary(), Source :: target()) ->
+          {ok, message()} | {refused, Status :: 400 | 505, message()} | {error, not_sip}.
+decode(Text, Source) ->
+    case lobby_sip_decoder:decode(Text) of
+        {error, not_sip} -> {error, not_sip};
+        {Status, Message} -> checked(Status, received(Message, peer(Source)))
     end.
 
-checked(Message = #sip{type = Type, method = Method, uri = Uri}) ->
+checked(Status, Message = #sip{type = Type}) ->
     Present = [Key || Key <- [via, from, to, 'call-id', cseq], not lists:member(header(Key, Message), [undefined, []])],
-    case {Present, tag(from, Message), Type} of
-        {[via, from, to, 'call-id', cseq], <<_, _/binary>>, response} -> {ok, Message};
-        {[via, from, to, 'call-id', cseq], <<_, _/binary>>, request} when is_binary(Method), is_record(Uri, uri) ->
-            case whole_body(Message) andalso sequence(Message) < 16#80000000 of
-                true -> {ok, Message};
-                false -> {bad_request, Message}
-            end;
-        {[via | _], _, request} -> {bad_request, Message};
-        _ -> {error, not_sip}
+    case {Present, Status, Type} of
+        {[via, from, to, 'call-id', cseq], ok, response} -> {ok, Message};
+        {[via, from, to, 'call-id', cseq], ok, request} -> case whole_body(Message) of
+            true -> {ok, Message};
+            false -> {refused, 400, Message}
+        end;
+        {[via | _], ok, request} -> {refused, 400, Message};
+        {[via | _], _, request} -> {refused, Status, Message};
+        {_, _, _} -> {error, not_sip}
     end.
 
-%% RFC 3261, section 18.3: a body that is shorter than its Content-Length was cut off.
+%% Section 18.3: a body that is shorter than its Content-Length was cut off.
 whole_body(Message = #sip{body = Body}) ->
     case header('content-length', Message) of
         Length when is_integer(Length) -> Length =< byte_size(Body);
         undefined -> true
     end.
+
+%% @doc The answer to a request that asks for what nobody here has (section 8.2), whatever call it is of. An ACK isn't
+%% answered, and a CANCEL isn't refused for its contents.
+-spec refusal(message()) -> none | {Status :: 400..699, Headers :: [{atom(), term()}]}.
+refusal(#sip{method = Method}) when Method =:= <<"ACK">>; Method =:= <<"CANCEL">> ->
+    none;
+refusal(Request = #sip{method = Method, uri = #uri{scheme = Scheme, hdrs = UriHeaders}}) ->
+    {allow, Known} = allow(),
+    Described = lists:member(Method, [<<"INVITE">>, <<"UPDATE">>]),
+    Required = headers(require, Request) -- [<<"timer">>],
+    Tests = [{lists:member(Method, ?OTHER_METHODS), {405, [allow()]}},
+             {not lists:member(Method, Known), {501, [allow()]}},
+             {not lists:member(Scheme, [<<"sip">>, <<"sips">>]), {416, []}},
+             {UriHeaders =/= [] orelse Method =:= <<"INVITE">> andalso not has_contact(Request), {400, []}},
+             {Required =/= [], {420, [{unsupported, Required}]}},
+             {Described andalso not is_sdp(Request), {415, [accept()]}},
+             {Described andalso headers('content-encoding', Request) -- [<<"identity">>] =/= [],
+              {415, [{'accept-encoding', [{<<"identity">>, []}]}]}},
+             {Described andalso not accepts_sdp(Request), {406, []}}],
+    case lists:keyfind(true, 1, Tests) of
+        {true, Refusal} -> Refusal;
+        false -> none
+    end.
+
+%% Section 8.1.1.8: the one address at which the caller is reached in the call.
+has_contact(Request) ->
+    case [Address || {contact, Addresses} <- Request#sip.hdrs, is_list(Addresses), Address <- Addresses] of
+        [{_, #uri{scheme = Scheme}, _}] -> lists:member(Scheme, [<<"sip">>, <<"sips">>]);
+        _ -> false
+    end.
+
+is_sdp(Request) ->
+    case {body(Request), header('content-type', Request)} of
+        {<<>>, _} -> true;
+        {_, undefined} -> true;
+        {_, {Type, _}} -> Type =:= <<"application/sdp">>
+    end.
+
+accepts_sdp(Request) ->
+    case lists:keymember(accept, 1, Request#sip.hdrs) of
+        true -> [Type || {Type, _} <- headers(accept, Request)] -- [<<"application/sdp">>, <<"application/*">>, <<"*/*">>]
+                    =/= [Type || {Type, _} <- headers(accept, Request)];
+        false -> true
+    end.
+
+-spec allow() -> {allow, [binary()]}.
+allow() ->
+    {allow, [<<"INVITE">>, <<"ACK">>, <<"BYE">>, <<"CANCEL">>, <<"OPTIONS">>, <<"UPDATE">>]}.
+
+-spec accept() -> {accept, [{binary(), []}]}.
+accept() ->
+    {accept, [{<<"application/sdp">>, []}]}.
 
 %% RFC 3261, section 18.2.1, and RFC 3581: where the message came from.
 received(Message = #sip{type = request, hdrs = Headers}, {Address, Port}) ->
@@ -63,45 +115,17 @@ received(Message, _) ->
 
 -spec encode(message()) -> binary().
 encode(Message) ->
-    [Head, Body] = binary:split(iolist_to_binary(esip_codec:encode(Message)), <<"\r\n\r\n">>),
-    <<(shown(Head))/binary, "\r\n\r\n", Body/binary>>.
-
-hidden(Text) ->
-    {Head, Rest} = case binary:split(Text, <<"\r\n\r\n">>) of
-        [H, Body] -> {H, <<"\r\n\r\n", Body/binary>>};
-        [H] -> {H, <<>>}
-    end,
-    <<(replaced(Head, "\\[([0-9A-Fa-f:.]+)\\]", fun(Address) ->
-        [binary:replace(Address, <<":">>, <<"-">>, [global]), ?HIDDEN]
-    end))/binary, Rest/binary>>.
-
-%% @doc A text with the addresses that are hidden in it.
--spec shown(binary()) -> binary().
-shown(Text) ->
-    replaced(Text, "([0-9A-Fa-f.-]+)\\.ipv6\\.invalid", fun(Host) ->
-        ["[", binary:replace(Host, <<"-">>, <<":">>, [global]), "]"]
-    end).
-
-%% OTP 25's re:replace takes no function.
-replaced(Text, Pattern, Change) ->
-    case re:run(Text, Pattern, [global, {capture, all, index}]) of
-        nomatch -> Text;
-        {match, Found} ->
-            {Parts, End} = lists:mapfoldl(fun([{At, Length}, Inner], From) ->
-                {[binary:part(Text, From, At - From), Change(binary:part(Text, Inner))], At + Length}
-            end, 0, Found),
-            iolist_to_binary([Parts, binary:part(Text, End, byte_size(Text) - End)])
-    end.
+    iolist_to_binary(esip_codec:encode(Message)).
 
 %% @doc A response with this tag in To, if it has none. 2xx responses have the way back to the caller (section 12.1.1).
 -spec response(100..699, message(), Tag :: binary(), {Headers :: [{term(), term()}], Body :: binary()}) -> message().
 response(Status, Request = #sip{hdrs = Headers, method = Method}, Tag, {More, Body}) ->
-    %% Names that aren't atoms are of headers that couldn't be decoded.
-    Keys = [via, from, 'call-id', cseq, <<"from">>, <<"to">>, <<"call-id">>, <<"cseq">>],
+    %% Names that aren't atoms are of headers that couldn't be read.
+    Keys = [via, from, 'call-id', cseq, <<"via">>, <<"from">>, <<"to">>, <<"call-id">>, <<"cseq">>],
     Copied = [Header || Header = {Key, _} <- Headers,
                         lists:member(Key, Keys) orelse (Key =:= 'record-route' andalso Status < 300)],
     To = case {header(to, Request), tag(to, Request)} of
-        {{Name, Uri, Params}, <<>>} -> [{to, {Name, Uri, [{<<"tag">>, Tag} | Params]}}];
+        {{Name, Uri, Params}, <<>>} when Status > 100 -> [{to, {Name, Uri, [{<<"tag">>, Tag} | Params]}}];
         {undefined, _} -> [];
         {Known, _} -> [{to, Known}]
     end,

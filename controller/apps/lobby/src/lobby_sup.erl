@@ -45,7 +45,7 @@ init(calls) ->
     {ok, {#{strategy => simple_one_for_one, intensity => 100, period => 10},
           [#{id => call, start => {lobby_call, start_link, []}, restart => transient}]}};
 init({serving, Config = #{gateways := Gateways, sip := Own}}) ->
-    Sip = maps:with([sip, max_calls, max_calls_from, callers, users], Config),
+    Sip = maps:without([gateways, store, pair, http, tokens], Config),
     Http = maps:with([http, tokens], Config),
     {ok, {#{strategy => rest_for_one, intensity => 10, period => 10}, [
         #{id => pg, start => {pg, start_link, [lobby]}},

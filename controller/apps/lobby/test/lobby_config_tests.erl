@@ -24,9 +24,19 @@ top_test_() ->
              {"users must be a map from names to passwords, all of them non-empty binaries, not #{<<\"a\">> => <<>>}", {users, #{<<"a">> => <<>>}}},
              {"tokens must be a list of tokens such as {<<\"sixteen bytes or more\">>,operator} (or viewer), not [{<<\"short\">>,viewer}]",
               {tokens, [{<<"short">>, viewer}]}},
-             {"max_calls must be a whole number from 1 to 100000, not 0", {max_calls, 0}}]]
+             {"max_calls must be a whole number from 1 to 100000, not 0", {max_calls, 0}},
+             {"max_rooms_from must be quarter or a whole number from 1 to 100000, not half", {max_rooms_from, half}},
+             {"digest must be a list of md5 and sha256, not []", {digest, []}}]]
     ++ [?_assertMatch({ok, #{callers := [_], users := #{}, tokens := [_]}},
                       lobby_config:check([Gateways, {callers, [{{10, 0, 0, 0}, 8}]}, {tokens, [{<<"0123456789abcdef">>, viewer}]}]))].
+
+%% A quarter of what the gateways have, or what is said.
+shares_test() ->
+    Gateways = {gateways, [#{name => <<"a">>, address => ?ADDRESS}, #{name => <<"b">>, address => ?ADDRESS, terminations => 16, contexts => 8}]},
+    ?assertMatch({ok, #{max_calls_from := 68, max_rooms_from := 18}}, lobby_config:check([Gateways])),
+    ?assertMatch({ok, #{max_calls_from := 1, max_rooms_from := 1}},
+                 lobby_config:check([{gateways, [#{name => <<"a">>, address => ?ADDRESS, terminations => 1, contexts => 1}]}])),
+    ?assertMatch({ok, #{max_calls_from := 9, max_rooms_from := 7}}, lobby_config:check([Gateways, {max_calls_from, 9}, {max_rooms_from, 7}])).
 
 pair_test_() ->
     Pair = #{self => 'lobby@10.0.0.21', peer => 'lobby@10.0.0.22', cookie => <<"0123456789abcdef">>},

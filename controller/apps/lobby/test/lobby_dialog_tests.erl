@@ -7,10 +7,11 @@
 -define(SOURCE, {{203, 0, 113, 9}, 4711}).
 
 dialog_test_() ->
-    {setup, fun() -> ok = esip_codec:start() end,
+    {setup, fun() -> ok end,
      [fun own_requests_have_the_dialogs_values/0, fun routes_are_followed/0, fun a_strict_route_is_the_uri/0,
       fun the_ack_has_the_number_of_its_invite/0, fun requests_are_told_apart_by_number/0, fun a_new_contact_is_the_target/0,
-      fun requests_go_to_the_contact_or_back/0, fun without_a_contact_there_is_no_dialog/0, fun the_caller_has_a_name/0]}.
+      fun requests_go_to_the_contact_or_back/0, fun without_a_contact_there_is_no_dialog/0, fun the_caller_has_a_name/0,
+      fun transactions_are_told_apart/0, fun a_refused_invite_ends_no_call/0]}.
 
 invite(More) ->
     Lines = ["INVITE sip:100@192.0.2.1 SIP/2.0", "Via: SIP/2.0/UDP 10.0.0.5:5070;branch=z9hG4bK-1;rport",
@@ -73,3 +74,25 @@ without_a_contact_there_is_no_dialog() ->
 
 the_caller_has_a_name() ->
     ?assertEqual(<<"Alice A">>, lobby_dialog:caller(dialog([]))).
+
+%% Section 17.2.3, and 8.2.2.2 and 9.2 for what follows.
+transactions_are_told_apart() ->
+    Message = fun(Method, Via) ->
+        {ok, M} = lobby_sip_message:decode(iolist_to_binary([Method, " sip:100@192.0.2.1 SIP/2.0\r\nVia: SIP/2.0/UDP ", Via, "\r\nFrom: <sip:a@b>;tag=1\r\n"
+            "To: <sip:100@192.0.2.1>\r\nCall-ID: c\r\nCSeq: 7 ", Method, "\r\n\r\n"]), ?SOURCE),
+        M
+    end,
+    Invite = Message("INVITE", "h;branch=z9hG4bK1"),
+    Answer = lobby_sip_message:response(200, Invite, <<"t">>, {[], <<>>}),
+    [?assertEqual({Method, Via, Is}, {Method, Via, lobby_dialog:is_same_transaction(Message(Method, Via), To)})
+     || To <- [Invite, Answer], {Method, Via, Is} <- [{"INVITE", "h;branch=z9hG4bK1", true}, {"CANCEL", "h;rport;branch=z9hG4bK1", true}, {"CANCEL", "h;branch=z9hG4bK2", false},
+                                                      {"INVITE", "other;branch=z9hG4bK1", false}, {"INVITE", "h:5070;branch=z9hG4bK1", false}, {"INVITE", "h", false}]],
+    %% Of RFC 2543.
+    [?assertEqual({Via, Is}, {Via, lobby_dialog:is_same_transaction(Message("CANCEL", Via), Message("INVITE", "h;branch=1"))})
+     || {Via, Is} <- [{"h;branch=1", true}, {"h;branch=2", false}, {"h", false}]],
+    ?assertNot(lobby_dialog:is_same_transaction((Message("CANCEL", "h"))#sip{hdrs = [{via, [#via{host = <<"h">>}]}, {'call-id', <<"c">>}, {cseq, 8}]}, Message("INVITE", "h"))).
+
+%% Section 14.1.
+a_refused_invite_ends_no_call() ->
+    ?assertEqual([{401, goes_on}, {408, ended}, {481, ended}, {488, goes_on}, {491, again}, {500, goes_on}, {503, goes_on}, {603, goes_on}],
+                 [{Status, lobby_dialog:after_refusal(Status)} || Status <- [401, 408, 481, 488, 491, 500, 503, 603]]).

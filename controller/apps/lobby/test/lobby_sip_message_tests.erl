@@ -12,10 +12,11 @@
                  "Contact: <sip:alice@10.0.0.5:5070>"]).
 
 codec_test_() ->
-    {setup, fun() -> ok = esip_codec:start() end,
+    {setup, fun() -> ok end,
      [fun a_request_is_read/0, fun what_is_missing_is_a_bad_request/0, fun what_is_no_message_is_refused/0,
       fun the_source_is_written_into_the_via/0, fun responses_go_where_rfc_3581_says/0, fun tags_stay_as_they_are/0,
       fun addresses_of_ipv6_stay/0, fun what_follows_the_body_is_cut_off/0, fun a_response_has_what_it_needs/0,
+      fun a_provisional_answer_makes_no_dialog/0, fun reading_takes_linear_time/0,
       ?property(prop_any_datagram_is_read_or_refused, 3000)]}.
 
 text(Lines, Body) -> iolist_to_binary([[[Line, "\r\n"] || Line <- Lines], "\r\n", Body]).
@@ -32,16 +33,31 @@ a_request_is_read() ->
     ?assertMatch([{<<>>, #uri{user = <<"alice">>}, []}], lobby_sip_message:headers(contact, Message)).
 
 what_is_missing_is_a_bad_request() ->
-    [?assertMatch({bad_request, _}, decode(without(Name))) || Name <- ["From", "To", "Call-ID", "CSeq"]],
-    ?assertMatch({bad_request, _}, decode(without("From") ++ ["From: <sip:alice@10.0.0.5>"])),
-    ?assertMatch({bad_request, _}, decode(without("From") ++ ["From: garbage;tag=1"])),
-    ?assertMatch({bad_request, _}, decode(without("CSeq") ++ ["CSeq: 2147483648 INVITE"])),
-    ?assertMatch({bad_request, _}, decode(?INVITE ++ ["Content-Length: 5"])).
+    [?assertMatch({refused, 400, _}, decode(without(Name))) || Name <- ["From", "To", "Call-ID", "CSeq"]],
+    ?assertMatch({refused, 400, _}, decode(without("From") ++ ["From: garbage;tag=1"])),
+    ?assertMatch({refused, 400, _}, decode(without("CSeq") ++ ["CSeq: 2147483648 INVITE"])),
+    ?assertMatch({refused, 400, _}, decode(?INVITE ++ ["Content-Length: 5"])),
+    %% What can't be read is in the answer as it came.
+    {refused, 400, Message} = decode(without("CSeq") ++ ["CSeq: -1 INVITE"]),
+    Text = lobby_sip_message:encode(lobby_sip_message:response(400, Message, <<"t">>, {[], <<>>})),
+    ?assertNotEqual(nomatch, binary:match(Text, <<"\r\ncseq: -1 INVITE\r\n">>)).
+
+%% esip takes half a minute for the first one.
+reading_takes_linear_time() ->
+    [begin
+         Text = text(?INVITE ++ [[Name, ": ", lists:join(",", lists:duplicate(Count, Value))]], ""),
+         {Time, _} = timer:tc(fun() -> lobby_sip_message:decode(Text, ?SOURCE) end),
+         ?assert(Time < 100000)
+     end || Name <- ["Contact", "Route", "Via", "Accept", "Authorization: Digest a"],
+            {Count, Value} <- [{5800, "<sip:a@b>"}, {700, "<sip:a@b>"}, {29000, ";"}, {4000, ";"}, {1, lists:duplicate(8000, $")},
+                               {1, ["<", lists:duplicate(7900, $ ), ">"]}, {1, lists:duplicate(7900, $\\)}]].
 
 what_is_no_message_is_refused() ->
     [?assertEqual({error, not_sip}, lobby_sip_message:decode(Text, ?SOURCE))
      || Text <- [<<>>, <<"\r\n\r\n">>, <<"hello">>, text(without("Via"), ""), <<"SIP/2.0 200 OK\r\n\r\n">>,
-                 text(["SIP/2.0 200 OK" | tl(without("From"))], "")]].
+                 text(["SIP/2.0 200 OK" | tl(without("From"))], "")]],
+    %% RFC 2543 knew no tags.
+    ?assertMatch({ok, _}, decode(without("From") ++ ["From: <sip:alice@10.0.0.5>"])).
 
 via(Message) -> hd(lobby_sip_message:header(via, Message)).
 
@@ -92,6 +108,12 @@ a_response_has_what_it_needs() ->
     ?assertNot(lists:member(<<"X-Other: 1">>, Lines(200))),
     ?assertNot(lists:member(<<"Record-Route: <sip:p1;lr>, <sip:p2;lr>">>, Lines(486))).
 
+%% Section 8.2.6.2: 100 has no tag of ours.
+a_provisional_answer_makes_no_dialog() ->
+    {ok, Message} = decode(?INVITE),
+    Text = lobby_sip_message:encode(lobby_sip_message:response(100, Message, <<"Ours">>, {[], <<>>})),
+    ?assertNotEqual(nomatch, binary:match(Text, <<"\r\nTo: <sip:100@192.0.2.1>\r\n">>)).
+
 %% A valid message with some bytes changed, or any bytes.
 datagram() ->
     Whole = text(?INVITE ++ ["Session-Expires: 90;refresher=uac", "Require: timer", "Content-Length: 3"], "v=0"),
@@ -108,8 +130,9 @@ prop_any_datagram_is_read_or_refused() ->
     ?FORALL(Datagram, datagram(),
             case lobby_sip_message:decode(Datagram, ?SOURCE) of
                 {error, not_sip} -> true;
-                {_, Message = #sip{type = response}} -> is_binary(lobby_sip_message:encode(Message));
-                {_, Message} ->
+                {ok, Message = #sip{type = response}} -> is_binary(lobby_sip_message:encode(Message));
+                Read ->
+                    Message = element(tuple_size(Read), Read),
                     {_, Port} = lobby_sip_message:response_target(Message, ?SOURCE),
                     Port > 0 andalso is_binary(lobby_sip_message:encode(lobby_sip_message:response(400, Message, <<"t">>, {[], <<>>})))
             end).

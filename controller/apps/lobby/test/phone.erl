@@ -2,7 +2,7 @@
 -module(phone).
 
 -export([automatic/2, start_tcp/2, send_slowly/2, start/1, start/2, invite/2, invite/3, request/3, request/4, answer/3, answer/4, ack/1, ack/2, recv/1, recv/2, flush/1, sdp/1, sdp/2,
-         close/1, port/1, media/1, header/2, status/1, learn/2, send/2, room/2, number/2, quiet/2]).
+         close/1, port/1, media/1, header/2, status/1, learn/2, send/2, room/2, number/2, quiet/2, as/2, tagged/2]).
 
 -record(phone, {transport = "UDP", socket, port, to, room, call_id, tag, cseq = 0, remote_tag = "", extra = [], caller}).
 
@@ -52,6 +52,9 @@ start_tcp(To = {Address, ToPort}, Room) ->
 
 room(Room, P) -> P#phone{room = Room}.
 number(N, P) -> P#phone{cseq = N}.
+tagged(Tag, P) -> P#phone{remote_tag = Tag}.
+%% Another phone, that says what this one would say.
+as(#phone{call_id = CallId, tag = Tag, remote_tag = Remote, cseq = N}, P) -> P#phone{call_id = CallId, tag = Tag, remote_tag = Remote, cseq = N}.
 port(#phone{port = Port}) -> Port.
 media(#phone{caller = Caller}) -> Caller.
 close(#phone{transport = "TCP", socket = Socket}) -> gen_tcp:close(Socket);
@@ -80,10 +83,12 @@ ack(Body, P = #phone{cseq = N}) -> send(message("ACK", N, Body, [], P), P).
 
 message(Method, Number, Body, Extra, #phone{transport = Transport, port = Port, room = Room, to = {_, ToPort}, call_id = CallId, tag = Tag, remote_tag = Remote}) ->
     To = case Remote of "" -> ""; _ -> ";tag=" ++ Remote end,
+    %% A CANCEL is of the transaction of its INVITE.
+    Branch = case Method of "CANCEL" -> "INVITE"; _ -> Method end,
     io_lib:format("~s sip:~s@127.0.0.1:~b SIP/2.0\r\nVia: SIP/2.0/~s 127.0.0.1:~b;branch=z9hG4bK-~s-~b-~s;rport\r\nMax-Forwards: 70\r\n"
                   "From: \"Test\" <sip:test@127.0.0.1>;tag=~s\r\nTo: <sip:~s@127.0.0.1>~s\r\nCall-ID: ~s\r\nCSeq: ~b ~s\r\n"
                   "Contact: <sip:test@127.0.0.1:~b>\r\n~s~sContent-Length: ~b\r\n\r\n~s",
-                  [Method, Room, ToPort, Transport, Port, CallId, Number, Method, Tag, Room, To, CallId, Number, Method, Port,
+                  [Method, Room, ToPort, Transport, Port, CallId, Number, Branch, Tag, Room, To, CallId, Number, Method, Port,
                    [[Line, "\r\n"] || Line <- Extra], case Body of "" -> ""; _ -> "Content-Type: application/sdp\r\n" end, length(Body), Body]).
 
 send(Text, #phone{transport = "TCP", socket = Socket}) -> ok = gen_tcp:send(Socket, Text);

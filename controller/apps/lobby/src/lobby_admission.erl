@@ -1,0 +1,75 @@
+%%% @doc Who may send SIP messages, and how much one address gets, so that it shuts out nobody else. Trusted proxies
+%%% speak for many, and get all that there is.
+-module(lobby_admission).
+
+-export([new/1, message/3, call/4, entered/4, left/2]).
+-export_type([limits/0, admission/0]).
+
+%% Calls at all; calls and rooms of one address, and its messages and new calls a second. Without networks of callers,
+%% anybody may call.
+-type limits() :: #{callers := [lobby_auth:network()], proxies := [lobby_auth:network()], max_calls := pos_integer(),
+                    max_calls_from := pos_integer(), max_rooms_from := pos_integer(), messages_from := pos_integer(),
+                    new_calls_from := pos_integer(), _ => _}.
+-record(admission, {limits :: limits(), buckets = lobby_buckets:new() :: lobby_buckets:buckets(),
+                    calls = #{} :: #{pid() => {inet:ip4_address(), lobby_room:name()}},
+                    %% How many calls an address has in each room.
+                    rooms = #{} :: #{inet:ip4_address() => #{lobby_room:name() => pos_integer()}}}).
+-opaque admission() :: #admission{}.
+
+-spec new(limits()) -> admission().
+new(Limits) -> #admission{limits = Limits}.
+
+%% @doc Returns whether a message from this address is read. The time is in milliseconds.
+-spec message(inet:ip4_address(), Now :: integer(), admission()) -> {boolean(), admission()}.
+message(Address, Now, A = #admission{limits = #{callers := Callers, messages_from := Rate}}) ->
+    case {is_proxy(Address, A), Callers =:= [] orelse lobby_auth:is_in(Address, Callers)} of
+        {true, _} -> {true, A};
+        {false, true} -> take(message, Address, Rate, Now, A);
+        {false, false} -> {false, A}
+    end.
+
+is_proxy(Address, #admission{limits = #{proxies := Proxies}}) -> lobby_auth:is_in(Address, Proxies).
+
+take(Kind, Address, Rate, Now, A = #admission{buckets = Buckets}) ->
+    {Taken, Buckets1} = lobby_buckets:take({Kind, Address}, Rate, Now, Buckets),
+    {Taken, A#admission{buckets = Buckets1}}.
+
+%% @doc Returns whether a new call is taken. `full': all calls are too many. `too_many': those of this address are, or it
+%% would have too many rooms to itself. `too_fast': they come too fast.
+-spec call(inet:ip4_address(), {lobby_room:name(), IsNew :: boolean()}, Now :: integer(), admission()) ->
+          {ok | full | too_many | too_fast, admission()}.
+call(Address, {Room, IsNew}, Now, A = #admission{limits = Limits, calls = Calls, rooms = ByAddress}) ->
+    #{max_calls := Max, max_calls_from := MaxFrom, max_rooms_from := MaxRooms, new_calls_from := Rate} = Limits,
+    Rooms = maps:get(Address, ByAddress, #{}),
+    TooMany = lists:sum(maps:values(Rooms)) >= MaxFrom
+        orelse IsNew andalso not is_map_key(Room, Rooms) andalso map_size(Rooms) >= MaxRooms,
+    case {map_size(Calls) >= Max, is_proxy(Address, A), TooMany} of
+        {true, _, _} -> {full, A};
+        {false, true, _} -> {ok, A};
+        {false, false, true} -> {too_many, A};
+        {false, false, false} -> case take(call, Address, Rate, Now, A) of
+            {true, A1} -> {ok, A1};
+            {false, A1} -> {too_fast, A1}
+        end
+    end.
+
+%% @doc A call is there, by its process.
+-spec entered(pid(), inet:ip4_address(), lobby_room:name(), admission()) -> admission().
+entered(Pid, _, _, A = #admission{calls = Calls}) when is_map_key(Pid, Calls) ->
+    A;
+entered(Pid, Address, Room, A = #admission{calls = Calls, rooms = ByAddress}) ->
+    Rooms = maps:get(Address, ByAddress, #{}),
+    A#admission{calls = Calls#{Pid => {Address, Room}},
+                rooms = ByAddress#{Address => Rooms#{Room => maps:get(Room, Rooms, 0) + 1}}}.
+
+-spec left(pid(), admission()) -> admission().
+left(Pid, A = #admission{calls = Calls, rooms = ByAddress}) ->
+    case maps:take(Pid, Calls) of
+        {{Address, Room}, Others} ->
+            #{Address := Rooms = #{Room := Count}} = ByAddress,
+            Rooms1 = case Count of 1 -> maps:remove(Room, Rooms); _ -> Rooms#{Room := Count - 1} end,
+            ByAddress1 = case map_size(Rooms1) of 0 -> maps:remove(Address, ByAddress); _ -> ByAddress#{Address := Rooms1} end,
+            A#admission{calls = Others, rooms = ByAddress1};
+        error ->
+            A
+    end.

@@ -2,7 +2,7 @@
 %%% G.711. Other streams are declined. The gateway never sees a caller's description.
 -module(lobby_sdp).
 
--export([parse/1, media/1, direction/1, answer/4, offer/3]).
+-export([parse/1, media/1, direction/1, warning/1, answer/4, offer/3]).
 -export_type([session/0, direction/0, reason/0]).
 
 %% `sendonly': the one who describes only sends.
@@ -10,14 +10,20 @@
 -type stream() :: taken | {declined, Kind :: binary(), Transport :: binary(), Formats :: [binary()]}.
 -record(session, {media :: lobby_h248:media(), direction :: direction(), streams :: [stream()]}).
 -opaque session() :: #session{}.
--type reason() :: no_audio | no_common_format | bad_address | bad_syntax.
+-type reason() :: no_audio | no_common_format | bad_address | bad_packet_time | bad_syntax.
 
 -define(MAX_STREAMS, 16).
+-define(MAX_LINES, 500).
 
 %% @doc A caller's description.
 -spec parse(binary()) -> {ok, session()} | {error, reason()}.
 parse(Text) ->
-    {Head, Blocks} = blocks([trim(Line) || Line <- binary:split(Text, <<"\n">>, [global])]),
+    case binary:split(Text, <<"\n">>, [global]) of
+        Lines when length(Lines) =< ?MAX_LINES -> session(blocks([trim(Line) || Line <- Lines]));
+        _ -> {error, bad_syntax}
+    end.
+
+session({Head, Blocks}) ->
     case length(Blocks) =< ?MAX_STREAMS andalso [stream(Block) || Block <- Blocks] of
         false -> {error, bad_syntax};
         Streams -> case lists:member(bad, Streams) of
@@ -76,14 +82,20 @@ declined({Kind, _, Transport, Formats}) ->
     {declined, Kind, Transport, Formats}.
 
 audio({<<"audio">>, Port, <<"RTP/AVP">>, Formats}, Lines, Head) when Port =/= none ->
-    case {[Format || Type <- Formats, Format <- format(Type)], address(Lines ++ Head)} of
-        {[], _} -> {error, no_common_format};
-        {_, none} -> {error, bad_address};
-        {[Format | _], {0, 0, 0, 0}} -> {ok, {{{0, 0, 0, 0}, Port}, Format}, inactive};
-        {[Format | _], Address} -> {ok, {{Address, Port}, Format}, direction_of(Lines ++ Head)}
+    case {[Format || Type <- Formats, Format <- format(Type)], address(Lines ++ Head), lists:all(fun takes_20_ms/1, Lines)} of
+        {[], _, _} -> {error, no_common_format};
+        {_, none, _} -> {error, bad_address};
+        {_, _, false} -> {error, bad_packet_time};
+        {[Format | _], {0, 0, 0, 0}, true} -> {ok, {{{0, 0, 0, 0}, Port}, Format}, inactive};
+        {[Format | _], Address, true} -> {ok, {{Address, Port}, Format}, direction_of(Lines ++ Head)}
     end;
 audio(_, _, _) ->
     {error, no_audio}.
+
+%% The gateway sends packets of 20 ms, and drops all others. A phone that wants others would send such.
+takes_20_ms(<<"a=ptime:", Ms/binary>>) -> string:to_integer(Ms) =:= {20, <<>>};
+takes_20_ms(<<"a=maxptime:", Ms/binary>>) -> case string:to_integer(Ms) of {Max, _} -> is_integer(Max) andalso Max >= 20 end;
+takes_20_ms(_) -> true.
 
 format(<<"0">>) -> [pcmu];
 format(<<"8">>) -> [pcma];
@@ -118,6 +130,19 @@ media(#session{media = Media}) -> Media.
 %% @doc The caller's direction; `inactive' if he holds with the address 0.0.0.0.
 -spec direction(session()) -> direction().
 direction(#session{direction = Direction}) -> Direction.
+
+%% @doc The headers that say why an offer is refused by 488 (RFC 3261, section 20.43).
+-spec warning(reason() | foreign_address) -> [{warning, [{300..399, binary(), binary()}]}].
+warning(Reason) ->
+    {Code, Text} = case Reason of
+        no_audio -> {304, "no audio over RTP/AVP"};
+        no_common_format -> {305, "neither PCMU nor PCMA"};
+        bad_address -> {301, "no unicast address of IPv4"};
+        bad_packet_time -> {306, "packets must be of 20 ms"};
+        bad_syntax -> {399, "no session description"};
+        foreign_address -> {399, "media must go to the caller's own address"}
+    end,
+    [{warning, [{Code, <<"lobby">>, iolist_to_binary([$", Text, $"])}]}].
 
 %% @doc The answer to an offer. Id and version are those of the own description (its o= line).
 -spec answer(session(), Local :: lobby_h248:media(), Id :: non_neg_integer(), Version :: non_neg_integer()) -> binary().

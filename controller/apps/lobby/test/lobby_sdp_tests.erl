@@ -67,22 +67,39 @@ refused_test_() ->
                             {bad_address, ["m=audio 4000 RTP/AVP 0", "c=IN IP4 224.2.0.1/127"]},
                             {bad_address, ["m=audio 4000 RTP/AVP 0", "c=IN IP4 255.255.255.255"]},
                             {bad_address, ["m=audio 4000 RTP/AVP 0", "c=IN IP4 1.2.3"]},
+                            {bad_packet_time, ["m=audio 4000 RTP/AVP 0", "a=ptime:30"]}, {bad_packet_time, ["m=audio 4000 RTP/AVP 0", "a=ptime:10"]},
+                            {bad_packet_time, ["m=audio 4000 RTP/AVP 0", "a=ptime:x"]}, {bad_packet_time, ["m=audio 4000 RTP/AVP 0", "a=maxptime:10"]},
+                            {bad_packet_time, ["m=audio 4000 RTP/AVP 0", "a=ptime:20", "a=maxptime:19"]}, {bad_packet_time, ["m=audio 4000 RTP/AVP 0", "a=maxptime:"]},
+                            {bad_syntax, ["m=audio 4000 RTP/AVP 0" | lists:duplicate(500, "")]},
                             {bad_syntax, lists:duplicate(17, "m=audio 4000 RTP/AVP 0")}]]
     ++ [?_assertEqual({error, bad_address}, lobby_sdp:parse(<<"v=0\r\nc=IN IP6 ::1\r\nm=audio 4000 RTP/AVP 0\r\n">>)),
         ?_assertEqual({error, no_audio}, lobby_sdp:parse(<<>>))].
+
+%% RFC 4566, section 6, and RFC 3264, section 5.1.
+packets_of_20_ms_test() ->
+    [?assertMatch({Lines, {ok, _}}, {Lines, offer(["m=audio 4000 RTP/AVP 0" | Lines])})
+     || Lines <- [["a=ptime:20"], ["a=maxptime:20"], ["a=maxptime:150", "a=ptime:20"], ["a=maxptime:20.5"]]],
+    %% The other stream's.
+    {ok, Session} = offer(["m=audio 4000 RTP/AVP 0", "a=ptime:30", "m=audio 4002 RTP/AVP 0", "a=ptime:20"]),
+    ?assertMatch({{_, 4002}, _}, lobby_sdp:media(Session)).
+
+%% RFC 3261, section 20.43.
+a_refusal_has_a_reason_test() ->
+    [?assertMatch([{warning, [{Code, <<"lobby">>, <<$", _/binary>>}]}], lobby_sdp:warning(Reason))
+     || {Reason, Code} <- [{no_audio, 304}, {no_common_format, 305}, {bad_address, 301}, {bad_packet_time, 306}, {bad_syntax, 399}, {foreign_address, 399}]].
 
 %% Lines of descriptions, and lines with any bytes in them.
 text() ->
     Word = oneof([<<"m=">>, <<"c=">>, <<"a=">>, <<"audio ">>, <<"video ">>, <<"4000 ">>, <<"0 ">>, <<"8 ">>, <<"RTP/AVP ">>,
                   <<"IN IP4 ">>, <<"10.0.0.1">>, <<"sendonly">>, <<"\r\n">>, <<"\n">>,
-                  <<"m=audio 4000 RTP/AVP 0\r\n">>, <<"c=IN IP4 10.0.0.1\r\n">>, binary()]),
+                  <<"m=audio 4000 RTP/AVP 0\r\n">>, <<"c=IN IP4 10.0.0.1\r\n">>, <<"a=ptime:">>, <<"a=maxptime:">>, binary()]),
     ?BIND(Words, list(Word), iolist_to_binary(Words)).
 
 %% An accepted offer is answered with as many streams as it has, of which exactly one is taken.
 prop_any_text_is_answered_or_refused() ->
     ?FORALL(Text, text(),
             case lobby_sdp:parse(Text) of
-                {error, Reason} -> lists:member(Reason, [no_audio, no_common_format, bad_address, bad_syntax]);
+                {error, Reason} -> lists:member(Reason, [no_audio, no_common_format, bad_address, bad_packet_time, bad_syntax]);
                 {ok, Session} ->
                     Answer = lobby_sdp:answer(Session, ?LOCAL, 1, 1),
                     Streams = [Line || Line = <<"m=", _/binary>> <- binary:split(Answer, <<"\r\n">>, [global])],

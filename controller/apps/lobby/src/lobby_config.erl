@@ -2,7 +2,7 @@
 -module(lobby_config).
 
 -export([check/1, load/1]).
--export_type([config/0]).
+-export_type([config/0, tls/0]).
 
 -type config() :: #{gateways := [lobby_gateway:config()],
                     sip := lobby_sip_message:peer(), t1 := pos_integer(), min_se := pos_integer(),
@@ -11,8 +11,12 @@
                     max_calls := pos_integer(), max_calls_from := pos_integer(), max_rooms_from := pos_integer(),
                     messages_from := pos_integer(), new_calls_from := pos_integer(),
                     silent_after := pos_integer(), room_audit := pos_integer(),
-                    store := memory | disc, pair := lobby_pair:config() | none,
+                    store := memory | disc, pair := lobby_pair:config() | none, tls := tls() | none,
                     http := lobby_sip_message:peer(), tokens := [{binary(), operator | viewer}]}.
+
+%% Where SIP over TLS is served, and whether HTTP is.
+-type tls() :: #{certificate := file:filename(), key := file:filename(), sip := lobby_sip_message:peer() | none,
+                 http := boolean()}.
 
 %% The kinds of values, with the default, by name.
 -define(TOP, #{gateways => {gateways, required},
@@ -22,12 +26,14 @@
                max_calls => {{1, 100000}, 1024}, max_calls_from => {share, quarter}, max_rooms_from => {share, quarter},
                messages_from => {{1, 100000}, 1000}, new_calls_from => {{1, 100000}, 50},
                silent_after => {{1000, 3600000}, 30000}, room_audit => {{500, 600000}, 5000},
-               store => {store, memory}, pair => {pair, none},
+               store => {store, memory}, pair => {pair, none}, tls => {pair, none},
                http => {address, {{127, 0, 0, 1}, 8080}}, tokens => {tokens, []}}).
 -define(GATEWAY, #{name => {text, required}, address => {address, required}, here => {ip, {127, 0, 0, 1}},
                    retry => {{10, 5000}, 100}, tries => {{1, 20}, 4}, quiet => {{100, 60000}, 5000},
                    audit => {{50, 60000}, 250}, returns => {{0, 20000}, 0},
                    terminations => {{1, 256}, 256}, contexts => {{1, 64}, 64}}).
+
+-define(TLS, #{certificate => {path, required}, key => {path, required}, sip => {port, none}, http => {boolean, false}}).
 
 -define(PAIR, #{self => {node, required}, peer => {node, required}, cookie => {secret, required},
                 lease => {lease, address}, ready => {file, none}, gap => {{100, 250}, 250}}).
@@ -36,7 +42,15 @@
 -spec check([{atom(), term()}]) -> {ok, config()} | {error, string()}.
 check(Env) ->
     case values("the configuration", ?TOP, maps:from_list(Env)) of
-        {ok, Config} -> pair(Config);
+        {ok, Config} -> tls(Config);
+        Error -> Error
+    end.
+
+tls(Config = #{tls := none}) ->
+    pair(Config);
+tls(Config = #{tls := Tls}) ->
+    case values("tls", ?TLS, Tls) of
+        {ok, Checked} -> pair(Config#{tls := Checked});
         Error -> Error
     end.
 
@@ -116,6 +130,9 @@ is(secret, Value) -> is_binary(Value) andalso byte_size(Value) >= 16 andalso byt
 is(lease, {file, File}) -> is_path(File);
 is(lease, Value) -> Value =:= address;
 is(file, Value) -> Value =:= none orelse is_path(Value);
+is(path, Value) -> is_path(Value);
+is(port, Value) -> Value =:= none orelse is(address, Value);
+is(boolean, Value) -> is_boolean(Value);
 is(share, Value) -> Value =:= quarter orelse is({1, 100000}, Value);
 is(digest, Value) -> lists:member(Value, [[md5], [sha256], [sha256, md5], [md5, sha256]]);
 is(store, Value) -> lists:member(Value, [memory, disc]);
@@ -140,6 +157,9 @@ described(pair) -> "a map or none";
 described(node) -> "a node's name such as 'lobby@10.0.0.20'";
 described(secret) -> "a binary of 16 to 255 bytes";
 described(lease) -> "address or {file,\"/path\"}";
+described(boolean) -> "true or false";
+described(port) -> described(address);
+described(path) -> described(file);
 described(file) -> "a path such as \"/path\"";
 described(share) -> "quarter or a whole number from 1 to 100000";
 described(digest) -> "a list of md5 and sha256";

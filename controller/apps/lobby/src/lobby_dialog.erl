@@ -93,7 +93,7 @@ message(Method, Sequence, {Headers, Body}, Own = {Transport, {Address, Port}}, D
 %% @doc Where the caller reaches us.
 -spec contact(own()) -> {contact, [party()]}.
 contact({Transport, {Address, Port}}) ->
-    Params = [{<<"transport">>, <<"tcp">>} || Transport =:= <<"TCP">>],
+    Params = [{<<"transport">>, string:lowercase(Transport)} || Transport =/= <<"UDP">>],
     Uri = #uri{user = <<"lobby">>, host = list_to_binary(inet:ntoa(Address)), port = Port, params = Params},
     {contact, [{<<>>, Uri, []}]}.
 

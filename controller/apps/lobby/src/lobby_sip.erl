@@ -5,12 +5,13 @@
 
 -include_lib("p1_sip/include/esip.hrl").
 
--export([start_link/1, received/2, send/2, own/0, own_tag/1, allow/0]).
+-export([start_link/1, received/2, send/2, own/0, own/1, own_tag/1, allow/0]).
 -export([init/1, handle_continue/2, handle_call/3, handle_cast/2, handle_info/2]).
 -export_type([config/0]).
 
 -type config() :: #{sip := lobby_sip_message:peer(), users := lobby_auth:users(), digest := [lobby_auth:algorithm()],
-                    callers := [lobby_auth:network()], proxies := [lobby_auth:network()], _ => _}.
+                    callers := [lobby_auth:network()], proxies := [lobby_auth:network()],
+                    tls := #{sip := lobby_sip_message:peer() | none, _ => _} | none, _ => _}.
 %% A call's process that has so many messages to handle gets no more.
 -define(MAX_WAITING, 100).
 %% Bytes. What is longer goes over TCP (RFC 3261, section 18.1.1).
@@ -34,17 +35,27 @@ send(Target, Message) ->
     ok = lobby_lease:hold(),
     sent(Target, Message).
 
-sent({tcp, Connection, _}, Message) ->
-    lobby_tcp:send(Connection, lobby_sip_message:encode(Message));
-sent({Address, Port}, Message) ->
-    {Socket, _, _} = persistent_term:get(?MODULE),
-    _ = gen_udp:send(Socket, Address, Port, lobby_sip_message:encode(Message)),
-    ok.
+sent(Target, Message) ->
+    case {lobby_sip_message:connection(Target), lobby_sip_message:peer(Target)} of
+        {none, {Address, Port}} ->
+            Socket = element(1, persistent_term:get(?MODULE)),
+            _ = gen_udp:send(Socket, Address, Port, lobby_sip_message:encode(Message)),
+            ok;
+        {Connection, _} -> lobby_tcp:send(Connection, lobby_sip_message:encode(Message))
+    end.
 
 %% @doc The own address.
 -spec own() -> lobby_sip_message:peer().
 own() ->
     element(2, persistent_term:get(?MODULE)).
+
+%% @doc The transport, and the own address, where somebody reaches us who sends from there.
+-spec own(lobby_sip_message:target()) -> lobby_dialog:own().
+own(Source) ->
+    case lobby_sip_message:transport(Source) of
+        <<"TLS">> -> {<<"TLS">>, element(4, persistent_term:get(?MODULE))};
+        Transport -> {Transport, own()}
+    end.
 
 %% @doc Our tag in the dialog with a caller: always the same for his INVITE, however often it comes.
 -spec own_tag(lobby_sip_message:message()) -> binary().
@@ -52,7 +63,7 @@ own_tag(Request) ->
     tag_in(lobby_dialog:key(Request)).
 
 tag_in(Key) ->
-    {_, _, Secret} = persistent_term:get(?MODULE),
+    Secret = element(3, persistent_term:get(?MODULE)),
     <<Tag:8/binary, _/binary>> = crypto:mac(hmac, sha256, Secret, term_to_binary(Key)),
     string:lowercase(binary:encode_hex(Tag)).
 
@@ -61,10 +72,11 @@ allow() ->
     lobby_sip_message:allow().
 
 -spec init(config()) -> {ok, #state{}, {continue, restore}} | {stop, {cannot_bind, lobby_sip_message:peer(), inet:posix()}}.
-init(Config = #{sip := Own, digest := Algorithms}) ->
+init(Config = #{sip := Own, digest := Algorithms, tls := Tls}) ->
     case open(Own, 50) of
         {ok, Socket} ->
-            ok = persistent_term:put(?MODULE, {Socket, Own, secret()}),
+            OwnTls = case Tls of #{sip := Address} -> Address; none -> none end,
+            ok = persistent_term:put(?MODULE, {Socket, Own, secret(), OwnTls}),
             {ok, #state{config = Config, socket = Socket, admission = lobby_admission:new(Config),
                         auth = lobby_auth:new(Algorithms)}, {continue, restore}};
         {error, Reason} ->
@@ -168,12 +180,12 @@ request(Request = #sip{method = Method}, Source, State) ->
 in_call(Key, Message, Source, State) ->
     case lobby_registry:whereis_name({call, Key}) of
         undefined -> without_process(Key, Message, Source, State);
-        Pid -> forward(Pid, {sip, Message, Source}), State
+        Pid -> forward(Pid, Message, Source), State
     end.
 
 without_process(Key, Message = #sip{type = Type}, Source, State) ->
     case {lobby_call:restore(Key), Type} of
-        {Restored = {ok, Pid, _}, _} -> forward(Pid, {sip, Message, Source}), restored(Restored, State);
+        {Restored = {ok, Pid, _}, _} -> forward(Pid, Message, Source), restored(Restored, State);
         {error, request} -> unknown(Message, Source, State);
         {error, response} -> State
     end.
@@ -182,10 +194,18 @@ restored({ok, Pid, Source}, State) -> watch({Pid, address(Source)}, <<>>, State)
 restored(error, State) -> State.
 
 %% What is dropped is sent again by whoever wants an answer.
-forward(Pid, Message) ->
+forward(Pid, Message, Source) ->
+    ok = used(Source, Pid),
     case process_info(Pid, message_queue_len) of
-        {_, Waiting} when Waiting < ?MAX_WAITING -> Pid ! Message, ok;
+        {_, Waiting} when Waiting < ?MAX_WAITING -> Pid ! {sip, Message, Source}, ok;
         _ -> ok
+    end.
+
+%% A connection is kept while it has calls.
+used(Source, Call) ->
+    case lobby_sip_message:connection(Source) of
+        none -> ok;
+        Connection -> lobby_tcp:in_call(Connection, Call)
     end.
 
 %% A request of no call. With our tag it is of one that has ended: the answer to his BYE was lost (section 17.2.2).
@@ -225,6 +245,7 @@ admitted(Request = #sip{uri = #uri{user = Room}}, Source, State = #state{admissi
     case Verdict of
         ok ->
             {ok, Pid} = supervisor:start_child(lobby_call_sup, [Room, Request, Source]),
+            ok = used(Source, Pid),
             watch({Pid, Address}, Room, State1);
         too_many -> answer(486, [], Request, Source, State1);
         _ -> answer(503, [{'retry-after', {10, []}}], Request, Source, State1)

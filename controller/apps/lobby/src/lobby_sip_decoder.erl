@@ -135,7 +135,7 @@ value(contact, <<"*">>) -> <<"*">>;
 value(Key, Text) when Key =:= from; Key =:= to -> [Address] = values(Text), address(Address);
 value(Key, Text) when Key =:= contact; Key =:= route; Key =:= 'record-route'; Key =:= 'p-asserted-identity' ->
     [address(Item) || Item <- values(Text)];
-value('call-id', Text) -> match(Text, "^[^\\s]+$"), Text;
+value('call-id', Text) -> [CallId] = match(Text, "^(\\S+)$"), CallId;
 value(cseq, Text) -> [Number, Method] = match(Text, "^([0-9]{1,20})\\s+(\\S+)$"), {number(Number, 16#7FFFFFFF), Method};
 value('content-length', Text) -> number(Text, 16#7FFFFFFF);
 value('max-forwards', Text) -> number(Text, 255);
@@ -154,8 +154,8 @@ value(_, Text) -> [lower(Item) || Item <- values(Text)].
 seconds(Text) -> min(number(Text, infinity), 86400).
 
 number(Text, Max) ->
-    match(Text, "^[0-9]{1,80}$"),
-    case binary_to_integer(Text) of Number when Number =< Max -> Number end.
+    [Digits] = match(Text, "^([0-9]{1,80})$"),
+    case binary_to_integer(Digits) of Number when Number =< Max -> Number end.
 
 match(Text, Pattern) ->
     {match, Found} = re:run(Text, Pattern, [dollar_endonly, {capture, all_but_first, binary}]),
@@ -192,12 +192,8 @@ port([]) -> undefined.
 %% A name with a URI in angle brackets, or a URI without parameters of its own (section 20).
 address(Text) ->
     [First | Params] = split(Text, $;),
-    {Name, Uri} = case re:run(First, "^(\"(?:[^\"\\\\]++|\\\\.)*+\"\\s*|[^\"<>,]*)<([^<>\\s]*)>$",
-                              [dotall, dollar_endonly, {capture, all_but_first, binary}]) of
-        {match, [Named, Inner]} -> {trim(Named), Inner};
-        nomatch -> match(First, "^[^\\s<>?,\"]+$"), {<<>>, First}
-    end,
-    {Name, uri(Uri), [param(Param) || Param <- Params]}.
+    [Name, Inner, Bare] = match(First, "^(?|(\"(?:[^\"\\\\]++|\\\\.)*+\"\\s*|[^\"<>,]*)<([^<>\\s]+)>()|()()([^\\s<>?,\"]+))$"),
+    {trim(Name), uri(<<Inner/binary, Bare/binary>>), [param(Param) || Param <- Params]}.
 
 %% @doc A URI. Of another scheme than SIP's, nothing but the scheme is read.
 -spec uri(binary()) -> #uri{}.

@@ -3,14 +3,14 @@
 
 -include_lib("p1_sip/include/esip.hrl").
 
--export([decode/2, encode/1, refusal/1, response/4, response_target/2, peer/1, transport/1]).
+-export([decode/2, encode/1, refusal/1, response/4, response_target/2, peer/1, connection/1, transport/1]).
 -export([header/2, headers/2, tag/2, sequence/1, body/1, branch/0, allow/0, accept/0]).
 -export_type([message/0, peer/0, target/0]).
 
 -type message() :: #sip{}.
 -type peer() :: {inet:ip4_address(), inet:port_number()}.
-%% Over UDP, or over this connection.
--type target() :: peer() | {tcp, Connection :: pid(), peer()}.
+%% Over UDP, or over this connection, perhaps with TLS.
+-type target() :: peer() | {tcp, Connection :: pid() | {tls, pid()}, peer()}.
 %% Methods of RFCs that aren't served.
 -define(OTHER_METHODS, [<<"REGISTER">>, <<"SUBSCRIBE">>, <<"NOTIFY">>, <<"PUBLISH">>, <<"REFER">>, <<"MESSAGE">>, <<"INFO">>,
                         <<"PRACK">>]).
@@ -150,8 +150,14 @@ response_target(Request, {Address, Port}) ->
 peer({tcp, _, Peer}) -> Peer;
 peer(Peer) -> Peer.
 
+-spec connection(target()) -> pid() | none.
+connection({tcp, {tls, Pid}, _}) -> Pid;
+connection({tcp, Pid, _}) -> Pid;
+connection(_) -> none.
+
 %% @doc As it is written in a Via.
 -spec transport(target()) -> binary().
+transport({tcp, {tls, _}, _}) -> <<"TLS">>;
 transport({tcp, _, _}) -> <<"TCP">>;
 transport(_) -> <<"UDP">>.
 

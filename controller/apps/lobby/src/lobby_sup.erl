@@ -44,9 +44,9 @@ init(rooms) ->
 init(calls) ->
     {ok, {#{strategy => simple_one_for_one, intensity => 100, period => 10},
           [#{id => call, start => {lobby_call, start_link, []}, restart => transient}]}};
-init({serving, Config = #{gateways := Gateways, sip := Own}}) ->
+init({serving, Config = #{gateways := Gateways}}) ->
     Sip = maps:without([gateways, store, pair, http, tokens], Config),
-    Http = maps:with([http, tokens], Config),
+    Http = maps:with([http, tokens, tls], Config),
     {ok, {#{strategy => rest_for_one, intensity => 10, period => 10}, [
         #{id => pg, start => {pg, start_link, [lobby]}},
         #{id => lobby_registry, start => {lobby_registry, start_link, []}},
@@ -55,7 +55,7 @@ init({serving, Config = #{gateways := Gateways, sip := Own}}) ->
         #{id => restore_rooms, start => {lobby_rooms, restore, []}},
         sup(lobby_call_sup, calls),
         #{id => lobby_sip, start => {lobby_sip, start_link, [Sip]}},
-        #{id => lobby_tcp_sup, start => {lobby_tcp_sup, start_link, [Own]}, type => supervisor},
+        #{id => lobby_tcp_sup, start => {lobby_tcp_sup, start_link, [Sip]}, type => supervisor},
         #{id => lobby_http, start => {lobby_http, start_link, [Http]}, type => supervisor}]}};
 %% Of a pair, the node that has the lease starts what serves.
 init(Config = #{pair := Pair}) ->

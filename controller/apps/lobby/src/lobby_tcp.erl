@@ -1,35 +1,49 @@
-%%% @doc A TCP connection of a phone (RFC 3261, section 18.3). Requests of his calls go back over it.
+%%% @doc A TCP connection of a phone (RFC 3261, section 18.3), perhaps with TLS. Requests of his calls go back over it.
 -module(lobby_tcp).
 -behaviour(gen_server).
 
--export([start_link/2, send/2, frame/1]).
--export([init/1, handle_call/3, handle_cast/2, handle_info/2]).
+-export([start_link/3, send/2, in_call/2, frame/1]).
+-export([init/1, handle_continue/2, handle_call/3, handle_cast/2, handle_info/2]).
 
 -define(MAX_MESSAGE, 65535).
-%% Milliseconds until a connection over which nothing comes is closed. Phones that want to keep one send blank lines.
--define(IDLE, 7200000).
+-define(MAX_HEAD, 8192).
+%% Milliseconds: until the first message has come, or the rest of one that has begun; until a connection of no call over
+%% which nothing comes is closed, and one of a call. Phones that want to keep one send blank lines.
+-define(MESSAGE, application:get_env(lobby, tcp_message, 10000)).
+-define(IDLE, 300000).
+-define(IN_CALL, 7200000).
 
--record(state, {socket :: gen_tcp:socket(), peer :: {inet:ip4_address(), inet:port_number()}, buffer = <<>> :: binary()}).
+-type peer() :: {inet:ip4_address(), inet:port_number()}.
+-record(state, {socket :: lobby_socket:socket(), tls :: lobby_socket:tls() | none, peer :: peer(), buffer = <<>> :: binary(),
+                %% Runs while a message has to come.
+                due :: reference() | none, calls = #{} :: #{pid() => reference()}}).
 
 %% @doc The socket has to be given to this process, and it has to be told so by `ready'.
--spec start_link(gen_tcp:socket(), {inet:ip4_address(), inet:port_number()}) -> gen_server:start_ret().
-start_link(Socket, Peer) ->
-    gen_server:start_link(?MODULE, {Socket, Peer}, []).
+-spec start_link(gen_tcp:socket(), peer(), lobby_socket:tls() | none) -> gen_server:start_ret().
+start_link(Socket, Peer, Tls) ->
+    gen_server:start_link(?MODULE, {Socket, Peer, Tls}, []).
 
 -spec send(pid(), binary()) -> ok.
 send(Connection, Message) ->
     gen_server:cast(Connection, {send, Message}).
 
+%% @doc A call uses the connection, which is kept for as long as it lasts.
+-spec in_call(pid(), Call :: pid()) -> ok.
+in_call(Connection, Call) ->
+    gen_server:cast(Connection, {call, Call}).
+
 %% @doc Splits off the first message in these bytes. Skips blank lines before it, which phones send as keep-alives.
 -spec frame(binary()) -> {ok, Message :: binary(), Rest :: binary()} | more | {error, too_long}.
-frame(<<"\r\n", Rest/binary>>) ->
-    frame(Rest);
-frame(Buffer) ->
-    case binary:split(Buffer, <<"\r\n\r\n">>) of
-        [Head, Rest] -> body(byte_size(Head) + 4, content_length(Head), byte_size(Rest), Buffer);
-        [_] when byte_size(Buffer) > ?MAX_MESSAGE -> {error, too_long};
-        [_] -> more
+frame(Bytes) ->
+    Buffer = begun(Bytes),
+    case binary:match(Buffer, <<"\r\n\r\n">>, [{scope, {0, min(byte_size(Buffer), ?MAX_HEAD + 4)}}]) of
+        {At, 4} -> body(At + 4, content_length(binary:part(Buffer, 0, At)), byte_size(Buffer) - At - 4, Buffer);
+        nomatch when byte_size(Buffer) >= ?MAX_HEAD + 4 -> {error, too_long};
+        nomatch -> more
     end.
+
+begun(<<"\r\n", Rest/binary>>) -> begun(Rest);
+begun(Buffer) -> Buffer.
 
 body(Head, Length, _, _) when Head + Length > ?MAX_MESSAGE ->
     {error, too_long};
@@ -46,50 +60,78 @@ content_length(Head) ->
         nomatch -> 0
     end.
 
--spec init({gen_tcp:socket(), {inet:ip4_address(), inet:port_number()}}) -> {ok, #state{}}.
-init({Socket, Peer}) ->
-    {ok, #state{socket = Socket, peer = Peer}}.
+-spec init({gen_tcp:socket(), peer(), lobby_socket:tls() | none}) -> {ok, #state{}}.
+init({Socket, Peer, Tls}) ->
+    {ok, #state{socket = Socket, tls = Tls, peer = Peer, due = erlang:start_timer(?MESSAGE, self(), due)}}.
+
+-spec handle_continue(listen, #state{}) -> {noreply, #state{}, timeout()} | {stop, normal, #state{}}.
+handle_continue(listen, State = #state{socket = Socket}) ->
+    case lobby_socket:setopts(Socket, [{active, once}]) of
+        ok -> waits(State);
+        {error, _} -> {stop, normal, State}
+    end.
+
+waits(State = #state{calls = Calls}) when map_size(Calls) =:= 0 -> {noreply, State, ?IDLE};
+waits(State) -> {noreply, State, ?IN_CALL}.
 
 -spec handle_call(term(), gen_server:from(), #state{}) -> {reply, {error, unknown_call}, #state{}, timeout()}.
 handle_call(_, _, State) ->
     {reply, {error, unknown_call}, State, ?IDLE}.
 
--spec handle_cast({send, binary()} | term(), #state{}) -> {noreply, #state{}, timeout()} | {stop, normal, #state{}}.
+-spec handle_cast({send, binary()} | {call, pid()} | term(), #state{}) ->
+          {noreply, #state{}, timeout()} | {stop, normal, #state{}}.
 handle_cast({send, Message}, State = #state{socket = Socket}) ->
-    case gen_tcp:send(Socket, Message) of
-        ok -> {noreply, State, ?IDLE};
+    case lobby_socket:send(Socket, Message) of
+        ok -> waits(State);
         {error, _} -> {stop, normal, State}
     end;
+handle_cast({call, Call}, State = #state{calls = Calls}) when not is_map_key(Call, Calls) ->
+    waits(State#state{calls = Calls#{Call => monitor(process, Call)}});
 handle_cast(_, State) ->
-    {noreply, State, ?IDLE}.
+    waits(State).
 
--spec handle_info(term(), #state{}) -> {noreply, #state{}, timeout()} | {stop, normal, #state{}}.
-handle_info(ready, State) ->
-    listen(State);
-handle_info({tcp, Socket, Bytes}, State = #state{socket = Socket, buffer = Buffer}) ->
+-spec handle_info(term(), #state{}) ->
+          {noreply, #state{}, timeout() | {continue, listen}} | {stop, normal, #state{}}.
+handle_info(ready, State = #state{socket = Socket, tls = Tls}) ->
+    case lobby_socket:secured(Socket, Tls) of
+        {ok, Secured} -> {noreply, State#state{socket = Secured}, {continue, listen}};
+        {error, _} -> {stop, normal, State}
+    end;
+handle_info({Kind, Socket, Bytes}, State = #state{socket = Socket, buffer = Buffer}) when Kind =:= tcp; Kind =:= ssl ->
     frames(State#state{buffer = <<Buffer/binary, Bytes/binary>>});
-handle_info({tcp_closed, Socket}, State = #state{socket = Socket}) ->
+handle_info({Kind, Socket}, State = #state{socket = Socket}) when Kind =:= tcp_closed; Kind =:= ssl_closed ->
     {stop, normal, State};
-handle_info({tcp_error, Socket, _}, State = #state{socket = Socket}) ->
+handle_info({Kind, Socket, _}, State = #state{socket = Socket}) when Kind =:= tcp_error; Kind =:= ssl_error ->
+    {stop, normal, State};
+handle_info({timeout, Due, due}, State = #state{due = Due}) ->
     {stop, normal, State};
 handle_info(timeout, State) ->
     {stop, normal, State};
+handle_info({'DOWN', _, process, Call, _}, State = #state{calls = Calls}) ->
+    waits(State#state{calls = maps:remove(Call, Calls)});
 handle_info(_, State) ->
-    {noreply, State, ?IDLE}.
+    waits(State).
 
-frames(State = #state{buffer = Buffer, peer = Peer}) ->
+frames(State = #state{buffer = Buffer}) ->
     case frame(Buffer) of
         {ok, Message, Rest} ->
-            ok = lobby_sip:received(Message, {tcp, self(), Peer}),
-            frames(State#state{buffer = Rest});
-        more ->
-            listen(State);
+            ok = lobby_sip:received(Message, target(State)),
+            frames(due(State#state{buffer = Rest}));
+        more -> case begun(Buffer) of
+            <<_, _/binary>> = Begun when State#state.due =:= none ->
+                {noreply, State#state{buffer = Begun, due = erlang:start_timer(?MESSAGE, self(), due)}, {continue, listen}};
+            Begun ->
+                {noreply, State#state{buffer = Begun}, {continue, listen}}
+        end;
         {error, too_long} ->
             {stop, normal, State}
     end.
 
-listen(State = #state{socket = Socket}) ->
-    case inet:setopts(Socket, [{active, once}]) of
-        ok -> {noreply, State, ?IDLE};
-        {error, _} -> {stop, normal, State}
-    end.
+target(#state{tls = none, peer = Peer}) -> {tcp, self(), Peer};
+target(#state{peer = Peer}) -> {tcp, {tls, self()}, Peer}.
+
+%% A message has come.
+due(State = #state{due = none}) -> State;
+due(State = #state{due = Due}) ->
+    _ = erlang:cancel_timer(Due),
+    State#state{due = none}.

@@ -2,15 +2,23 @@
 -module(lobby_tcp_sup).
 -behaviour(supervisor).
 
--export([start_link/1, start_connections/0, init/1, listen/1]).
+-export([start_link/1, start_connections/0, init/1, listen/3]).
 
-%% Of all connections, and of those from one address.
+%% Of all connections over one port, of those from one address, and of new ones from it a second.
 -define(MAX_CONNECTIONS, 1024).
 -define(MAX_FROM, 64).
+-define(NEW_FROM, 64).
 
--spec start_link({inet:ip4_address(), inet:port_number()}) -> supervisor:startlink_ret().
-start_link(Own) ->
-    supervisor:start_link(?MODULE, {top, Own}).
+-type own() :: {inet:ip4_address(), inet:port_number()}.
+-type config() :: #{sip := own(), tls := #{sip := own() | none, certificate := file:filename(), key := file:filename(), _ => _} | none,
+                    callers := [lobby_auth:network()], proxies := [lobby_auth:network()], _ => _}.
+-record(known, {config :: config(), buckets = lobby_buckets:new() :: lobby_buckets:buckets(),
+                %% Connections by process, for their addresses.
+                connections = #{} :: #{pid() => inet:ip4_address()}}).
+
+-spec start_link(config()) -> supervisor:startlink_ret().
+start_link(Config) ->
+    supervisor:start_link(?MODULE, {top, Config}).
 
 -spec start_connections() -> supervisor:startlink_ret().
 start_connections() ->
@@ -24,21 +32,22 @@ ended_before(Old) ->
     Monitor = monitor(process, Old),
     receive {'DOWN', Monitor, process, Old, _} -> ok end.
 
--spec init({top, {inet:ip4_address(), inet:port_number()}} | connections) ->
-          {ok, {supervisor:sup_flags(), [supervisor:child_spec()]}}.
-init({top, Own}) ->
+-spec init({top, config()} | connections) -> {ok, {supervisor:sup_flags(), [supervisor:child_spec()]}}.
+init({top, Config = #{sip := Own, tls := Tls}}) ->
+    Ports = [{listener, Own, none} | [{tls_listener, OwnTls, Tls} || #{sip := OwnTls} <- [Tls], OwnTls =/= none]],
     {ok, {#{strategy => rest_for_one, intensity => 10, period => 10}, [
-        #{id => connections, start => {?MODULE, start_connections, []}, type => supervisor},
-        #{id => listener, start => {proc_lib, start_link, [?MODULE, listen, [Own]]}, shutdown => brutal_kill}]}};
+        #{id => connections, start => {?MODULE, start_connections, []}, type => supervisor}
+        | [#{id => Id, start => {proc_lib, start_link, [?MODULE, listen, [Port, Secured, Config]]}, shutdown => brutal_kill}
+           || {Id, Port, Secured} <- Ports]]}};
 init(connections) ->
     {ok, {#{strategy => simple_one_for_one},
           [#{id => connection, start => {lobby_tcp, start_link, []}, restart => temporary}]}}.
 
-%% @doc The process that accepts.
--spec listen({inet:ip4_address(), inet:port_number()}) -> no_return().
-listen(Own) ->
+%% @doc The process that accepts at one port.
+-spec listen(own(), lobby_socket:tls() | none, config()) -> no_return().
+listen(Own, Tls, Config) ->
     case open(Own, 50) of
-        {ok, Socket} -> proc_lib:init_ack({ok, self()}), accept(Socket, #{});
+        {ok, Socket} -> proc_lib:init_ack({ok, self()}), accept(Socket, Tls, #known{config = Config});
         {error, Reason} -> proc_lib:init_ack({error, Reason}), exit(Reason)
     end.
 
@@ -50,34 +59,45 @@ open(Own = {Address, Port}, Tries) ->
         Opened -> Opened
     end.
 
-%% Connections by process, for their addresses.
-accept(Listener, Known) ->
+accept(Listener, Tls, Known) ->
     case gen_tcp:accept(Listener, 1000) of
-        {ok, Socket} -> accept(Listener, connected(Socket, ended(Known)));
-        {error, timeout} -> accept(Listener, ended(Known));
+        {ok, Socket} -> accept(Listener, Tls, connected(Socket, Tls, ended(Known)));
+        {error, timeout} -> accept(Listener, Tls, ended(Known));
         %% No descriptors are left, or the phone gave up.
-        {error, Reason} when Reason =/= closed -> timer:sleep(100), accept(Listener, ended(Known))
+        {error, Reason} when Reason =/= closed -> timer:sleep(100), accept(Listener, Tls, ended(Known))
     end.
 
-ended(Known) ->
+ended(Known = #known{connections = Connections}) ->
     receive
-        {'DOWN', _, process, Pid, _} -> ended(maps:remove(Pid, Known))
+        {'DOWN', _, process, Pid, _} -> ended(Known#known{connections = maps:remove(Pid, Connections)})
     after 0 -> Known
     end.
 
-connected(Socket, Known) ->
+connected(Socket, Tls, Known) ->
     case inet:peername(Socket) of
-        {ok, Peer = {Address, _}} when map_size(Known) < ?MAX_CONNECTIONS ->
-            case length([A || A <- maps:values(Known), A =:= Address]) < ?MAX_FROM of
-                true -> started(Socket, Peer, Known);
-                false -> ok = gen_tcp:close(Socket), Known
-            end;
+        {ok, Peer = {Address, _}} -> case may_connect(Address, Known) of
+            {true, Known1} -> started(Socket, Tls, Peer, Known1);
+            {false, Known1} -> ok = gen_tcp:close(Socket), Known1
+        end;
         _ -> ok = gen_tcp:close(Socket), Known
     end.
 
-started(Socket, Peer = {Address, _}, Known) ->
-    {ok, Pid} = supervisor:start_child(lobby_connections, [Socket, Peer]),
+%% Who may not call takes no place of those who may.
+may_connect(Address, Known = #known{config = #{callers := Callers, proxies := Proxies}, buckets = Before}) ->
+    IsProxy = lobby_auth:is_in(Address, Proxies),
+    All = maps:values(Known#known.connections),
+    Fits = length(All) < ?MAX_CONNECTIONS andalso (IsProxy orelse length([A || A <- All, A =:= Address]) < ?MAX_FROM),
+    case IsProxy orelse Callers =:= [] orelse lobby_auth:is_in(Address, Callers) of
+        true ->
+            {Taken, Buckets} = lobby_buckets:take(Address, ?NEW_FROM, erlang:monotonic_time(millisecond), Before),
+            {Fits andalso (IsProxy orelse Taken), Known#known{buckets = Buckets}};
+        false ->
+            {false, Known}
+    end.
+
+started(Socket, Tls, Peer = {Address, _}, Known = #known{connections = Connections}) ->
+    {ok, Pid} = supervisor:start_child(lobby_connections, [Socket, Peer, Tls]),
     _ = gen_tcp:controlling_process(Socket, Pid),
     Pid ! ready,
     _ = monitor(process, Pid),
-    Known#{Pid => Address}.
+    Known#known{connections = Connections#{Pid => Address}}.

@@ -8,19 +8,26 @@
 
 all() ->
     [messages, responses, in_dialogs, dialogs_are_known_by_both_tags, answers_have_both_tags, a_stranger_is_not_read, a_bomb_stops_nobody,
-     one_address_shuts_out_nobody, too_fast, a_digest_is_used_once, a_proxy_is_trusted, a_long_session].
+     one_address_shuts_out_nobody, too_fast, a_digest_is_used_once, a_proxy_is_trusted, a_long_session,
+     silent_connections_end, a_call_keeps_its_connection, strangers_do_not_connect, a_call_over_tls].
 
 init_per_testcase(Case, Config) ->
     ok = application:load(lobby),
     Gateway = gateway:start(),
     Sip = gateway:free_address(),
     [ok = application:set_env(lobby, Key, Value)
-     || {Key, Value} <- [{gateways, [gateway:config(<<"1">>, Gateway)]}, {sip, Sip}, {http, gateway:free_address()} | env(Case)]],
+     || {Key, Value} <- [{gateways, [gateway:config(<<"1">>, Gateway)]}, {sip, Sip}, {http, gateway:free_address()} | env(Case, Config)]],
     {ok, _} = application:ensure_all_started(lobby),
     lobby_case:until(fun() -> length(lobby_gateway:serving()) =:= 1 end),
     [{sip, Sip} | Config].
 
+env(a_call_over_tls, Config) ->
+    {Certificate, Key} = certificate:new("lobby", proplists:get_value(priv_dir, Config)),
+    [{tls, #{certificate => Certificate, key => Key, sip => gateway:free_address()}}];
+env(Case, _) -> env(Case).
+
 env(a_stranger_is_not_read) -> [{callers, [{{192, 0, 2, 0}, 24}]}];
+env(strangers_do_not_connect) -> [{callers, [{{127, 0, 0, 2}, 32}]}];
 env(too_fast) -> [{messages_from, 10}];
 env(a_digest_is_used_once) -> [{users, #{<<"alice">> => <<"secret">>}}];
 env(a_proxy_is_trusted) -> [{users, #{<<"alice">> => <<"secret">>}}, {proxies, [{{127, 0, 0, 3}, 32}]}, {callers, [{{127, 0, 0, 1}, 32}]}, {max_calls_from, 1}];
@@ -76,6 +83,8 @@ rows() ->
      {"no answer is accepted", "20.1", 406, invite([{"Accept", ""}])},
      {"an unknown extension", "8.2.2.3", 420, invite([{"Require", "100rel"}])},
      {"session timers", "RFC 4028, 9", 200, invite([{"Require", "timer"}, {"Supported", "timer"}])},
+     {"an offer of 30 ms packets", "21.4.26", 488, message("INVITE sip:100@127.0.0.1 SIP/2.0", [{"Content-Type", "application/sdp"}], sdp() ++ "a=ptime:30\r\n")},
+     {"an offer of 10 ms packets", "21.4.26", 488, message("INVITE sip:100@127.0.0.1 SIP/2.0", [{"Content-Type", "application/sdp"}], sdp() ++ "a=maxptime:10\r\n")},
      {"a BYE of no call", "15.1.2", 481, message("BYE sip:100@127.0.0.1 SIP/2.0", [])},
      {"a BYE with another tag", "12.2.2", 481, message("BYE sip:100@127.0.0.1 SIP/2.0", [{"To", "<sip:100@127.0.0.1>;tag=0011223344556677"}])},
      {"a CANCEL of nothing", "9.2", 481, message("CANCEL sip:100@127.0.0.1 SIP/2.0", [])},
@@ -268,7 +277,8 @@ too_fast(Config) ->
     Phone = phone:start(sip(Config)),
     [phone:send(string:replace(options([]), "PORT", integer_to_list(phone:port(Phone)), all), Phone) || _ <- lists:seq(1, 100)],
     Answers = fun Count(N) -> case phone:recv(Phone, 500) of none -> N; _ -> Count(N + 1) end end,
-    ?assert(lists:member(Answers(0), lists:seq(20, 30))),
+    Answered = Answers(0),
+    ?assertEqual({Answered, true}, {Answered, Answered >= 20 andalso Answered < 60}),
     ?assertEqual(200, from({127, 0, 0, 2}, options([]), Config)),
     timer:sleep(200),
     ?assertEqual(200, phone:status(answer(options([]), Config))).
@@ -305,3 +315,75 @@ a_long_session(Config) ->
     [Pid] = [P || {_, P, _, _} <- supervisor:which_children(lobby_call_sup)],
     timer:sleep(100),
     ?assert(is_process_alive(Pid)).
+
+connect(Address, Config) ->
+    {To, Port} = sip(Config),
+    {ok, Socket} = gen_tcp:connect(To, Port, [list, {ip, Address}, {active, false}, {nodelay, true}]),
+    Socket.
+
+over(Socket, Text) ->
+    ok = gen_tcp:send(Socket, string:replace(string:replace(Text, "/UDP", "/TCP"), "PORT", "5060", all)),
+    case gen_tcp:recv(Socket, 0, 2000) of {ok, Answer} -> phone:status(Answer); {error, Reason} -> Reason end.
+
+%% A connection is kept only for those who say something, and end what they say. Blank lines don't count.
+silent_connections_end(Config) ->
+    ok = application:set_env(lobby, tcp_message, 500),
+    Own = {127, 0, 0, 1},
+    [Silent, Blank, Half, Slow, Talking] = [connect(Own, Config) || _ <- lists:seq(1, 5)],
+    ok = gen_tcp:send(Blank, "\r\n\r\n"),
+    ok = gen_tcp:send(Half, "OPTIONS sip:100@127.0.0.1 SIP/2.0\r\n"),
+    ?assertEqual(200, over(Talking, options([]))),
+    Start = erlang:monotonic_time(millisecond),
+    Drip = fun Drip(N) when N < 100 -> case gen_tcp:send(Slow, "x") of ok -> timer:sleep(50), Drip(N + 1); {error, _} -> ok end end,
+    Drip(0),
+    [?assertEqual({error, closed}, gen_tcp:recv(S, 0, 1000)) || S <- [Silent, Blank, Half]],
+    Took = erlang:monotonic_time(millisecond) - Start,
+    ?assert(Took > 300 andalso Took < 2000),
+    ?assertEqual(200, over(Talking, options([]))),
+    %% It has begun the next message.
+    ok = gen_tcp:send(Talking, "\r\nOPTIONS"),
+    ?assertEqual({error, closed}, gen_tcp:recv(Talking, 0, 2000)).
+
+%% As long as he is in a call, a phone needn't say anything.
+a_call_keeps_its_connection(Config) ->
+    Phone = phone:start_tcp(sip(Config), "100"),
+    Calling = phone:invite(phone:sdp(Phone), Phone),
+    Response = phone:recv(Calling),
+    ?assertEqual(200, phone:status(Response)),
+    Talking = phone:learn(Response, Calling),
+    phone:ack(Talking),
+    [Connection] = [Pid || {_, Pid, _, _} <- supervisor:which_children(lobby_connections)],
+    [Call] = [Pid || {_, Pid, _, _} <- supervisor:which_children(lobby_call_sup)],
+    Calls = fun() -> element(7, sys:get_state(Connection)) end,
+    ?assertEqual([Call], maps:keys(Calls())),
+    P1 = phone:request("BYE", "", Talking),
+    ?assertEqual(200, status(P1)),
+    lobby_case:until(fun() -> Calls() =:= #{} end).
+
+%% They take no place of those who may call, and of these one address has no more than its own.
+strangers_do_not_connect(Config) ->
+    [?assertEqual({error, closed}, gen_tcp:recv(connect({127, 0, 0, 1}, Config), 0, 1000)) || _ <- lists:seq(1, 20)],
+    ?assertEqual([], supervisor:which_children(lobby_connections)),
+    ?assertEqual(200, over(connect({127, 0, 0, 2}, Config), options([]))).
+
+%% With the operator's certificate. Requests to the phone go back over its connection.
+a_call_over_tls(_) ->
+    {ok, #{sip := Own = {_, Port}}} = application:get_env(lobby, tls),
+    Phone = phone:start_tls(Own, "100"),
+    Calling = phone:invite(phone:sdp(Phone), Phone),
+    Response = phone:recv(Calling),
+    ?assertEqual(200, phone:status(Response)),
+    ?assertMatch("SIP/2.0/TLS" ++ _, phone:header("Via", Response)),
+    Talking = phone:learn(Response, Calling),
+    phone:ack(Talking),
+    [#{id := Id}] = lobby_call:all(),
+    ok = lobby_call:hang_up(Id),
+    Bye = phone:recv(Talking),
+    ?assertMatch({"BYE", "SIP/2.0/TLS" ++ _}, {phone:status(Bye), phone:header("Via", Bye)}),
+    ?assertEqual({<<"TLS">>, Own}, lobby_sip:own({tcp, {tls, self()}, Own})),
+    phone:answer(200, Bye, Talking),
+    lobby_case:until(fun() -> lobby_call:all() =:= [] end),
+    %% A handshake that doesn't come ends the connection, and holds nobody up.
+    {ok, Silent} = gen_tcp:connect({127, 0, 0, 1}, Port, [list, {active, false}]),
+    ?assertEqual(200, begin P = phone:request("OPTIONS", "", phone:start_tls(Own, "100")), status(P) end),
+    ?assertEqual({error, closed}, gen_tcp:recv(Silent, 0, 7000)).

@@ -31,8 +31,10 @@ parts_of_a_message_test() ->
 too_long_test() ->
     ?assertEqual({error, too_long}, lobby_tcp:frame(message("Content-Length: 65500\r\n", ""))),
     ?assertEqual({error, too_long}, lobby_tcp:frame(message("Content-Length: 999999999\r\n", ""))),
-    ?assertEqual({error, too_long}, lobby_tcp:frame(binary:copy(<<"a">>, 65536))),
-    ?assertEqual(more, lobby_tcp:frame(binary:copy(<<"a">>, 65535))).
+    ?assertEqual({error, too_long}, lobby_tcp:frame(binary:copy(<<"a">>, 8196))),
+    ?assertEqual(more, lobby_tcp:frame(binary:copy(<<"a">>, 8195))),
+    Head = <<(binary:copy(<<"a">>, 8192))/binary, "\r\n\r\n">>,
+    ?assertEqual({ok, Head, <<>>}, lobby_tcp:frame(Head)).
 
 %% Their supervisor was killed, and starts again before they have ended.
 connections_start_when_the_old_ones_have_ended_test() ->

@@ -1,7 +1,7 @@
 %% A SIP phone for tests, that writes and reads its messages as text, and only does what it is told.
 -module(phone).
 
--export([automatic/2, start_tcp/2, send_slowly/2, start/1, start/2, invite/2, invite/3, request/3, request/4, answer/3, answer/4, ack/1, ack/2, recv/1, recv/2, flush/1, sdp/1, sdp/2,
+-export([automatic/2, start_tcp/2, start_tls/2, send_slowly/2, start/1, start/2, invite/2, invite/3, request/3, request/4, answer/3, answer/4, ack/1, ack/2, recv/1, recv/2, flush/1, sdp/1, sdp/2,
          close/1, port/1, media/1, header/2, status/1, learn/2, send/2, room/2, number/2, quiet/2, as/2, tagged/2]).
 
 -record(phone, {transport = "UDP", socket, port, to, room, call_id, tag, cseq = 0, remote_tag = "", extra = [], caller}).
@@ -38,7 +38,7 @@ talk(Text, P) ->
 start(To) -> start(To, "100").
 
 start(To, Room) ->
-    {ok, Socket} = gen_udp:open(0, [binary, {ip, {127, 0, 0, 1}}, {active, false}, {buffer, 65536}]),
+    {ok, Socket} = gen_udp:open(0, [binary, {ip, {127, 0, 0, 1}}, {active, false}, {recbuf, 1048576}, {buffer, 65536}]),
     {ok, Port} = inet:port(Socket),
     Random = integer_to_list(rand:uniform(1000000000)),
     #phone{socket = Socket, port = Port, to = To, room = Room, call_id = "Call-" ++ Random, tag = "TaG" ++ Random, caller = caller:start()}.
@@ -50,6 +50,12 @@ start_tcp(To = {Address, ToPort}, Room) ->
     P = start(To, Room),
     P#phone{transport = "TCP", socket = Socket, port = Port}.
 
+start_tls(To = {Address, ToPort}, Room) ->
+    {ok, Socket} = ssl:connect(Address, ToPort, [binary, {active, false}, {nodelay, true}, {verify, verify_none}]),
+    {ok, {_, Port}} = ssl:sockname(Socket),
+    P = start(To, Room),
+    P#phone{transport = "TLS", socket = Socket, port = Port}.
+
 room(Room, P) -> P#phone{room = Room}.
 number(N, P) -> P#phone{cseq = N}.
 tagged(Tag, P) -> P#phone{remote_tag = Tag}.
@@ -58,6 +64,7 @@ as(#phone{call_id = CallId, tag = Tag, remote_tag = Remote, cseq = N}, P) -> P#p
 port(#phone{port = Port}) -> Port.
 media(#phone{caller = Caller}) -> Caller.
 close(#phone{transport = "TCP", socket = Socket}) -> gen_tcp:close(Socket);
+close(#phone{transport = "TLS", socket = Socket}) -> ssl:close(Socket);
 close(#phone{socket = Socket}) -> gen_udp:close(Socket).
 
 sdp(P) -> sdp(P, "sendrecv").
@@ -92,16 +99,18 @@ message(Method, Number, Body, Extra, #phone{transport = Transport, port = Port, 
                    [[Line, "\r\n"] || Line <- Extra], case Body of "" -> ""; _ -> "Content-Type: application/sdp\r\n" end, length(Body), Body]).
 
 send(Text, #phone{transport = "TCP", socket = Socket}) -> ok = gen_tcp:send(Socket, Text);
+send(Text, #phone{transport = "TLS", socket = Socket}) -> ok = ssl:send(Socket, Text);
 send(Text, #phone{socket = Socket, to = {Address, Port}}) -> ok = gen_udp:send(Socket, Address, Port, Text).
 
 recv(P) -> recv(P, 2000).
 
-recv(#phone{transport = "TCP", socket = Socket}, Timeout) ->
+recv(P = #phone{transport = Transport, socket = Socket}, Timeout) when Transport =/= "UDP" ->
+    Module = case Transport of "TCP" -> gen_tcp; "TLS" -> ssl end,
     Buffer = case get(Socket) of undefined -> ""; Bytes -> Bytes end,
     case whole(Buffer) of
         {Message, Rest} -> put(Socket, Rest), Message;
-        more -> case gen_tcp:recv(Socket, 0, Timeout) of
-            {ok, Bytes1} -> put(Socket, Buffer ++ binary_to_list(Bytes1)), recv(#phone{transport = "TCP", socket = Socket}, Timeout);
+        more -> case Module:recv(Socket, 0, Timeout) of
+            {ok, Bytes1} -> put(Socket, Buffer ++ binary_to_list(Bytes1)), recv(P, Timeout);
             {error, timeout} -> none;
             {error, closed} -> closed
         end

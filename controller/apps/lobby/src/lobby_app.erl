@@ -80,7 +80,7 @@ started(Config) ->
 %% Without a configured token one is made, which only who reads the log knows.
 with_token(Config = #{tokens := [], http := {Address, Port}}) ->
     Token = string:lowercase(binary:encode_hex(crypto:strong_rand_bytes(16))),
-    logger:notice("the page is http://~s:~b/#~s", [inet:ntoa(Address), Port, Token]),
+    logger:notice("the page is http://~s:~b/ and asks for the token ~s", [inet:ntoa(Address), Port, Token]),
     Config#{tokens := [{Token, operator}]};
 with_token(Config) ->
     Config.

@@ -2,45 +2,49 @@
 %%% it.
 -module(lobby_event_stream).
 
--export([run/1]).
+-export([run/2]).
 
 %% Milliseconds without an event until a comment is sent, so that a browser that is gone is noticed.
 -define(QUIET, 10000).
 
 %% @doc Sends events. At the end, the process is left with the message by which httpd ends the connection.
--spec run(gen_tcp:socket()) -> ok.
-run(Socket) ->
+-spec run(lobby_socket:socket(), lobby_events:watcher()) -> ok.
+run(Socket, Watcher) ->
     %% A browser that doesn't read is disconnected: what waits for it stays small.
-    ok = inet:setopts(Socket, [{active, once}, {sndbuf, 65536}, {send_timeout, 2000}, {send_timeout_close, true}]),
-    End = case lobby_events:subscribe() of
+    _ = lobby_socket:setopts(Socket, [{active, once}, {sndbuf, 65536}, {send_timeout, 2000}, {send_timeout_close, true}]),
+    End = case lobby_events:subscribe(Watcher) of
         ok ->
-            Reason = loop(Socket, gen_tcp:send(Socket, head("200 OK", "text/event-stream"))),
-            ok = lobby_events:unsubscribe(),
+            Reason = loop(Socket, lobby_socket:send(Socket, head("200 OK", "text/event-stream"))),
+            ok = lobby_events:unsubscribe(Watcher),
             Reason;
         {error, too_many} ->
-            _ = gen_tcp:send(Socket, [head("503 Service Unavailable", "application/json"),
-                                      lobby_json:encode(#{error => <<"too many clients are watching the events">>})]),
-            {tcp_closed, Socket}
+            _ = lobby_socket:send(Socket, [head("503 Service Unavailable", "application/json"),
+                                           lobby_json:encode(#{error => <<"too many clients are watching with this token">>})]),
+            closed(Socket)
     end,
     self() ! End,
     ok.
+
+%% As it comes from the socket.
+closed(Socket) when is_port(Socket) -> {tcp_closed, Socket};
+closed(Socket) -> {ssl_closed, Socket}.
 
 head(Status, Type) ->
     ["HTTP/1.1 ", Status, "\r\nContent-Type: ", Type, "\r\nCache-Control: no-store\r\nConnection: close\r\n\r\n"].
 
 loop(Socket, ok) ->
     receive
-        {lobby_event, Event} -> loop(Socket, gen_tcp:send(Socket, [text(E) || E <- waiting([Event])]));
+        {lobby_event, Event} -> loop(Socket, lobby_socket:send(Socket, [text(E) || E <- waiting([Event])]));
         Exit = {'EXIT', _, _} -> Exit;
-        %% A browser has nothing more to say.
-        {tcp, Socket, _} -> {tcp_closed, Socket};
-        Closed = {tcp_closed, Socket} -> Closed;
-        {tcp_error, Socket, _} -> {tcp_closed, Socket}
+        %% Somebody else watches with the token, or the browser has ended the connection. It has nothing more to say.
+        lobby_events_end -> closed(Socket);
+        {_, Socket} -> closed(Socket);
+        {_, Socket, _} -> closed(Socket)
     after ?QUIET ->
-        loop(Socket, gen_tcp:send(Socket, ":\n\n"))
+        loop(Socket, lobby_socket:send(Socket, ":\n\n"))
     end;
 loop(Socket, {error, _}) ->
-    {tcp_closed, Socket}.
+    closed(Socket).
 
 %% What happened meanwhile, each once, in the order in which it happened last.
 waiting(Events) ->

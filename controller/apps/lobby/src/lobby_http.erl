@@ -1,25 +1,39 @@
 %%% @doc The HTTP interface and its page, on OTP's httpd. Requests carry a token (RFC 6750); a viewer's only reads.
+%%%
+%%% httpd reads a body in chunks without any limit, and waits for a body without end. So what is exported as its customizing
+%%% refuses the first, and starts a timer for the second.
 -module(lobby_http).
 
 -include_lib("inets/include/httpd.hrl").
 
--export([start_link/1, do/1, routes/0]).
+-export([start_link/1, do/1, routes/0, request_header/1, response_default_headers/0]).
 -export_type([config/0]).
 
 -type config() :: #{http := {inet:ip4_address(), inet:port_number()},
-                    tokens := [{Token :: binary(), operator | viewer}]}.
+                    tokens := [{Token :: binary(), operator | viewer}], tls := lobby_config:tls() | none}.
 -type answer() :: {Status :: pos_integer(), lobby_json:json()}
-                | {Status :: pos_integer(), Headers :: [{atom(), string()}], iodata()} | events.
+                | {Status :: pos_integer(), Headers :: [{atom() | string(), string()}], iodata()}
+                | {events, lobby_events:watcher()}.
 %% Is called with the name in the path, if it has one, and with the object in the body.
 -type handler() :: fun((binary(), #{binary() => term()}) -> answer()).
--type route() :: {Method :: string(), Path :: binary(), handler()}.
+-type route() :: {Method :: string(), Path :: binary(), handler() | events}.
+-define(MAX_BODY, 65536).
+%% Milliseconds for a body, and seconds for the head of a request.
+-define(BODY, application:get_env(lobby, http_body, 10000)).
+-define(HEAD, 10).
 
 -spec start_link(config()) -> {ok, pid()} | {error, term()}.
-start_link(#{http := {Address, Port}, tokens := Tokens}) ->
+start_link(#{http := {Address, Port}, tokens := Tokens, tls := Tls}) ->
     ok = persistent_term:put(?MODULE, [{crypto:hash(sha256, Token), Role} || {Token, Role} <- Tokens]),
     Root = code:priv_dir(lobby),
     start([{bind_address, Address}, {port, Port}, {server_name, "lobby"}, {server_root, Root}, {document_root, Root},
-           {modules, [?MODULE]}, {max_body_size, 65536}, {server_tokens, none}], 50).
+           {modules, [?MODULE]}, {customize, ?MODULE}, {max_body_size, ?MAX_BODY}, {max_uri_size, 2048}, {max_clients, 1024},
+           {keep_alive_timeout, ?HEAD}, {server_tokens, none} | secured(Tls)], 50).
+
+secured(#{http := true, certificate := Certificate, key := Key}) ->
+    [{socket_type, {ssl, [{certfile, Certificate}, {keyfile, Key}]}}];
+secured(_) ->
+    [].
 
 %% When it is started again, the socket of the one before may be closed only a little later.
 start(Options, Tries) ->
@@ -28,17 +42,61 @@ start(Options, Tries) ->
         Started -> Started
     end.
 
+%% @doc Called by httpd for each header of a request. `Connection: refused' closes the connection.
+-spec request_header({string(), string()}) -> {true, {string(), string()}}.
+request_header(Header = {Name, _}) ->
+    case string:lowercase(Name) of
+        "transfer-encoding" -> {true, {"connection", "refused"}};
+        "content-length" ->
+            ok = received(),
+            _ = put(?MODULE, erlang:send_after(?BODY, self(), timeout)),
+            {true, Header};
+        _ -> {true, Header}
+    end.
+
+%% The body has come in time.
+received() ->
+    _ = [erlang:cancel_timer(Timer) || Timer <- [erase(?MODULE)], Timer =/= undefined],
+    receive timeout -> ok after 0 -> ok end.
+
+%% @doc Headers of each answer, also of httpd's own.
+-spec response_default_headers() -> [{string(), string()}].
+response_default_headers() ->
+    [{"content-security-policy", "default-src 'none'; script-src 'self'; style-src 'self'; connect-src 'self'; "
+                                 "base-uri 'none'; form-action 'none'; frame-ancestors 'none'"},
+     {"x-content-type-options", "nosniff"}, {"x-frame-options", "DENY"}, {"referrer-policy", "no-referrer"}].
+
 %% @doc Called by httpd for each request.
 -spec do(#mod{}) -> {proceed, [{response, tuple()}]}.
-do(#mod{socket = Socket, method = Method, request_uri = Uri, parsed_header = Headers, entity_body = Body}) ->
+do(Mod = #mod{socket = Socket, parsed_header = Headers}) ->
+    ok = received(),
     %% httpd sends head and body apart, so that without this a body would wait for an acknowledgement.
-    ok = inet:setopts(Socket, [{nodelay, true}]),
-    Path = [decoded(Part) || Part <- string:lexemes(hd(string:split(Uri, "?")), "/")],
-    case answer(Method, Path, Headers, list_to_binary(Body)) of
-        events -> ok = lobby_event_stream:run(Socket), {proceed, [{response, {already_sent, 200, 0}}]};
+    _ = lobby_socket:setopts(Socket, [{nodelay, true}]),
+    case lists:member({"connection", "refused"}, Headers) orelse answered(Mod) of
+        true -> json(411, failure(<<"a body must come with its Content-Length">>), []);
+        {events, Watcher} -> ok = lobby_event_stream:run(Socket, Watcher), {proceed, [{response, {already_sent, 200, 0}}]};
+        {Status, Json} when Status >= 500 -> json(Status, Json, [{"request-number", logged(Status, Json, Mod)}]);
         {Status, Json} -> response(Status, [{content_type, "application/json"}], lobby_json:encode(Json));
         {Status, More, Text} -> response(Status, More, Text)
     end.
+
+%% Whatever fails here is answered.
+answered(#mod{method = Method, request_uri = Uri, parsed_header = Headers, entity_body = Body}) ->
+    try
+        Path = [decoded(Part) || Part <- string:lexemes(hd(string:split(Uri, "?")), "/")],
+        answer(Method, Path, Headers, list_to_binary(Body))
+    catch
+        Class:Reason:Stack ->
+            {500, #{error => <<"an error of the controller">>, reason => {Class, Reason, Stack}}}
+    end.
+
+logged(Status, Json, #mod{method = Method, request_uri = Uri}) ->
+    Number = integer_to_list(erlang:unique_integer([positive, monotonic])),
+    logger:warning("HTTP request ~s: ~s ~0P was answered ~b: ~0P", [Number, Method, Uri, 100, Status, Json, 100]),
+    Number.
+
+json(Status, Json, More) ->
+    response(Status, [{content_type, "application/json"} | More], lobby_json:encode(maps:with([error], Json))).
 
 response(Status, More, Text) ->
     Head = [{code, Status}, {content_length, integer_to_list(iolist_size(Text))}, {cache_control, "no-store"} | More],
@@ -46,22 +104,30 @@ response(Status, More, Text) ->
 
 %% What can't be decoded is no name of anything.
 decoded(Part) ->
-    case uri_string:percent_decode(list_to_binary(Part)) of
+    try uri_string:percent_decode(unicode:characters_to_binary(Part)) of
         Text when is_binary(Text) -> Text;
         _ -> <<>>
+    catch
+        %% It is no UTF-8.
+        throw:_ -> <<>>
     end.
 
 -spec answer(string(), [binary()], [{string(), string()}], binary()) -> answer().
 answer("GET", [], _, _) ->
     {200, [{content_type, "text/html; charset=utf-8"}], file("index.html")};
+answer("GET", [<<"page.js">>], _, _) ->
+    {200, [{content_type, "text/javascript"}], file("page.js")};
+answer("GET", [<<"page.css">>], _, _) ->
+    {200, [{content_type, "text/css"}], file("page.css")};
 answer("GET", [<<"openapi.json">>], _, _) ->
     {200, [{content_type, "application/json"}], file("openapi.json")};
 answer(Method, Path, Headers, Body) ->
     Matching = [{Known, Name, Handler} || {Known, Route, Handler} <- routes(), Name <- name(Route, Path)],
-    case {role(Headers), Matching} of
+    case {watcher(Headers), Matching} of
         {none, _} -> denied(401, {'www-authenticate', "Bearer"}, <<"a valid token is required: Authorization: Bearer TOKEN">>);
         {_, []} -> {404, failure(<<"there is no such path">>)};
-        {Role, Routes} -> case lists:keyfind(Method, 1, Routes) of
+        {Watcher = {_, Role}, Routes} -> case lists:keyfind(Method, 1, Routes) of
+            {"GET", _, events} -> {events, Watcher};
             {"GET", Name, Handler} -> in_time(fun() -> Handler(Name, #{}) end);
             {_, _, _} when Role =:= viewer -> {403, failure(<<"this token can only read">>)};
             {_, Name, Handler} -> with_object(Body, fun(Object) -> in_time(fun() -> Handler(Name, Object) end) end);
@@ -95,11 +161,12 @@ file(Name) ->
     {ok, Bytes} = file:read_file(filename:join(code:priv_dir(lobby), Name)),
     Bytes.
 
-role(Headers) ->
+%% Who asks, by the hash of his token: so that the time says nothing of the token.
+watcher(Headers) ->
     case proplists:get_value("authorization", Headers) of
         "Bearer " ++ Token ->
-            %% Hashes are compared, so that the time says nothing of the token.
-            proplists:get_value(crypto:hash(sha256, string:trim(Token)), persistent_term:get(?MODULE), none);
+            Hash = crypto:hash(sha256, unicode:characters_to_binary(string:trim(Token))),
+            case lists:keyfind(Hash, 1, persistent_term:get(?MODULE)) of false -> none; Watcher -> Watcher end;
         _ ->
             none
     end.
@@ -134,7 +201,7 @@ routes() ->
      {"POST", <<"/members/{id}/move">>, fun move/2},
      {"POST", <<"/members/{id}/hang_up">>, fun(Id, _) -> changed(lobby_call:hang_up(Id)) end},
      {"GET", <<"/gateways">>, fun(_, _) -> {200, #{gateways => gateways()}} end},
-     {"GET", <<"/events">>, fun(_, _) -> events end},
+     {"GET", <<"/events">>, events},
      {"GET", <<"/metrics">>, fun(_, _) ->
          {200, [{content_type, "text/plain; version=0.0.4"}], lobby_metrics:text()}
      end}].

@@ -15,7 +15,9 @@ decode(Text) ->
     catch
         %% jiffy's error has the position and a name.
         error:{At, Reason} when is_integer(At), is_atom(Reason) ->
-            {error, iolist_to_binary(io_lib:format("the body is not JSON: ~s at byte ~b", [Reason, At]))}
+            {error, iolist_to_binary(io_lib:format("the body is not JSON: ~s at byte ~b", [Reason, At]))};
+        %% A number that is too large has another one.
+        error:_ -> {error, <<"the body is not JSON">>}
     end.
 
 %% @doc Names that callers sent needn't be UTF-8.

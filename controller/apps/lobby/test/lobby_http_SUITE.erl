@@ -10,7 +10,8 @@
 -define(VIEWER, "viewer-token-000001").
 
 all() ->
-    [a_room_is_steered, rooms_are_created_and_closed, tokens, errors, what_the_gateway_says, what_the_gateway_refuses, what_takes_too_long, metrics, the_page, everything_is_described, events, watchers_are_limited, a_watcher_that_does_not_read, supervisors_fail, anything].
+    [a_room_is_steered, rooms_are_created_and_closed, tokens, errors, what_the_gateway_says, what_the_gateway_refuses, what_takes_too_long, metrics, the_page, everything_is_described, events, watchers_are_limited, a_watcher_that_does_not_read, supervisors_fail, anything,
+     every_error_is_json, bodies_are_limited, half_a_request, failures_are_logged, pages_are_closed_to_others, over_tls].
 
 init_per_testcase(Case, Config) ->
     {ok, _} = application:ensure_all_started(inets),
@@ -21,11 +22,16 @@ init_per_testcase(Case, Config) ->
     Direct = gateway:config(<<"a">>, G),
     Gateway = case Case of what_the_gateway_refuses -> Direct#{address := relay:address(Relay)}; _ -> Direct end,
     Env = [{gateways, [Gateway]}, {sip, Sip}, {http, Http},
-           {tokens, [{<<?OPERATOR>>, operator}, {<<?VIEWER>>, viewer}]}],
+           {tokens, [{<<?OPERATOR>>, operator}, {<<?VIEWER>>, viewer}]} | env(Case, Config)],
     [ok = application:set_env(lobby, Key, Value) || {Key, Value} <- Env],
     {ok, _} = application:ensure_all_started(lobby),
     serving(100),
     [{sip, Sip}, {http, Http}, {gateway, G}, {relay, Relay} | Config].
+
+env(over_tls, Config) ->
+    {Certificate, Key} = certificate:new("first", proplists:get_value(priv_dir, Config)),
+    [{tls, #{certificate => Certificate, key => Key, http => true}}];
+env(_, _) -> [].
 
 serving(Tries) when Tries > 0 ->
     case lobby_gateway:serving() of
@@ -325,7 +331,12 @@ watchers_are_limited(Config) ->
     ?assertMatch("HTTP/1.1 503 " ++ _, head(watch(?VIEWER, Config))),
     ok = gen_tcp:close(hd(Watching)),
     until(fun() -> length(pg:get_local_members(lobby, events)) =:= 31 end),
-    ?assertMatch("HTTP/1.1 200 " ++ _, head(watch(?VIEWER, Config))).
+    ?assertMatch("HTTP/1.1 200 " ++ _, head(watch(?VIEWER, Config))),
+    %% Viewers take nothing from operators, of whom the one who watches longest goes.
+    Operators = [begin S = watch(?OPERATOR, Config), "HTTP/1.1 200" ++ _ = head(S), S end || _ <- lists:seq(1, 33)],
+    ?assertEqual({error, closed}, gen_tcp:recv(hd(Operators), 0, 2000)),
+    _ = phone_joins(Config),
+    ?assertMatch({ok, "event: room" ++ _}, gen_tcp:recv(lists:last(Operators), 0, 2000)).
 
 %% It is disconnected, and holds nobody up.
 a_watcher_that_does_not_read(Config) ->
@@ -390,3 +401,116 @@ anything(Config) ->
                       <<"GET /%zz HTTP/1.1\r\nHost: x\r\nAuthorization: Bearer ", ?OPERATOR, "\r\n\r\n">>,
                       <<"GET / HTTP/1.1\r\nHost: x\r\n", (binary:copy(<<"X: y\r\n">>, 10000))/binary, "\r\n">> | [rand:bytes(200) || _ <- lists:seq(1, 50)]]],
     ?assertMatch({200, _}, ask(get, "/rooms", Config)).
+
+%% One request, byte by byte as it is, and what comes back until the connection ends or is quiet.
+raw(Bytes, Config) -> raw(Bytes, 1000, Config).
+
+raw(Bytes, Timeout, Config) ->
+    {Address, Port} = proplists:get_value(http, Config),
+    {ok, Socket} = gen_tcp:connect(Address, Port, [list, {active, false}]),
+    _ = gen_tcp:send(Socket, Bytes),
+    Answer = received(Timeout, Socket, ""),
+    ok = gen_tcp:close(Socket),
+    Answer.
+
+received(Timeout, Socket, Before) ->
+    case gen_tcp:recv(Socket, 0, Timeout) of
+        {ok, Text} -> received(Timeout, Socket, Before ++ Text);
+        {error, timeout} -> Before;
+        {error, _} -> Before ++ " CLOSED"
+    end.
+
+request(Method, Path, Headers, Body) ->
+    [Method, " ", Path, " HTTP/1.1\r\nHost: x\r\nAuthorization: Bearer ", ?OPERATOR, "\r\n", [[Header, "\r\n"] || Header <- Headers], "\r\n", Body].
+
+with_length(Body) -> ["Content-Length: " ++ integer_to_list(iolist_size(Body))].
+
+%% Whatever a request has in it.
+every_error_is_json(Config) ->
+    [?assertMatch({Path, Body, Status, {match, _}},
+                  begin
+                      Answer = raw(request(Method, Path, with_length(Body), Body), 300, Config),
+                      {Path, Body, list_to_integer(lists:sublist(Answer, 10, 3)), re:run(Answer, "\r\n\r\n\\{\"error\":\"[^\"]+", [])}
+                  end)
+     || {Status, Method, Path, Body} <-
+            [{404, "GET", "/rooms/%ff", ""}, {404, "GET", "/rooms/%FF%fe/x", ""}, {404, "GET", "/rooms/\xc3\xa9", ""}, {404, "GET", "/%E2%82%AC", ""},
+             {404, "POST", "/members/%ff/mute", ""}, {404, "GET", "/members/%00", ""}, {400, "PUT", "/rooms/%ff", "{\"rules\": []}"},
+             {400, "PUT", "/rooms/1", "{\"rules\": 1e999}"}, {400, "PUT", "/rooms/1", "1e999"}, {400, "PUT", "/rooms/1", "{\"rules\": [{\"hears\": 1e999}]}"},
+             {400, "PUT", "/rooms/1", lists:duplicate(60000, $[)}, {400, "PUT", "/rooms/1", [$", 255, $"]}]],
+    ?assertMatch("HTTP/1.1 401 " ++ _, raw(["GET /rooms HTTP/1.1\r\nHost: x\r\nAuthorization: Bearer \xff\xfe", "\r\n\r\n"], Config)).
+
+%% A body that isn't announced isn't read, and one that is too long neither.
+bodies_are_limited(Config) ->
+    Whole = "{\"rules\": []" ++ lists:duplicate(65536 - 14, $ ) ++ "}",
+    ?assertMatch("HTTP/1.1 200 " ++ _, raw(request("PUT", "/rooms/1", with_length(Whole), Whole), Config)),
+    ?assertMatch("HTTP/1.1 413 " ++ _, raw(request("PUT", "/rooms/1", with_length(["  " | Whole]), ["  " | Whole]), Config)),
+    Chunk = lists:duplicate(200000, $ ),
+    Refused = raw(request("PUT", "/rooms/2", ["Transfer-Encoding: chunked", "Connection: keep-alive"], ["30d40\r\n", Chunk, "\r\n"]), Config),
+    ?assertMatch("HTTP/1.1 411 " ++ _, Refused),
+    ?assertNotEqual(nomatch, string:find(Refused, " CLOSED")),
+    %% Nothing in it is read as a request.
+    Smuggled = request("PUT", "/rooms/3", with_length("{\"rules\": []}"), "{\"rules\": []}"),
+    _ = raw(request("PUT", "/rooms/2", ["transfer-encoding: Chunked"], [integer_to_list(iolist_size(Smuggled), 16), "\r\n", Smuggled, "\r\n0\r\n\r\n"]), Config),
+    ?assertEqual({200, #{<<"rooms">> => [<<"1">>]}}, ask(get, "/rooms", Config)).
+
+%% Who sends half a request is waited for, but not for long.
+half_a_request(Config) ->
+    ok = application:set_env(lobby, http_body, 500),
+    ?assertMatch("HTTP/1.1 408 " ++ _, raw(request("PUT", "/rooms/1", ["Content-Length: 10"], "{"), 3000, Config)),
+    ?assertMatch("HTTP/1.1 408 " ++ _, raw("GET /rooms HTTP/1.1\r\nHost: x\r\n", 12000, Config)),
+    %% And the timer ends with the request.
+    {Address, Port} = proplists:get_value(http, Config),
+    {ok, Socket} = gen_tcp:connect(Address, Port, [list, {active, false}]),
+    [begin
+         ok = gen_tcp:send(Socket, request("PUT", "/rooms/1", with_length("{\"rules\": []}"), "{\"rules\": []}")),
+         ?assertMatch({ok, "HTTP/1.1 200" ++ _}, gen_tcp:recv(Socket, 0, 2000)),
+         ?assertEqual("", element(2, {Socket, received(700, Socket, "") -- "{}"}))
+     end || _ <- [1, 2, 3]].
+
+%% By a number, that the answer has too.
+failures_are_logged(Config) ->
+    File = filename:join(proplists:get_value(priv_dir, Config), "log"),
+    ok = logger:add_handler(file, logger_std_h, #{config => #{file => File}}),
+    %% Something that isn't foreseen.
+    ok = persistent_term:put(lobby_http, bad),
+    Answer = raw(request("GET", "/rooms", [], ""), Config),
+    ?assertMatch("HTTP/1.1 500 " ++ _, Answer),
+    ?assertNotEqual(nomatch, string:find(Answer, "{\"error\":\"an error of the controller\"}")),
+    {match, [Number]} = re:run(Answer, "\r\nRequest-Number: (\\d+)\r\n", [{capture, all_but_first, list}]),
+    ok = logger_std_h:filesync(file),
+    ok = logger:remove_handler(file),
+    {ok, Log} = file:read_file(File),
+    ?assertNotEqual(nomatch, string:find(Log, "HTTP request " ++ Number ++ ": GET \"/rooms\" was answered 500")).
+
+%% The page runs its own script alone, in no frame of others.
+pages_are_closed_to_others(Config) ->
+    [begin
+         {ok, {{_, Status, _}, Headers, _}} = httpc:request(get, {url(Path, Config), []}, [], []),
+         ?assertEqual({Path, "nosniff", "DENY", "no-referrer"}, {Path, proplists:get_value("x-content-type-options", Headers),
+                                                                  proplists:get_value("x-frame-options", Headers), proplists:get_value("referrer-policy", Headers)}),
+         ?assertMatch("default-src 'none'; script-src 'self';" ++ _, proplists:get_value("content-security-policy", Headers))
+     end || {Path, Status} <- [{"/", 200}, {"/page.js", 200}, {"/page.css", 200}, {"/openapi.json", 200}, {"/rooms", 401}, {"/nothing", 401}]],
+    {200, _, Page} = ask(get, "/", "", none, Config),
+    ?assertEqual(nomatch, re:run(Page, "<script>|<style>|on[a-z]+=|location")).
+
+%% With the operator's certificate, and with another one when that has changed. What is answered is the same.
+over_tls(Config) ->
+    {Address, Port} = proplists:get_value(http, Config),
+    Get = fun(Path) ->
+        {ok, Socket} = ssl:connect(Address, Port, [{verify, verify_none}, {active, false}], 2000),
+        ok = ssl:send(Socket, request("GET", Path, [], "")),
+        {ok, Answer} = ssl:recv(Socket, 0, 2000),
+        {ok, Der} = ssl:peercert(Socket),
+        {Answer, certificate:name(Der), Socket}
+    end,
+    ?assertMatch({"HTTP/1.1 200" ++ _, "first", _}, Get("/rooms")),
+    {"HTTP/1.1 200" ++ _, _, Watching} = Get("/events"),
+    _ = phone_joins(Config),
+    ?assertMatch({ok, "event: room" ++ _}, ssl:recv(Watching, 0, 2000)),
+    ok = ssl:close(Watching),
+    lobby_case:until(fun() -> pg:get_local_members(lobby, events) =:= [] end),
+    _ = certificate:new("second", proplists:get_value(priv_dir, Config)),
+    ok = ssl:clear_pem_cache(),
+    ?assertMatch({"HTTP/1.1 200" ++ _, "second", _}, Get("/rooms")),
+    %% Without TLS there is no answer.
+    ?assertEqual(nomatch, string:find(raw(request("GET", "/rooms", [], ""), Config), "200 OK")).

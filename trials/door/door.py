@@ -144,6 +144,8 @@ class Gateway:
 class Door:
     """Gateways and a controller."""
     host = "127.0.0.1"
+    # All phones have one address, which is let in like a proxy that speaks for many.
+    limits = "{proxies, [{{127,0,0,1},32}]}"
 
     def __init__(self, gateways=1, journal=False, returns=0, slots=80, **options):
         self.folder = Path(tempfile.mkdtemp())
@@ -166,7 +168,7 @@ class Door:
                              f'terminations => {slots}}}' for g in self.gateways)
         more = "".join(f", {{{key}, {value}}}" for key, value in options.items())
         (self.folder / "lobby.config").write_text(
-            f"[{{lobby, [{{gateways, [{listed}]}}, {{sip, {{{{127,0,0,1}},{self.sip}}}}}, {{max_calls_from, 1024}}, "
+            f"[{{lobby, [{{gateways, [{listed}]}}, {{sip, {{{{127,0,0,1}},{self.sip}}}}}, {self.limits}, "
             f"{{http, {{{{127,0,0,1}},{self.http}}}}}, {{tokens, [{{<<\"{TOKEN}\">>, operator}}]}}{more}]}}].")
 
     def __enter__(self):

@@ -22,7 +22,9 @@ def main():
     with Door(journal=True, returns=5000) as door:
         browser = webdriver.Chrome(service=Service("/usr/bin/chromedriver"), options=options)
         try:
-            browser.get(f"http://127.0.0.1:{door.http}/#{TOKEN}")
+            browser.get(f"http://127.0.0.1:{door.http}/")
+            browser.find_element("id", "token").send_keys(TOKEN)
+            browser.find_element("css selector", "#login button").click()
             loop = Phones(Phone(door, "100", pitch, 4000) for pitch in (400, 1000, 1600))
 
             def shown(text):

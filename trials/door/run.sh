@@ -1,7 +1,7 @@
 #!/bin/sh
 # Runs the controller's trials on this host, with gateways from dist/ (or from BRIDGE) and phones on 127.0.0.1.
 # usage: run.sh [TRIAL ..]
-# The default is heard loss failover crashes garbage anything; the last takes an hour. It needs python3 and the Debian
+# The default is heard loss failover crashes garbage started anything; the last takes an hour. It needs python3 and the Debian
 # packages that controller/test needs; the trials linphone, proxy, page and two need more. To avoid port conflicts with
 # other programs, run it in a network namespace. Each trial prints what it saw, and exits with 1 if something is wrong.
 set -eu
@@ -11,7 +11,7 @@ cd "$here/../../controller"
 . ./base
 rebar3 compile > /dev/null
 cd - > /dev/null
-[ $# -gt 0 ] || set -- heard loss failover crashes garbage anything
+[ $# -gt 0 ] || set -- heard loss failover crashes garbage started anything
 status=0
 for trial; do
     echo "== $trial"

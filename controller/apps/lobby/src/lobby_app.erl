@@ -66,7 +66,9 @@ stop(Status, Text) ->
 -spec start(application:start_type(), term()) -> {ok, pid()} | {error, term()}.
 start(_, _) ->
     case lobby_config:check(application:get_all_env(lobby)) of
-        {ok, Config} -> started(with_token(Config));
+        {ok, Config} ->
+            logger:notice("calls to sip:ROOM@~s may come from ~s, ~s", allowed(Config)),
+            started(with_token(Config));
         {error, Text} -> {error, {bad_configuration, Text}}
     end.
 
@@ -76,6 +78,15 @@ started(Config) ->
         {error, Reason} -> {error, Reason};
         ignore -> {error, ignore}
     end.
+
+%% What strangers may do.
+allowed(#{sip := {Address, Port}, callers := Callers, users := Users}) ->
+    [[inet:ntoa(Address), [[":", integer_to_list(Port)] || Port =/= 5060]],
+     case Callers of
+         [] -> "any address";
+         _ -> lists:join(", ", [io_lib:format("~s/~b", [inet:ntoa(Network), Bits]) || {Network, Bits} <- Callers])
+     end,
+     case map_size(Users) of 0 -> "without a password"; _ -> "with a password" end].
 
 %% Without a configured token one is made, which only who reads the log knows.
 with_token(Config = #{tokens := [], http := {Address, Port}}) ->

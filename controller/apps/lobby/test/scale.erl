@@ -13,7 +13,7 @@ main(Arguments) ->
     _ = os:cmd("mkdir " ++ Folder ++ "/a " ++ Folder ++ "/b"),
     Simulated = [simulated_gateway:start(integer_to_binary(N), 1000 * N) || N <- lists:seq(1, Gateways)],
     Common = [{gateways, [(simulated_gateway:config(G))#{terminations => 256, contexts => 64, tries => 10} || G <- Simulated]},
-              {sip, gateway:free_address()}, {http, gateway:free_address()}, {max_calls, 100000}, {max_calls_from, 100000}, {store, disc},
+              {sip, gateway:free_address()}, {http, gateway:free_address()}, {max_calls, 100000}, {proxies, [{{127, 0, 0, 1}, 32}]}, {store, disc},
               {tokens, [{<<"a-token-for-trials">>, operator}]}],
     {_, Port} = gateway:free_address(),
     A = node_of(a, Folder, Port, Common),

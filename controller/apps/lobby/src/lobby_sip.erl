@@ -11,7 +11,7 @@
 
 -type config() :: #{sip := lobby_sip_message:peer(), users := lobby_auth:users(), digest := [lobby_auth:algorithm()],
                     callers := [lobby_auth:network()], proxies := [lobby_auth:network()],
-                    tls := #{sip := lobby_sip_message:peer() | none, _ => _} | none, _ => _}.
+                    tls := lobby_config:tls() | none, _ => _}.
 %% A call's process that has so many messages to handle gets no more.
 -define(MAX_WAITING, 100).
 %% Bytes. What is longer goes over TCP (RFC 3261, section 18.1.1).

@@ -8,10 +8,9 @@
 
 -export([decode/1, uri/1]).
 
+%% Bytes of a head, and its lines, values and parameters: so many take less than a millisecond.
 -define(MAX_HEAD, 8192).
--define(MAX_HEADERS, 128).
-%% A proxy forwards a message at most 70 times, and adds at most one Via and one Record-Route each time.
--define(MAX_VALUES, 70).
+-define(MAX_PARTS, 160).
 -define(HOST, "(\\[[0-9A-Fa-f:.]+\\]|[A-Za-z0-9_.-]+)").
 
 %% @doc A message. With a status: a request that can be answered by it, but not served. A header that can't be read is in
@@ -19,79 +18,71 @@
 -spec decode(binary()) -> {ok, #sip{}} | {400 | 505, #sip{}} | {error, not_sip}.
 decode(Datagram) ->
     case binary:split(Datagram, <<"\r\n\r\n">>) of
-        [Head, Body] when byte_size(Head) =< ?MAX_HEAD ->
-            %% A line that begins with white space continues the one before (section 7.3.1).
-            Unfolded = binary:replace(Head, [<<"\r\n ">>, <<"\r\n\t">>], <<" ">>, [global]),
-            [First | Lines] = binary:split(Unfolded, <<"\r\n">>, [global]),
-            case start_line(binary:split(First, <<" ">>, [global])) of
-                {Status, Message} -> with_headers(Lines, Status, Message#sip{body = Body});
-                error -> {error, not_sip}
-            end;
+        [Head, Body] when byte_size(Head) =< ?MAX_HEAD -> case parts(Head, 0) =< ?MAX_PARTS of
+            true -> head(Head, Body);
+            false -> {error, not_sip}
+        end;
         _ ->
             {error, not_sip}
     end.
 
+parts(_, Count) when Count > ?MAX_PARTS -> Count;
+parts(<<Char, Rest/binary>>, Count) when Char =:= $,; Char =:= $;; Char =:= $&; Char =:= $\n -> parts(Rest, Count + 1);
+parts(<<_, Rest/binary>>, Count) -> parts(Rest, Count);
+parts(<<>>, Count) -> Count.
+
+head(Head, Body) ->
+    %% A line that begins with white space continues the one before (section 7.3.1).
+    Unfolded = binary:replace(Head, [<<"\r\n ">>, <<"\r\n\t">>], <<" ">>, [global]),
+    [First | Lines] = binary:split(Unfolded, <<"\r\n">>, [global]),
+    case start_line(binary:split(First, <<" ">>, [global])) of
+        {Status, Message} -> with_headers(Lines, Status, Message#sip{body = Body});
+        error -> {error, not_sip}
+    end.
+
 start_line([<<"SIP/2.0">>, Code | Reason]) ->
-    case re:run(Code, "^[1-6][0-9][0-9]$", [dollar_endonly]) of
-        {match, _} -> {ok, #sip{type = response, status = binary_to_integer(Code), reason = iolist_to_binary(Reason)}};
-        nomatch -> error
+    case read(fun(Text) -> number(Text, 699) end, Code) of
+        {ok, Status} when Status >= 100 -> {ok, #sip{type = response, status = Status, reason = iolist_to_binary(Reason)}};
+        _ -> error
     end;
 start_line(Words = [Method, Uri | Rest]) ->
-    IsToken = re:run(Method, "^[A-Za-z0-9.!%*_+`'~-]+$", [dollar_endonly]) =/= nomatch,
-    case {IsToken, version([Word || Word <- Words, Word =/= <<>>]), length(Rest), read(fun uri/1, Uri)} of
-        {true, 2, 1, {ok, Read}} -> {ok, #sip{type = request, method = Method, uri = Read}};
-        {true, 2, _, _} -> {400, #sip{type = request, method = Method}};
-        {true, Other, _, _} when is_integer(Other) -> {505, #sip{type = request, method = Method}};
+    Version = upper(lists:last([<<>> | [Word || Word <- Words, Word =/= <<>>]])),
+    case {read(fun(Text) -> match(Text, token) end, Method), Version, length(Rest), read(fun uri/1, Uri)} of
+        {{ok, _}, <<"SIP/2.0">>, 1, {ok, Read}} -> {ok, #sip{type = request, method = Method, uri = Read}};
+        {{ok, _}, <<"SIP/2.0">>, _, _} -> {400, #sip{type = request, method = Method}};
+        {{ok, _}, <<"SIP/", _/binary>>, _, _} -> {505, #sip{type = request, method = Method}};
         {_, _, _, _} -> error
     end;
 start_line(_) ->
     error.
 
-version(Words) ->
-    case re:run(lists:last([<<>> | Words]), "^SIP/([0-9]+)\\.([0-9]+)$", [caseless, dollar_endonly, {capture, all_but_first, binary}]) of
-        {match, [<<"2">>, <<"0">>]} -> 2;
-        {match, _} -> 0;
-        nomatch -> none
-    end.
-
 with_headers(Lines, Status, Message = #sip{type = Type, method = Method}) ->
-    {Taken, Left} = lists:split(min(?MAX_HEADERS, length(Lines)), Lines),
-    Read = [Header || Line <- Taken, Header <- header(Line)],
-    Headers = first_ones(Read),
-    Faults = [bad || Left =/= []] ++ [bad || bad <- Read] ++ [bad || Headers =/= [H || H <- Read, H =/= bad]]
-        ++ [bad || {Name, _} <- Headers, is_binary(Name)],
-    case {Type, lists:keyfind(cseq, 1, Headers), Faults, Status} of
-        {response, {cseq, {Number, OfMethod}}, [], ok} -> {ok, Message#sip{method = OfMethod, hdrs = numbered(Number, Headers)}};
-        {request, {cseq, {Number, Method}}, [], _} -> {Status, Message#sip{hdrs = numbered(Number, Headers)}};
+    Read = [Header || Line <- Lines, Header <- header(Line)],
+    Headers = lists:uniq(fun name/1, [Header || Header <- Read, Header =/= bad]),
+    IsGood = length(Headers) =:= length(Read) andalso lists:all(fun({Name, _}) -> is_atom(Name) end, Headers),
+    case {Type, lists:keyfind(cseq, 1, Headers), IsGood, Status} of
+        {response, {cseq, {Number, OfMethod}}, true, ok} -> {ok, Message#sip{method = OfMethod, hdrs = with_cseq(Number, Headers)}};
+        {request, {cseq, {Number, Method}}, true, _} -> {Status, Message#sip{hdrs = with_cseq(Number, Headers)}};
+        {response, _, _, _} -> {error, not_sip};
         {request, {cseq, {Number, Other}}, _, _} ->
-            {not_ok(Status), Message#sip{hdrs = lists:keyreplace(cseq, 1, Headers, {<<"cseq">>, cseq(Number, Other)})}};
-        {request, _, _, _} -> {not_ok(Status), Message#sip{hdrs = Headers}};
-        {response, _, _, _} -> {error, not_sip}
+            Text = <<(integer_to_binary(Number))/binary, " ", Other/binary>>,
+            {not_ok(Status), Message#sip{hdrs = lists:keyreplace(cseq, 1, Headers, {<<"cseq">>, Text})}};
+        {request, _, _, _} -> {not_ok(Status), Message#sip{hdrs = Headers}}
     end.
 
 not_ok(ok) -> 400;
 not_ok(Status) -> Status.
 
-numbered(Number, Headers) -> lists:keyreplace(cseq, 1, Headers, {cseq, Number}).
+with_cseq(Number, Headers) -> lists:keyreplace(cseq, 1, Headers, {cseq, Number}).
 
-cseq(Number, Method) -> <<(integer_to_binary(Number))/binary, " ", Method/binary>>.
-
-%% Headers that occur at most once in a message.
-first_ones(Read) ->
-    {Headers, _} = lists:foldl(fun
-        (bad, Acc) -> Acc;
-        (Header = {Key, _}, {Kept, Seen}) ->
-            Name = case is_binary(Key) of true -> binary_to_atom(Key); false -> Key end,
-            case is_map_key(Name, Seen) of
-                true -> {Kept, Seen};
-                false -> {[Header | Kept], case is_list_of_values(Name) of true -> Seen; false -> Seen#{Name => true} end}
-            end
-    end, {[], #{}}, Read),
-    lists:reverse(Headers).
-
-is_list_of_values(Name) ->
-    lists:member(Name, [via, contact, route, 'record-route', require, supported, accept, 'content-encoding', authorization,
-                        'p-asserted-identity']).
+%% Headers with the same name occur once in a message.
+name({Key, _}) ->
+    Name = case is_binary(Key) of true -> binary_to_atom(Key); false -> Key end,
+    case lists:member(Name, [via, contact, route, 'record-route', require, supported, accept, 'content-encoding',
+                             authorization, 'p-asserted-identity']) of
+        true -> make_ref();
+        false -> Name
+    end.
 
 header(Line) ->
     case {binary:split(Line, <<":">>), binary:match(Line, [<<"\r">>, <<"\n">>])} of
@@ -135,8 +126,8 @@ value(contact, <<"*">>) -> <<"*">>;
 value(Key, Text) when Key =:= from; Key =:= to -> [Address] = values(Text), address(Address);
 value(Key, Text) when Key =:= contact; Key =:= route; Key =:= 'record-route'; Key =:= 'p-asserted-identity' ->
     [address(Item) || Item <- values(Text)];
-value('call-id', Text) -> [CallId] = match(Text, "^(\\S+)$"), CallId;
-value(cseq, Text) -> [Number, Method] = match(Text, "^([0-9]{1,20})\\s+(\\S+)$"), {number(Number, 16#7FFFFFFF), Method};
+value('call-id', Text) -> [CallId] = words(Text), CallId;
+value(cseq, Text) -> [Number, Method] = words(Text), {number(Number, 16#7FFFFFFF), Method};
 value('content-length', Text) -> number(Text, 16#7FFFFFFF);
 value('max-forwards', Text) -> number(Text, 255);
 value(expires, Text) -> seconds(Text);
@@ -146,25 +137,41 @@ value(Key, Text) when Key =:= 'session-expires'; Key =:= 'min-se' ->
 value('content-type', Text) -> typed(Text);
 value(accept, Text) -> [typed(Item) || Item <- values(Text), Item =/= <<>>];
 value(authorization, Text) ->
-    [Scheme, Rest] = match(Text, "^(\\S+)\\s+(.*)$"),
+    [Scheme, Rest] = binary:split(Text, <<" ">>),
     {Scheme, [param(Item) || Item <- values(Rest)]};
 value(_, Text) -> [lower(Item) || Item <- values(Text)].
 
 %% At most a day, so that it fits into a timer.
 seconds(Text) -> min(number(Text, infinity), 86400).
 
-number(Text, Max) ->
-    [Digits] = match(Text, "^([0-9]{1,80})$"),
-    case binary_to_integer(Digits) of Number when Number =< Max -> Number end.
+number(Text = <<Digit, _/binary>>, Max) when Digit >= $0, Digit =< $9, byte_size(Text) =< 80 ->
+    case binary_to_integer(Text) of Number when Number =< Max -> Number end.
 
-match(Text, Pattern) ->
-    {match, Found} = re:run(Text, Pattern, [dollar_endonly, {capture, all_but_first, binary}]),
+words(Text) -> binary:split(Text, [<<" ">>, <<"\t">>], [global, trim_all]).
+
+values(Text) -> split(Text, $,).
+
+match(Text, Name) ->
+    {match, Found} = re:run(Text, compiled(Name), [{capture, all_but_first, binary}]),
     Found.
 
-values(Text) ->
-    Values = split(Text, $,),
-    true = length(Values) =< ?MAX_VALUES,
-    Values.
+%% Compiling takes longer than reading.
+compiled(Name) ->
+    case persistent_term:get({?MODULE, Name}, none) of
+        none ->
+            {ok, Compiled} = re:compile(pattern(Name), [dollar_endonly]),
+            ok = persistent_term:put({?MODULE, Name}, Compiled),
+            Compiled;
+        Compiled -> Compiled
+    end.
+
+pattern(token) -> "^[A-Za-z0-9.!%*_+`'~-]+$";
+pattern(sent) -> "^([A-Za-z]+)\\s*/\\s*([0-9])\\.([0-9])\\s*/\\s*([^\\s/]+)\\s+" ?HOST "(?:\\s*:\\s*([0-9]{1,5}))?$";
+%% A name with a URI in angle brackets, or a URI without parameters of its own (section 20).
+pattern(address) -> "^(?|(\"(?:[^\"\\\\]++|\\\\.)*+\"\\s*|[^\"<>,]*)<([^<>\\s]+)>()|()()([^\\s<>?,\"]+))$";
+pattern(uri) -> "^([A-Za-z][A-Za-z0-9+.-]*):([^\\s<>]+)$";
+pattern(sip) ->
+    "^([Ss][Ii][Pp][Ss]?):(?:([^@\\s<>]+)@)?" ?HOST "(|:[0-9]{1,5})((?:;[^;?\\s<>]+)*+)((?:\\?[^\\s<>]*)?)$".
 
 typed(Text) ->
     [Type | Params] = split(Text, $;),
@@ -180,8 +187,7 @@ nonempty(Text) when Text =/= <<>> -> Text.
 
 via(Text) ->
     [Sent | Params] = split(Text, $;),
-    [Protocol, Major, Minor, Transport, Host | Port] =
-        match(Sent, "^([A-Za-z]+)\\s*/\\s*([0-9])\\.([0-9])\\s*/\\s*([^\\s/]+)\\s+" ?HOST "(?:\\s*:\\s*([0-9]{1,5}))?$"),
+    [Protocol, Major, Minor, Transport, Host | Port] = match(Sent, sent),
     #via{proto = Protocol, version = {binary_to_integer(Major), binary_to_integer(Minor)},
          transport = upper(Transport), host = Host, port = port(Port),
          params = [param(Param) || Param <- Params, Param =/= <<>>]}.
@@ -189,32 +195,26 @@ via(Text) ->
 port([Text]) -> number(Text, 65535);
 port([]) -> undefined.
 
-%% A name with a URI in angle brackets, or a URI without parameters of its own (section 20).
 address(Text) ->
     [First | Params] = split(Text, $;),
-    [Name, Inner, Bare] = match(First, "^(?|(\"(?:[^\"\\\\]++|\\\\.)*+\"\\s*|[^\"<>,]*)<([^<>\\s]+)>()|()()([^\\s<>?,\"]+))$"),
+    [Name, Inner, Bare] = match(First, address),
     {trim(Name), uri(<<Inner/binary, Bare/binary>>), [param(Param) || Param <- Params]}.
 
 %% @doc A URI. Of another scheme than SIP's, nothing but the scheme is read.
 -spec uri(binary()) -> #uri{}.
 uri(Text) ->
-    [Scheme, Rest] = match(Text, "^([A-Za-z][A-Za-z0-9+.-]*):([^\\s<>]+)$"),
-    case lower(Scheme) of
-        Sip when Sip =:= <<"sip">>; Sip =:= <<"sips">> -> sip_uri(Sip, binary:split(Rest, <<"@">>));
-        Other -> #uri{scheme = Other, host = Rest}
+    case re:run(Text, compiled(sip), [{capture, all_but_first, binary}]) of
+        {match, [Scheme, UserInfo, Host, Port, Params, Headers]} ->
+            [User | Password] = binary:split(UserInfo, <<":">>),
+            #uri{scheme = lower(Scheme), user = User, password = iolist_to_binary(Password), host = lower(Host),
+                 port = port([Digits || <<":", Digits/binary>> <- [Port]]),
+                 params = [param(Param) || Param <- tl(binary:split(Params, <<";">>, [global]))],
+                 hdrs = [param(Header) || <<"?", All/binary>> <- [Headers], Header <- binary:split(All, <<"&">>, [global])]};
+        nomatch ->
+            [Scheme, Rest] = match(Text, uri),
+            false = lists:member(lower(Scheme), [<<"sip">>, <<"sips">>]),
+            #uri{scheme = lower(Scheme), host = Rest}
     end.
-
-sip_uri(Scheme, [UserInfo, Rest]) ->
-    {User, Password} = case binary:split(nonempty(UserInfo), <<":">>) of
-        [Name, Secret] -> {Name, Secret};
-        [Name] -> {Name, <<>>}
-    end,
-    (sip_uri(Scheme, [Rest]))#uri{user = User, password = Password};
-sip_uri(Scheme, [Rest]) ->
-    [Host, Port, Params, Headers] = match(Rest, "^" ?HOST "(|:[0-9]{1,5})((?:;[^;?]+)*+)((?:\\?.*)?)$"),
-    #uri{scheme = Scheme, host = lower(Host), port = port([Digits || <<":", Digits/binary>> <- [Port]]),
-         params = [param(Param) || Param <- tl(binary:split(Params, <<";">>, [global]))],
-         hdrs = [param(Header) || <<"?", Text/binary>> <- [Headers], Header <- binary:split(Text, <<"&">>, [global])]}.
 
 %% Of ASCII: what others send needn't be UTF-8.
 lower(Text) -> list_to_binary(string:to_lower(binary_to_list(Text))).
@@ -233,12 +233,12 @@ trim_end(Text) ->
     end.
 
 %% Splits where a character is neither in quotes nor in angle brackets.
-split(Text, At) -> split(Text, At, Text, 0, plain).
+split(Text, At) -> [trim(binary:part(Text, From, To - From)) || {From, To} <- parts(Text, At, 0, 0, plain)].
 
-split(<<At, Rest/binary>>, At, Part, Size, plain) -> [trim(binary:part(Part, 0, Size)) | split(Rest, At, Rest, 0, plain)];
-split(<<$\\, _, Rest/binary>>, At, Part, Size, quoted) -> split(Rest, At, Part, Size + 2, quoted);
-split(<<Char, Rest/binary>>, At, Part, Size, Where) -> split(Rest, At, Part, Size + 1, next(Char, Where));
-split(<<>>, _, Part, Size, plain) -> [trim(binary:part(Part, 0, Size))].
+parts(<<At, Rest/binary>>, At, From, To, plain) -> [{From, To} | parts(Rest, At, To + 1, To + 1, plain)];
+parts(<<$\\, _, Rest/binary>>, At, From, To, quoted) -> parts(Rest, At, From, To + 2, quoted);
+parts(<<Char, Rest/binary>>, At, From, To, Where) -> parts(Rest, At, From, To + 1, next(Char, Where));
+parts(<<>>, _, From, To, plain) -> [{From, To}].
 
 next($", plain) -> quoted;
 next($", quoted) -> plain;

@@ -1,20 +1,47 @@
 %%% @doc Connections over TCP, or over TLS with the operator's certificate.
 -module(lobby_socket).
 
--export([secured/2, send/2, setopts/2]).
--export_type([socket/0, tls/0]).
+-export([listen/2, accept/1, secured/1, give/2, peer/1, send/2, setopts/2, close/1]).
+-export_type([socket/0, tls/0, address/0]).
 
 -type socket() :: gen_tcp:socket() | ssl:sslsocket().
+-type address() :: {inet:ip4_address(), inet:port_number()}.
 %% Files in PEM. When they change, new connections have the new certificate within two minutes (ssl's cache).
 -type tls() :: #{certificate := file:filename(), key := file:filename(), _ => _}.
 %% Milliseconds.
+-define(ACCEPT, 1000).
 -define(HANDSHAKE, 5000).
 
-%% @doc The server's part of a handshake, over a connection of this process.
--spec secured(gen_tcp:socket(), tls() | none) -> {ok, socket()} | {error, term()}.
-secured(Socket, none) -> {ok, Socket};
-secured(Socket, #{certificate := Certificate, key := Key}) ->
-    ssl:handshake(Socket, [{certfile, Certificate}, {keyfile, Key}, {log_level, none}], ?HANDSHAKE).
+-spec listen(address(), tls() | none) -> {ok, socket()} | {error, term()}.
+listen({Address, Port}, Tls) ->
+    Options = [binary, {ip, Address}, {active, false}, {reuseaddr, true}, {nodelay, true}, {backlog, 128},
+               {send_timeout, 5000}, {send_timeout_close, true}],
+    case Tls of
+        none -> gen_tcp:listen(Port, Options);
+        #{certificate := Certificate, key := Key} ->
+            ssl:listen(Port, [{certfile, Certificate}, {keyfile, Key}, {log_level, emergency} | Options])
+    end.
+
+-spec accept(socket()) -> {ok, socket()} | {error, term()}.
+accept(Listener) when is_port(Listener) -> gen_tcp:accept(Listener, ?ACCEPT);
+accept(Listener) -> ssl:transport_accept(Listener, ?ACCEPT).
+
+%% @doc What remains to be done over a connection that was accepted and given to this process.
+-spec secured(socket()) -> {ok, socket()} | {error, term()}.
+secured(Socket) when is_port(Socket) -> {ok, Socket};
+secured(Socket) ->
+    case ssl:handshake(Socket, ?HANDSHAKE) of
+        {ok, Secured, _} -> {ok, Secured};
+        Result -> Result
+    end.
+
+-spec give(socket(), pid()) -> ok | {error, term()}.
+give(Socket, Pid) when is_port(Socket) -> gen_tcp:controlling_process(Socket, Pid);
+give(Socket, Pid) -> ssl:controlling_process(Socket, Pid).
+
+-spec peer(socket()) -> {ok, address()} | {error, term()}.
+peer(Socket) when is_port(Socket) -> inet:peername(Socket);
+peer(Socket) -> ssl:peername(Socket).
 
 -spec send(socket(), iodata()) -> ok | {error, term()}.
 send(Socket, Bytes) when is_port(Socket) -> gen_tcp:send(Socket, Bytes);
@@ -23,3 +50,7 @@ send(Socket, Bytes) -> ssl:send(Socket, Bytes).
 -spec setopts(socket(), [gen_tcp:option()]) -> ok | {error, term()}.
 setopts(Socket, Options) when is_port(Socket) -> inet:setopts(Socket, Options);
 setopts(Socket, Options) -> ssl:setopts(Socket, Options).
+
+-spec close(socket()) -> ok.
+close(Socket) when is_port(Socket) -> gen_tcp:close(Socket);
+close(Socket) -> _ = ssl:close(Socket), ok.

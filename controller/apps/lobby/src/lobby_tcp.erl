@@ -2,7 +2,7 @@
 -module(lobby_tcp).
 -behaviour(gen_server).
 
--export([start_link/3, send/2, in_call/2, frame/1]).
+-export([start_link/2, send/2, in_call/2, frame/1]).
 -export([init/1, handle_continue/2, handle_call/3, handle_cast/2, handle_info/2]).
 
 -define(MAX_MESSAGE, 65535).
@@ -13,15 +13,15 @@
 -define(IDLE, 300000).
 -define(IN_CALL, 7200000).
 
--type peer() :: {inet:ip4_address(), inet:port_number()}.
--record(state, {socket :: lobby_socket:socket(), tls :: lobby_socket:tls() | none, peer :: peer(), buffer = <<>> :: binary(),
+-type peer() :: lobby_socket:address().
+-record(state, {socket :: lobby_socket:socket(), peer :: peer(), buffer = <<>> :: binary(),
                 %% Runs while a message has to come.
                 due :: reference() | none, calls = #{} :: #{pid() => reference()}}).
 
 %% @doc The socket has to be given to this process, and it has to be told so by `ready'.
--spec start_link(gen_tcp:socket(), peer(), lobby_socket:tls() | none) -> gen_server:start_ret().
-start_link(Socket, Peer, Tls) ->
-    gen_server:start_link(?MODULE, {Socket, Peer, Tls}, []).
+-spec start_link(lobby_socket:socket(), peer()) -> gen_server:start_ret().
+start_link(Socket, Peer) ->
+    gen_server:start_link(?MODULE, {Socket, Peer}, []).
 
 -spec send(pid(), binary()) -> ok.
 send(Connection, Message) ->
@@ -60,9 +60,9 @@ content_length(Head) ->
         nomatch -> 0
     end.
 
--spec init({gen_tcp:socket(), peer(), lobby_socket:tls() | none}) -> {ok, #state{}}.
-init({Socket, Peer, Tls}) ->
-    {ok, #state{socket = Socket, tls = Tls, peer = Peer, due = erlang:start_timer(?MESSAGE, self(), due)}}.
+-spec init({lobby_socket:socket(), peer()}) -> {ok, #state{}}.
+init({Socket, Peer}) ->
+    {ok, #state{socket = Socket, peer = Peer, due = erlang:start_timer(?MESSAGE, self(), due)}}.
 
 -spec handle_continue(listen, #state{}) -> {noreply, #state{}, timeout()} | {stop, normal, #state{}}.
 handle_continue(listen, State = #state{socket = Socket}) ->
@@ -92,8 +92,8 @@ handle_cast(_, State) ->
 
 -spec handle_info(term(), #state{}) ->
           {noreply, #state{}, timeout() | {continue, listen}} | {stop, normal, #state{}}.
-handle_info(ready, State = #state{socket = Socket, tls = Tls}) ->
-    case lobby_socket:secured(Socket, Tls) of
+handle_info(ready, State = #state{socket = Socket}) ->
+    case lobby_socket:secured(Socket) of
         {ok, Secured} -> {noreply, State#state{socket = Secured}, {continue, listen}};
         {error, _} -> {stop, normal, State}
     end;
@@ -127,7 +127,7 @@ frames(State = #state{buffer = Buffer}) ->
             {stop, normal, State}
     end.
 
-target(#state{tls = none, peer = Peer}) -> {tcp, self(), Peer};
+target(#state{socket = Socket, peer = Peer}) when is_port(Socket) -> {tcp, self(), Peer};
 target(#state{peer = Peer}) -> {tcp, {tls, self()}, Peer}.
 
 %% A message has come.

@@ -9,8 +9,8 @@
 -define(MAX_FROM, 64).
 -define(NEW_FROM, 64).
 
--type own() :: {inet:ip4_address(), inet:port_number()}.
--type config() :: #{sip := own(), tls := #{sip := own() | none, certificate := file:filename(), key := file:filename(), _ => _} | none,
+-type own() :: lobby_socket:address().
+-type config() :: #{sip := own(), tls := lobby_config:tls() | none,
                     callers := [lobby_auth:network()], proxies := [lobby_auth:network()], _ => _}.
 -record(known, {config :: config(), buckets = lobby_buckets:new() :: lobby_buckets:buckets(),
                 %% Connections by process, for their addresses.
@@ -46,25 +46,24 @@ init(connections) ->
 %% @doc The process that accepts at one port.
 -spec listen(own(), lobby_socket:tls() | none, config()) -> no_return().
 listen(Own, Tls, Config) ->
-    case open(Own, 50) of
-        {ok, Socket} -> proc_lib:init_ack({ok, self()}), accept(Socket, Tls, #known{config = Config});
+    case open(Own, Tls, 50) of
+        {ok, Socket} -> proc_lib:init_ack({ok, self()}), accept(Socket, #known{config = Config});
         {error, Reason} -> proc_lib:init_ack({error, Reason}), exit(Reason)
     end.
 
 %% The socket of a process that was killed is closed a little later.
-open(Own = {Address, Port}, Tries) ->
-    case gen_tcp:listen(Port, [binary, {ip, Address}, {active, false}, {reuseaddr, true}, {nodelay, true},
-                               {backlog, 128}, {send_timeout, 5000}, {send_timeout_close, true}]) of
-        {error, eaddrinuse} when Tries > 1 -> timer:sleep(20), open(Own, Tries - 1);
+open(Own, Tls, Tries) ->
+    case lobby_socket:listen(Own, Tls) of
+        {error, eaddrinuse} when Tries > 1 -> timer:sleep(20), open(Own, Tls, Tries - 1);
         Opened -> Opened
     end.
 
-accept(Listener, Tls, Known) ->
-    case gen_tcp:accept(Listener, 1000) of
-        {ok, Socket} -> accept(Listener, Tls, connected(Socket, Tls, ended(Known)));
-        {error, timeout} -> accept(Listener, Tls, ended(Known));
+accept(Listener, Known) ->
+    case lobby_socket:accept(Listener) of
+        {ok, Socket} -> accept(Listener, connected(Socket, ended(Known)));
+        {error, timeout} -> accept(Listener, ended(Known));
         %% No descriptors are left, or the phone gave up.
-        {error, Reason} when Reason =/= closed -> timer:sleep(100), accept(Listener, Tls, ended(Known))
+        {error, Reason} when Reason =/= closed -> timer:sleep(100), accept(Listener, ended(Known))
     end.
 
 ended(Known = #known{connections = Connections}) ->
@@ -73,13 +72,13 @@ ended(Known = #known{connections = Connections}) ->
     after 0 -> Known
     end.
 
-connected(Socket, Tls, Known) ->
-    case inet:peername(Socket) of
+connected(Socket, Known) ->
+    case lobby_socket:peer(Socket) of
         {ok, Peer = {Address, _}} -> case may_connect(Address, Known) of
-            {true, Known1} -> started(Socket, Tls, Peer, Known1);
-            {false, Known1} -> ok = gen_tcp:close(Socket), Known1
+            {true, Known1} -> started(Socket, Peer, Known1);
+            {false, Known1} -> ok = lobby_socket:close(Socket), Known1
         end;
-        _ -> ok = gen_tcp:close(Socket), Known
+        _ -> ok = lobby_socket:close(Socket), Known
     end.
 
 %% Who may not call takes no place of those who may.
@@ -95,9 +94,9 @@ may_connect(Address, Known = #known{config = #{callers := Callers, proxies := Pr
             {false, Known}
     end.
 
-started(Socket, Tls, Peer = {Address, _}, Known = #known{connections = Connections}) ->
-    {ok, Pid} = supervisor:start_child(lobby_connections, [Socket, Peer, Tls]),
-    _ = gen_tcp:controlling_process(Socket, Pid),
+started(Socket, Peer = {Address, _}, Known = #known{connections = Connections}) ->
+    {ok, Pid} = supervisor:start_child(lobby_connections, [Socket, Peer]),
+    _ = lobby_socket:give(Socket, Pid),
     Pid ! ready,
     _ = monitor(process, Pid),
     Known#known{connections = Connections#{Pid => Address}}.

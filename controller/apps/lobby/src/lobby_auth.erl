@@ -49,14 +49,11 @@ new(Algorithms) ->
           {ok, Name :: binary(), auth()} | {challenge, [{atom(), term()}]}.
 check(Request, Address, Users, Auth) ->
     Now = erlang:system_time(second),
-    Given = [{Algorithm, maps:from_list([{Key, esip:unquote(Value)} || {Key, Value} <- Params])}
-             || {authorization, {Scheme, Params}} <- Request#sip.hdrs, string:equal(Scheme, "digest", true),
-                Algorithm <- [algorithm(proplists:get_value(<<"algorithm">>, Params, <<"MD5">>))],
-                lists:member(Algorithm, Auth#auth.algorithms)],
-    case [{Values, Algorithm} || {Algorithm, Values} <- Given, is_proved(Algorithm, Values, Request, Users)] of
-        [{#{<<"username">> := User, <<"nonce">> := Nonce, <<"nc">> := Count}, _} | _] ->
-            Age = age(Nonce, Request#sip.method, Address, Auth, Now),
-            case {Age, counted(Nonce, Count, Auth)} of
+    Given = [maps:from_list([{Key, esip:unquote(Value)} || {Key, Value} <- Params])
+             || {authorization, {<<"digest">>, Params}} <- Request#sip.hdrs],
+    case [Digest || Digest <- Given, is_proved(Digest, Request, Users, Auth)] of
+        [#{<<"username">> := User, <<"nonce">> := Nonce, <<"nc">> := Count} | _] ->
+            case {age(Nonce, Request#sip.method, Address, Auth, Now), counted(Nonce, Count, Auth)} of
                 {Age, {ok, Counted}} when Age >= 0, Age =< ?AGE -> {ok, User, forgotten(Now, Counted)};
                 {unknown, _} -> challenges(Request, Address, Auth, Now, []);
                 {_, _} -> challenges(Request, Address, Auth, Now, [{<<"stale">>, <<"true">>}])
@@ -65,53 +62,48 @@ check(Request, Address, Users, Auth) ->
             challenges(Request, Address, Auth, Now, [])
     end.
 
-algorithm(Text) ->
-    proplists:get_value(string:uppercase(esip:unquote(Text)), [{<<"MD5">>, md5}, {<<"SHA-256">>, sha256}], unknown).
-
 %% RFC 7616, section 3.4.1. The digest is for this room.
-is_proved(Algorithm, Values, Request = #sip{method = Method}, Users) ->
-    case Values of
-        #{<<"username">> := User, <<"realm">> := <<"lobby">>, <<"nonce">> := Nonce, <<"uri">> := Uri, <<"qop">> := <<"auth">>,
-          <<"nc">> := Count, <<"cnonce">> := Chosen, <<"response">> := <<Response/binary>>} when is_map_key(User, Users) ->
+is_proved(#{<<"username">> := User, <<"realm">> := <<"lobby">>, <<"nonce">> := Nonce, <<"uri">> := Uri,
+            <<"qop">> := <<"auth">>, <<"nc">> := Count, <<"cnonce">> := Chosen, <<"response">> := Response} = Digest,
+          Request = #sip{method = Method}, Users, #auth{algorithms = Algorithms}) when is_map_key(User, Users) ->
+    Named = maps:get(<<"algorithm">>, Digest, <<"MD5">>),
+    case [Algorithm || Algorithm <- Algorithms, written(Algorithm) =:= Named] of
+        [Algorithm] ->
             A1 = hash(Algorithm, [User, ":lobby:", maps:get(User, Users)]),
             A2 = hash(Algorithm, [Method, ":", Uri]),
             Right = hash(Algorithm, [A1, ":", Nonce, ":", Count, ":", Chosen, ":auth:", A2]),
-            byte_size(Response) =:= byte_size(Right) andalso crypto:hash_equals(string:lowercase(Response), Right)
-                andalso is_same(Uri, Request);
-        #{} -> false
-    end.
+            byte_size(Response) =:= byte_size(Right) andalso crypto:hash_equals(Response, Right) andalso is_same(Uri, Request);
+        [] -> false
+    end;
+is_proved(_, _, _, _) ->
+    false.
+
+written(md5) -> <<"MD5">>;
+written(sha256) -> <<"SHA-256">>.
 
 hash(Algorithm, Text) ->
-    Type = case Algorithm of md5 -> md5; sha256 -> sha256 end,
-    string:lowercase(binary:encode_hex(crypto:hash(Type, Text))).
+    string:lowercase(binary:encode_hex(crypto:hash(Algorithm, Text))).
 
 is_same(Text, #sip{uri = #uri{user = User, host = Host}}) ->
-    try lobby_sip_decoder:uri(Text) of
-        Uri -> {Uri#uri.user, Uri#uri.host} =:= {User, Host}
-    catch error:_ -> false
-    end.
+    case catch lobby_sip_decoder:uri(Text) of #uri{user = User, host = Host} -> true; _ -> false end.
 
 %% A count that isn't above the last one is of a request that was overheard, or came twice.
 counted(Nonce, Text, Auth = #auth{used = Used}) ->
-    case re:run(Text, "^[0-9A-Fa-f]{8}$", [dollar_endonly]) of
-        {match, _} -> case {binary_to_integer(Text, 16), maps:get(Nonce, Used, 0)} of
-            {Count, Last} when Count > Last -> {ok, Auth#auth{used = Used#{Nonce => Count}}};
-            {_, _} -> repeated
-        end;
-        nomatch -> repeated
+    case {catch binary_to_integer(Text, 16), maps:get(Nonce, Used, 0)} of
+        {Count, Last} when is_integer(Count), Count > Last, byte_size(Text) =:= 8 -> {ok, Auth#auth{used = Used#{Nonce => Count}}};
+        {_, _} -> repeated
     end.
 
 forgotten(Now, Auth = #auth{used = Used}) when map_size(Used) > ?MAX_USED ->
-    Auth#auth{used = maps:filter(fun(Nonce, _) -> Now - time(Nonce) =< ?AGE end, Used)};
+    Auth#auth{used = maps:filter(fun(<<Time:16/binary, _/binary>>, _) -> Now - binary_to_integer(Time, 16) =< ?AGE end, Used)};
 forgotten(_, Auth) ->
     Auth.
 
 challenges(#sip{method = Method}, Address, Auth, Now, More) ->
     Nonce = nonce(Now, crypto:strong_rand_bytes(8), Method, Address, Auth),
-    {challenge, [{'www-authenticate', {<<"Digest">>, [{<<"realm">>, <<"\"lobby\"">>}, {<<"nonce">>, esip:quote(Nonce)},
-                                                      {<<"algorithm">>, Name}, {<<"qop">>, <<"\"auth\"">>} | More]}}
-                 || Algorithm <- Auth#auth.algorithms,
-                    Name <- [case Algorithm of md5 -> <<"MD5">>; sha256 -> <<"SHA-256">> end]]}.
+    {challenge, [{'www-authenticate', {<<"Digest">>, [{<<"realm">>, <<"\"lobby\"">>}, {<<"nonce">>, <<$", Nonce/binary, $">>},
+                                                      {<<"algorithm">>, written(Algorithm)}, {<<"qop">>, <<"\"auth\"">>} | More]}}
+                 || Algorithm <- Auth#auth.algorithms]}.
 
 nonce(Time, Random, Method, Address, #auth{secret = Secret}) ->
     Signed = <<Time:64, Random/binary>>,
@@ -120,16 +112,11 @@ nonce(Time, Random, Method, Address, #auth{secret = Secret}) ->
 
 %% Of a nonce that was made here for this address and method, in seconds.
 age(Nonce, Method, Address, Auth, Now) ->
-    try binary:decode_hex(Nonce) of
-        <<Time:64, Random:8/binary, _:16/binary>> ->
+    case catch binary:decode_hex(Nonce) of
+        <<Time:64, Random:8/binary, _/binary>> ->
             case nonce(Time, Random, Method, Address, Auth) of Nonce -> Now - Time; _ -> unknown end;
         _ -> unknown
-    catch error:_ -> unknown
     end.
-
-time(Nonce) ->
-    <<Time:64, _/binary>> = binary:decode_hex(Nonce),
-    Time.
 
 %% @doc Who sent an INVITE, if that was proved: of a request that was let in, P-Asserted-Identity is always true.
 -spec identity(lobby_sip_message:message()) -> binary() | none.

@@ -24,7 +24,7 @@
                callers => {networks, []}, proxies => {networks, []}, media => {networks, []},
                users => {users, #{}}, digest => {digest, [md5]},
                max_calls => {{1, 100000}, 1024}, max_calls_from => {share, quarter}, max_rooms_from => {share, quarter},
-               messages_from => {{1, 100000}, 1000}, new_calls_from => {{1, 100000}, 50},
+               messages_from => {{1, 100000}, 200}, new_calls_from => {{1, 100000}, 50},
                silent_after => {{1000, 3600000}, 30000}, room_audit => {{500, 600000}, 5000},
                store => {store, memory}, pair => {pair, none}, tls => {pair, none},
                http => {address, {{127, 0, 0, 1}, 8080}}, tokens => {tokens, []}}).
@@ -42,28 +42,22 @@
 -spec check([{atom(), term()}]) -> {ok, config()} | {error, string()}.
 check(Env) ->
     case values("the configuration", ?TOP, maps:from_list(Env)) of
-        {ok, Config} -> tls(Config);
+        {ok, Config} -> parts(Config);
         Error -> Error
     end.
 
-tls(Config = #{tls := none}) ->
-    pair(Config);
-tls(Config = #{tls := Tls}) ->
-    case values("tls", ?TLS, Tls) of
-        {ok, Checked} -> pair(Config#{tls := Checked});
-        Error -> Error
-    end.
-
-pair(Config = #{pair := none}) ->
-    gateways(Config);
-pair(#{store := memory}) ->
+parts(#{pair := Pair, store := memory}) when Pair =/= none ->
     wrong("a pair needs {store,disc}", []);
-pair(Config = #{pair := Pair}) ->
-    case values("the pair", ?PAIR, Pair) of
-        {ok, #{self := Node, peer := Node}} -> wrong("self and peer are both ~0p", [Node]);
-        {ok, Checked} -> gateways(Config#{pair := Checked});
-        Error -> Error
+parts(Config = #{pair := Pair, tls := Tls}) ->
+    case {part("the pair", ?PAIR, Pair), part("tls", ?TLS, Tls)} of
+        {{ok, #{self := Node, peer := Node}}, _} -> wrong("self and peer are both ~0p", [Node]);
+        {{ok, CheckedPair}, {ok, CheckedTls}} -> gateways(Config#{pair := CheckedPair, tls := CheckedTls});
+        {{ok, _}, Error} -> Error;
+        {Error, _} -> Error
     end.
+
+part(_, _, none) -> {ok, none};
+part(What, Kinds, Values) -> values(What, Kinds, Values).
 
 %% @doc Sets the applications' environment to what a file says, if the application's is right: a list as in
 %% `sys.config', such as `[{lobby, [{gateways, [..]}]}].'
@@ -130,7 +124,7 @@ is(secret, Value) -> is_binary(Value) andalso byte_size(Value) >= 16 andalso byt
 is(lease, {file, File}) -> is_path(File);
 is(lease, Value) -> Value =:= address;
 is(file, Value) -> Value =:= none orelse is_path(Value);
-is(path, Value) -> is_path(Value);
+is(path, Value) -> is_path(Value) andalso filelib:is_regular(Value);
 is(port, Value) -> Value =:= none orelse is(address, Value);
 is(boolean, Value) -> is_boolean(Value);
 is(share, Value) -> Value =:= quarter orelse is({1, 100000}, Value);
@@ -159,7 +153,7 @@ described(secret) -> "a binary of 16 to 255 bytes";
 described(lease) -> "address or {file,\"/path\"}";
 described(boolean) -> "true or false";
 described(port) -> described(address);
-described(path) -> described(file);
+described(path) -> "the path of a file";
 described(file) -> "a path such as \"/path\"";
 described(share) -> "quarter or a whole number from 1 to 100000";
 described(digest) -> "a list of md5 and sha256";

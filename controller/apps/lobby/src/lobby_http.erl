@@ -17,6 +17,9 @@
 %% Is called with the name in the path, if it has one, and with the object in the body.
 -type handler() :: fun((binary(), #{binary() => term()}) -> answer()).
 -type route() :: {Method :: string(), Path :: binary(), handler() | events}.
+%% What needs no token.
+-define(FILES, #{[] => {"index.html", "text/html; charset=utf-8"}, [<<"page.js">>] => {"page.js", "text/javascript"},
+                 [<<"page.css">>] => {"page.css", "text/css"}, [<<"openapi.json">>] => {"openapi.json", "application/json"}}).
 -define(MAX_BODY, 65536).
 %% Milliseconds for a body, and seconds for the head of a request.
 -define(BODY, application:get_env(lobby, http_body, 10000)).
@@ -31,7 +34,7 @@ start_link(#{http := {Address, Port}, tokens := Tokens, tls := Tls}) ->
            {keep_alive_timeout, ?HEAD}, {server_tokens, none} | secured(Tls)], 50).
 
 secured(#{http := true, certificate := Certificate, key := Key}) ->
-    [{socket_type, {ssl, [{certfile, Certificate}, {keyfile, Key}]}}];
+    [{socket_type, {ssl, [{certfile, Certificate}, {keyfile, Key}, {log_level, emergency}]}}];
 secured(_) ->
     [].
 
@@ -86,8 +89,7 @@ answered(#mod{method = Method, request_uri = Uri, parsed_header = Headers, entit
         Path = [decoded(Part) || Part <- string:lexemes(hd(string:split(Uri, "?")), "/")],
         answer(Method, Path, Headers, list_to_binary(Body))
     catch
-        Class:Reason:Stack ->
-            {500, #{error => <<"an error of the controller">>, reason => {Class, Reason, Stack}}}
+        Class:Reason:Stack -> {500, #{error => <<"an error of the controller">>, reason => {Class, Reason, Stack}}}
     end.
 
 logged(Status, Json, #mod{method = Method, request_uri = Uri}) ->
@@ -104,23 +106,15 @@ response(Status, More, Text) ->
 
 %% What can't be decoded is no name of anything.
 decoded(Part) ->
-    try uri_string:percent_decode(unicode:characters_to_binary(Part)) of
+    case catch uri_string:percent_decode(unicode:characters_to_binary(Part)) of
         Text when is_binary(Text) -> Text;
         _ -> <<>>
-    catch
-        %% It is no UTF-8.
-        throw:_ -> <<>>
     end.
 
 -spec answer(string(), [binary()], [{string(), string()}], binary()) -> answer().
-answer("GET", [], _, _) ->
-    {200, [{content_type, "text/html; charset=utf-8"}], file("index.html")};
-answer("GET", [<<"page.js">>], _, _) ->
-    {200, [{content_type, "text/javascript"}], file("page.js")};
-answer("GET", [<<"page.css">>], _, _) ->
-    {200, [{content_type, "text/css"}], file("page.css")};
-answer("GET", [<<"openapi.json">>], _, _) ->
-    {200, [{content_type, "application/json"}], file("openapi.json")};
+answer("GET", Path, _, _) when is_map_key(Path, ?FILES) ->
+    {File, Type} = map_get(Path, ?FILES),
+    {200, [{content_type, Type}], file(File)};
 answer(Method, Path, Headers, Body) ->
     Matching = [{Known, Name, Handler} || {Known, Route, Handler} <- routes(), Name <- name(Route, Path)],
     case {watcher(Headers), Matching} of

@@ -168,7 +168,7 @@ handle({error, not_sip}, _, State) ->
 %% first INVITE of one, or cancels that.
 request(Request = #sip{method = Method}, Source, State) ->
     Own = own_tag(Request),
-    case {string:lowercase(lobby_sip_message:tag(to, Request)), Method} of
+    case {lobby_sip_message:tag(to, Request), Method} of
         {Own, _} -> in_call(lobby_dialog:key(Request), Request, Source, State);
         {_, <<"ACK">>} -> State;
         {<<>>, _} when Method =:= <<"INVITE">>; Method =:= <<"CANCEL">> ->

@@ -11,27 +11,29 @@
 %% Bytes of a head, and its lines, values and parameters: so many take less than a millisecond.
 -define(MAX_HEAD, 8192).
 -define(MAX_PARTS, 160).
+%% What is read: headers that a message has at most once, and those that it can have more often.
+-define(ONCE, [from, to, 'call-id', cseq, 'max-forwards', expires, 'session-expires', 'min-se', 'content-type', 'content-length']).
+-define(LISTS, [via, contact, 'record-route', require, supported, accept, 'content-encoding', authorization,
+                'p-asserted-identity']).
 -define(HOST, "(\\[[0-9A-Fa-f:.]+\\]|[A-Za-z0-9_.-]+)").
 
 %% @doc A message. With a status: a request that can be answered by it, but not served. A header that can't be read is in
 %% it as a text, and of a header that comes twice, the first one.
--spec decode(binary()) -> {ok, #sip{}} | {400 | 505, #sip{}} | {error, not_sip}.
+-spec decode(binary()) -> {ok | 400 | 505, #sip{}} | {error, not_sip}.
 decode(Datagram) ->
     case binary:split(Datagram, <<"\r\n\r\n">>) of
-        [Head, Body] when byte_size(Head) =< ?MAX_HEAD -> case parts(Head, 0) =< ?MAX_PARTS of
-            true -> head(Head, Body);
-            false -> {error, not_sip}
-        end;
-        _ ->
-            {error, not_sip}
+        [Head, Body] when byte_size(Head) =< ?MAX_HEAD -> head(has_few_parts(Head, ?MAX_PARTS), Head, Body);
+        _ -> {error, not_sip}
     end.
 
-parts(_, Count) when Count > ?MAX_PARTS -> Count;
-parts(<<Char, Rest/binary>>, Count) when Char =:= $,; Char =:= $;; Char =:= $&; Char =:= $\n -> parts(Rest, Count + 1);
-parts(<<_, Rest/binary>>, Count) -> parts(Rest, Count);
-parts(<<>>, Count) -> Count.
+has_few_parts(<<Char, Rest/binary>>, Left) when Char =:= $,; Char =:= $;; Char =:= $&; Char =:= $\n ->
+    Left > 0 andalso has_few_parts(Rest, Left - 1);
+has_few_parts(<<_, Rest/binary>>, Left) -> has_few_parts(Rest, Left);
+has_few_parts(<<>>, _) -> true.
 
-head(Head, Body) ->
+head(false, _, _) ->
+    {error, not_sip};
+head(true, Head, Body) ->
     %% A line that begins with white space continues the one before (section 7.3.1).
     Unfolded = binary:replace(Head, [<<"\r\n ">>, <<"\r\n\t">>], <<" ">>, [global]),
     [First | Lines] = binary:split(Unfolded, <<"\r\n">>, [global]),
@@ -65,8 +67,8 @@ with_headers(Lines, Status, Message = #sip{type = Type, method = Method}) ->
         {request, {cseq, {Number, Method}}, true, _} -> {Status, Message#sip{hdrs = with_cseq(Number, Headers)}};
         {response, _, _, _} -> {error, not_sip};
         {request, {cseq, {Number, Other}}, _, _} ->
-            Text = <<(integer_to_binary(Number))/binary, " ", Other/binary>>,
-            {not_ok(Status), Message#sip{hdrs = lists:keyreplace(cseq, 1, Headers, {<<"cseq">>, Text})}};
+            Text = {<<"cseq">>, <<(integer_to_binary(Number))/binary, " ", Other/binary>>},
+            {not_ok(Status), Message#sip{hdrs = lists:keyreplace(cseq, 1, Headers, Text)}};
         {request, _, _, _} -> {not_ok(Status), Message#sip{hdrs = Headers}}
     end.
 
@@ -78,11 +80,7 @@ with_cseq(Number, Headers) -> lists:keyreplace(cseq, 1, Headers, {cseq, Number})
 %% Headers with the same name occur once in a message.
 name({Key, _}) ->
     Name = case is_binary(Key) of true -> binary_to_atom(Key); false -> Key end,
-    case lists:member(Name, [via, contact, route, 'record-route', require, supported, accept, 'content-encoding',
-                             authorization, 'p-asserted-identity']) of
-        true -> make_ref();
-        false -> Name
-    end.
+    case lists:member(Name, ?LISTS) of true -> make_ref(); false -> Name end.
 
 header(Line) ->
     case {binary:split(Line, <<":">>), binary:match(Line, [<<"\r">>, <<"\n">>])} of
@@ -101,44 +99,36 @@ read(Reader, Text) ->
     try {ok, Reader(Text)} catch error:_ -> error end.
 
 %% The short names are those of section 7.3.3, and of RFC 4028.
-key(<<"v">>) -> via;
-key(<<"f">>) -> from;
-key(<<"t">>) -> to;
-key(<<"i">>) -> 'call-id';
-key(<<"m">>) -> contact;
-key(<<"l">>) -> 'content-length';
-key(<<"c">>) -> 'content-type';
-key(<<"e">>) -> 'content-encoding';
-key(<<"k">>) -> supported;
-key(<<"x">>) -> 'session-expires';
+key(<<Short>>) ->
+    proplists:get_value(Short, [{$v, via}, {$f, from}, {$t, to}, {$i, 'call-id'}, {$m, contact}, {$l, 'content-length'},
+                                {$c, 'content-type'}, {$e, 'content-encoding'}, {$k, supported}, {$x, 'session-expires'}], unused);
 key(Name) ->
-    maps:get(Name, #{<<"via">> => via, <<"from">> => from, <<"to">> => to, <<"call-id">> => 'call-id', <<"cseq">> => cseq,
-                     <<"contact">> => contact, <<"route">> => route, <<"record-route">> => 'record-route',
-                     <<"content-length">> => 'content-length', <<"content-type">> => 'content-type',
-                     <<"content-encoding">> => 'content-encoding', <<"accept">> => accept, <<"require">> => require,
-                     <<"supported">> => supported, <<"session-expires">> => 'session-expires', <<"min-se">> => 'min-se',
-                     <<"expires">> => expires, <<"max-forwards">> => 'max-forwards', <<"authorization">> => authorization,
-                     <<"p-asserted-identity">> => 'p-asserted-identity'}, unused).
+    try lists:member(binary_to_existing_atom(Name), ?ONCE ++ ?LISTS) of
+        true -> binary_to_existing_atom(Name);
+        false -> unused
+    catch
+        error:_ -> unused
+    end.
 
 %% A Via that can be read is needed for the answer, even if it has too many separators.
 value(via, Text) -> [via(Item) || Item <- values(Text), re:run(Item, "[^;]") =/= nomatch];
 value(contact, <<"*">>) -> <<"*">>;
 value(Key, Text) when Key =:= from; Key =:= to -> [Address] = values(Text), address(Address);
-value(Key, Text) when Key =:= contact; Key =:= route; Key =:= 'record-route'; Key =:= 'p-asserted-identity' ->
-    [address(Item) || Item <- values(Text)];
+%% Of more than two contacts, it's enough to know that it isn't one.
+value(contact, Text) -> [address(Item) || Item <- lists:sublist(values(Text), 2)];
+value('record-route', Text) -> [address(Item) || Item <- values(Text)];
+value('p-asserted-identity', Text) -> [address(hd(values(Text)))];
 value('call-id', Text) -> [CallId] = words(Text), CallId;
 value(cseq, Text) -> [Number, Method] = words(Text), {number(Number, 16#7FFFFFFF), Method};
 value('content-length', Text) -> number(Text, 16#7FFFFFFF);
 value('max-forwards', Text) -> number(Text, 255);
 value(expires, Text) -> seconds(Text);
-value(Key, Text) when Key =:= 'session-expires'; Key =:= 'min-se' ->
-    {Seconds, Params} = typed(Text),
-    {seconds(Seconds), Params};
+value(Key, Text) when Key =:= 'session-expires'; Key =:= 'min-se' -> {Seconds, Params} = typed(Text), {seconds(Seconds), Params};
 value('content-type', Text) -> typed(Text);
 value(accept, Text) -> [typed(Item) || Item <- values(Text), Item =/= <<>>];
 value(authorization, Text) ->
     [Scheme, Rest] = binary:split(Text, <<" ">>),
-    {Scheme, [param(Item) || Item <- values(Rest)]};
+    {lower(Scheme), [param(Item) || Item <- values(Rest)]};
 value(_, Text) -> [lower(Item) || Item <- values(Text)].
 
 %% At most a day, so that it fits into a timer.
@@ -220,16 +210,13 @@ uri(Text) ->
 lower(Text) -> list_to_binary(string:to_lower(binary_to_list(Text))).
 upper(Text) -> list_to_binary(string:to_upper(binary_to_list(Text))).
 
-trim(Text) -> trim_end(trim_start(Text)).
+trim(<<Space, Rest/binary>>) when Space =:= $\s; Space =:= $\t -> trim(Rest);
+trim(Text) -> trim_end(Text).
 
-trim_start(<<Space, Rest/binary>>) when Space =:= $\s; Space =:= $\t -> trim_start(Rest);
-trim_start(Text) -> Text.
-
-trim_end(Text) when Text =:= <<>> -> Text;
 trim_end(Text) ->
-    case binary:last(Text) of
-        Space when Space =:= $\s; Space =:= $\t -> trim_end(binary:part(Text, 0, byte_size(Text) - 1));
-        _ -> Text
+    case Text =/= <<>> andalso lists:member(binary:last(Text), " \t") of
+        true -> trim_end(binary:part(Text, 0, byte_size(Text) - 1));
+        false -> Text
     end.
 
 %% Splits where a character is neither in quotes nor in angle brackets.

@@ -22,6 +22,9 @@ listen({Address, Port}, Tls) ->
             ssl:listen(Port, [{certfile, Certificate}, {keyfile, Key}, {log_level, emergency} | Options])
     end.
 
+module(Socket) when is_port(Socket) -> gen_tcp;
+module(_) -> ssl.
+
 -spec accept(socket()) -> {ok, socket()} | {error, term()}.
 accept(Listener) when is_port(Listener) -> gen_tcp:accept(Listener, ?ACCEPT);
 accept(Listener) -> ssl:transport_accept(Listener, ?ACCEPT).
@@ -36,21 +39,18 @@ secured(Socket) ->
     end.
 
 -spec give(socket(), pid()) -> ok | {error, term()}.
-give(Socket, Pid) when is_port(Socket) -> gen_tcp:controlling_process(Socket, Pid);
-give(Socket, Pid) -> ssl:controlling_process(Socket, Pid).
+give(Socket, Pid) -> (module(Socket)):controlling_process(Socket, Pid).
 
 -spec peer(socket()) -> {ok, address()} | {error, term()}.
 peer(Socket) when is_port(Socket) -> inet:peername(Socket);
 peer(Socket) -> ssl:peername(Socket).
 
 -spec send(socket(), iodata()) -> ok | {error, term()}.
-send(Socket, Bytes) when is_port(Socket) -> gen_tcp:send(Socket, Bytes);
-send(Socket, Bytes) -> ssl:send(Socket, Bytes).
+send(Socket, Bytes) -> (module(Socket)):send(Socket, Bytes).
 
 -spec setopts(socket(), [gen_tcp:option()]) -> ok | {error, term()}.
 setopts(Socket, Options) when is_port(Socket) -> inet:setopts(Socket, Options);
 setopts(Socket, Options) -> ssl:setopts(Socket, Options).
 
 -spec close(socket()) -> ok.
-close(Socket) when is_port(Socket) -> gen_tcp:close(Socket);
-close(Socket) -> _ = ssl:close(Socket), ok.
+close(Socket) -> _ = (module(Socket)):close(Socket), ok.

@@ -29,6 +29,7 @@ env(passwords) -> [{users, #{<<"test">> => <<"secret">>}}];
 env(session_timers) -> [{min_se, 2}];
 env(who_is_silent_is_asked) -> [{silent_after, 1000}, {room_audit, 500}];
 env(limits) -> [{max_calls_from, 3}, {max_calls, 4}];
+env(garbage) -> [{messages_from, 100000}];
 env(Case) when Case =:= without_an_ack_the_call_ends; Case =:= who_vanished_is_removed -> [{t1, 20}];
 env(both_invite_at_once) -> [{t1, 100}];
 %% SIPp takes our repeated 200 to its INVITE, which follows a lost ACK, for the one to its BYE. If the BYE is lost too, the

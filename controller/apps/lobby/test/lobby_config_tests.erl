@@ -38,6 +38,19 @@ shares_test() ->
                  lobby_config:check([{gateways, [#{name => <<"a">>, address => ?ADDRESS, terminations => 1, contexts => 1}]}])),
     ?assertMatch({ok, #{max_calls_from := 9, max_rooms_from := 7}}, lobby_config:check([Gateways, {max_calls_from, 9}, {max_rooms_from, 7}])).
 
+tls_test_() ->
+    Gateways = {gateways, [#{name => <<"a">>, address => ?ADDRESS}]},
+    File = ?FILE,
+    [?_assertMatch({ok, #{tls := #{sip := none, http := false}}}, lobby_config:check([Gateways, {tls, #{certificate => File, key => File}}])),
+     ?_assertMatch({ok, #{tls := #{sip := ?ADDRESS, http := true}}}, lobby_config:check([Gateways, {tls, #{certificate => File, key => File, sip => ?ADDRESS, http => true}}]))
+     | [?_assertEqual({error, Text}, lobby_config:check([Gateways, {tls, Wrong}]))
+        || {Text, Wrong} <-
+               [{"tls must have the key key", #{certificate => File}},
+                {"key must be the path of a file, not \"/none\"", #{certificate => File, key => "/none"}},
+                {"http must be true or false, not 1", #{certificate => File, key => File, http => 1}},
+                {"sip must be an IPv4 address and a port such as {{127,0,0,1},2944}, not 5061", #{certificate => File, key => File, sip => 5061}},
+                {"tls must be a map or none, not true", true}]]].
+
 pair_test_() ->
     Pair = #{self => 'lobby@10.0.0.21', peer => 'lobby@10.0.0.22', cookie => <<"0123456789abcdef">>},
     Gateways = {gateways, [#{name => <<"a">>, address => ?ADDRESS}]},

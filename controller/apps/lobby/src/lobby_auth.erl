@@ -122,8 +122,10 @@ age(Nonce, Method, Address, Auth, Now) ->
 -spec identity(lobby_sip_message:message()) -> binary() | none.
 identity(Invite) ->
     case lobby_sip_message:headers('p-asserted-identity', Invite) of
-        [{_, #uri{user = User}, _} | _] when User =/= <<>> -> User;
-        _ -> none
+        %% A telephone number has no user.
+        [{_, #uri{user = <<>>, host = Number}, _} | _] -> Number;
+        [{_, #uri{user = User}, _} | _] -> User;
+        [] -> none
     end.
 
 %% @doc The request with this identity, and with no other.

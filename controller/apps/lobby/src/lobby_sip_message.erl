@@ -67,11 +67,11 @@ refusal(Request = #sip{method = Method, uri = #uri{scheme = Scheme, hdrs = UriHe
         false -> none
     end.
 
-%% Section 8.1.1.8: the one address at which the caller is reached in the call.
+%% Section 8.1.1.8: the one address at which the caller is reached in the call. Within it, he needn't say it again.
 has_contact(Request) ->
-    case [Address || {contact, Addresses} <- Request#sip.hdrs, is_list(Addresses), Address <- Addresses] of
+    case headers(contact, Request) of
         [{_, #uri{scheme = Scheme}, _}] -> lists:member(Scheme, [<<"sip">>, <<"sips">>]);
-        _ -> false
+        Contacts -> Contacts =:= [] andalso tag(to, Request) =/= <<>>
     end.
 
 is_sdp(Request) ->

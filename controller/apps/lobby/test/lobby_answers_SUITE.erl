@@ -75,6 +75,7 @@ rows() ->
      {"SIP/7.0", "21.5.6", 505, message("OPTIONS sip:100@127.0.0.1 SIP/7.0", [])},
      {"a contact without SIP", "8.1.1.8", 400, invite([{"Contact", "<tel:+358-555-1234567>"}])},
      {"no contact", "8.1.1.8", 400, invite([{"Contact", none}])},
+     {"a contact without SIP in a call", "8.1.1.8", 400, invite([{"Contact", "<tel:+358-555-1234567>"}, {"To", "<sip:100@127.0.0.1>;tag=0011223344556677"}])},
      {"two contacts", "8.1.1.8", 400, invite([{"Contact", "<sip:a@127.0.0.1>, <sip:b@127.0.0.1>"}])},
      {"an unknown method", "8.2.1", 501, message("PRESENT sip:100@127.0.0.1 SIP/2.0", [])},
      {"a method that isn't served", "8.2.1", 405, message("SUBSCRIBE sip:100@127.0.0.1 SIP/2.0", [])},
@@ -278,9 +279,15 @@ from(Address, Text, Config) ->
     {To, Port} = sip(Config),
     {ok, Own} = inet:port(Socket),
     ok = gen_udp:send(Socket, To, Port, string:replace(Text, "PORT", integer_to_list(Own), all)),
-    Status = case gen_udp:recv(Socket, 0, 1000) of {ok, {_, _, Answer}} -> phone:status(Answer); {error, timeout} -> none end,
+    Status = fun Status() -> case gen_udp:recv(Socket, 0, 1000) of
+        {ok, {_, _, Answer = "SIP/2.0" ++ _}} -> phone:status(Answer);
+        %% RTP for somebody who had the port before.
+        {ok, _} -> Status();
+        {error, timeout} -> none
+    end end,
+    Answered = Status(),
     ok = gen_udp:close(Socket),
-    Status.
+    Answered.
 
 %% A quarter of the gateway's 64 contexts, and a quarter of its 256 terminations.
 one_address_shuts_out_nobody(Config) ->

@@ -118,4 +118,5 @@ identities_test() ->
     ?assertEqual(<<"boss">>, lobby_auth:identity(Said)),
     ?assertEqual(<<"alice">>, lobby_auth:identity(lobby_auth:asserted(<<"alice">>, Said))),
     ?assertEqual(none, lobby_auth:identity(lobby_auth:asserted(none, Said))),
+    ?assertEqual(<<"+14085264000">>, lobby_auth:identity(request(["P-Asserted-Identity: <tel:+14085264000>"]))),
     ?assertEqual(none, lobby_auth:identity(request([]))).

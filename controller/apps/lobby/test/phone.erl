@@ -115,8 +115,10 @@ recv(P = #phone{transport = Transport, socket = Socket}, Timeout) when Transport
             {error, closed} -> closed
         end
     end;
-recv(#phone{socket = Socket}, Timeout) ->
+recv(P = #phone{socket = Socket}, Timeout) ->
     case gen_udp:recv(Socket, 0, Timeout) of
+        %% RTP for somebody who had the port before.
+        {ok, {_, _, <<2:2, _/bits>>}} -> recv(P, Timeout);
         {ok, {_, _, Text}} -> binary_to_list(Text);
         {error, timeout} -> none
     end.

@@ -1,0 +1,54 @@
+"""Two baresips call a room over TLS and hear each other. A third one has wanted UDP. One is hung up by HTTP, which tells it over its
+own connection.
+
+It needs the Debian package baresip-core, and openssl.
+"""
+import subprocess
+import time
+
+from baresips import Baresip
+from door import Door, check, finish, free_addresses, until
+from loopback import end_on_signals
+
+TONES = {"one": 400, "two": 1000, "three": 2000}
+
+
+class Secured(Door):
+    """A controller with a certificate that it signed itself."""
+
+    def configure(self, slots, returns, options):
+        self.tls, = free_addresses(1)
+        subprocess.run(["openssl", "req", "-x509", "-newkey", "rsa:2048", "-nodes", "-subj", "/CN=lobby", "-keyout", "key.pem",
+                        "-out", "certificate.pem"], cwd=self.folder, check=True, stderr=subprocess.DEVNULL)
+        options["tls"] = '#{certificate => "certificate.pem", key => "key.pem", sip => {{127,0,0,1},%d}}' % self.tls
+        super().configure(slots, returns, options)
+
+
+def main():
+    end_on_signals()
+    with Secured() as door:
+        # Its httpd can fail when it is asked before it has started.
+        before = (door.folder / "log").stat().st_size
+        uris = {name: f"sip:100@127.0.0.1:{door.tls};transport=tls" for name in ("one", "two")} | {"three": f"sip:100@127.0.0.1:{door.sip}"}
+        baresips = [Baresip(door.folder, name, pitch, uris[name], 12) for name, pitch in TONES.items()]
+        all_in = until(lambda: len(door.members("100")) == 3)
+        began = time.monotonic()
+        time.sleep(4)
+        ids = {key.partition("@")[0][4:]: member["id"] for key, member in door.members("100").items()}
+        door.ask("POST", f"/members/{ids['one']}/hang_up")
+        hung_up = time.monotonic()
+        left = until(lambda: len(door.members("100")) == 2, 5)
+        for baresip in baresips:
+            baresip.process.wait()
+        ended = time.monotonic()
+        said = {one.name: one.heard(TONES.values(), began + 1.5 - ended, hung_up - 0.5 - ended) for one in baresips[1:]}
+        check(f"three called, two of them over TLS: {all_in is not None}; who hears whom, by tones: {said}",
+              said == {"two": {400, 2000}, "three": {400, 1000}})
+        check(f"one is hung up: {left is not None}, and its log says so: {baresips[0].said('terminated') or baresips[0].said('closed')}",
+              left is not None and (baresips[0].said("terminated") or baresips[0].said("closed")))
+        log = (door.folder / "log").read_text()[before:]
+        check("no crash report in the log", "CRASH REPORT" not in log)
+    finish()
+
+
+main()

@@ -433,7 +433,7 @@ every_error_is_json(Config) ->
                       {Path, Body, list_to_integer(lists:sublist(Answer, 10, 3)), re:run(Answer, "\r\n\r\n\\{\"error\":\"[^\"]+", [])}
                   end)
      || {Status, Method, Path, Body} <-
-            [{404, "GET", "/rooms/%ff", ""}, {404, "GET", "/rooms/%FF%fe/x", ""}, {404, "GET", "/rooms/\xc3\xa9", ""}, {404, "GET", "/%E2%82%AC", ""},
+            [{404, "GET", "/rooms/%ff", ""}, {404, "GET", "/rooms/%FF%fe/x", ""}, {404, "GET", "/%E2%82%AC", ""},
              {404, "POST", "/members/%ff/mute", ""}, {404, "GET", "/members/%00", ""}, {400, "PUT", "/rooms/%ff", "{\"rules\": []}"},
              {400, "PUT", "/rooms/1", "{\"rules\": 1e999}"}, {400, "PUT", "/rooms/1", "1e999"}, {400, "PUT", "/rooms/1", "{\"rules\": [{\"hears\": 1e999}]}"},
              {400, "PUT", "/rooms/1", lists:duplicate(60000, $[)}, {400, "PUT", "/rooms/1", [$", 255, $"]}]],

@@ -321,7 +321,9 @@ challenged(Config) ->
 %% Whoever overheard it can't use it.
 a_digest_is_used_once(Config) ->
     Digest = challenged(Config),
-    ?assertEqual(200, phone:status(answer(invite([Digest]), Config))),
+    ?assertEqual(200, phone:status(answer(invite([Digest, {"P-Asserted-Identity", "<sip:boss@127.0.0.1>"}]), Config))),
+    %% The name that was proved, and not the one that was said.
+    ?assertEqual([<<"alice">>], [lobby_auth:identity(Invite) || {_, #{invite := Invite}} <- lobby_store:all(lobby_calls)]),
     Again = answer(invite([Digest]), Config),
     ?assertEqual({401, true}, {phone:status(Again), string:find(Again, "stale=true") =/= nomatch}),
     ?assertEqual(200, phone:status(answer(invite([challenged(Config)]), Config))).

@@ -47,10 +47,9 @@ call(Address, {Room, IsNew}, Now, A = #admission{limits = Limits, calls = Calls,
         {true, _, _} -> {full, A};
         {false, true, _} -> {ok, A};
         {false, false, true} -> {too_many, A};
-        {false, false, false} -> case take(call, Address, Rate, Now, A) of
-            {true, A1} -> {ok, A1};
-            {false, A1} -> {too_fast, A1}
-        end
+        {false, false, false} ->
+            {Taken, A1} = take(call, Address, Rate, Now, A),
+            {case Taken of true -> ok; false -> too_fast end, A1}
     end.
 
 %% @doc A call is there, by its process.

@@ -40,8 +40,7 @@ loop(Socket, ok) ->
         lobby_events_end -> closed(Socket);
         {_, Socket} -> closed(Socket);
         {_, Socket, _} -> closed(Socket)
-    after ?QUIET ->
-        loop(Socket, lobby_socket:send(Socket, ":\n\n"))
+    after ?QUIET -> loop(Socket, lobby_socket:send(Socket, ":\n\n"))
     end;
 loop(Socket, {error, _}) ->
     closed(Socket).

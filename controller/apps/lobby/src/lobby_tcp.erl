@@ -112,17 +112,16 @@ handle_info({'DOWN', _, process, Call, _}, State = #state{calls = Calls}) ->
 handle_info(_, State) ->
     waits(State).
 
-frames(State = #state{buffer = Buffer}) ->
+frames(State = #state{buffer = Bytes}) ->
+    Buffer = begun(Bytes),
     case frame(Buffer) of
         {ok, Message, Rest} ->
             ok = lobby_sip:received(Message, target(State)),
             frames(due(State#state{buffer = Rest}));
-        more -> case begun(Buffer) of
-            <<_, _/binary>> = Begun when State#state.due =:= none ->
-                {noreply, State#state{buffer = Begun, due = erlang:start_timer(?MESSAGE, self(), due)}, {continue, listen}};
-            Begun ->
-                {noreply, State#state{buffer = Begun}, {continue, listen}}
-        end;
+        more when State#state.due =:= none, Buffer =/= <<>> ->
+            {noreply, State#state{buffer = Buffer, due = erlang:start_timer(?MESSAGE, self(), due)}, {continue, listen}};
+        more ->
+            {noreply, State#state{buffer = Buffer}, {continue, listen}};
         {error, too_long} ->
             {stop, normal, State}
     end.

@@ -34,8 +34,8 @@ take(Kind, Address, Rate, Now, A = #admission{buckets = Buckets}) ->
     {Taken, Buckets1} = lobby_buckets:take({Kind, Address}, Rate, Now, Buckets),
     {Taken, A#admission{buckets = Buckets1}}.
 
-%% @doc Returns whether a new call is taken. `full': all calls are too many. `too_many': those of this address are, or it
-%% would have too many rooms to itself. `too_fast': they come too fast.
+%% @doc Returns whether a new call is taken. `full': all calls are too many. `too_many': those of this address are, or
+%% it would have too many rooms to itself. `too_fast': they come too fast.
 -spec call(inet:ip4_address(), {lobby_room:name(), IsNew :: boolean()}, Now :: integer(), admission()) ->
           {ok | full | too_many | too_fast, admission()}.
 call(Address, {Room, IsNew}, Now, A = #admission{limits = Limits, calls = Calls, rooms = ByAddress}) ->
@@ -67,8 +67,8 @@ left(Pid, A = #admission{calls = Calls, rooms = ByAddress}) ->
         {{Address, Room}, Others} ->
             #{Address := Rooms = #{Room := Count}} = ByAddress,
             Rooms1 = case Count of 1 -> maps:remove(Room, Rooms); _ -> Rooms#{Room := Count - 1} end,
-            ByAddress1 = case map_size(Rooms1) of 0 -> maps:remove(Address, ByAddress); _ -> ByAddress#{Address := Rooms1} end,
-            A#admission{calls = Others, rooms = ByAddress1};
+            Left = maps:remove(Address, ByAddress),
+            A#admission{calls = Others, rooms = case map_size(Rooms1) of 0 -> Left; _ -> Left#{Address => Rooms1} end};
         error ->
             A
     end.

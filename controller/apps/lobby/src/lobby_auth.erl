@@ -1,8 +1,9 @@
-%%% @doc Who somebody is: by his address, by a digest of his password (RFC 3261, section 22, RFC 8760), or by what a trusted
-%%% proxy says (RFC 3325).
+%%% @doc Who somebody is: by his address, by a digest of his password (RFC 3261, section 22, RFC 8760), or by what a
+%%% trusted proxy says (RFC 3325).
 %%%
-%%% A nonce has a signature that also covers the method, the caller's address, and the time. So it is kept only if somebody
-%%% has used it with a right password, and how often. When the process that asks is started again, all nonces end.
+%%% A nonce has a signature that also covers the method, the caller's address, and the time. So it is kept only if
+%%% somebody has used it with a right password, and how often. When the process that asks is started again, all nonces
+%%% end.
 -module(lobby_auth).
 
 -include_lib("p1_sip/include/esip.hrl").
@@ -37,7 +38,8 @@ number({A, B, C, D}) -> (A bsl 24) bor (B bsl 16) bor (C bsl 8) bor D.
                 #{media := [network()], proxies := [network()], _ => _}) -> boolean().
 may_offer({0, 0, 0, 0}, _, _) -> true;
 may_offer(Source, Source, _) -> true;
-may_offer(Offered, Source, #{media := Media, proxies := Proxies}) -> is_in(Offered, Media) orelse is_in(Source, Proxies).
+may_offer(Offered, Source, #{media := Media, proxies := Proxies}) ->
+    is_in(Offered, Media) orelse is_in(Source, Proxies).
 
 %% @doc Challenges name these algorithms, and no others are taken.
 -spec new([algorithm()]) -> auth().
@@ -72,7 +74,8 @@ is_proved(#{<<"username">> := User, <<"realm">> := <<"lobby">>, <<"nonce">> := N
             A1 = hash(Algorithm, [User, ":lobby:", maps:get(User, Users)]),
             A2 = hash(Algorithm, [Method, ":", Uri]),
             Right = hash(Algorithm, [A1, ":", Nonce, ":", Count, ":", Chosen, ":auth:", A2]),
-            byte_size(Response) =:= byte_size(Right) andalso crypto:hash_equals(Response, Right) andalso is_same(Uri, Request);
+            byte_size(Response) =:= byte_size(Right) andalso crypto:hash_equals(Response, Right)
+                andalso is_same(Uri, Request);
         [] -> false
     end;
 is_proved(_, _, _, _) ->
@@ -90,19 +93,21 @@ is_same(Text, #sip{uri = #uri{user = User, host = Host}}) ->
 %% A count that isn't above the last one is of a request that was overheard, or came twice.
 counted(Nonce, Text, Auth = #auth{used = Used}) ->
     case {catch binary_to_integer(Text, 16), maps:get(Nonce, Used, 0)} of
-        {Count, Last} when is_integer(Count), Count > Last, byte_size(Text) =:= 8 -> {ok, Auth#auth{used = Used#{Nonce => Count}}};
+        {Count, Last} when is_integer(Count), Count > Last, byte_size(Text) =:= 8 ->
+            {ok, Auth#auth{used = Used#{Nonce => Count}}};
         {_, _} -> repeated
     end.
 
 forgotten(Now, Auth = #auth{used = Used}) when map_size(Used) > ?MAX_USED ->
-    Auth#auth{used = maps:filter(fun(<<Time:16/binary, _/binary>>, _) -> Now - binary_to_integer(Time, 16) =< ?AGE end, Used)};
+    IsYoung = fun(<<Time:16/binary, _/binary>>, _) -> Now - binary_to_integer(Time, 16) =< ?AGE end,
+    Auth#auth{used = maps:filter(IsYoung, Used)};
 forgotten(_, Auth) ->
     Auth.
 
 challenges(#sip{method = Method}, Address, Auth, Now, More) ->
     Nonce = nonce(Now, crypto:strong_rand_bytes(8), Method, Address, Auth),
-    {challenge, [{'www-authenticate', {<<"Digest">>, [{<<"realm">>, <<"\"lobby\"">>}, {<<"nonce">>, <<$", Nonce/binary, $">>},
-                                                      {<<"algorithm">>, written(Algorithm)}, {<<"qop">>, <<"\"auth\"">>} | More]}}
+    Params = [{<<"realm">>, <<"\"lobby\"">>}, {<<"nonce">>, <<$", Nonce/binary, $">>}, {<<"qop">>, <<"\"auth\"">>} | More],
+    {challenge, [{'www-authenticate', {<<"Digest">>, [{<<"algorithm">>, written(Algorithm)} | Params]}}
                  || Algorithm <- Auth#auth.algorithms]}.
 
 nonce(Time, Random, Method, Address, #auth{secret = Secret}) ->

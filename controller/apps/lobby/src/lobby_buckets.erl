@@ -17,7 +17,8 @@ new() -> {#{}, 0}.
 take(Key, Rate, Now, {Map, Swept}) when map_size(Map) >= ?MAX, Key =/= others, not is_map_key(Key, Map) ->
     case Now - Swept of
         %% Every bucket gets at least one token a second.
-        Passed when abs(Passed) >= 1000 -> take(Key, Rate, Now, {maps:filter(fun(_, {M, At}) -> M > Now - At end, Map), Now});
+        Passed when abs(Passed) >= 1000 ->
+            take(Key, Rate, Now, {maps:filter(fun(_, {M, At}) -> M > Now - At end, Map), Now});
         _ -> take(others, Rate, Now, {Map, Swept})
     end;
 take(Key, Rate, Now, {Map, Swept}) ->

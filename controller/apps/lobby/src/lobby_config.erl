@@ -6,7 +6,8 @@
 
 -type config() :: #{gateways := [lobby_gateway:config()],
                     sip := lobby_sip_message:peer(), t1 := pos_integer(), min_se := pos_integer(),
-                    callers := [lobby_auth:network()], proxies := [lobby_auth:network()], media := [lobby_auth:network()],
+                    callers := [lobby_auth:network()], proxies := [lobby_auth:network()],
+                    media := [lobby_auth:network()],
                     users := lobby_auth:users(), digest := [lobby_auth:algorithm()],
                     max_calls := pos_integer(), max_calls_from := pos_integer(), max_rooms_from := pos_integer(),
                     messages_from := pos_integer(), new_calls_from := pos_integer(),
@@ -33,7 +34,8 @@
                    audit => {{50, 60000}, 250}, returns => {{0, 20000}, 0},
                    terminations => {{1, 256}, 256}, contexts => {{1, 64}, 64}}).
 
--define(TLS, #{certificate => {path, required}, key => {path, required}, sip => {port, none}, http => {boolean, false}}).
+-define(TLS, #{certificate => {path, required}, key => {path, required},
+               sip => {port, none}, http => {boolean, false}}).
 
 -define(PAIR, #{self => {node, required}, peer => {node, required}, cookie => {secret, required},
                 lease => {lease, address}, ready => {file, none}, gap => {{100, 250}, 250}}).

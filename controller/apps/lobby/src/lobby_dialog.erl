@@ -3,8 +3,8 @@
 
 -include_lib("p1_sip/include/esip.hrl").
 
--export([new/2, received/2, is_same_transaction/2, after_refusal/1, refreshed/2, request/4, ack/3, contact/1, target/2, key/1,
-         caller/1]).
+-export([new/2, received/2, is_same_transaction/2, after_refusal/1, refreshed/2, request/4, ack/3, contact/1, target/2,
+         key/1, caller/1]).
 -export_type([dialog/0, own/0]).
 
 %% The transport and the own address.
@@ -55,8 +55,8 @@ transaction(Message) ->
         Branch -> {Branch, Host, Port, key(Message), lobby_sip_message:sequence(Message)}
     end.
 
-%% @doc What a refusal of our re-INVITE means for the call (sections 12.2.1.2 and 14.1): it ended, we try again soon, since
-%% both sides have invited each other, or it goes on as before.
+%% @doc What a refusal of our re-INVITE means for the call (sections 12.2.1.2 and 14.1): it ended; we try again soon,
+%% since both sides have invited each other; or it goes on as before.
 -spec after_refusal(Status :: 300..699) -> ended | again | goes_on.
 after_refusal(Status) when Status =:= 408; Status =:= 481 -> ended;
 after_refusal(491) -> again;

@@ -11,15 +11,16 @@
 -spec run(lobby_socket:socket(), lobby_events:watcher()) -> ok.
 run(Socket, Watcher) ->
     %% A browser that doesn't read is disconnected: what waits for it stays small.
-    _ = lobby_socket:setopts(Socket, [{active, once}, {sndbuf, 65536}, {send_timeout, 2000}, {send_timeout_close, true}]),
+    _ = lobby_socket:setopts(Socket, [{active, once}, {sndbuf, 65536}, {send_timeout, 2000},
+                                      {send_timeout_close, true}]),
     End = case lobby_events:subscribe(Watcher) of
         ok ->
             Reason = loop(Socket, lobby_socket:send(Socket, head("200 OK", "text/event-stream"))),
             ok = lobby_events:unsubscribe(Watcher),
             Reason;
         {error, too_many} ->
-            _ = lobby_socket:send(Socket, [head("503 Service Unavailable", "application/json"),
-                                           lobby_json:encode(#{error => <<"too many clients are watching with this token">>})]),
+            Json = lobby_json:encode(#{error => <<"too many clients are watching with this token">>}),
+            _ = lobby_socket:send(Socket, [head("503 Service Unavailable", "application/json"), Json]),
             closed(Socket)
     end,
     self() ! End,

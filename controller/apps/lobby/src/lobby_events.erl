@@ -18,8 +18,8 @@
 subscribe() ->
     pg:join(lobby, events, self()).
 
-%% @doc The same for somebody with a token. If too many watch with it, a viewer is refused, and for an operator the one who
-%% watches longest is sent `lobby_events_end'.
+%% @doc The same for somebody with a token. If too many watch with it, a viewer is refused, and for an operator the one
+%% who watches longest is sent `lobby_events_end'.
 -spec subscribe(watcher()) -> ok | {error, too_many}.
 subscribe(Watcher = {_, Role}) ->
     Watching = pg:get_local_members(lobby, {events, Watcher}),

@@ -1,7 +1,7 @@
 %%% @doc The HTTP interface and its page, on OTP's httpd. Requests carry a token (RFC 6750); a viewer's only reads.
 %%%
-%%% httpd reads a body in chunks without any limit, and waits for a body without end. So what is exported as its customizing
-%%% refuses the first, and starts a timer for the second.
+%%% httpd reads a body in chunks without any limit, and waits for a body without end. So this module also customizes
+%%% httpd: it refuses the first, and starts a timer for the second.
 -module(lobby_http).
 
 -include_lib("inets/include/httpd.hrl").
@@ -19,7 +19,8 @@
 -type route() :: {Method :: string(), Path :: binary(), handler() | events}.
 %% What needs no token.
 -define(FILES, #{[] => {"index.html", "text/html; charset=utf-8"}, [<<"page.js">>] => {"page.js", "text/javascript"},
-                 [<<"page.css">>] => {"page.css", "text/css"}, [<<"openapi.json">>] => {"openapi.json", "application/json"}}).
+                 [<<"page.css">>] => {"page.css", "text/css"},
+                 [<<"openapi.json">>] => {"openapi.json", "application/json"}}).
 -define(MAX_BODY, 65536).
 %% Milliseconds for a body, and seconds for the head of a request.
 -define(BODY, application:get_env(lobby, http_body, 10000)).
@@ -30,8 +31,8 @@ start_link(#{http := {Address, Port}, tokens := Tokens, tls := Tls}) ->
     ok = persistent_term:put(?MODULE, [{crypto:hash(sha256, Token), Role} || {Token, Role} <- Tokens]),
     Root = code:priv_dir(lobby),
     start([{bind_address, Address}, {port, Port}, {server_name, "lobby"}, {server_root, Root}, {document_root, Root},
-           {modules, [?MODULE]}, {customize, ?MODULE}, {max_body_size, ?MAX_BODY}, {max_uri_size, 2048}, {max_clients, 1024},
-           {keep_alive_timeout, ?HEAD}, {server_tokens, none} | secured(Tls)], 50).
+           {modules, [?MODULE]}, {customize, ?MODULE}, {max_body_size, ?MAX_BODY}, {max_uri_size, 2048},
+           {max_clients, 1024}, {keep_alive_timeout, ?HEAD}, {server_tokens, none} | secured(Tls)], 50).
 
 secured(#{http := true, certificate := Certificate, key := Key}) ->
     [{socket_type, {ssl, [{certfile, Certificate}, {keyfile, Key}, {log_level, emergency}]}}];
@@ -77,7 +78,9 @@ do(Mod = #mod{socket = Socket, parsed_header = Headers}) ->
     _ = lobby_socket:setopts(Socket, [{nodelay, true}]),
     case lists:member({"connection", "refused"}, Headers) orelse answered(Mod) of
         true -> json(411, failure(<<"a body must come with its Content-Length">>), []);
-        {events, Watcher} -> ok = lobby_event_stream:run(Socket, Watcher), {proceed, [{response, {already_sent, 200, 0}}]};
+        {events, Watcher} ->
+            ok = lobby_event_stream:run(Socket, Watcher),
+            {proceed, [{response, {already_sent, 200, 0}}]};
         {Status, Json} when Status >= 500 -> json(Status, Json, [{"request-number", logged(Status, Json, Mod)}]);
         {Status, Json} -> response(Status, [{content_type, "application/json"}], lobby_json:encode(Json));
         {Status, More, Text} -> response(Status, More, Text)

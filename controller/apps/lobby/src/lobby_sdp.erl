@@ -82,7 +82,8 @@ declined({Kind, _, Transport, Formats}) ->
     {declined, Kind, Transport, Formats}.
 
 audio({<<"audio">>, Port, <<"RTP/AVP">>, Formats}, Lines, Head) when Port =/= none ->
-    case {[Format || Type <- Formats, Format <- format(Type)], address(Lines ++ Head), lists:all(fun takes_20_ms/1, Lines)} of
+    Common = [Format || Type <- Formats, Format <- format(Type)],
+    case {Common, address(Lines ++ Head), lists:all(fun takes_20_ms/1, Lines)} of
         {[], _, _} -> {error, no_common_format};
         {_, none, _} -> {error, bad_address};
         {_, _, false} -> {error, bad_packet_time};
@@ -94,7 +95,7 @@ audio(_, _, _) ->
 
 %% The gateway sends packets of 20 ms, and drops all others. A phone that wants others would send such.
 takes_20_ms(<<"a=ptime:", Ms/binary>>) -> string:to_integer(Ms) =:= {20, <<>>};
-takes_20_ms(<<"a=maxptime:", Ms/binary>>) -> case string:to_integer(Ms) of {Max, _} -> is_integer(Max) andalso Max >= 20 end;
+takes_20_ms(<<"a=maxptime:", Ms/binary>>) -> {Max, _} = string:to_integer(Ms), is_integer(Max) andalso Max >= 20;
 takes_20_ms(_) -> true.
 
 format(<<"0">>) -> [pcmu];

@@ -1,5 +1,5 @@
-%%% @doc How long a session lasts without a refresh, and who refreshes it (RFC 4028), and how long an invitation is valid.
-%%% What others ask for was bounded to a day when it was read.
+%%% @doc How long a session lasts without a refresh, and who refreshes it (RFC 4028), and how long an invitation is
+%%% valid. What others ask for was bounded to a day when it was read.
 -module(lobby_session_timer).
 
 -export([asked/2, answer/1, request/1, timeout/1, invitation/1]).

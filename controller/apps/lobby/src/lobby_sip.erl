@@ -120,7 +120,8 @@ handle_cast(_, State) ->
     {noreply, State}.
 
 -spec handle_info(term(), #state{}) -> {noreply, #state{}}.
-handle_info({udp, Socket, Address, Port, Datagram}, State = #state{socket = Socket}) when byte_size(Datagram) =< ?MAX_DATAGRAM ->
+handle_info({udp, Socket, Address, Port, Datagram}, State = #state{socket = Socket})
+  when byte_size(Datagram) =< ?MAX_DATAGRAM ->
     {noreply, let_in(Datagram, {Address, Port}, State)};
 handle_info({udp_passive, Socket}, State = #state{socket = Socket}) ->
     ok = inet:setopts(Socket, [{active, 100}]),
@@ -164,8 +165,8 @@ handle({refused, Status, Request}, Source, State) ->
 handle({error, not_sip}, _, State) ->
     State.
 
-%% A dialog is known by both tags and the Call-ID (RFC 3261, section 12). What has no tag in To is of no dialog, or is the
-%% first INVITE of one, or cancels that.
+%% A dialog is known by both tags and the Call-ID (RFC 3261, section 12). What has no tag in To is of no dialog, or is
+%% the first INVITE of one, or cancels that.
 request(Request = #sip{method = Method}, Source, State) ->
     Own = own_tag(Request),
     case {lobby_sip_message:tag(to, Request), Method} of

@@ -12,7 +12,8 @@
 -define(MAX_HEAD, 8192).
 -define(MAX_PARTS, 160).
 %% What is read: headers that a message has at most once, and those that it can have more often.
--define(ONCE, [from, to, 'call-id', cseq, 'max-forwards', expires, 'session-expires', 'min-se', 'content-type', 'content-length']).
+-define(ONCE, [from, to, 'call-id', cseq, 'max-forwards', expires, 'session-expires', 'min-se', 'content-type',
+               'content-length']).
 -define(LISTS, [via, contact, 'record-route', require, supported, accept, 'content-encoding', authorization,
                 'p-asserted-identity']).
 -define(HOST, "(\\[[0-9A-Fa-f:.]+\\]|[A-Za-z0-9_.-]+)").
@@ -44,7 +45,8 @@ head(true, Head, Body) ->
 
 start_line([<<"SIP/2.0">>, Code | Reason]) ->
     case read(fun(Text) -> number(Text, 699) end, Code) of
-        {ok, Status} when Status >= 100 -> {ok, #sip{type = response, status = Status, reason = iolist_to_binary(Reason)}};
+        {ok, Status} when Status >= 100 ->
+            {ok, #sip{type = response, status = Status, reason = iolist_to_binary(Reason)}};
         _ -> error
     end;
 start_line(Words = [Method, Uri | Rest]) ->
@@ -63,7 +65,8 @@ with_headers(Lines, Status, Message = #sip{type = Type, method = Method}) ->
     Headers = lists:uniq(fun name/1, [Header || Header <- Read, Header =/= bad]),
     IsGood = length(Headers) =:= length(Read) andalso lists:all(fun({Name, _}) -> is_atom(Name) end, Headers),
     case {Type, lists:keyfind(cseq, 1, Headers), IsGood, Status} of
-        {response, {cseq, {Number, OfMethod}}, true, ok} -> {ok, Message#sip{method = OfMethod, hdrs = with_cseq(Number, Headers)}};
+        {response, {cseq, {Number, OfMethod}}, true, ok} ->
+            {ok, Message#sip{method = OfMethod, hdrs = with_cseq(Number, Headers)}};
         {request, {cseq, {Number, Method}}, true, _} -> {Status, Message#sip{hdrs = with_cseq(Number, Headers)}};
         {response, _, _, _} -> {error, not_sip};
         {request, {cseq, {Number, Other}}, _, _} ->
@@ -101,7 +104,8 @@ read(Reader, Text) ->
 %% The short names are those of section 7.3.3, and of RFC 4028.
 key(<<Short>>) ->
     proplists:get_value(Short, [{$v, via}, {$f, from}, {$t, to}, {$i, 'call-id'}, {$m, contact}, {$l, 'content-length'},
-                                {$c, 'content-type'}, {$e, 'content-encoding'}, {$k, supported}, {$x, 'session-expires'}], unused);
+                                {$c, 'content-type'}, {$e, 'content-encoding'}, {$k, supported},
+                                {$x, 'session-expires'}], unused);
 key(Name) ->
     try lists:member(binary_to_existing_atom(Name), ?ONCE ++ ?LISTS) of
         true -> binary_to_existing_atom(Name);
@@ -123,7 +127,9 @@ value(cseq, Text) -> [Number, Method] = words(Text), {number(Number, 16#7FFFFFFF
 value('content-length', Text) -> number(Text, 16#7FFFFFFF);
 value('max-forwards', Text) -> number(Text, 255);
 value(expires, Text) -> seconds(Text);
-value(Key, Text) when Key =:= 'session-expires'; Key =:= 'min-se' -> {Seconds, Params} = typed(Text), {seconds(Seconds), Params};
+value(Key, Text) when Key =:= 'session-expires'; Key =:= 'min-se' ->
+    {Seconds, Params} = typed(Text),
+    {seconds(Seconds), Params};
 value('content-type', Text) -> typed(Text);
 value(accept, Text) -> [typed(Item) || Item <- values(Text), Item =/= <<>>];
 value(authorization, Text) ->
@@ -199,7 +205,8 @@ uri(Text) ->
             #uri{scheme = lower(Scheme), user = User, password = iolist_to_binary(Password), host = lower(Host),
                  port = port([Digits || <<":", Digits/binary>> <- [Port]]),
                  params = [param(Param) || Param <- tl(binary:split(Params, <<";">>, [global]))],
-                 hdrs = [param(Header) || <<"?", All/binary>> <- [Headers], Header <- binary:split(All, <<"&">>, [global])]};
+                 hdrs = [param(Header) || <<"?", All/binary>> <- [Headers],
+                                          Header <- binary:split(All, <<"&">>, [global])]};
         nomatch ->
             [Scheme, Rest] = match(Text, uri),
             false = lists:member(lower(Scheme), [<<"sip">>, <<"sips">>]),

@@ -12,8 +12,8 @@
 %% Over UDP, or over this connection, perhaps with TLS.
 -type target() :: peer() | {tcp, Connection :: pid() | {tls, pid()}, peer()}.
 %% Methods of RFCs that aren't served.
--define(OTHER_METHODS, [<<"REGISTER">>, <<"SUBSCRIBE">>, <<"NOTIFY">>, <<"PUBLISH">>, <<"REFER">>, <<"MESSAGE">>, <<"INFO">>,
-                        <<"PRACK">>]).
+-define(OTHER_METHODS, [<<"REGISTER">>, <<"SUBSCRIBE">>, <<"NOTIFY">>, <<"PUBLISH">>, <<"REFER">>, <<"MESSAGE">>,
+                        <<"INFO">>, <<"PRACK">>]).
 
 %% @doc A message from this address. `refused': a request that isn't as it should be, but can be answered.
 -spec decode(binary(), Source :: target()) ->
@@ -83,8 +83,9 @@ is_sdp(Request) ->
 
 accepts_sdp(Request) ->
     case lists:keymember(accept, 1, Request#sip.hdrs) of
-        true -> [Type || {Type, _} <- headers(accept, Request)] -- [<<"application/sdp">>, <<"application/*">>, <<"*/*">>]
-                    =/= [Type || {Type, _} <- headers(accept, Request)];
+        true -> lists:any(fun({Type, _}) ->
+            lists:member(Type, [<<"application/sdp">>, <<"application/*">>, <<"*/*">>])
+        end, headers(accept, Request));
         false -> true
     end.
 

@@ -119,7 +119,8 @@ frames(State = #state{buffer = Bytes}) ->
             ok = lobby_sip:received(Message, target(State)),
             frames(due(State#state{buffer = Rest}));
         more when State#state.due =:= none, Buffer =/= <<>> ->
-            {noreply, State#state{buffer = Buffer, due = erlang:start_timer(?MESSAGE, self(), due)}, {continue, listen}};
+            Due = erlang:start_timer(?MESSAGE, self(), due),
+            {noreply, State#state{buffer = Buffer, due = Due}, {continue, listen}};
         more ->
             {noreply, State#state{buffer = Buffer}, {continue, listen}};
         {error, too_long} ->

@@ -37,8 +37,8 @@ init({top, Config = #{sip := Own, tls := Tls}}) ->
     Ports = [{listener, Own, none} | [{tls_listener, OwnTls, Tls} || #{sip := OwnTls} <- [Tls], OwnTls =/= none]],
     {ok, {#{strategy => rest_for_one, intensity => 10, period => 10}, [
         #{id => connections, start => {?MODULE, start_connections, []}, type => supervisor}
-        | [#{id => Id, start => {proc_lib, start_link, [?MODULE, listen, [Port, Secured, Config]]}, shutdown => brutal_kill}
-           || {Id, Port, Secured} <- Ports]]}};
+        | [#{id => Id, start => {proc_lib, start_link, [?MODULE, listen, [Port, Secured, Config]]},
+             shutdown => brutal_kill} || {Id, Port, Secured} <- Ports]]}};
 init(connections) ->
     {ok, {#{strategy => simple_one_for_one},
           [#{id => connection, start => {lobby_tcp, start_link, []}, restart => temporary}]}}.

@@ -10,17 +10,19 @@
 %% Seconds (RFC 3261, section 13.3.1).
 -define(INVITATION, 180).
 
-%% @doc What a request asks for. `too_short': the answer is 422, with these headers. Who doesn't know the extension isn't
-%% refused, and doesn't refresh (section 9).
+%% @doc What a request asks for. `too_short': the answer is 422, with these headers. For who doesn't know the extension, a
+%% proxy may ask, which names no refresher: he isn't refused, and doesn't refresh (section 9).
 -spec asked(lobby_sip_message:message(), Shortest :: pos_integer()) -> timer() | {too_short, [{atom(), term()}]}.
 asked(Request, Shortest) ->
     Knows = lists:member(<<"timer">>, lobby_sip_message:headers(supported, Request)),
     case lobby_sip_message:header('session-expires', Request) of
         undefined -> none;
         {Seconds, _} when Seconds < Shortest, Knows -> {too_short, [{'min-se', {Shortest, []}}]};
-        {Seconds, Params} ->
-            Theirs = Knows andalso proplists:get_value(<<"refresher">>, Params) =/= <<"uas">>,
-            {max(Shortest, Seconds), case Theirs of true -> theirs; false -> ours end}
+        {Seconds, Params} -> {max(Shortest, Seconds), case {proplists:get_value(<<"refresher">>, Params), Knows} of
+            {<<"uas">>, _} -> ours;
+            {undefined, false} -> ours;
+            {_, _} -> theirs
+        end}
     end.
 
 %% @doc Headers of our answer.

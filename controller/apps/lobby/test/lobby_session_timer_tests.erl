@@ -17,7 +17,9 @@ asked_test() ->
      || {Lines, Is} <- [{[], none}, {[Timer], none}, {[Timer, "Session-Expires: 1800"], {1800, theirs}}, {[Timer, "x: 1800;refresher=uac"], {1800, theirs}},
                         {[Timer, "Session-Expires: 1800;refresher=uas"], {1800, ours}}, {[Timer, "Session-Expires: 89"], {too_short, [{'min-se', {90, []}}]}},
                         %% Who doesn't know it, and for whom a proxy asks.
-                        {["Session-Expires: 1800;refresher=uac"], {1800, ours}}, {["Session-Expires: 60"], {90, ours}}]].
+                        {["Session-Expires: 1800"], {1800, ours}}, {["Session-Expires: 60"], {90, ours}},
+                        %% No proxy names a refresher.
+                        {["Session-Expires: 1800;refresher=uac"], {1800, theirs}}]].
 
 %% A day at most, whatever is asked for: a timer of Erlang's holds no more than 49 days.
 what_is_asked_for_is_bounded_test() ->

@@ -1,139 +1,214 @@
 %%% @doc A conference as a value: what a room wants, what the gateway has, and the next request that brings the two
 %%% together.
 %%%
-%%% The room changes what it wants with `join/2', `leave/2', `update/3' and `set_rules/2'. Then it sends the action of
-%%% `next/1', and passes the reply to `done/3', until `next/1' returns `settled'. So a change, a failure and a new
-%%% gateway are all handled in the same way.
+%%% What is wanted is the rows of the members (`lobby_person') and the room's rules. The room sends the action of
+%%% `next/1', and passes the reply to `done/3', until `next/1' returns `settled'. So a change, a failure and a new gateway
+%%% are all handled in the same way.
 %%%
-%%% A member is never audible before the rules hold. Members leave first, and whoever is to say or hear less is
-%%% silenced. Then flows are closed, and others opened. A single newcomer is added together with his Topology; several
-%%% are added before it. Whoever has a flow to be closed is added inactive and let in once it is closed.
+%%% A flow is open only if the rules open it and neither end is isolated; a muted talker's mode is SendOnly. A member is
+%%% never audible before that holds. Members leave first, and whoever is to say or hear less is silenced. Then flows are
+%%% closed, and others opened. A single newcomer is added together with his Topology; several are added before it.
+%%% Whoever has a flow to be closed is added inactive and let in once it is closed. Who comes from another room isn't
+%%% added before that room has let him go, and it doesn't before he is inactive.
+%%%
+%%% What the gateway has is known from its answers. After an answer that isn't as expected, or if nobody knows whether a
+%%% request was run, nothing is assumed: `doubt/1' has the terminations, modes and flows audited first.
 -module(lobby_conference).
 
--export([new/0, member/4, join/2, leave/2, update/3, set_rules/2, take/2, give/3, drop/1, forget/1]).
--export([next/1, done/3, audit/1, inventory/1, suspect/1]).
--export([ids/1, rules/1, context/1, contexts/1, find/2, local/2, flows/1]).
--export_type([conference/0, member/0, change/0, step/0, event/0, held/0]).
+-export([new/0, want/2, leave/2, expel/2, cleared/4, set_rules/2, forget/1, resume/3, doubt/1, check/1, unblock/1]).
+-export([next/1, done/3]).
+-export([ids/1, persons/1, rules/1, context/1, asked/1, has/2, is_empty/1, missing/1, find/2, local/2, holding/2, flows/1, visible/1]).
+-export_type([conference/0, step/0, event/0, held/0, place/0, holding/0, owner/0]).
 
 -define(NO_FLOWS, sets:new([{version, 2}])).
 %% Commands in a request: an Add has about 150 bytes of the gateway's 8,192, and its reply as many of 16,000.
 -define(MAX_ADDS, 24).
 -define(MAX_COMMANDS, 60).
-%% The largest conference whose topology fits into a reply, with ten-digit numbers.
+%% The largest conference whose topology or modes fit into a reply, with ten-digit numbers.
 -define(MAX_AUDITED, 29).
 
+%% It is no longer there.
+-define(IS_GONE(Code), (Code =:= 411 orelse Code =:= 430 orelse Code =:= 431 orelse Code =:= 435)).
+
 -type id() :: lobby_rules:id().
-%% What a caller offered last, from his point of view (RFC 3264, section 5.1).
--type direction() :: lobby_sdp:direction().
-
-%% What the room wants for a member.
--record(member, {id :: id(), role :: lobby_rules:role(), media :: lobby_h248:media(),
-                 direction = sendrecv :: direction(), muted = false :: boolean()}).
-%% What the gateway has for a member.
--record(held, {termination :: lobby_h248:termination(), local :: lobby_h248:media(), remote :: lobby_h248:media(),
-               mode :: lobby_h248:mode()}).
--record(conference, {members = [] :: [#member{}], rules = [] :: [lobby_rules:rule()],
-                     context = new :: lobby_h248:context() | new, held = #{} :: #{id() => #held{}},
-                     open = ?NO_FLOWS :: lobby_rules:flows(), leaving = [] :: [place()],
-                     %% Whether the open flows are those that the rules want. To find out takes a while in a large room.
-                     agreed = true :: boolean(),
-                     %% Members to be moved here from other conferences on the same gateway.
-                     arriving = #{} :: #{id() => {lobby_h248:context(), #held{}}}}).
-
+-type row() :: lobby_person:row().
+%% What the gateway has for a member. What isn't known may be anything.
+-record(held, {termination :: lobby_h248:termination(), local :: lobby_h248:media(),
+               remote :: lobby_h248:media() | unknown, mode :: lobby_h248:mode() | unknown}).
+-opaque held() :: #held{}.
 %% A termination that is to be ended, or all of a context.
 -type place() :: {lobby_h248:context(), lobby_h248:termination() | all}.
--type change() :: #{media => lobby_h248:media(), direction => direction(), muted => boolean(),
-                    role => lobby_rules:role()}.
+%% A termination that the gateway's process knows of as this room's. `given': another room let it go for this one, in
+%% whose context it still is.
+-type holding() :: #{termination := lobby_h248:termination(), context := lobby_h248:context(), member := id(),
+                     local := lobby_h248:media(), given := boolean()}.
+%% Whose a termination is, as far as the gateway's process knows.
+-type owner() :: #{lobby_h248:termination() => own | other}.
+%% A member who comes from another room: that is asked to let him go, or has done so, with what it gave.
+-type arrival() :: {asked | cleared, Moved :: pos_integer()} | {given, lobby_h248:context(), #held{}}.
+
+-record(conference, {members = [] :: [row()], rules = [] :: [lobby_rules:rule()],
+                     context = new :: lobby_h248:context() | new, held = #{} :: #{id() => #held{}},
+                     open = ?NO_FLOWS :: lobby_rules:flows(), leaving = [] :: [place()],
+                     %% Whether the open flows are those that are wanted. To find out takes a while in a large room.
+                     agreed = true :: boolean(),
+                     arriving = #{} :: #{id() => arrival()},
+                     %% Those who are wanted in other rooms now, and are still held here.
+                     departing = #{} :: #{id() => row()},
+                     %% Members whom the gateway doesn't take now, and media that it doesn't take.
+                     blocked = [] :: [id()], refused = #{} :: #{id() => lobby_h248:media()},
+                     %% What is to be audited before anything else.
+                     doubts = [] :: [inventory | topology]}).
 -opaque conference() :: #conference{}.
--opaque member() :: #member{}.
--opaque held() :: {lobby_h248:context(), #held{}} | none.
 %% What a request is for.
--opaque step() :: {subtract, [place()]} | {modify, [{id(), lobby_h248:mode()}]}
-                | {connect, lobby_rules:flows()} | {add, [{id(), lobby_h248:mode()}], lobby_rules:flows()}
-                | {move, {id(), lobby_h248:mode()}, lobby_rules:flows()} | {settle, [id()]} | audit | inventory.
-%% `lost': the gateway no longer has this context, or not all of it.
--type event() :: {joined, id()} | {changed, id()} | {rejected, id(), Code :: pos_integer()} | repaired
-               | {lost, lobby_h248:context() | new}.
+-type step() :: {subtract, [place()]} | {modify, [{id(), lobby_h248:mode()}]}
+                | {connect, lobby_rules:flows()} | {add, [{row(), lobby_h248:mode()}], lobby_rules:flows()}
+                | {move, {id(), lobby_h248:mode()}, lobby_rules:flows()} | {settle, [row()]} | inventory | topology.
+%% `refused': the gateway doesn't take these media, and has the others, if any. `full': it doesn't take him now. `failed':
+%% an answer wasn't as expected. `counts': the packets that each termination received.
+-type event() :: {refused, id(), Code :: pos_integer(), lobby_h248:media() | none} | {full, id()} | repaired | strays
+               | failed | {counts, #{lobby_h248:termination() => non_neg_integer()}}.
 
 -spec new() -> conference().
 new() ->
     #conference{}.
 
--spec member(id(), lobby_rules:role(), lobby_h248:media(), direction()) -> member().
-member(Id, Role, Media, Direction) ->
-    #member{id = Id, role = Role, media = Media, direction = Direction}.
+%%% What is wanted.
 
-%% @doc Adds a member, or replaces one with the same id.
--spec join(member(), conference()) -> conference().
-join(Member = #member{id = Id}, C = #conference{members = Members, held = Held}) ->
-    agree(is_map_key(Id, Held), C#conference{members = lists:keystore(Id, #member.id, Members, Member)}).
-
-%% @doc Removes a member and the rules that name him.
--spec leave(id(), conference()) -> conference().
-leave(Id, C = #conference{members = Members, rules = Rules, held = Held, arriving = Arriving, open = Open}) ->
-    Left = places(Id, C),
-    C#conference{members = lists:keydelete(Id, #member.id, Members), rules = lobby_rules:forget(Id, Rules),
-                 held = maps:remove(Id, Held), arriving = maps:remove(Id, Arriving), open = without(Id, Open),
-                 leaving = Left ++ C#conference.leaving}.
-
-%% Where the gateway has a termination for this member.
-places(Id, #conference{context = Context, held = Held, arriving = Arriving}) ->
-    [{Context, T} || #{Id := #held{termination = T}} <- [Held]] ++
-        [{From, T} || #{Id := {From, #held{termination = T}}} <- [Arriving]].
-
-%% @doc Changes what is wanted for a member. The media are what he offered last.
--spec update(id(), change(), conference()) -> conference().
-update(Id, Change, C = #conference{members = Members}) ->
-    case lists:keyfind(Id, #member.id, Members) of
-        false -> C;
-        Member ->
-            Changed = maps:fold(fun set/3, Member, Change),
-            With = C#conference{members = lists:keyreplace(Id, #member.id, Members, Changed)},
-            agree(is_map_key(role, Change), With)
+%% @doc A member's row: new, or changed. Somebody who comes from another room isn't added before `cleared/4'.
+-spec want(row(), conference()) -> conference().
+want(Row = #{id := Id, from := From, moved := Moved}, C = #conference{members = Members, held = Held, arriving = Arriving}) ->
+    Came = case {is_map_key(Id, Held) orelse From =:= none, Arriving} of
+        {true, _} -> Arriving;
+        {false, #{Id := {given, _, _}}} -> Arriving;
+        {false, #{Id := {_, Moved}}} -> Arriving;
+        {false, _} -> Arriving#{Id => {asked, Moved}}
+    end,
+    With = C#conference{members = replaced(Row, Members), arriving = Came, blocked = lists:delete(Id, C#conference.blocked)},
+    case maps:take(Id, C#conference.departing) of
+        %% He comes back before he left. His flows here were no longer looked at.
+        {_, Departing} -> doubt(With#conference{departing = Departing});
+        error -> agree(is_map_key(Id, Held) andalso layers(row(Id, C)) =/= layers(Row), With)
     end.
 
-set(media, Media, Member) -> Member#member{media = Media};
-set(direction, Direction, Member) -> Member#member{direction = Direction};
-set(muted, Muted, Member) -> Member#member{muted = Muted};
-set(role, Role, Member) -> Member#member{role = Role}.
+layers(#{role := Role, isolated := Isolated, waiting := Waiting}) -> {Role, Isolated, Waiting};
+layers(none) -> none.
+
+replaced(Row = #{id := Id}, Rows) ->
+    case lists:any(fun(#{id := Other}) -> Other =:= Id end, Rows) of
+        true -> [case Other of #{id := Id} -> Row; _ -> Other end || Other <- Rows];
+        false -> Rows ++ [Row]
+    end.
+
+%% @doc Somebody who is wanted in another room, or, with an id alone, in none: his call has ended. In the first case the
+%% rules that name him stay, because he may come back.
+-spec leave(row() | {ended, id()}, conference()) -> conference().
+leave({ended, Id}, C = #conference{rules = Rules}) ->
+    expel(Id, C#conference{rules = lobby_rules:forget(Id, Rules)});
+leave(Row = #{id := Id}, C = #conference{held = Held, departing = Departing}) ->
+    Left = without(Id, C),
+    case is_map_key(Id, Held) of
+        true -> Left#conference{departing = Departing#{Id => Row}};
+        false -> expel(Id, Left)
+    end.
+
+%% He is no longer a member, and it doesn't matter any more what is open between him and others.
+without(Id, C = #conference{members = Members, open = Open}) ->
+    C#conference{members = [Row || Row = #{id := Other} <- Members, Other =/= Id], open = flows_without(Id, Open),
+                 refused = maps:remove(Id, C#conference.refused), blocked = lists:delete(Id, C#conference.blocked)}.
+
+flows_without(Id, Flows) ->
+    sets:filter(fun({A, B}) -> A =/= Id andalso B =/= Id end, Flows).
+
+%% @doc Has whatever the gateway has for somebody ended.
+-spec expel(id(), conference()) -> conference().
+expel(Id, C0) ->
+    C = #conference{held = Held, arriving = Arriving, departing = Departing} = without(Id, C0),
+    C#conference{held = maps:remove(Id, Held), arriving = maps:remove(Id, Arriving), departing = maps:remove(Id, Departing),
+                 leaving = places(Id, C) ++ C#conference.leaving}.
+
+places(Id, #conference{context = Context, held = Held, arriving = Arriving}) ->
+    [{Context, T} || #{Id := #held{termination = T}} <- [Held]] ++
+        [{From, T} || #{Id := {given, From, #held{termination = T}}} <- [Arriving]].
+
+%% @doc The room that a member comes from has let him go: with a termination on the same gateway, or with nothing.
+-spec cleared(id(), Moved :: pos_integer(), holding() | none, conference()) -> conference().
+cleared(Id, Moved, Given, C = #conference{arriving = Arriving}) ->
+    case {Arriving, Given} of
+        {#{Id := {asked, Moved}}, none} -> C#conference{arriving = Arriving#{Id := {cleared, Moved}}};
+        {#{Id := {asked, Moved}}, _} -> C#conference{arriving = Arriving#{Id := given(Given)}};
+        {_, _} -> C
+    end.
+
+given(#{termination := T, context := Context, local := Local}) ->
+    {given, Context, #held{termination = T, local = Local, remote = unknown, mode = inactive}}.
 
 -spec set_rules([lobby_rules:rule()], conference()) -> conference().
 set_rules(Rules, C) ->
     agree(true, C#conference{rules = Rules}).
 
-%% @doc Takes a member out, with what the gateway has for him, so that another conference on the same gateway can move
-%% him. Until then, he is still connected with everyone in this context, so he should be inactive before he is taken out.
-%% The rules that name him stay until `leave/2', because he may come back.
--spec take(id(), conference()) -> {ok, member(), held(), conference()} | {error, no_member}.
-take(Id, C = #conference{members = Members, rules = Rules, context = Context, held = Held, arriving = Arriving}) ->
-    case lists:keyfind(Id, #member.id, Members) of
-        false ->
-            {error, no_member};
-        Member ->
-            Taken = maps:merge(maps:map(fun(_, Has) -> {Context, Has} end, Held), Arriving),
-            Rest = leave(Id, C#conference{held = maps:remove(Id, Held), arriving = maps:remove(Id, Arriving)}),
-            {ok, Member, maps:get(Id, Taken, none), ended(Rest#conference{rules = Rules})}
-    end.
-
-%% @doc Lets in a member that another conference on the same gateway gave.
--spec give(member(), held(), conference()) -> conference().
-give(Member, none, C) ->
-    join(Member, C);
-give(Member = #member{id = Id}, Held, C = #conference{arriving = Arriving}) ->
-    join(Member, C#conference{arriving = Arriving#{Id => Held}}).
-
-%% @doc The request that ends what another gateway has for a member that was taken out, if there is anything.
--spec drop(held()) -> [lobby_h248:action()].
-drop(none) -> [];
-drop({Context, #held{termination = T}}) -> [#{context => Context, commands => [{subtract_optional, T}]}].
-
-%% @doc Forgets what the gateway has: it was lost, or another one is to have the conference.
+%% @doc Forgets what the gateway has: it was lost, or another one is to have the conference. Who was leaving has left.
 -spec forget(conference()) -> conference().
-forget(C) ->
-    C#conference{context = new, held = #{}, open = ?NO_FLOWS, agreed = true, leaving = [], arriving = #{}}.
+forget(C = #conference{arriving = Arriving}) ->
+    C#conference{context = new, held = #{}, open = ?NO_FLOWS, agreed = true, leaving = [], departing = #{}, blocked = [], doubts = [],
+                 arriving = maps:filtermap(fun(Id, Arrival) -> still_arriving(Arrival, row(Id, C)) end, Arriving)}.
+
+still_arriving({given, _, _}, #{moved := Moved}) -> {true, {cleared, Moved}};
+still_arriving({given, _, _}, none) -> false;
+still_arriving(_, _) -> true.
+
+%% @doc Takes up what the gateway's process knows of this room, of which only rows are left. `Others' are the rows of those
+%% who aren't members here: they are silenced and let go, or ended if there is none.
+-spec resume([holding()], Others :: #{id() => row()}, conference()) -> conference().
+resume(Holdings, Others, C) ->
+    Own = [Context || #{context := Context, given := false} <- Holdings],
+    Context = lists:max([0 | Own]),
+    Resumed = lists:foldl(fun(Holding, Acc) -> resumed(Holding, Context, Others, Acc) end,
+                          (forget(C))#conference{context = case Context of 0 -> new; _ -> Context end}, Holdings),
+    doubt(Resumed).
+
+resumed(#{termination := T, context := Context, member := Id, given := false, local := Local}, Context, Others, C) ->
+    #conference{held = Held, departing = Departing, arriving = Arriving} = C,
+    Has = C#conference{held = Held#{Id => #held{termination = T, local = Local, remote = unknown, mode = unknown}},
+                       arriving = maps:remove(Id, Arriving)},
+    case {row(Id, C), Others} of
+        {#{}, _} -> Has;
+        {none, #{Id := Row}} -> Has#conference{departing = Departing#{Id => Row}};
+        {none, _} -> expel(Id, Has)
+    end;
+resumed(Holding = #{termination := T, context := From, member := Id, given := true}, _, _, C = #conference{arriving = Arriving}) ->
+    case row(Id, C) of
+        none -> C#conference{leaving = [{From, T} | C#conference.leaving]};
+        _ -> C#conference{arriving = Arriving#{Id => given(Holding)}}
+    end;
+resumed(#{termination := T, context := Context}, _, _, C) ->
+    C#conference{leaving = [{Context, T} | C#conference.leaving]}.
+
+%% @doc Has everything audited before the next change.
+-spec doubt(conference()) -> conference().
+doubt(C) ->
+    C#conference{doubts = [inventory, topology]}.
+
+%% @doc Has the gateway's state compared with what is known, if there is any.
+-spec check(conference()) -> conference().
+check(C = #conference{context = new}) -> C;
+check(C) -> doubt(C).
+
+%% @doc Tries again to have those added whom the gateway didn't take.
+-spec unblock(conference()) -> conference().
+unblock(C) ->
+    C#conference{blocked = []}.
+
+block(Id, C = #conference{blocked = Blocked}) ->
+    C#conference{blocked = [Id | lists:delete(Id, Blocked)]}.
+
+%%% What is known.
 
 -spec ids(conference()) -> [id()].
-ids(#conference{members = Members}) -> [Id || #member{id = Id} <- Members].
+ids(#conference{members = Members}) -> [Id || #{id := Id} <- Members].
+
+-spec persons(conference()) -> [row()].
+persons(#conference{members = Members}) -> Members.
 
 -spec rules(conference()) -> [lobby_rules:rule()].
 rules(#conference{rules = Rules}) -> Rules.
@@ -141,40 +216,90 @@ rules(#conference{rules = Rules}) -> Rules.
 -spec context(conference()) -> lobby_h248:context() | new.
 context(#conference{context = Context}) -> Context.
 
-%% @doc The gateway's contexts that the conference knows of: its own, and those with terminations to be ended or moved.
--spec contexts(conference()) -> [lobby_h248:context()].
-contexts(#conference{context = Context, leaving = Leaving, arriving = Arriving}) ->
-    [Context || Context =/= new] ++ [From || {From, _} <- Leaving ++ maps:values(Arriving)].
+%% @doc The rows of the members whom other rooms haven't let go yet.
+-spec asked(conference()) -> [row()].
+asked(C = #conference{arriving = Arriving}) ->
+    [row(Id, C) || {Id, {asked, _}} <- maps:to_list(Arriving)].
 
-%% @doc A member as the interface shows him.
--spec find(id(), conference()) -> {ok, #{role := lobby_rules:role(), muted := boolean(), direction := direction(),
-                                         termination => lobby_h248:termination()}} | {error, no_member}.
-find(Id, #conference{members = Members, held = Held}) ->
-    case {lists:keyfind(Id, #member.id, Members), Held} of
-        {false, _} -> {error, no_member};
-        {Member, #{Id := #held{termination = T}}} -> {ok, (shown(Member))#{termination => T}};
-        {Member, #{}} -> {ok, shown(Member)}
+%% @doc Whether the gateway may still have something here for somebody.
+-spec has(id(), conference()) -> boolean().
+has(Id, #conference{held = Held, departing = Departing, leaving = Leaving}) ->
+    is_map_key(Id, Held) orelse is_map_key(Id, Departing) orelse Leaving =/= [].
+
+%% @doc Whether there are no members, and the gateway has nothing.
+-spec is_empty(conference()) -> boolean().
+is_empty(#conference{members = Members, held = Held, leaving = Leaving}) ->
+    Members =:= [] andalso map_size(Held) =:= 0 andalso Leaving =:= [].
+
+%% @doc Members whom the gateway is to have, and hasn't.
+-spec missing(conference()) -> [id()].
+missing(#conference{members = Members, held = Held, arriving = Arriving}) ->
+    [Id || #{id := Id} <- Members, not is_map_key(Id, Held), not is_asked(Id, Arriving)].
+
+is_asked(Id, Arriving) ->
+    case Arriving of #{Id := {asked, _}} -> true; #{} -> false end.
+
+%% @doc A member, and the termination that the gateway has for him.
+-spec find(id(), conference()) -> {row(), lobby_h248:termination() | none} | none.
+find(Id, C = #conference{held = Held}) ->
+    case {row(Id, C), Held} of
+        {none, _} -> none;
+        {Row, #{Id := #held{termination = T}}} -> {Row, T};
+        {Row, #{}} -> {Row, none}
     end.
 
-shown(#member{role = Role, muted = Muted, direction = Direction}) ->
-    #{role => Role, muted => Muted, direction => Direction}.
+row(Id, #conference{members = Members}) ->
+    case [Row || Row = #{id := Other} <- Members, Other =:= Id] of
+        [Row] -> Row;
+        [] -> none
+    end.
 
 %% @doc Where the gateway receives a member, and in which format.
--spec local(id(), conference()) -> {ok, lobby_h248:media()} | {error, no_member}.
+-spec local(id(), conference()) -> {ok, lobby_h248:media()} | none.
 local(Id, #conference{held = Held}) ->
     case Held of
         #{Id := #held{local = Local}} -> {ok, Local};
-        #{} -> {error, no_member}
+        #{} -> none
     end.
 
-%% @doc The flows that are open on the gateway, as far as its answers say.
--spec flows(conference()) -> lobby_rules:flows().
-flows(#conference{open = Open}) -> Open.
+%% @doc All that can be seen of it, to be compared.
+-spec visible(conference()) -> term().
+visible(#conference{members = Members, rules = Rules, context = Context, held = Held, open = Open}) ->
+    {Members, Rules, Context, Held, Open}.
 
-%% @doc The next request, or `settled' if the gateway has what the room wants.
--spec next(conference()) -> {lobby_h248:action(), step()} | settled.
-next(C) ->
-    next([fun subtract/1, fun silence/1, fun connect/1, fun move/1, fun add/1, fun settle/1], C).
+%% @doc What the gateway has for somebody here, for the room that he goes to.
+-spec holding(id(), conference()) -> holding().
+holding(Id, #conference{context = Context, held = Held}) ->
+    #{Id := #held{termination = T, local = Local}} = Held,
+    #{termination => T, context => Context, member => Id, local => Local, given => true}.
+
+%% @doc The flows that are open on the gateway, as far as its answers say: the topology and the modes allow them.
+-spec flows(conference()) -> lobby_rules:flows().
+flows(#conference{open = Open, held = Held}) ->
+    sets:filter(fun({Talker, Listener}) -> case Held of
+        #{Talker := #held{mode = Says}, Listener := #held{mode = Hears}} ->
+            lists:member(Says, [sendRecv, recvOnly, unknown]) andalso lists:member(Hears, [sendRecv, sendOnly, unknown]);
+        #{} -> true
+    end end, Open).
+
+%%% The next request.
+
+%% @doc The next request, or that a termination is to be let go to the room where its member is wanted now, or `settled'
+%% if the gateway has what the room wants, as far as it takes it.
+-spec next(conference()) ->
+          {{request, lobby_h248:action(), step()} | {release, row(), lobby_h248:termination()} | settled, conference()}.
+next(C0) ->
+    C = suspected(C0),
+    {next([fun audit/1, fun subtract/1, fun silence/1, fun connect/1, fun move/1, fun add/1, fun settle/1, fun release/1], C), C}.
+
+%% A single member has no topology, and that of a large conference doesn't fit into a reply: what is to be closed there
+%% is closed again.
+suspected(C = #conference{doubts = [inventory | Doubts], context = new}) ->
+    suspected(C#conference{doubts = Doubts});
+suspected(C = #conference{doubts = [topology], held = Held}) when map_size(Held) < 2; map_size(Held) > ?MAX_AUDITED ->
+    agree(true, C#conference{open = lobby_topology:everyone([Id || #{id := Id} <- held_members(C)]), doubts = []});
+suspected(C) ->
+    C.
 
 next([], _) ->
     settled;
@@ -184,20 +309,30 @@ next([Part | Parts], C) ->
         Request -> Request
     end.
 
+audit(#conference{doubts = []}) ->
+    none;
+audit(#conference{doubts = [inventory | _], context = Context, held = Held}) ->
+    Words = [statistics | [media || map_size(Held) =< ?MAX_AUDITED]],
+    {request, #{context => Context, commands => [{audit, all, Words}]}, inventory};
+%% With an audit of a termination, as for `connect'.
+audit(#conference{doubts = [topology], context = Context, held = Held}) ->
+    {_, #held{termination = T}, _} = maps:next(maps:iterator(Held)),
+    {request, #{context => Context, audit_topology => true, commands => [{audit, T, []}]}, topology}.
+
 subtract(#conference{leaving = []}) ->
     none;
 subtract(#conference{leaving = Leaving = [{Context, _} | _]}) ->
     Some = lists:sublist([Place || Place = {From, _} <- Leaving, From =:= Context], ?MAX_COMMANDS),
-    {#{context => Context, commands => [{subtract_optional, T} || {_, T} <- Some]}, {subtract, Some}}.
+    {request, #{context => Context, commands => [{subtract_optional, T} || {_, T} <- Some]}, {subtract, Some}}.
 
-%% Takes away what members may no longer say or hear.
-silence(C = #conference{context = Context, held = Held}) ->
-    Less = [{T, Id, common(Mode, Wanted)} || Member = #member{id = Id} <- held_members(C),
-                                             #{Id := #held{termination = T, mode = Mode}} <- [Held],
-                                             Wanted <- [mode(Member)], common(Mode, Wanted) =/= Mode],
+%% Takes away what people may no longer say or hear. Who departs may do neither.
+silence(C = #conference{context = Context, held = Held, departing = Departing}) ->
+    People = [{Id, mode(Row)} || Row = #{id := Id} <- held_members(C)] ++ [{Id, inactive} || Id <- maps:keys(Departing)],
+    Less = [{T, Id, common(Mode, Wanted)} || {Id, Wanted} <- People, #{Id := #held{termination = T, mode = Mode}} <- [Held],
+                                             common(Mode, Wanted) =/= Mode],
     case lists:sublist(Less, ?MAX_COMMANDS) of
         [] -> none;
-        Some -> {#{context => Context, commands => [{modify, T, #{mode => Mode}} || {T, _, Mode} <- Some]},
+        Some -> {request, #{context => Context, commands => [{modify, T, #{mode => Mode}} || {T, _, Mode} <- Some]},
                  {modify, [{Id, Mode} || {_, Id, Mode} <- Some]}}
     end.
 
@@ -205,95 +340,107 @@ silence(C = #conference{context = Context, held = Held}) ->
 connect(#conference{agreed = true}) ->
     none;
 connect(C = #conference{context = Context, open = Open}) ->
-    Ids = [Id || #member{id = Id} <- held_members(C)],
+    Ids = [Id || #{id := Id} <- held_members(C)],
     [Batch | _] = lobby_topology:changes(Ids, Open, wanted(held_members(C), C)),
-    {#{context => Context, topology => by_termination(Batch, C), commands => [{audit, termination(hd(Ids), C), []}]},
+    {request, #{context => Context, topology => by_termination(Batch, C), commands => [{audit, termination(hd(Ids), C), []}]},
      {connect, lobby_topology:after_batch(Ids, Open, Batch)}}.
 
-%% A member that enters a context is connected both ways with everyone there, so his Topology is in the same action.
-move(#conference{arriving = Arriving}) when map_size(Arriving) =:= 0 ->
-    none;
-move(C = #conference{context = Context, members = Members, arriving = Arriving}) ->
-    [{Id, {_, Has = #held{termination = T, mode = Mode}}} | _] = maps:to_list(Arriving),
-    Member = lists:keyfind(Id, #member.id, Members),
-    {Triples, After} = entering(Member, C),
-    First = first_mode(Triples, common(Mode, mode(Member))),
-    With = C#conference{held = (C#conference.held)#{Id => Has}},
-    {#{context => Context, topology => by_termination(Triples, With), commands => [{move, T, #{mode => First}}]},
-     {move, {Id, First}, After}}.
+release(#conference{departing = Departing}) when map_size(Departing) =:= 0 -> none;
+release(#conference{departing = Departing, held = Held}) ->
+    {Id, Row, _} = maps:next(maps:iterator(Departing)),
+    #{Id := #held{termination = T, mode = inactive}} = Held,
+    {release, Row, T}.
 
-add(C = #conference{members = Members, held = Held}) ->
-    case [Member || Member = #member{id = Id} <- Members, not is_map_key(Id, Held)] of
+%% A member that enters a context is connected both ways with everyone there, so his Topology is in the same action.
+move(C = #conference{context = Context, arriving = Arriving}) ->
+    case [{Id, Has} || {Id, {given, _, Has}} <- maps:to_list(Arriving), not lists:member(Id, C#conference.blocked)] of
         [] -> none;
-        [Member] -> add_one(Member, C);
-        Missing -> add_some(lists:sublist(Missing, ?MAX_ADDS), C)
+        [{Id, Has = #held{termination = T}} | _] ->
+            {Triples, After} = entering(row(Id, C), C),
+            With = C#conference{held = (C#conference.held)#{Id => Has}},
+            {request, #{context => Context, topology => by_termination(Triples, With), commands => [{move, T, #{mode => inactive}}]},
+             {move, {Id, inactive}, After}}
     end.
 
-add_one(Member = #member{id = Id}, C = #conference{context = Context}) ->
-    {Triples, After} = entering(Member, C),
-    First = first_mode(Triples, mode(Member)),
+add(C) ->
+    #conference{members = Members, blocked = Blocked, refused = Refused} = C,
+    Missing = missing(C),
+    case [Row || Row = #{id := Id, media := Media} <- Members, lists:member(Id, Missing), not lists:member(Id, Blocked),
+                 maps:get(Id, Refused, none) =/= Media] of
+        [] -> none;
+        [Row] -> add_one(Row, C);
+        Rows -> add_some(lists:sublist(Rows, ?MAX_ADDS), C)
+    end.
+
+add_one(Row = #{id := Id}, C = #conference{context = Context}) ->
+    {Triples, After} = entering(Row, C),
+    First = first_mode(Triples, mode(Row)),
     Names = fun(Name) when Name =:= Id -> new; (Name) -> termination(Name, C) end,
-    {#{context => Context, topology => [{Names(A), Names(B), How} || {A, B, How} <- Triples],
-       commands => [{add_optional, settings(Member, First)}]}, {add, [{Id, First}], After}}.
+    {request, #{context => Context, topology => [{Names(A), Names(B), How} || {A, B, How} <- Triples],
+       commands => [{add_optional, settings(Row, First)}]}, {add, [{Row, First}], After}}.
 
 %% The gateway runs commands before triples. If it refuses a triple, for example because somebody else has ended the
 %% other termination, the newcomer is there all the same, connected both ways with everyone.
 first_mode([], Mode) -> Mode;
 first_mode(_, _) -> inactive.
 
-add_some(Missing, C = #conference{context = Context}) ->
-    New = [Id || #member{id = Id} <- Missing],
-    After = lobby_topology:everyone([Id || #member{id = Id} <- held_members(C)] ++ New),
-    Kept = sets:filter(fun({A, B}) -> lists:member(A, New) orelse lists:member(B, New) end, After),
-    {#{context => Context, commands => [{add_optional, settings(Member, inactive)} || Member <- Missing]},
-     {add, [{Id, inactive} || Id <- New], sets:union(C#conference.open, Kept)}}.
+add_some(Rows, C = #conference{context = Context, open = Open}) ->
+    New = [Id || #{id := Id} <- Rows],
+    Everyone = lobby_topology:everyone([Id || #{id := Id} <- held_members(C)] ++ New),
+    Kept = sets:filter(fun({A, B}) -> lists:member(A, New) orelse lists:member(B, New) end, Everyone),
+    {request, #{context => Context, commands => [{add_optional, settings(Row, inactive)} || Row <- Rows]},
+     {add, [{Row, inactive} || Row <- Rows], sets:union(Open, Kept)}}.
 
 %% The triples between a newcomer and the others, and the open flows with him.
-entering(Member, C = #conference{open = Open}) ->
-    {Triples, Flows} = lists:unzip([between(Member, Other, C) || Other <- held_members(C)]),
+entering(Row, C = #conference{open = Open}) ->
+    {Triples, Flows} = lists:unzip([between(Row, Other, C) || Other <- held_members(C)]),
     {lists:append(Triples), sets:union([Open | Flows])}.
 
-between(A = #member{id = IdA}, B = #member{id = IdB}, C) ->
+between(A = #{id := IdA}, B = #{id := IdB}, C) ->
     After = wanted([A, B], C),
     {lists:append(lobby_topology:changes([IdA, IdB], lobby_topology:everyone([IdA, IdB]), After)), After}.
 
 %% Everything else that differs: modes, addresses and formats.
 settle(C = #conference{context = Context, held = Held}) ->
-    Differing = [{T, Member} || Member = #member{id = Id} <- held_members(C),
-                                #{Id := Has = #held{termination = T}} <- [Held], differs(Member, Has)],
+    Differing = [{T, Row} || Row = #{id := Id} <- held_members(C), #{Id := Has = #held{termination = T}} <- [Held],
+                             differs(Row, Has, C)],
     case lists:sublist(Differing, ?MAX_ADDS) of
         [] -> none;
         Some ->
-            Commands = [{modify, T, settings(Member, mode(Member))} || {T, Member} <- Some],
-            {#{context => Context, commands => Commands}, {settle, [Id || {_, #member{id = Id}} <- Some]}}
+            Commands = [{modify, T, settings(Row, mode(Row))} || {T, Row} <- Some],
+            {request, #{context => Context, commands => Commands}, {settle, [Row || {_, Row} <- Some]}}
     end.
 
-differs(Member = #member{media = Media}, #held{remote = Remote, mode = Mode}) ->
-    Media =/= Remote orelse mode(Member) =/= Mode.
+differs(Row = #{id := Id, media := Media}, #held{remote = Remote, mode = Mode}, #conference{refused = Refused}) ->
+    (Media =/= Remote andalso maps:get(Id, Refused, none) =/= Media) orelse mode(Row) =/= Mode.
 
-settings(#member{media = Media = {_, Format}}, Mode) ->
+settings(#{media := Media = {_, Format}}, Mode) ->
     #{mode => Mode, local => Format, remote => Media}.
 
 %% Somebody on hold neither talks nor hears: a conference doesn't want his music.
-mode(#member{direction = sendrecv, muted = false}) -> sendRecv;
-mode(#member{direction = sendrecv, muted = true}) -> sendOnly;
-mode(#member{direction = recvonly}) -> sendOnly;
-mode(#member{direction = sendonly}) -> inactive;
-mode(#member{direction = inactive}) -> inactive.
+mode(#{waiting := true}) -> inactive;
+mode(Row = #{acknowledged := false}) -> common(mode(Row#{acknowledged := true}), recvOnly);
+mode(#{direction := sendrecv, muted := false}) -> sendRecv;
+mode(#{direction := sendrecv, muted := true}) -> sendOnly;
+mode(#{direction := recvonly}) -> sendOnly;
+mode(#{direction := sendonly}) -> inactive;
+mode(#{direction := inactive}) -> inactive.
 
-%% The mode that allows what both allow.
+%% The mode that allows what both allow. One that isn't known stays so if everything is allowed.
+common(unknown, sendRecv) -> unknown;
+common(unknown, Mode) -> Mode;
 common(sendRecv, Mode) -> Mode;
 common(Mode, sendRecv) -> Mode;
 common(Mode, Mode) -> Mode;
 common(_, _) -> inactive.
 
 held_members(#conference{members = Members, held = Held}) ->
-    [Member || Member = #member{id = Id} <- Members, is_map_key(Id, Held)].
+    [Row || Row = #{id := Id} <- Members, is_map_key(Id, Held)].
 
-wanted(Members, #conference{rules = Rules}) ->
-    lobby_rules:flows([{Id, Role} || #member{id = Id, role = Role} <- Members], Rules).
+wanted(Rows, #conference{rules = Rules}) ->
+    lobby_rules:flows([{Id, Role} || #{id := Id, role := Role, isolated := false, waiting := false} <- Rows], Rules).
 
-%% Finds out whether the rules want the open flows, if that may have changed.
+%% Finds out whether the open flows are the wanted ones, if that may have changed.
 agree(false, C) -> C;
 agree(true, C = #conference{open = Open}) -> C#conference{agreed = Open =:= wanted(held_members(C), C)}.
 
@@ -303,137 +450,168 @@ by_termination(Triples, C) ->
 termination(all, _) -> all;
 termination(Id, #conference{held = Held}) -> (maps:get(Id, Held))#held.termination.
 
-without(Id, Flows) ->
-    sets:filter(fun({A, B}) -> A =/= Id andalso B =/= Id end, Flows).
+%%% Its answer.
 
-%% @doc What the gateway answered to the action of a step.
--spec done(step(), lobby_h248:reply(), conference()) -> {[event()], conference()}.
-done({subtract, Some}, _, C = #conference{leaving = Leaving}) ->
-    {[], ended(C#conference{leaving = Leaving -- Some})};
-done(Step, Reply = #{results := Results}, C) ->
+%% @doc A termination was let go: another room has it now.
+-spec done(step() | {released, id()}, {ok, lobby_h248:reply(), owner()} | {error, pos_integer()} | done, conference()) ->
+          {[event()], conference()}.
+done({released, Id}, done, C = #conference{held = Held, departing = Departing}) ->
+    {[], ended(C#conference{held = maps:remove(Id, Held), departing = maps:remove(Id, Departing)})};
+%% What the gateway answered to the action of a step.
+done(_, {error, _}, C) ->
+    failed(C);
+done(Step, {ok, Reply = #{results := Results}, Owners}, C) ->
     case {maps:get(error, Reply, none), Step} of
+        {_, {subtract, Some}} -> subtracted(Some, Reply, C);
         {none, {move, Moved, After}} -> moved(Moved, After, Reply, C);
         {none, {add, New, After}} -> added(New, After, Reply, C);
-        {none, {settle, Ids}} -> changed(Ids, Results, C);
+        {none, {settle, Rows}} -> changed(Rows, Results, C);
         {none, {modify, Modes}} -> kept(Results, C, fun() -> {[], lists:foldl(fun set_mode/2, C, Modes)} end);
         {none, {connect, After}} -> kept(Results, C, fun() -> {[], agree(true, C#conference{open = After})} end);
-        {none, audit} -> compared(maps:get(topology, Reply, []), C);
-        {none, inventory} -> found(Results, C);
+        {none, topology} -> kept(Results, C, fun() -> compared(maps:get(topology, Reply, []), C) end);
+        {none, inventory} -> found(Results, Owners, C);
+        {Code, inventory} when ?IS_GONE(Code) -> {[], gone(C)};
         {410, {add, New, After}} -> refused(New, After, Reply, C);
-        {_, _} -> lost(C)
+        {_, _} -> failed(C)
     end.
 
-%% Whatever is left of the context is ended, and the conference made again. What is in other contexts stays there until it
-%% is ended or moved.
-lost(C = #conference{context = Context, leaving = Leaving, arriving = Arriving}) ->
-    Left = [{Context, all} || Context =/= new] ++ [Place || Place = {In, _} <- Leaving, In =/= Context],
-    {[{lost, Context}], (forget(C))#conference{leaving = Left, arriving = Arriving}}.
+%% Nothing that relies on this request goes on: what the gateway has is found out first.
+failed(C) ->
+    {[failed], doubt(C)}.
 
 %% The gateway ends a context with its last member.
 ended(C = #conference{context = Context, held = Held, leaving = Leaving}) when map_size(Held) =:= 0 ->
     case lists:keymember(Context, 1, Leaving) of
         true -> C;
-        false -> C#conference{context = new}
+        false -> C#conference{context = new, doubts = []}
     end;
 ended(C) ->
     C.
 
-%% Unless a command failed, which it does only if the termination or the context is no longer there.
+subtracted(Some, Reply = #{results := Results}, C = #conference{leaving = Leaving}) ->
+    Codes = [Code || {_, _, {error, Code}} <- Results] ++ [Code || #{error := Code} <- [Reply]],
+    case [Code || Code <- Codes, not ?IS_GONE(Code)] of
+        [] when length(Results) >= length(Some); Codes =/= [] -> {[], ended(C#conference{leaving = Leaving -- Some})};
+        _ -> {[failed], C}
+    end.
+
 kept(Results, C, Next) ->
     case [Code || {_, _, {error, Code}} <- Results] of
         [] -> Next();
-        _ -> lost(C)
+        _ -> failed(C)
     end.
 
 set_mode({Id, Mode}, C = #conference{held = Held}) ->
-    #{Id := Has} = Held,
-    C#conference{held = Held#{Id := Has#held{mode = Mode}}}.
-
-added(New, After, Reply = #{results := Results}, C) ->
-    case [no_context || {add, _, {error, 411}} <- Results] of
-        [] -> entered(New, After, Reply, C);
-        _ -> lost(C)
+    case Held of
+        #{Id := Has} -> C#conference{held = Held#{Id := Has#held{mode = Mode}}};
+        #{} -> C
     end.
 
 %% A refused newcomer's triples are refused, too, because they name what his Add would have created.
 refused(New, After, Reply = #{results := [{add, _, {error, _}}]}, C) -> added(New, After, Reply, C);
-refused(_, _, _, C) -> lost(C).
+refused(_, _, _, C) -> failed(C).
 
-entered(New, After, #{context := Context, results := Results}, C) ->
-    {Events, Made} = lists:mapfoldl(fun added/2, C, lists:zip(New, Results)),
-    Gone = [Id || {rejected, Id, _} <- Events],
-    Added = ended(Made#conference{context = Context, open = lists:foldl(fun without/2, After, Gone)}),
-    {Events, agree(length(New) > 1, Added)}.
-
-added({{Id, Mode}, {add, T, #{local := Local}}}, C = #conference{members = Members, held = Held}) ->
-    #member{media = Media} = lists:keyfind(Id, #member.id, Members),
-    Has = #held{termination = T, local = Local, remote = Media, mode = Mode},
-    {{joined, Id}, C#conference{held = Held#{Id => Has}}};
-added({{Id, _}, {add, _, {error, Code}}}, C) ->
-    {{rejected, Id, Code}, leave(Id, C)}.
-
-moved({Id, Mode}, After, #{context := Context, results := [{move, _, #{}}]}, C = #conference{held = Held}) ->
-    {{_, Has}, Others} = maps:take(Id, C#conference.arriving),
-    {[{changed, Id}], C#conference{context = Context, arriving = Others, open = After,
-                                   held = Held#{Id => Has#held{mode = Mode}}}};
-%% A member who can't be moved is removed and added again.
-moved({Id, _}, _, _, C = #conference{arriving = Arriving, leaving = Leaving}) ->
-    {[], C#conference{arriving = maps:remove(Id, Arriving), leaving = places(Id, C) ++ Leaving}}.
-
-changed(Ids, Results, C) ->
-    case [Code || {_, _, {error, Code}} <- Results, Code =/= 515] of
-        [] -> lists:mapfoldl(fun changed/2, C, lists:zip(lists:sublist(Ids, length(Results)), Results));
-        _ -> lost(C)
+added(New, After, Reply = #{context := Context, results := Results}, C) ->
+    case [no_context || {add, _, {error, 411}} <- Results] of
+        [] when length(Results) =:= length(New) ->
+            {Events, Made} = lists:mapfoldl(fun added/2, C#conference{context = Context}, lists:zip(New, Results)),
+            Gone = [Id || {{#{id := Id}, _}, {add, _, {error, _}}} <- lists:zip(New, Results)],
+            {lists:append(Events), ended(agree(true, opened(lists:foldl(fun flows_without/2, After, Gone), Made)))};
+        _ ->
+            failed(case maps:get(context, Reply, new) of
+                Made when is_integer(Made), C#conference.context =:= new -> C#conference{context = Made};
+                _ -> C
+            end)
     end.
 
-%% Media that the gateway refuses aren't tried again: the member keeps those that he had.
-changed({Id, {modify, _, {error, Code}}}, C = #conference{held = Held}) ->
-    #{Id := #held{remote = Remote}} = Held,
-    {{rejected, Id, Code}, update(Id, #{media => Remote}, C)};
-changed({Id, {modify, _, Properties}}, C = #conference{held = Held, members = Members}) ->
-    #{Id := Has} = Held,
-    Member = #member{media = Media} = lists:keyfind(Id, #member.id, Members),
-    Local = maps:get(local, Properties, Has#held.local),
-    {{changed, Id}, C#conference{held = Held#{Id := Has#held{local = Local, remote = Media, mode = mode(Member)}}}}.
+%% Only between members, of whom one may have left while the request was under way.
+opened(Flows, C) ->
+    Ids = maps:from_keys(ids(C), in),
+    C#conference{open = sets:filter(fun({A, B}) -> is_map_key(A, Ids) andalso is_map_key(B, Ids) end, Flows)}.
 
-%% @doc A request for the topology that the gateway has. `none' if nothing can be compared: a single member has none,
-%% and that of a large conference doesn't fit into a reply.
--spec audit(conference()) -> {lobby_h248:action(), step()} | none.
-audit(#conference{context = Context, held = Held}) when map_size(Held) >= 2, map_size(Held) =< ?MAX_AUDITED ->
-    {#{context => Context, audit_topology => true}, audit};
-audit(_) ->
-    none.
+%% Who left while the request was under way is ended.
+added({{#{id := Id, media := Media}, Mode}, {add, T, #{local := Local}}}, C = #conference{held = Held, arriving = Arriving}) ->
+    Has = #held{termination = T, local = Local, remote = Media, mode = Mode},
+    Added = C#conference{held = Held#{Id => Has}, arriving = maps:remove(Id, Arriving)},
+    {[], case row(Id, C) of none -> expel(Id, Added); _ -> Added end};
+added({{#{id := Id, media := Media}, _}, {add, _, {error, 515}}}, C = #conference{refused = Refused}) ->
+    {[{refused, Id, 515, none}], C#conference{refused = Refused#{Id => Media}}};
+added({{#{id := Id}, _}, {add, _, {error, _}}}, C) ->
+    {[{full, Id}], block(Id, C)}.
+
+moved({Id, Mode}, After, #{context := Context, results := [{move, _, Properties}]}, C = #conference{held = Held, arriving = Arriving}) ->
+    case {Properties, Arriving} of
+        {#{}, #{Id := {given, _, Has}}} ->
+            {[], agree(true, opened(After, C#conference{context = Context, arriving = maps:remove(Id, Arriving),
+                                                        held = Held#{Id => Has#held{mode = Mode}}}))};
+        %% 434: the context is full, 412: there is no context left. He waits where he is.
+        {{error, Code}, _} when Code =:= 434; Code =:= 412 -> {[{full, Id}], block(Id, C)};
+        %% If he can't be moved, he is removed and added.
+        {_, #{Id := {given, From, #held{termination = T}}}} ->
+            #{moved := Moved} = row(Id, C),
+            {[], C#conference{arriving = Arriving#{Id := {cleared, Moved}}, leaving = [{From, T} | C#conference.leaving]}};
+        {_, _} -> failed(C)
+    end;
+moved(_, _, _, C) ->
+    failed(C).
+
+changed(Rows, Results, C) ->
+    case [Code || {_, _, {error, Code}} <- Results, Code =/= 515] of
+        [] ->
+            {Events, Changed} = lists:mapfoldl(fun changed/2, C, lists:zip(lists:sublist(Rows, length(Results)), Results)),
+            {lists:append(Events), Changed};
+        _ -> failed(C)
+    end.
+
+%% Media that the gateway refuses aren't tried again.
+changed({Row = #{id := Id, media := Media}, {modify, _, Properties}}, C = #conference{held = Held, refused = Refused}) ->
+    case {Held, Properties} of
+        {#{Id := #held{remote = Remote}}, {error, Code}} ->
+            Had = case Remote of unknown -> none; _ -> Remote end,
+            {[{refused, Id, Code, Had}], C#conference{refused = Refused#{Id => Media}}};
+        {#{Id := Has = #held{local = Before}}, #{}} ->
+            {[], C#conference{held = Held#{Id := Has#held{local = maps:get(local, Properties, Before), remote = Media, mode = mode(Row)}},
+                              refused = maps:remove(Id, Refused)}};
+        {#{}, _} -> {[], C}
+    end.
+
+%%% Audits.
+
+%% Terminations that nobody has are ended. Those that other rooms have are let be.
+found(Results, Owners, C = #conference{context = Context, held = Held, leaving = Leaving, doubts = Doubts}) ->
+    There = maps:from_list([{T, Properties} || {audit, T, Properties = #{}} <- Results, is_integer(T)]),
+    case {Results, lists:all(fun({_, _, Properties}) -> is_map(Properties) end, Results)} of
+        {[{audit, _, {error, Code}}], _} when ?IS_GONE(Code) -> {[], gone(C)};
+        {[], _} -> {[], gone(C)};
+        {_, false} -> failed(C);
+        {_, true} ->
+            Still = maps:filter(fun(_, #held{termination = T}) -> is_map_key(T, There) end, Held),
+            Known = [T || #held{termination = T} <- maps:values(Still)],
+            Strays = [{Context, T} || T <- maps:keys(There) -- Known, maps:get(T, Owners, none) =/= other],
+            Audited = maps:map(fun(_, Has = #held{termination = T}) -> audited(Has, maps:get(T, There)) end, Still),
+            {[strays || Strays =/= []] ++ [{counts, counts(There)}],
+             ended(lost_from(Held, C#conference{held = Audited, leaving = lists:usort(Strays ++ Leaving), doubts = tl(Doubts)}))}
+    end.
+
+counts(There) ->
+    maps:filtermap(fun(_, #{statistics := #{<<"rtp/pr">> := Count}}) -> {true, Count}; (_, _) -> false end, There).
+
+audited(Has, Properties = #{mode := Mode}) -> Has#held{mode = Mode, remote = maps:get(remote, Properties, unknown)};
+audited(Has = #held{remote = unknown}, _) -> Has#held{mode = unknown};
+audited(Has, _) -> Has.
+
+%% The context is no longer there.
+gone(C = #conference{held = Held, context = Context, leaving = Leaving}) ->
+    Others = [Place || Place = {In, _} <- Leaving, In =/= Context],
+    lost_from(Held, C#conference{context = new, held = #{}, leaving = Others, open = ?NO_FLOWS, doubts = []}).
+
+%% Without those whose terminations have gone.
+lost_from(Before, C = #conference{held = Held, open = Open, departing = Departing}) ->
+    Lost = maps:keys(maps:without(maps:keys(Held), Before)),
+    agree(true, C#conference{open = lists:foldl(fun flows_without/2, Open, Lost), departing = maps:without(Lost, Departing)}).
 
 compared(Triples, C = #conference{held = Held, open = Open}) ->
-    Names = maps:from_list([{T, Id} || {Id, #held{termination = T}} <- maps:to_list(Held)]),
+    Names = maps:from_list([{T, Id} || {Id, #held{termination = T}} <- maps:to_list(maps:with(ids(C), Held))]),
     Known = [{A, B, How} || {S, T, How} <- Triples, #{S := A, T := B} <- [Names]],
     Found = lobby_topology:from_triples(Known),
-    {[repaired || Found =/= Open], agree(true, C#conference{open = Found})}.
-
-%% @doc Takes all flows for open, so that `next/1' closes again whatever the rules close.
--spec suspect(conference()) -> conference().
-suspect(C) ->
-    agree(true, C#conference{open = lobby_topology:everyone([Id || #member{id = Id} <- held_members(C)])}).
-
-%% @doc A request for the terminations in the context, for a room that doesn't know whether its last request was run.
-%% The modes of a large conference might not fit into the reply.
--spec inventory(conference()) -> {lobby_h248:action(), step()} | none.
-inventory(#conference{context = new}) ->
-    none;
-inventory(#conference{context = Context, held = Held}) ->
-    Words = [media || map_size(Held) =< ?MAX_AUDITED],
-    {#{context => Context, commands => [{audit, all, Words}]}, inventory}.
-
-%% Terminations that no member has are ended. A mode that isn't known may be any.
-found(Results, C = #conference{context = Context, held = Held, leaving = Leaving}) ->
-    There = maps:from_list([{T, Properties} || {audit, T, Properties = #{}} <- Results]),
-    Known = [T || #held{termination = T} <- maps:values(Held)],
-    case Known -- maps:keys(There) of
-        [] ->
-            Audited = maps:map(fun(_, Has = #held{termination = T}) ->
-                Has#held{mode = maps:get(mode, maps:get(T, There), sendRecv)}
-            end, Held),
-            {[], C#conference{held = Audited, leaving = [{Context, T} || T <- maps:keys(There) -- Known] ++ Leaving}};
-        _ ->
-            lost(C)
-    end.
+    {[repaired || Found =/= Open], agree(true, C#conference{open = Found, doubts = []})}.

@@ -13,6 +13,7 @@
                     messages_from := pos_integer(), new_calls_from := pos_integer(),
                     silent_after := pos_integer(), room_audit := pos_integer(),
                     store := memory | disc, pair := lobby_pair:config() | none, tls := tls() | none,
+                    roles := [lobby_identity:rule()],
                     http := lobby_sip_message:peer(), tokens := [{binary(), operator | viewer}]}.
 
 %% Where SIP over TLS is served, and whether HTTP is.
@@ -27,7 +28,7 @@
                max_calls => {{1, 100000}, 1024}, max_calls_from => {share, quarter}, max_rooms_from => {share, quarter},
                messages_from => {{1, 100000}, 200}, new_calls_from => {{1, 100000}, 50},
                silent_after => {{1000, 3600000}, 30000}, room_audit => {{500, 600000}, 5000},
-               store => {store, memory}, pair => {pair, none}, tls => {pair, none},
+               store => {store, memory}, pair => {pair, none}, tls => {pair, none}, roles => {roles, []},
                http => {address, {{127, 0, 0, 1}, 8080}}, tokens => {tokens, []}}).
 -define(GATEWAY, #{name => {text, required}, address => {address, required}, here => {ip, {127, 0, 0, 1}},
                    retry => {{10, 5000}, 100}, tries => {{1, 20}, 4}, quiet => {{100, 60000}, 5000},
@@ -119,6 +120,7 @@ is(applications, Value) ->
 is(env, Value) -> is_list(Value) andalso lists:all(fun({Key, _}) -> is_atom(Key); (_) -> false end, Value);
 is(gateways, Value) -> is_list(Value) andalso Value =/= [];
 is(tokens, Value) -> is_list(Value) andalso lists:all(fun is_token/1, Value);
+is(roles, Value) -> is_list(Value) andalso lists:all(fun is_role/1, Value);
 is(pair, Value) -> Value =:= none orelse is_map(Value);
 is(node, Value) ->
     is_atom(Value) andalso re:run(atom_to_list(Value), "^[^@]+@[^@]+$", [dollar_endonly]) =/= nomatch;
@@ -146,9 +148,18 @@ is_path(Value) -> Value =/= [] andalso io_lib:printable_list(Value).
 is_network({Address, Bits}) -> inet:is_ipv4_address(Address) andalso is({0, 32}, Bits);
 is_network(_) -> false.
 
+is_role({{user, User}, Role}) -> is(text, User) andalso is_role_name(Role);
+is_role({{network, Network}, Role}) -> is_network(Network) andalso is_role_name(Role);
+is_role({header, Name, Proxies}) -> is(text, Name) andalso Name =:= string:lowercase(Name) andalso Proxies =/= [] andalso is(networks, Proxies);
+is_role(_) -> false.
+
+is_role_name(Role) -> is(text, Role) andalso byte_size(Role) =< 32.
+
 is_token({Token, Role}) when is_binary(Token), byte_size(Token) >= 16 -> lists:member(Role, [operator, viewer]);
 is_token(_) -> false.
 
+described(roles) -> "a list such as {{user,<<\"ann\">>},<<\"coach\">>}, {{network,{{192,0,2,0},24}},<<\"agent\">>} or "
+                    "{header,<<\"x-role\">>,[{{192,0,2,9},32}]} (in lower case)";
 described(pair) -> "a map or none";
 described(node) -> "a node's name such as 'lobby@10.0.0.20'";
 described(secret) -> "a binary of 16 to 255 bytes";

@@ -25,8 +25,9 @@
                  | {move, termination(), settings()}
                  | {subtract, termination() | all} | {subtract_optional, termination() | all}
                  | {audit, name(), [media | statistics]}.
+%% `guard': a termination that has to be in its context. Otherwise, the gateway refuses its audit, and nothing is run.
 -type action() :: #{context := context() | new | null, commands => [command()], topology => [triple()],
-                    audit_topology => boolean()}.
+                    audit_topology => boolean(), guard => {context(), termination()}}.
 -type triple() :: lobby_topology:triple(termination() | new).
 -type statistics() :: #{binary() => non_neg_integer()}.
 -type properties() :: #{mode => mode(), local => media(), remote => media(), statistics => statistics()}.
@@ -35,15 +36,19 @@
 %% `error`: the action as a whole was refused, after the commands whose results are listed.
 -type reply() :: #{context := context() | null | new, results := [result()], topology => [triple()], error => code()}.
 -type transaction() :: 1..16#FFFFFFFF.
--type message() :: {reply, transaction(), {ok, reply()} | {error, code()}} | {error, code()}.
+%% A reply for each action, up to the first that was refused.
+-type message() :: {reply, transaction(), {ok, [reply()]} | {error, code()}} | {error, code()}.
 
 -define(NONE, asn1_NOVALUE).
 
-%% @doc A message with one request of one action.
+%% @doc A message with one request of one action, behind its guard.
 -spec request(Sender :: endpoint(), transaction(), action()) -> binary().
 request(Sender, Transaction, Action) ->
     message(Sender, [{transactionRequest, #'TransactionRequest'{transactionId = Transaction,
-                                                                actions = [action_request(Action)]}}]).
+                                                                actions = guard(Action) ++ [action_request(Action)]}}]).
+
+guard(#{guard := {Context, Termination}}) -> [action_request(#{context => Context, commands => [{audit, Termination, []}]})];
+guard(#{}) -> [].
 
 %% @doc A message that acknowledges the replies to these transactions.
 -spec acknowledgement(Sender :: endpoint(), [transaction(), ...]) -> binary().
@@ -141,8 +146,7 @@ body({messageError, #'ErrorDescriptor'{errorCode = Code}}) ->
 body({transactions, [{transactionReply, #'TransactionReply'{transactionId = Id, transactionResult = Result}}]}) ->
     case Result of
         {transactionError, #'ErrorDescriptor'{errorCode = Code}} -> {ok, {reply, Id, {error, Code}}};
-        {actionReplies, [Action]} -> {ok, {reply, Id, {ok, action_reply(Action)}}};
-        _ -> {error, not_understood}
+        {actionReplies, Actions} -> {ok, {reply, Id, {ok, [action_reply(Action) || Action <- Actions]}}}
     end;
 body(_) ->
     {error, not_understood}.

@@ -183,20 +183,21 @@ names(_, _, _) -> [].
 -spec routes() -> [route()].
 routes() ->
     [{"GET", <<"/rooms">>, fun(_, _) -> {200, #{rooms => lobby_rooms:names()}} end},
-     {"GET", <<"/rooms/{name}">>, fun(Name, _) -> in_room(Name, fun() -> room(Name) end) end},
+     {"GET", <<"/rooms/{name}">>, fun(Name, _) -> room(Name) end},
      {"PUT", <<"/rooms/{name}">>, fun create/2},
-     {"DELETE", <<"/rooms/{name}">>, fun(Name, _) -> in_room(Name, fun() -> close(Name) end) end},
+     {"DELETE", <<"/rooms/{name}">>, fun(Name, _) -> close(Name) end},
      {"POST", <<"/rooms/{name}/rules">>, fun add_rules/2},
-     {"POST", <<"/rooms/{name}/lock">>, fun(Name, _) -> in_room(Name, fun() -> lock(Name, true) end) end},
-     {"POST", <<"/rooms/{name}/unlock">>, fun(Name, _) -> in_room(Name, fun() -> lock(Name, false) end) end},
-     {"POST", <<"/members/{id}/isolate">>, rules(fun(Id, _) -> lobby_rules:isolate({member, Id}) end)},
-     {"POST", <<"/members/{id}/release">>, rules(fun(Id, _) -> lobby_rules:release({member, Id}) end)},
+     {"POST", <<"/rooms/{name}/lock">>, fun(Name, _) -> lock(Name, true) end},
+     {"POST", <<"/rooms/{name}/unlock">>, fun(Name, _) -> lock(Name, false) end},
+     {"POST", <<"/members/{id}/isolate">>, fun isolate/2},
+     {"POST", <<"/members/{id}/release">>, fun release/2},
      {"POST", <<"/members/{id}/oneway">>, fun oneway/2},
-     {"POST", <<"/members/{id}/mute">>, update(#{muted => true})},
-     {"POST", <<"/members/{id}/unmute">>, update(#{muted => false})},
+     {"POST", <<"/members/{id}/mute">>, fun(Id, _) -> changed(lobby_member:change(Id, #{muted => true})) end},
+     {"POST", <<"/members/{id}/unmute">>, fun(Id, _) -> changed(lobby_member:change(Id, #{muted => false})) end},
      {"POST", <<"/members/{id}/role">>, fun role/2},
+     {"POST", <<"/members/{id}/let_in">>, fun let_in/2},
      {"POST", <<"/members/{id}/move">>, fun move/2},
-     {"POST", <<"/members/{id}/hang_up">>, fun(Id, _) -> changed(lobby_call:hang_up(Id)) end},
+     {"POST", <<"/members/{id}/hang_up">>, fun hang_up/2},
      {"GET", <<"/gateways">>, fun(_, _) -> {200, #{gateways => gateways()}} end},
      {"GET", <<"/events">>, events},
      {"GET", <<"/metrics">>, fun(_, _) ->
@@ -205,45 +206,51 @@ routes() ->
 
 %%% Rooms and gateways.
 
-%% A room can end while it is asked.
-in_room(Name, Answer) ->
-    case lists:member(Name, lobby_rooms:names()) of
-        true ->
-            try
-                Answer()
-            catch
-                exit:{Reason, {gen_server, call, _}} when Reason =:= normal; Reason =:= noproc -> no_room()
-            end;
-        false -> no_room()
+room(Name) ->
+    case {lobby_rooms:call(Name, audit), lobby_rooms:call(Name, describe)} of
+        {Audited, Description = #{members := Members}} ->
+            Callers = lobby_call:callers([Id || {#{id := Id}, _} <- Members]),
+            {200, (lobby_json:room(Name, Description, Callers))#{audited => lists:member(Audited, [same, repaired])}};
+        {_, Error} -> changed(Error)
     end.
 
-no_room() -> {404, failure(<<"there is no such room">>)}.
-
-room(Name) ->
-    Audited = lobby_room:audit(Name),
-    Callers = maps:from_list([{Id, Caller} || #{id := Id, caller := Caller} <- lobby_call:all()]),
-    {200, (lobby_json:room(Name, lobby_room:describe(Name), Callers))#{audited => Audited =/= unknown}}.
-
 create(Name, Object) ->
-    case {lobby_rooms:is_name(Name), lobby_json:rules(Object)} of
-        {false, _} -> no_name();
-        {_, {error, Text}} -> {400, failure(Text)};
-        {_, {ok, Rules}} -> changed_in(Name, fun() -> lobby_rooms:create(Name, Rules) end)
+    case {lobby_rooms:is_name(Name), lobby_json:rules(Object), lobby_json:flag(<<"door">>, Object)} of
+        {false, _, _} -> no_name();
+        {_, {error, Text}, _} -> {400, failure(Text)};
+        {_, _, {error, Text}} -> {400, failure(Text)};
+        {_, {ok, Rules}, {ok, Door}} -> with_members(Rules, fun() -> lobby_rooms:create(Name, Rules, #{door => Door}) end)
     end.
 
 close(Name) ->
-    ok = lobby_room:let_go(Name),
-    Ids = [Id || #{id := Id, room := Room} <- lobby_call:all(), Room =:= Name],
-    lists:foreach(fun(Id) -> _ = lobby_call:hang_up(Id) end, Ids),
-    changed(ok).
+    case lobby_rooms:call(Name, {settings, #{kept => false}}) of
+        ok ->
+            lists:foreach(fun(Id) -> _ = lobby_member:hang_up(Id) end, lobby_store:group_keys(lobby_members, Name)),
+            left(Name);
+        Error -> changed(Error)
+    end.
+
+%% Once the gateway has ended them, nobody hears those whose calls are ended. Their phones may not have answered yet.
+left(Name) ->
+    case lobby_rooms:call(Name, agree) of
+        {error, no_such_room} -> changed(ok);
+        Result -> changed(Result)
+    end.
 
 add_rules(Name, Object) ->
     case lobby_json:rules(Object) of
-        {ok, Rules} -> in_room(Name, fun() -> changed_in(Name, fun() -> lobby_room:add_rules(Name, Rules) end) end);
+        {ok, Rules} -> with_members(Rules, fun() -> lobby_rooms:call(Name, {rules, add, Rules}) end);
         {error, Text} -> {400, failure(Text)}
     end.
 
-lock(Name, Locked) -> changed(lobby_room:lock(Name, Locked)).
+%% A rule about somebody ends with his call, so there is none about whoever hasn't called.
+with_members(Rules, Change) ->
+    case [Id || Id <- lobby_rules:named(Rules), lobby_member:find(Id) =:= error] of
+        [] -> changed(Change());
+        _ -> changed({error, no_member})
+    end.
+
+lock(Name, Locked) -> changed(lobby_rooms:call(Name, {settings, #{locked => Locked}})).
 
 gateways() -> [lobby_json:gateway(Handle, Load) || {Handle, Load} <- lobby_gateway:serving()].
 
@@ -251,36 +258,49 @@ no_name() -> {400, failure(<<"a room's name must be 1 to 32 letters, digits or _
 
 %%% Members.
 
-%% In the room of this member.
-of_member(Id, Change) ->
-    case [Room || #{id := Known, room := Room} <- lobby_call:all(), Known =:= Id] of
-        [Room] -> in_room(Room, fun() -> changed_in(Room, fun() -> Change(Room) end) end);
-        [] -> changed({error, no_member})
+%% With "keep", whoever calls again under the same identity is isolated again.
+isolate(Id, Object) ->
+    case lobby_json:flag(<<"keep">>, Object) of
+        {ok, Keep} -> _ = [kept_isolated(Id, true) || Keep], changed(lobby_member:change(Id, #{isolated => true}));
+        {error, Text} -> {400, failure(Text)}
     end.
 
--spec rules(fun((binary(), map()) -> [lobby_rules:rule()])) -> handler().
-rules(Rules) ->
-    fun(Id, Object) -> of_member(Id, fun(Room) -> lobby_room:add_rules(Room, Rules(Id, Object)) end) end.
+release(Id, _) ->
+    _ = kept_isolated(Id, false),
+    changed(lobby_member:change(Id, #{isolated => false})).
 
--spec update(lobby_conference:change()) -> handler().
-update(Change) ->
-    fun(Id, _) -> of_member(Id, fun(Room) -> lobby_room:update(Room, Id, Change) end) end.
+kept_isolated(Id, Keep) ->
+    case lobby_member:find(Id) of
+        {ok, #{identity := Identity}} -> lobby_identity:keep_isolated(Identity, Keep);
+        error -> ok
+    end.
 
 oneway(Id, Object) ->
-    with_text(<<"listener">>, Object, fun(Listener) -> of_member(Id, fun(Room) ->
-        case lobby_room:describe(Room) of
-            #{members := #{Listener := _}} ->
-                lobby_room:add_rules(Room, lobby_rules:oneway({member, Id}, {member, Listener}));
-            #{} -> {error, no_listener}
-        end
-    end) end).
+    with_text(<<"listener">>, Object, fun(Listener) -> case {lobby_member:find(Id), lobby_member:find(Listener)} of
+        {error, _} -> changed({error, no_member});
+        {{ok, #{room := Room}}, {ok, #{room := Room}}} ->
+            changed(lobby_rooms:call(Room, {rules, add, lobby_rules:oneway({member, Id}, {member, Listener})}));
+        {_, _} -> changed({error, no_listener})
+    end end).
 
 role(Id, Object) ->
-    with_text(<<"role">>, Object, fun(Role) -> (update(#{role => Role}))(Id, Object) end).
+    with_text(<<"role">>, Object, fun(Role) -> changed(lobby_member:change(Id, #{role => Role})) end).
+
+hang_up(Id, _) ->
+    case lobby_member:find(Id) of
+        {ok, #{room := Room}} -> case lobby_member:hang_up(Id) of
+            ok -> left(Room);
+            Error -> changed(Error)
+        end;
+        error -> changed({error, no_member})
+    end.
+
+let_in(Id, Object) ->
+    with_text(<<"role">>, Object, fun(Role) -> changed(lobby_member:change(Id, #{role => Role, waiting => false})) end).
 
 move(Id, Object) ->
     with_text(<<"room">>, Object, fun(To) -> case lobby_rooms:is_name(To) of
-        true -> changed_in(To, fun() -> lobby_call:move(Id, To) end);
+        true -> changed(lobby_member:move(Id, To));
         false -> no_name()
     end end).
 
@@ -290,27 +310,18 @@ with_text(Key, Object, Change) ->
         {error, Text} -> {400, failure(Text)}
     end.
 
-%% A change isn't done before the gateway has it.
-changed_in(Room, Change) ->
-    case Change() of
-        {error, Reason} -> changed({error, Reason});
-        Done -> in_room(Room, fun() -> case lobby_room:agrees(Room) of
-            true -> changed(Done);
-            false -> changed({error, not_yet})
-        end end)
-    end.
-
 changed(ok) -> {200, #{}};
-changed({ok, _}) -> {200, #{}};
 changed({error, {refused, Code}}) ->
     {502, failure(<<"the gateway rejected the request: error ", (integer_to_binary(Code))/binary>>)};
 changed({error, Reason}) ->
     {Status, Text} = reason(Reason),
     {Status, failure(Text)}.
 
+reason(no_such_room) -> {404, <<"there is no such room">>};
 reason(no_member) -> {404, <<"there is no such member">>};
 reason(no_listener) -> {404, <<"the listener isn't in the member's room">>};
 reason(same_room) -> {409, <<"the member is already in this room">>};
+reason(room_locked) -> {409, <<"the room is locked">>};
 reason(room_full) -> {409, <<"the room is full">>};
 reason(too_many_rules) -> {409, <<"the room would have too many rules">>};
 reason(too_many_rooms) -> {409, <<"there are too many rooms">>};

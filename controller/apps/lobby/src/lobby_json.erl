@@ -1,7 +1,7 @@
 %%% @doc What the HTTP interface reads and writes, as JSON terms (maps, as jiffy has them).
 -module(lobby_json).
 
--export([decode/1, encode/1, rules/1, text/2, room/3, gateway/2]).
+-export([decode/1, encode/1, rules/1, text/2, flag/2, room/3, gateway/2]).
 -export_type([json/0]).
 
 -type json() :: #{binary() | atom() => term()}.
@@ -66,16 +66,27 @@ text(Key, Object) ->
         #{} -> {error, <<"\"", Key/binary, "\" must be a string of 1 to 32 bytes">>}
     end.
 
+%% @doc Whether something is wanted; without the key it isn't.
+-spec flag(binary(), #{binary() => term()}) -> {ok, boolean()} | {error, binary()}.
+flag(Key, Object) ->
+    case maps:get(Key, Object, false) of
+        Flag when is_boolean(Flag) -> {ok, Flag};
+        _ -> {error, <<"\"", Key/binary, "\" must be true or false">>}
+    end.
+
 %% @doc A room, with what the gateway says of its topology and with callers' names by id.
--spec room(lobby_room:name(), lobby_room:description(), #{lobby_rules:id() => binary()}) -> json().
+-spec room(lobby_room:name(), lobby_room_core:description(), #{lobby_rules:id() => binary()}) -> json().
 room(Name, Description, Callers) ->
-    #{members := Members, rules := Rules, flows := Flows, gateway := Gateway, context := Context,
-      locked := Locked} = Description,
-    #{name => Name, gateway => or_null(Gateway), context => or_null(Context), locked => Locked,
-      rules => [written(Rule) || Rule <- Rules],
-      members => [Member#{id => Id, caller => maps:get(Id, Callers, <<>>)}
-                  || {Id, Member} <- lists:sort(maps:to_list(Members))],
+    #{members := Members, rules := Rules, flows := Flows, gateway := Gateway, context := Context, settings := Settings} = Description,
+    #{name => Name, gateway => or_null(Gateway), context => or_null(Context), locked => maps:get(locked, Settings, false),
+      door => maps:get(door, Settings, false), rules => [written(Rule) || Rule <- Rules],
+      members => [member(Row, Termination, Callers) || {Row, Termination} <- lists:sort(Members)],
       flows => [#{talker => Talker, listener => Listener} || {Talker, Listener} <- Flows]}.
+
+member(Row = #{id := Id}, Termination, Callers) ->
+    Shown = maps:with([id, role, muted, isolated, waiting, direction], Row),
+    With = case Termination of none -> Shown; _ -> Shown#{termination => Termination} end,
+    With#{caller => maps:get(Id, Callers, <<>>)}.
 
 or_null(Atom) when is_atom(Atom) -> null;
 or_null(Value) -> Value.

@@ -9,8 +9,8 @@ text() ->
     Counters = maps:groups_from_list(fun({{Name, _}, _}) -> Name end, fun({{_, Gateway}, N}) -> {Gateway, N} end,
                                      lobby_events:counts()),
     iolist_to_binary([
-        family("lobby_rooms", "gauge", [{none, length(lobby_rooms:names())}]),
-        family("lobby_calls", "gauge", [{none, length(lobby_call:all())}]),
+        family("lobby_rooms", "gauge", [{none, lobby_store:size(lobby_rooms)}]),
+        family("lobby_calls", "gauge", [{none, lobby_store:size(lobby_calls)}]),
         family("lobby_gateways_serving", "gauge", [{none, length(Serving)}]),
         family("lobby_gateway_terminations", "gauge",
                [{lobby_gateway:name(Handle), Used} || {Handle, #{terminations := Used}} <- Serving])

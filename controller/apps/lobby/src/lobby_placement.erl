@@ -1,21 +1,61 @@
-%%% @doc On which gateway a conference is made.
+%%% @doc On which gateway a conference is made. One process chooses for all rooms, one after the other: if many looked at
+%%% the same time, all would choose the same gateway, and have no room there to grow.
 -module(lobby_placement).
+-behaviour(gen_server).
 
--export([choose/2]).
+-export([start_link/0, place/4, ranked/3]).
+-export([init/1, handle_call/3, handle_cast/2]).
 -export_type([load/0]).
 
-%% How many terminations and contexts a gateway has, and how many it may have.
+-type handle() :: lobby_gateway:handle().
+%% How many terminations and contexts a gateway has or has promised, and how many it may have.
 -type load() :: #{terminations := non_neg_integer(), contexts := non_neg_integer(),
                   max_terminations := pos_integer(), max_contexts := pos_integer()}.
 
-%% @doc The gateway with the most room for members, among those that have it for this many more and for a context.
--spec choose(Members :: non_neg_integer(), [{Gateway, load()}]) -> {ok, Gateway} | {error, no_room}.
-choose(Members, Gateways) ->
-    Fitting = [{-free(Load), Gateway} || {Gateway, Load} <- Gateways, free(Load) >= Members, has_context(Load)],
-    case lists:keysort(1, Fitting) of
-        [] -> {error, no_room};
-        [{_, Gateway} | _] -> {ok, Gateway}
+-spec start_link() -> gen_server:start_ret().
+start_link() ->
+    gen_server:start_link({local, ?MODULE}, ?MODULE, [], []).
+
+%% @doc Reserves seats for all of a room's members, on the gateway that is preferred or on the one with the most that are
+%% free, but for one.
+-spec place(lobby_room:name(), [lobby_rules:id()], Prefer :: handle() | none, Except :: handle() | none) -> handle() | none.
+place(Room, Ids, Prefer, Except) ->
+    try
+        gen_server:call(?MODULE, {place, Room, Ids, Prefer, Except})
+    catch
+        exit:{_, {gen_server, call, _}} -> none
     end.
+
+-spec init([]) -> {ok, none}.
+init([]) ->
+    {ok, none}.
+
+-spec handle_call({place, lobby_room:name(), [lobby_rules:id()], handle() | none, handle() | none}, gen_server:from(), none) ->
+          {reply, handle() | none, none}.
+handle_call({place, Room, Ids, Prefer, Except}, _, State) ->
+    {reply, placed(Room, Ids, Prefer, Except), State}.
+
+-spec handle_cast(term(), none) -> {noreply, none}.
+handle_cast(_, State) ->
+    {noreply, State}.
+
+%% A gateway has the last word on its seats.
+placed(Room, Ids, Prefer, Except) ->
+    Others = [{Handle, Load} || {Handle, Load} <- lobby_gateway:serving(), Handle =/= Except],
+    first(fun(Handle) -> lobby_gateway:reserve(Handle, Room, Ids) end, ranked(length(Ids), Prefer, Others)).
+
+first(_, []) -> none;
+first(Accepts, [Handle | Rest]) ->
+    case Accepts(Handle) of
+        true -> Handle;
+        false -> first(Accepts, Rest)
+    end.
+
+%% @doc The gateways that may have seats for so many and a context, the best first. Who moves there may have his already.
+-spec ranked(Members :: non_neg_integer(), Prefer :: handle() | none, [{handle(), load()}]) -> [handle()].
+ranked(Members, Prefer, Gateways) ->
+    Fitting = [{-free(Load), Handle} || {Handle, Load} <- Gateways, Handle =/= Prefer, free(Load) >= Members, has_context(Load)],
+    [Handle || {Handle, _} <- Gateways, Handle =:= Prefer] ++ [Handle || {_, Handle} <- lists:sort(Fitting)].
 
 free(#{terminations := Used, max_terminations := Max}) -> Max - Used.
 

@@ -3,7 +3,7 @@
 -module(lobby_registry).
 -behaviour(gen_server).
 
--export([start_link/0, register_name/2, unregister_name/1, whereis_name/1, send/2, processes/1]).
+-export([start_link/0, register_name/2, unregister_name/1, whereis_name/1, send/2, processes/1, names/1]).
 -export([init/1, handle_call/3, handle_cast/2, handle_info/2]).
 
 %% Names by process. The table has processes by name.
@@ -40,6 +40,11 @@ send(Name, Message) ->
 -spec processes(atom()) -> [pid()].
 processes(Kind) ->
     lists:append(ets:match(?MODULE, {{Kind, '_'}, '$1'})).
+
+%% @doc The same, with the second parts of their names.
+-spec names(atom()) -> [{term(), pid()}].
+names(Kind) ->
+    [{Name, Pid} || [Name, Pid] <- ets:match(?MODULE, {{Kind, '$1'}, '$2'})].
 
 -spec init([]) -> {ok, state()}.
 init([]) ->

@@ -1,14 +1,14 @@
-%%% @doc Rooms by name: they are started when somebody joins them or when they are created, and again from what was
+%%% @doc Rooms by name: they are started when somebody is to be admitted or when they are created, and again from what was
 %%% kept.
 -module(lobby_rooms).
 
--export([is_name/1, create/2, join/3, leave/2, update/3, move/3, names/0, restore/0]).
+-export([is_name/1, create/3, call/2, tell/2, notify/2, gateway/1, has_door/1, names/0, exists/1, start/1, set_aside/1]).
 -export_type([error/0]).
 
 -define(MAX_ROOMS, 10000).
 -define(TRIES, 3).
 
--type error() :: lobby_room:error() | same_room | too_many_rooms.
+-type error() :: lobby_room_core:error() | too_many_rooms | no_such_room.
 
 %% @doc Whether a text can be a room's name.
 -spec is_name(binary()) -> boolean().
@@ -16,88 +16,97 @@ is_name(Text) ->
     re:run(Text, "^[A-Za-z0-9_.-]{1,32}$", [dollar_endonly]) =/= nomatch.
 
 %% @doc A room that stays when its last member leaves.
--spec create(lobby_room:name(), [lobby_rules:rule()]) -> ok | {error, error()}.
-create(Name, Rules) ->
-    in_room(Name, fun() ->
-        case lobby_room:set_rules(Name, Rules) of
-            ok -> lobby_room:keep(Name);
-            {error, Reason} -> {error, Reason}
-        end
-    end, ?TRIES).
-
-%% @doc Lets a member into a room. Creates the room if it doesn't exist.
--spec join(lobby_room:name(), lobby_rules:id(), lobby_conference:member()) ->
-          {ok, lobby_h248:media()} | {error, error()}.
-join(Name, Id, Member) ->
-    in_room(Name, fun() -> lobby_room:join(Name, Id, Member) end, ?TRIES).
-
--spec leave(lobby_room:name(), lobby_rules:id()) -> ok.
-leave(Name, Id) ->
-    case lobby_store:get(lobby_rooms, Name) of
-        {ok, _} -> in_room(Name, fun() -> lobby_room:leave(Name, Id) end, ?TRIES);
-        error -> ok
+-spec create(lobby_room:name(), [lobby_rules:rule()], lobby_room_core:settings()) -> ok | {error, error()}.
+create(Name, Rules, Settings) ->
+    case started(Name, new) of
+        ok -> called(Name, {create, Rules, Settings}, ?TRIES);
+        {error, Reason} -> {error, Reason}
     end.
 
-%% @doc Changes what a member offers, or whether he is muted.
--spec update(lobby_room:name(), lobby_rules:id(), lobby_conference:change()) ->
-          {ok, lobby_h248:media()} | {error, error()}.
-update(Name, Id, Change) ->
-    in_room(Name, fun() -> lobby_room:update(Name, Id, Change) end, ?TRIES).
+%% @doc Asks a room that exists.
+-spec call(lobby_room:name(), lobby_room:request()) -> term() | {error, no_such_room}.
+call(Name, Request) ->
+    case started(Name, old) of
+        ok -> called(Name, Request, ?TRIES);
+        {error, Reason} -> {error, Reason}
+    end.
 
-%% @doc Moves a member to another room. If that doesn't take him, he stays, with his rules; with `no_member', he is in no
-%% room.
--spec move(lobby_rules:id(), From :: lobby_room:name(), To :: lobby_room:name()) ->
-          {ok, lobby_h248:media()} | {error, error()}.
-move(_, Name, Name) ->
-    {error, same_room};
-move(Id, From, To) ->
-    case lobby_room:take(From, Id) of
-        {ok, Given} ->
-            case in_room(To, fun() -> lobby_room:give(To, Id, Given) end, ?TRIES) of
-                {ok, Local} -> ok = leave(From, Id), {ok, Local};
-                {error, Reason} ->
-                    case in_room(From, fun() -> lobby_room:give(From, Id, Given) end, ?TRIES) of
-                        {ok, _} -> {error, Reason};
-                        {error, _} -> {error, no_member}
-                    end
-            end;
-        {error, Reason} ->
-            {error, Reason}
+%% A room that ends, because it is empty or because it fails, is started again.
+called(Name, Request, Tries) ->
+    try
+        lobby_room:call(Name, Request)
+    catch
+        exit:{Reason, {gen_server, call, _}} when Tries > 1, Reason =/= timeout ->
+            case started(Name, old) of
+                ok -> called(Name, Request, Tries - 1);
+                {error, no_such_room} -> {error, no_such_room}
+            end
+    end.
+
+%% @doc Tells a room of what happened to a member. A room that ends or fails at this moment doesn't hear of it: whoever has
+%% no answer tells it again.
+-spec tell(lobby_room:name(), lobby_room_core:event()) -> ok | {error, error()}.
+tell(Name, Event) ->
+    case started(Name, case element(1, Event) of admit -> new; want -> new; _ -> old end) of
+        ok -> gen_server:cast({via, lobby_registry, {room, Name}}, Event);
+        {error, Reason} -> {error, Reason}
+    end.
+
+%% @doc Sends a room a message, if it runs.
+-spec notify(lobby_room:name(), term()) -> ok.
+notify(Name, Message) ->
+    case lobby_registry:whereis_name({room, Name}) of
+        undefined -> ok;
+        Pid -> Pid ! Message, ok
+    end.
+
+%% @doc The gateway that a room uses, as far as the store knows.
+-spec gateway(lobby_room:name() | none) -> lobby_gateway:handle() | none.
+gateway(none) ->
+    none;
+gateway(Name) ->
+    case lobby_store:get(lobby_rooms, Name) of
+        {ok, #{gateway := Gateway}} -> Gateway;
+        _ -> none
+    end.
+
+%% @doc Whether newcomers wait until somebody lets them in.
+-spec has_door(lobby_room:name()) -> boolean().
+has_door(Name) ->
+    case lobby_store:get(lobby_rooms, Name) of
+        {ok, #{settings := Settings}} -> maps:get(door, Settings, false);
+        _ -> false
     end.
 
 -spec names() -> [lobby_room:name()].
 names() ->
     lists:sort(lobby_store:keys(lobby_rooms)).
 
-%% @doc Starts the rooms that were kept, in the background: those that are needed before are started then. What a gateway
-%% has for no room is ended. Called by the supervisor.
--spec restore() -> ignore.
-restore() ->
-    Kept = lobby_room:kept(),
-    Used = maps:groups_from_list(fun({_, Gateway, _}) -> Gateway end, fun({_, _, Contexts}) -> Contexts end, Kept),
-    lists:foreach(fun(Gateway) ->
-        lobby_gateway:keep_only(Gateway, lists:append(maps:get(Gateway, Used, [])))
-    end, lobby_gateway:handles()),
-    _ = spawn(fun() -> lists:foreach(fun({Name, _, _}) -> ok = start(Name) end, Kept) end),
-    ignore.
+-spec exists(lobby_room:name()) -> boolean().
+exists(Name) ->
+    lobby_store:has(lobby_rooms, Name).
 
-%% A room that ends, because it is empty or because it fails, is started again.
-in_room(Name, Request, Tries) ->
-    case start(Name) of
-        ok ->
-            try
-                Request()
-            catch
-                exit:{Reason, {gen_server, call, _}} when Tries > 1, Reason =/= timeout ->
-                    in_room(Name, Request, Tries - 1)
-            end;
-        {error, Reason} ->
-            {error, Reason}
+%% A room that was kept is started whatever the limit.
+started(Name, Kind) ->
+    case {lobby_registry:whereis_name({room, Name}), exists(Name), lobby_store:size(lobby_rooms) < ?MAX_ROOMS} of
+        {undefined, false, _} when Kind =:= old -> {error, no_such_room};
+        {undefined, false, false} -> {error, too_many_rooms};
+        {undefined, _, _} -> {ok, _} = start(Name), ok;
+        {_, _, _} -> ok
     end.
 
+%% @doc Starts a room's process.
+-spec start(lobby_room:name()) -> {ok, pid()}.
 start(Name) ->
-    case {lobby_registry:whereis_name({room, Name}), lobby_store:size(lobby_rooms) < ?MAX_ROOMS} of
-        {undefined, true} -> {ok, _} = supervisor:start_child(lobby_room_sup, [Name]), ok;
-        {undefined, false} -> {error, too_many_rooms};
-        {_, _} -> ok
-    end.
+    lobby_keeper:started(room, Name, supervisor:start_child(lobby_room_sup, [Name])).
+
+%% @doc A room whose process fails again and again is closed: what gateways have for it is ended, and its members are hung
+%% up. The others go on.
+-spec set_aside(lobby_room:name()) -> ok.
+set_aside(Name) ->
+    logger:error("room ~ts fails again and again. It is closed", [Name]),
+    ok = lobby_events:count(lobby_set_aside_total),
+    _ = [lobby_gateway:cast(Gateway, {seats, Gateway, Name, []}) || {Gateway, _} <- lobby_gateway:serving()],
+    ok = lobby_store:delete(lobby_rooms, Name),
+    lists:foreach(fun(Id) -> _ = lobby_member:hang_up(Id) end, lobby_store:group_keys(lobby_members, Name)),
+    lobby_events:publish({room, Name}).

@@ -4,7 +4,7 @@
 %%% without one the listener hears the talker. Rules name members, never terminations, so they hold on any gateway.
 -module(lobby_rules).
 
--export([hears/3, flows/2, add/2, forget/2, preset/1, isolate/1, release/1, oneway/2]).
+-export([hears/3, flows/2, add/2, forget/2, named/1, preset/1, oneway/2]).
 -export_type([id/0, role/0, party/0, rule/0, member/0, flow/0, flows/0]).
 
 -define(MAX_RULES, 256).
@@ -52,20 +52,17 @@ add(New, Rules) ->
 forget(Id, Rules) ->
     [Rule || Rule = {_, From, To} <- Rules, From =/= {member, Id}, To =/= {member, Id}].
 
+%% @doc The members whom rules name.
+-spec named([rule()]) -> [id()].
+named(Rules) ->
+    lists:usort([Id || {_, From, To} <- Rules, {member, Id} <- [From, To]]).
+
 %% @doc Rules for the usual kinds of rooms, by roles.
 -spec preset(plain | lecture | coaching | monitored) -> [rule()].
 preset(plain) -> [];
 preset(lecture) -> [{deny, {role, <<"listener">>}, everyone}];
 preset(coaching) -> [{deny, {role, <<"coach">>}, {role, <<"customer">>}}];
 preset(monitored) -> [{deny, {role, <<"monitor">>}, everyone}].
-
-%% @doc The party hears nobody, and nobody hears it.
--spec isolate(party()) -> [rule()].
-isolate(Party) -> [{deny, Party, everyone}, {deny, everyone, Party}].
-
-%% @doc The party hears everyone, and everyone hears it.
--spec release(party()) -> [rule()].
-release(Party) -> [{allow, Party, everyone}, {allow, everyone, Party}].
 
 %% @doc The listener hears the talker, but not the other way round.
 -spec oneway(Talker :: party(), Listener :: party()) -> [rule()].

@@ -6,7 +6,7 @@
 -include_lib("p1_sip/include/esip.hrl").
 
 -export([start_link/1, received/2, send/2, own/0, own/1, own_tag/1, allow/0]).
--export([init/1, handle_continue/2, handle_call/3, handle_cast/2, handle_info/2]).
+-export([init/1, handle_call/3, handle_cast/2, handle_info/2]).
 -export_type([config/0]).
 
 -type config() :: #{sip := lobby_sip_message:peer(), users := lobby_auth:users(), digest := [lobby_auth:algorithm()],
@@ -71,26 +71,18 @@ tag_in(Key) ->
 allow() ->
     lobby_sip_message:allow().
 
--spec init(config()) -> {ok, #state{}, {continue, restore}} | {stop, {cannot_bind, lobby_sip_message:peer(), inet:posix()}}.
+-spec init(config()) -> {ok, #state{}} | {stop, {cannot_bind, lobby_sip_message:peer(), inet:posix()}}.
 init(Config = #{sip := Own, digest := Algorithms, tls := Tls}) ->
     case open(Own, 50) of
         {ok, Socket} ->
             OwnTls = case Tls of #{sip := Address} -> Address; none -> none end,
             ok = persistent_term:put(?MODULE, {Socket, Own, secret(), OwnTls}),
-            {ok, #state{config = Config, socket = Socket, admission = lobby_admission:new(Config),
-                        auth = lobby_auth:new(Algorithms)}, {continue, restore}};
+            State = #state{config = Config, socket = Socket, admission = lobby_admission:new(Config),
+                           auth = lobby_auth:new(Algorithms)},
+            {ok, lists:foldl(fun({Pid, Source}, Acc) -> watch({Pid, address(Source)}, <<>>, Acc) end, State, lobby_call:sources())};
         {error, Reason} ->
             {stop, {cannot_bind, Own, Reason}}
     end.
-
-%% Calls that were kept are started by another process, and before that, those for which something comes.
--spec handle_continue(restore, #state{}) -> {noreply, #state{}}.
-handle_continue(restore, State) ->
-    Self = self(),
-    _ = spawn_link(fun() ->
-        lists:foreach(fun(Key) -> Self ! {restored, lobby_call:restore(Key)} end, lobby_store:keys(lobby_calls))
-    end),
-    {noreply, State}.
 
 %% The socket of a process that was killed is closed a little later.
 open(Own = {Address, Port}, Tries) ->
@@ -126,8 +118,8 @@ handle_info({udp, Socket, Address, Port, Datagram}, State = #state{socket = Sock
 handle_info({udp_passive, Socket}, State = #state{socket = Socket}) ->
     ok = inet:setopts(Socket, [{active, 100}]),
     {noreply, State};
-handle_info({restored, Restored}, State) ->
-    {noreply, restored(Restored, State)};
+handle_info({started, Pid, Source}, State) ->
+    {noreply, watch({Pid, address(Source)}, <<>>, State)};
 handle_info({'DOWN', _, process, Pid, _}, State = #state{admission = Admission}) ->
     {noreply, State#state{admission = lobby_admission:left(Pid, Admission)}};
 handle_info(_, State) ->
@@ -186,13 +178,10 @@ in_call(Key, Message, Source, State) ->
 
 without_process(Key, Message = #sip{type = Type}, Source, State) ->
     case {lobby_call:restore(Key), Type} of
-        {Restored = {ok, Pid, _}, _} -> forward(Pid, Message, Source), restored(Restored, State);
+        {{ok, Pid}, _} -> forward(Pid, Message, Source), State;
         {error, request} -> unknown(Message, Source, State);
         {error, response} -> State
     end.
-
-restored({ok, Pid, Source}, State) -> watch({Pid, address(Source)}, <<>>, State);
-restored(error, State) -> State.
 
 %% What is dropped is sent again by whoever wants an answer.
 forward(Pid, Message, Source) ->
@@ -240,12 +229,11 @@ identified(Request, Address, State = #state{config = #{users := Users, proxies :
 
 admitted(Request = #sip{uri = #uri{user = Room}}, Source, State = #state{admission = Before}) ->
     Address = address(Source),
-    IsNew = lobby_store:get(lobby_rooms, Room) =:= error,
-    {Verdict, Admission} = lobby_admission:call(Address, {Room, IsNew}, now_ms(), Before),
+    {Verdict, Admission} = lobby_admission:call(Address, {Room, not lobby_rooms:exists(Room)}, now_ms(), Before),
     State1 = State#state{admission = Admission},
     case Verdict of
         ok ->
-            {ok, Pid} = supervisor:start_child(lobby_call_sup, [Room, Request, Source]),
+            {ok, Pid} = lobby_call:start(Room, Request, Source),
             ok = used(Source, Pid),
             watch({Pid, Address}, Room, State1);
         too_many -> answer(486, [], Request, Source, State1);

@@ -88,7 +88,7 @@ name({Key, _}) ->
 header(Line) ->
     case {binary:split(Line, <<":">>), binary:match(Line, [<<"\r">>, <<"\n">>])} of
         {[Name, Value], nomatch} -> case key(lower(trim(Name))) of
-            unused -> [];
+            unused -> [{role, {Role, trim(Value)}} || {header, Role, _} <- application:get_env(lobby, roles, []), Role =:= lower(trim(Name))];
             Key -> case read(fun(Text) -> value(Key, Text) end, trim(Value)) of
                 {ok, Read} -> [{Key, Read}];
                 error -> [{atom_to_binary(Key), trim(Value)}]

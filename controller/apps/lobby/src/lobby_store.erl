@@ -7,15 +7,18 @@
 -module(lobby_store).
 -behaviour(gen_server).
 
--export([start_link/1, put/3, get/2, delete/2, all/1, keys/1, size/1, count/1, run/0, is_open/0, follow/1, admit/1]).
+-export([start_link/1, put/3, put/4, get/2, has/2, delete/2, all/1, group/2, group_keys/2, groups/1, keys/1, size/1, count/1, is_open/0, follow/1, admit/1]).
 -export([init/1, handle_continue/2, handle_call/3, handle_cast/2, handle_info/2]).
--export_type([table/0, config/0, run/0]).
+-export_type([table/0, config/0]).
 
--type table() :: lobby_rooms | lobby_gateways | lobby_calls | lobby_counters | lobby_settings.
--opaque run() :: reference().
+%% Members are grouped by room, and what a gateway has and was sent by its name.
+-type table() :: lobby_rooms | lobby_gateways | lobby_calls | lobby_counters | lobby_settings | lobby_isolated
+               | grouped().
+-type grouped() :: lobby_members | lobby_terminations | lobby_requests.
 %% `disc': mnesia's folder (its `dir') has the tables, too.
 -type config() :: #{store := memory | disc, pair := lobby_pair:config() | none}.
--define(TABLES, [lobby_rooms, lobby_gateways, lobby_calls, lobby_counters, lobby_settings]).
+-define(GROUPED, [lobby_members, lobby_terminations, lobby_requests]).
+-define(TABLES, [lobby_rooms, lobby_gateways, lobby_calls, lobby_counters, lobby_settings, lobby_isolated | ?GROUPED]).
 -define(WAIT, 30000).
 %% Milliseconds until a node asks the other one again.
 -define(AGAIN, 500).
@@ -31,12 +34,21 @@ start_link(Config) ->
 put(Table, Key, Value) ->
     write(fun() -> mnesia:write({Table, Key, lobby_stored:pack(Value)}) end).
 
+%% @doc Writes to a table with groups.
+-spec put(grouped(), Key :: term(), Group :: term(), Value :: term()) -> ok.
+put(Table, Key, Group, Value) ->
+    write(fun() -> mnesia:write({Table, Key, lobby_stored:pack(Value), Group}) end).
+
 -spec get(table(), Key :: term()) -> {ok, Value :: term()} | error.
 get(Table, Key) ->
     case mnesia:dirty_read(Table, Key) of
-        [{_, _, Stored}] -> {ok, unpack(Table, Stored)};
+        [Row] -> {ok, unpack(Table, element(3, Row))};
         [] -> error
     end.
+
+-spec has(table(), Key :: term()) -> boolean().
+has(Table, Key) ->
+    ets:member(Table, Key).
 
 -spec delete(table(), Key :: term()) -> ok.
 delete(Table, Key) ->
@@ -50,9 +62,22 @@ write(Change) ->
 all(Table) ->
     [{Key, unpack(Table, Stored)} || {_, Key, Stored} <- mnesia:dirty_match_object({Table, '_', '_'})].
 
+%% @doc What a group has. No other rows are looked at.
+-spec group(grouped(), Group :: term()) -> [{Key :: term(), Value :: term()}].
+group(Table, Group) ->
+    [{Key, unpack(Table, Stored)} || {_, Key, Stored, _} <- mnesia:dirty_index_read(Table, Group, group)].
+
+-spec group_keys(grouped(), Group :: term()) -> [Key :: term()].
+group_keys(Table, Group) ->
+    [Key || {_, Key, _, _} <- mnesia:dirty_index_read(Table, Group, group)].
+
 unpack(Table, Stored) ->
     {ok, Value} = lobby_stored:unpack(Table, Stored),
     Value.
+
+-spec groups(grouped()) -> [Group :: term()].
+groups(Table) ->
+    lists:usort(mnesia:dirty_select(Table, [{{Table, '_', '_', '$1'}, [], ['$1']}])).
 
 -spec keys(table()) -> [Key :: term()].
 keys(Table) ->
@@ -67,11 +92,6 @@ size(Table) ->
 count(Key) ->
     _ = mnesia:dirty_update_counter(lobby_counters, Key, 1),
     ok.
-
-%% @doc The application's run on this node. What another run kept was known to processes that are no more.
--spec run() -> run().
-run() ->
-    persistent_term:get(?MODULE).
 
 %% @doc Whether this node has all that was kept.
 -spec is_open() -> boolean().
@@ -97,16 +117,14 @@ admit(Node) ->
 %% Leaves existing tables as they are, so a restarted process finds what it had.
 -spec init(config()) -> {ok, state()} | {ok, state(), {continue, open}} | {stop, lobby_stored:error()}.
 init(#{store := Store, pair := none}) ->
-    ok = persistent_term:put(?MODULE, make_ref()),
     Store =:= disc andalso on_disc(),
     ok = create(case Store of memory -> ram_copies; disc -> disc_copies end),
     ok = mnesia:wait_for_tables(?TABLES, ?WAIT),
     case unreadable() of
-        [] -> {ok, none};
+        [] -> ok = upgrade(), {ok, none};
         [Reason | _] -> {stop, Reason}
     end;
 init(#{pair := Pair}) ->
-    ok = persistent_term:put(?MODULE, make_ref()),
     ok = persistent_term:put({?MODULE, open}, false),
     {ok, Pair, {continue, open}}.
 
@@ -118,16 +136,31 @@ on_disc() ->
 
 create(Copies) ->
     lists:foreach(fun(Table) ->
-        case mnesia:create_table(Table, [{Copies, [node()]}, {attributes, [key, value]}]) of
+        case mnesia:create_table(Table, [{Copies, [node()]} | columns(lists:member(Table, ?GROUPED))]) of
             {atomic, ok} -> ok;
             {aborted, {already_exists, Table}} -> ok
         end
     end, ?TABLES).
 
+columns(true) -> [{attributes, [key, value, group]}, {index, [group]}];
+columns(false) -> [{attributes, [key, value]}].
+
 %% What a later release wrote isn't touched.
 unreadable() ->
-    [Reason || Table <- ?TABLES, {_, _, Stored} <- mnesia:dirty_match_object({Table, '_', '_'}),
-               {error, Reason} <- [lobby_stored:unpack(Table, Stored)]].
+    [Reason || Table <- ?TABLES, Row <- mnesia:dirty_match_object(mnesia:table_info(Table, wild_pattern)),
+               {error, Reason} <- [lobby_stored:unpack(Table, element(3, Row))]].
+
+%% Until release 0.4.0, there were no rows of members.
+upgrade() ->
+    Known = lists:foldl(fun maps:merge/2, #{}, [Members || {_, #{members := Members}} <- old(lobby_rooms)]),
+    lists:foreach(fun({Key, Call = #{id := Id, room := Room}}) ->
+        ok = put(lobby_members, Id, Room, lobby_call:upgraded_row(Key, Call, maps:get(Id, Known, #{})))
+    end, [Call || Call = {_, #{call := _, id := Id}} <- old(lobby_calls), not has(lobby_members, Id)]).
+
+%% What an earlier release wrote.
+old(Table) ->
+    [{Key, Value} || {_, Key, Stored} <- mnesia:dirty_match_object({Table, '_', '_'}), not lobby_stored:is_current(Stored),
+                     {ok, Value} <- [lobby_stored:unpack(Table, Stored)]].
 
 %%% A node of a pair.
 
@@ -139,16 +172,20 @@ handle_continue(open, Pair = #{peer := Peer}) ->
         false -> copied(Peer)
     end,
     case {Has, Has andalso unreadable()} of
-        {true, []} -> ok = persistent_term:put({?MODULE, open}, true), {noreply, Pair};
+        {true, []} ->
+            ok = upgrade(),
+            ok = persistent_term:put({?MODULE, open}, true),
+            {noreply, Pair};
         {true, [Reason | _]} -> {stop, Reason, Pair};
         {false, _} -> _ = erlang:send_after(?AGAIN, self(), open), {noreply, Pair}
     end.
 
 %% What is in the folder, or what the other node has, if mnesia says that it is newer.
 loaded() ->
-    case lists:member(lobby_settings, mnesia:system_info(tables)) of
-        true -> mnesia:wait_for_tables(?TABLES, 0) =:= ok;
-        false -> create(disc_copies) =:= ok
+    %% An earlier release had fewer tables.
+    case ?TABLES -- mnesia:system_info(tables) of
+        [] -> mnesia:wait_for_tables(?TABLES, 0) =:= ok;
+        _ -> create(disc_copies) =:= ok andalso mnesia:wait_for_tables(?TABLES, 0) =:= ok
     end.
 
 %% Nothing is in the folder. Where the other node isn't open yet, it is asked again.

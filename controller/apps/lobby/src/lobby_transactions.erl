@@ -6,60 +6,77 @@
 %%% reply was acknowledged. So an acknowledgement follows only after a quiet time, in which no copy can be under way.
 -module(lobby_transactions).
 
--export([new/4, submit/4, resubmit/4, received/4, expired/2, deadline/1, hold/1, resume/2, abandon/1, making/1]).
+-export([new/3, kept/2, submit/4, resubmit/4, received/4, expired/2, deadline/1, hold/1, resume/2, abandon/1, awaits/2]).
 -export_type([transactions/0, options/0, effect/1, reply/0, sent/0]).
 
 %% Half of the 32 replies that a gateway keeps for all its controllers.
 -define(WINDOW, 16).
 -define(KEPT_REPLIES, 32).
 -define(MAX_WAITING, 1024).
+%% The longest interval, in milliseconds, at which a patient request is repeated.
+-define(MAX_RETRY, 2000).
 
 -type milliseconds() :: integer().
 %% `tries': how often a request is sent, `retry' apart, before the gateway counts as lost.
 -type options() :: #{retry := pos_integer(), tries := pos_integer(), quiet := pos_integer()}.
--type reply() :: {ok, lobby_h248:reply()} | {error, Code :: pos_integer()}.
--type effect(From) :: {send, binary()} | {answer, From, lobby_h248:action(), reply()} | {refuse, From, busy}
-                    | no_answer.
+-type reply() :: {ok, [lobby_h248:reply()]} | {error, Code :: pos_integer()}.
+%% `begin': a request is sent for the first time. Whoever has to know after a failure that it may have been run keeps it
+%% before.
+-type effect(From) :: {'begin', sent(), From} | {send, binary()}
+                    | {answer, lobby_h248:transaction(), From, lobby_h248:action(), reply()} | {refuse, From, busy} | no_answer.
 
 %% A request that was sent, and under which names: the gateway takes it for a repetition if both are the same.
 -type sent() :: {Sender :: lobby_h248:endpoint(), lobby_h248:transaction(), lobby_h248:action()}.
 
 -record(request, {from :: term(), sender :: lobby_h248:endpoint(), action :: lobby_h248:action(), message :: binary(),
-                  again :: milliseconds(), left :: non_neg_integer() | infinity}).
+                  again :: milliseconds(), interval :: milliseconds(), left :: non_neg_integer() | forever | patiently}).
 -record(transactions, {sender :: lobby_h248:endpoint(), options :: options(), next :: lobby_h248:transaction(),
                        open = #{} :: #{lobby_h248:transaction() => #request{}},
-                       waiting = queue:new() :: queue:queue({term(), lobby_h248:action(), pos_integer() | infinity}),
+                       waiting = queue:new() :: queue:queue({term(), lobby_h248:action(), pos_integer() | forever | patiently}),
                        %% Answered and not acknowledged, with the end of the quiet time, newest first.
                        answered = [] :: [{lobby_h248:transaction(), milliseconds()}],
                        %% Requests that are held back: those that were sent, and those that waited.
                        held = none :: {#{lobby_h248:transaction() => #request{}}, queue:queue(term())} | none}).
 -opaque transactions() :: #transactions{}.
 
-%% @doc Numbers ascend from the first one. It has to be higher than those that the gateway may have replies for. Numbers of
-%% requests that may be submitted again are left to them.
--spec new(Sender :: lobby_h248:endpoint(), First :: lobby_h248:transaction(), Again :: [sent()], options()) ->
-          transactions().
-new(Sender, First, Again, Options) ->
-    Next = lists:max([First | [following(Number) || {_, Number, _} <- Again]]),
-    #transactions{sender = Sender, options = Options, next = Next}.
+%% @doc Numbers ascend from the first one. It has to be higher than those that the gateway may have replies for.
+-spec new(Sender :: lobby_h248:endpoint(), First :: lobby_h248:transaction(), options()) -> transactions().
+new(Sender, First, Options) ->
+    #transactions{sender = Sender, options = Options, next = First}.
+
+%% @doc Requests that were sent before and have no answer. They are held back until `resume/2', and their numbers are
+%% left to them.
+-spec kept([{sent(), From :: term()}], transactions()) -> transactions().
+kept(Kept, T = #transactions{next = First, options = #{retry := Retry, tries := Tries}}) ->
+    Open = maps:from_list([{Number, request(Sent, From, Tries, Retry)} || {Sent = {_, Number, _}, From} <- Kept]),
+    Next = lists:max([First | [following(Number) || {{_, Number, _}, _} <- Kept]]),
+    T#transactions{next = Next, held = {Open, queue:new()}}.
 
 %% @doc Sends a request, now or as soon as the window allows it. An urgent one is the next, and never refused. With
-%% `forever', it is repeated until it is answered.
--spec submit({queued | urgent | forever, From}, lobby_h248:action(), milliseconds(), transactions()) ->
+%% `forever', it is repeated until it is answered, and with `patiently' more and more seldom. While requests are held
+%% back, so are queued ones.
+-spec submit({queued | urgent | forever | patiently, From}, lobby_h248:action(), milliseconds(), transactions()) ->
           {[effect(From)], transactions()}.
+submit({queued, From}, Action, _, T = #transactions{held = {Open, Waiting}, options = #{tries := Tries}}) ->
+    case queue:len(Waiting) of
+        ?MAX_WAITING -> {[{refuse, From, busy}], T};
+        _ -> {[], T#transactions{held = {Open, queue:in({From, Action, Tries}, Waiting)}}}
+    end;
 submit({queued, From}, Action, Now, T = #transactions{waiting = Waiting, options = #{tries := Tries}}) ->
     case queue:len(Waiting) of
         ?MAX_WAITING -> {[{refuse, From, busy}], T};
         _ -> flush(Now, T#transactions{waiting = queue:in({From, Action, Tries}, Waiting)})
     end;
-submit({Kind, From}, Action, Now, T = #transactions{waiting = Waiting, options = #{tries := Tries}}) ->
-    Left = case Kind of urgent -> Tries; forever -> infinity end,
-    flush(Now, T#transactions{waiting = queue:in_r({From, Action, Left}, Waiting)}).
+submit({urgent, From}, Action, Now, T = #transactions{waiting = Waiting, options = #{tries := Tries}}) ->
+    flush(Now, T#transactions{waiting = queue:in_r({From, Action, Tries}, Waiting)});
+submit({Kind, From}, Action, Now, T = #transactions{waiting = Waiting}) ->
+    flush(Now, T#transactions{waiting = queue:in_r({From, Action, Kind}, Waiting)}).
 
 %% @doc Repeats an abandoned request under its names, so that it isn't run twice.
 -spec resubmit(sent(), From, milliseconds(), transactions()) -> {[effect(From)], transactions()}.
-resubmit(Sent, From, Now, T = #transactions{options = #{tries := Tries}}) ->
-    send(Sent, From, Tries, Now, T).
+resubmit(Sent, From, Now, T) ->
+    {[_ | Effects], T1} = send(Sent, From, patiently, Now, T),
+    {Effects, T1}.
 
 flush(Now, T = #transactions{sender = Sender, open = Open, waiting = Waiting, next = Number}) ->
     case {queue:out(Waiting), Number - lists:min([Number | maps:keys(Open)]) < ?WINDOW} of
@@ -75,14 +92,17 @@ flush(Now, T = #transactions{sender = Sender, open = Open, waiting = Waiting, ne
 following(16#FFFFFFFF) -> 1;
 following(Number) -> Number + 1.
 
-send({Sender, Number, Action}, From, Left, Now, T = #transactions{open = Open, options = #{retry := Retry}}) ->
-    Message = lobby_h248:request(Sender, Number, Action),
-    Request = #request{from = From, sender = Sender, action = Action, message = Message, again = Now + Retry,
-                       left = less(Left)},
-    {[{send, Message}], T#transactions{open = Open#{Number => Request}}}.
+send(Sent = {_, Number, _}, From, Left, Now, T = #transactions{open = Open, options = #{retry := Retry}}) ->
+    Request = #request{message = Message} = request(Sent, From, Left, Retry),
+    {[{'begin', Sent, From}, {send, Message}],
+     T#transactions{open = Open#{Number => Request#request{again = Now + Retry, left = less(Left)}}}}.
 
-less(infinity) -> infinity;
-less(Left) -> Left - 1.
+request({Sender, Number, Action}, From, Left, Retry) ->
+    #request{from = From, sender = Sender, action = Action, message = lobby_h248:request(Sender, Number, Action), again = 0,
+             interval = Retry, left = Left}.
+
+less(Left) when is_integer(Left) -> Left - 1;
+less(Kind) -> Kind.
 
 %% @doc A reply arrived. One that nothing waits for is ignored.
 -spec received(lobby_h248:transaction(), reply(), milliseconds(), transactions()) -> {[effect(term())], transactions()}.
@@ -91,7 +111,7 @@ received(Number, Reply, Now, T = #transactions{open = Open, answered = Answered,
         {#request{from = From, action = Action}, Rest} ->
             Later = lists:sublist([{Number, Now + Quiet} | Answered], ?KEPT_REPLIES),
             {Sent, T1} = flush(Now, T#transactions{open = Rest, answered = Later}),
-            {[{answer, From, Action, Reply} | Sent], T1};
+            {[{answer, Number, From, Action, Reply} | Sent], T1};
         error ->
             {[], T}
     end.
@@ -110,9 +130,10 @@ expired(Now, T = #transactions{open = Open}) ->
             {[no_answer], T}
     end.
 
-again(Number, Now, T = #transactions{open = Open, options = #{retry := Retry}}) ->
-    #{Number := Request = #request{message = Message, left = Left}} = Open,
-    {{send, Message}, T#transactions{open = Open#{Number := Request#request{again = Now + Retry, left = less(Left)}}}}.
+again(Number, Now, T = #transactions{open = Open}) ->
+    #{Number := Request = #request{message = Message, left = Left, interval = Before}} = Open,
+    Interval = case Left of patiently -> min(2 * Before, ?MAX_RETRY); _ -> Before end,
+    {{send, Message}, T#transactions{open = Open#{Number := Request#request{again = Now + Interval, interval = Interval, left = less(Left)}}}}.
 
 acknowledge(Now, T = #transactions{answered = Answered, sender = Sender}) ->
     case lists:partition(fun({_, Quiet}) -> Quiet =< Now end, Answered) of
@@ -142,21 +163,19 @@ resume(Now, T = #transactions{held = {Held, Waiting}, options = #{tries := Tries
     {More, T2} = flush(Now, T1),
     {Sent ++ More, T2}.
 
-%% @doc Gives up all requests: who waits for an answer, and what may have been run without our knowledge.
--spec abandon(transactions()) -> {[From :: term()], [sent()], transactions()}.
+%% @doc Gives up all requests. Returns those that were sent, which may have been run without our knowledge.
+-spec abandon(transactions()) -> {[sent()], transactions()}.
 abandon(T = #transactions{held = {Held, Later}, open = Open, waiting = Waiting}) ->
     abandon(T#transactions{held = none, open = maps:merge(Held, Open), waiting = queue:join(Later, Waiting)});
-abandon(T = #transactions{open = Open, waiting = Waiting}) ->
-    Froms = [From || #request{from = From} <- maps:values(Open)] ++ [From || {From, _, _} <- queue:to_list(Waiting)],
-    {Froms, sent(Open), T#transactions{open = #{}, waiting = queue:new()}}.
+abandon(T = #transactions{open = Open}) ->
+    {sent(Open), T#transactions{open = #{}, waiting = queue:new()}}.
 
-%% @doc The requests without an answer that make a context, if they are run.
--spec making(transactions()) -> [sent()].
-making(#transactions{held = {Held, _}, open = Open}) -> making_of(maps:merge(Held, Open));
-making(#transactions{open = Open}) -> making_of(Open).
-
-making_of(Open) ->
-    [Sent || Sent = {_, _, #{context := new}} <- sent(Open)].
+%% @doc Whether an answer is awaited by somebody, for a request that was sent or waits.
+-spec awaits(fun((From :: term()) -> boolean()), transactions()) -> boolean().
+awaits(Is, #transactions{held = Held, open = Open, waiting = Waiting}) ->
+    {HeldOpen, HeldWaiting} = case Held of none -> {#{}, queue:new()}; _ -> Held end,
+    lists:any(fun(#request{from = From}) -> Is(From) end, maps:values(Open) ++ maps:values(HeldOpen))
+        orelse queue:any(fun({From, _, _}) -> Is(From) end, queue:join(Waiting, HeldWaiting)).
 
 sent(Open) ->
     [{Sender, Number, Action} || {Number, #request{sender = Sender, action = Action}} <- maps:to_list(Open)].

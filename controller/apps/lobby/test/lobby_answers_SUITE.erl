@@ -29,6 +29,7 @@ env(Case, _) -> env(Case).
 env(a_stranger_is_not_read) -> [{callers, [{{192, 0, 2, 0}, 24}]}];
 env(strangers_do_not_connect) -> [{callers, [{{127, 0, 0, 2}, 32}]}];
 env(any_bytes) -> [{messages_from, 100000}, {users, #{<<"alice">> => <<"secret">>}}];
+env(one_address_shuts_out_nobody) -> [{media, [{{127, 0, 0, 0}, 8}]}];
 env(too_fast) -> [{messages_from, 10}];
 env(a_digest_is_used_once) -> [{users, #{<<"alice">> => <<"secret">>}}];
 env(a_proxy_is_trusted) -> [{users, #{<<"alice">> => <<"secret">>}}, {proxies, [{{127, 0, 0, 3}, 32}]}, {callers, [{{127, 0, 0, 1}, 32}]}, {max_calls_from, 1}];
@@ -246,20 +247,20 @@ dialogs_are_known_by_both_tags(Config) ->
     %% Our tag is his, from any address.
     Moved = phone:request("OPTIONS", "", phone:number(50, phone:as(Phone, Stranger))),
     ?assertEqual(200, status(Moved)),
-    ?assertEqual(1, length(lobby_call:all())).
+    ?assertEqual(1, length(lobby_store:all(lobby_calls))).
 
 %% An answer to our re-INVITE from somebody who doesn't know our tag is no answer.
 answers_have_both_tags(Config) ->
     Phone = call(Config),
-    [#{id := Id}] = lobby_call:all(),
-    ok = lobby_call:hang_up(Id),
+    [{_, #{id := Id}}] = lobby_store:all(lobby_calls),
+    ok = lobby_member:hang_up(Id),
     Bye = phone:recv(Phone),
     ?assertEqual("BYE", phone:status(Bye)),
     phone:answer(200, re:replace(Bye, "\r\nFrom: ([^\r]*);tag=[0-9a-f]*", "\r\nFrom: \\1;tag=0011223344556677", [{return, list}]), Phone),
     %% It comes again, as if there had been no answer.
     ?assertEqual("BYE", phone:status(phone:recv(Phone))),
     phone:answer(200, Bye, Phone),
-    lobby_case:until(fun() -> lobby_call:all() =:= [] end).
+    lobby_case:until(fun() -> lobby_store:all(lobby_calls) =:= [] end).
 
 %% Of an address that may not call, nothing is read.
 a_stranger_is_not_read(Config) ->
@@ -404,13 +405,13 @@ a_call_over_tls(_) ->
     ?assertMatch("SIP/2.0/TLS" ++ _, phone:header("Via", Response)),
     Talking = phone:learn(Response, Calling),
     phone:ack(Talking),
-    [#{id := Id}] = lobby_call:all(),
-    ok = lobby_call:hang_up(Id),
+    [{_, #{id := Id}}] = lobby_store:all(lobby_calls),
+    ok = lobby_member:hang_up(Id),
     Bye = phone:recv(Talking),
     ?assertMatch({"BYE", "SIP/2.0/TLS" ++ _}, {phone:status(Bye), phone:header("Via", Bye)}),
     ?assertEqual({<<"TLS">>, Own}, lobby_sip:own({tcp, {tls, self()}, Own})),
     phone:answer(200, Bye, Talking),
-    lobby_case:until(fun() -> lobby_call:all() =:= [] end),
+    lobby_case:until(fun() -> lobby_store:all(lobby_calls) =:= [] end),
     %% A handshake that doesn't come ends the connection, and holds nobody up.
     {ok, Silent} = gen_tcp:connect({127, 0, 0, 1}, Port, [list, {active, false}]),
     ?assertEqual(200, begin P = phone:request("OPTIONS", "", phone:start_tls(Own, "100")), status(P) end),

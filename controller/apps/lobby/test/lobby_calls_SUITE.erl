@@ -6,6 +6,8 @@
 
 -compile([export_all]).
 
+suite() -> [{timetrap, {seconds, 60}}].
+
 all() ->
     [a_call, callers_hear_each_other, a_repeated_invite_has_the_same_answer, the_answer_is_repeated_until_the_ack,
      without_an_ack_the_call_ends, hold_and_resume, hold_by_update, streams_are_declined, an_offer_that_comes_late, cancel_and_options,
@@ -61,15 +63,14 @@ local(Text) ->
     {{127, 0, 0, 1}, list_to_integer(Port)}.
 
 members(Room) ->
-    try
-        maps:keys(maps:get(members, lobby_room:describe(Room)))
-    catch
-        exit:{_, {gen_server, call, _}} -> []
+    case people:describe(Room) of
+        #{members := Members} -> maps:keys(Members);
+        {error, no_such_room} -> []
     end.
 
 %% The modes in a room's context, as the gateway itself says.
 modes(Room, Config) ->
-    #{context := Context} = lobby_room:describe(Room),
+    #{context := Context} = people:describe(Room),
     lists:sort(maps:values(gateway:modes(Context, gateway(Config)))).
 
 hang_up(Phone) ->
@@ -149,7 +150,7 @@ until_bye(Answers, Phone) ->
 
 hold_and_resume(Config) ->
     {Phone, First} = call(Config),
-    ?assertEqual(['SendReceive'], modes(<<"100">>, Config)),
+    lobby_case:until(fun() -> modes(<<"100">>, Config) =:= ['SendReceive'] end),
     {Held, R1} = reinvite("sendonly", Phone),
     ?assertNotEqual(nomatch, string:find(R1, "a=recvonly")),
     ?assertEqual(['Inactive'], modes(<<"100">>, Config)),
@@ -266,7 +267,7 @@ session_timers(Config) ->
     {A, RA} = Call("3;refresher=uac", ["Require: timer"]),
     ?assertEqual({"3;refresher=uac", "timer"}, {phone:header("Session-Expires", RA), phone:header("Require", RA)}),
     timer:sleep(1500),
-    A1 = phone:request("UPDATE", "", ["Session-Expires: 3;refresher=uac"], A),
+    A1 = phone:request("UPDATE", "", ["Supported: timer", "Session-Expires: 3;refresher=uac"], A),
     Refreshed = phone:recv(A1),
     ?assertEqual({200, "3;refresher=uac", "0"}, {phone:status(Refreshed), phone:header("Session-Expires", Refreshed), phone:header("Content-Length", Refreshed)}),
     ?assert(phone:quiet(A1, 1700)),
@@ -322,7 +323,7 @@ passwords(Config) ->
 a_lost_gateway_is_replaced(Config) ->
     [A, B] = proplists:get_value(gateways, Config),
     Phones = [element(1, call(Config)) || _ <- lists:seq(1, 5)],
-    #{gateway := First} = lobby_room:describe(<<"100">>),
+    #{gateway := First} = people:describe(<<"100">>),
     Start = erlang:monotonic_time(millisecond),
     gateway:kill(case First of <<"1">> -> A; <<"2">> -> B end),
     Locals = [begin
@@ -342,16 +343,16 @@ a_lost_gateway_is_replaced(Config) ->
 
 %% Sixty callers who talk all the time, of whom one is isolated, in one room whose gateway is killed three times.
 sixty_callers_hear_each_other_again(Config) ->
-    ok = lobby_rooms:create(<<"100">>, [{deny, {role, <<"alone">>}, everyone}, {deny, everyone, {role, <<"alone">>}}]),
+    ok = people:create(<<"100">>, [{deny, {role, <<"alone">>}, everyone}, {deny, everyone, {role, <<"alone">>}}]),
     [Alone | Others] = [phone:automatic(sip(Config), "100") || _ <- lists:seq(1, 60)],
     {_, AlonePort} = Alone,
     [Id] = [I || {_, #{call := Call}} <- lobby_store:all(lobby_calls), I <- [element(2, Call)], string:find(io_lib:format("~p", [Call]),
                  "{127,0,0,1}," ++ integer_to_list(AlonePort) ++ "}") =/= nomatch],
-    {ok, _} = lobby_room:update(<<"100">>, Id, #{role => <<"alone">>}),
+    ok = lobby_member:change(Id, #{role => <<"alone">>}),
     timer:sleep(300),
     Gateways = maps:from_list(lists:zip([<<"1">>, <<"2">>], proplists:get_value(gateways, Config))),
     _ = lists:foldl(fun(_, Gs) ->
-        #{gateway := Name} = lobby_room:describe(<<"100">>),
+        #{gateway := Name} = people:describe(<<"100">>),
         caller:reset(Alone),
         gateway:kill(maps:get(Name, Gs)),
         %% What was under way, and what is in the buffers.
@@ -433,19 +434,19 @@ hung_up_and_moved(Config) ->
     {Phone, First} = call(Config),
     {_, _} = call("200", Config),
     [Id] = members(<<"100">>),
-    ?assertEqual({error, same_room}, lobby_call:move(Id, <<"100">>)),
-    ?assertEqual(ok, lobby_call:move(Id, <<"200">>)),
+    ?assertEqual({error, same_room}, lobby_member:move(Id, <<"100">>)),
+    ?assertEqual(ok, lobby_member:move(Id, <<"200">>)),
     ?assertEqual(2, length(members(<<"200">>))),
     ?assert(phone:quiet(Phone, 300)),
     {Held, Response} = reinvite("sendonly", Phone),
     ?assertEqual(local(First), local(Response)),
     ?assertEqual(['Inactive', 'SendReceive'], modes(<<"200">>, Config)),
-    ?assertEqual(ok, lobby_call:hang_up(Id)),
+    ?assertEqual(ok, lobby_member:hang_up(Id)),
     Bye = phone:recv(Held),
     ?assertEqual("BYE", phone:status(Bye)),
     phone:answer(200, Bye, Held),
     lobby_case:until(fun() -> length(members(<<"200">>)) =:= 1 end),
-    lobby_case:until(fun() -> lobby_call:hang_up(Id) =:= {error, no_member} end).
+    lobby_case:until(fun() -> lobby_member:hang_up(Id) =:= {error, no_member} end).
 
 addresses_of_ipv6(Config) ->
     Phone = phone:start(sip(Config)),
@@ -458,7 +459,7 @@ addresses_of_ipv6(Config) ->
     ?assertEqual(200, phone:status(Response)),
     ?assertEqual("<sip:linphone@[fd00::2]>;tag=1", phone:header("From", Response)),
     [Id] = members(<<"100">>),
-    ok = lobby_call:hang_up(Id),
+    ok = lobby_member:hang_up(Id),
     Bye = next([200], Phone),
     ?assertMatch("BYE sip:linphone@[fd00::2]:5070 SIP/2.0" ++ _, Bye).
 
@@ -472,7 +473,7 @@ routes(Config) ->
     phone:ack(phone:learn(Response, Phone1)),
     timer:sleep(50),
     [Id] = members(<<"100">>),
-    ok = lobby_call:hang_up(Id),
+    ok = lobby_member:hang_up(Id),
     Bye = phone:recv(Proxy),
     ?assertEqual({"BYE", Route}, {phone:status(Bye), phone:header("Route", Bye)}).
 
@@ -491,10 +492,10 @@ the_node_fails(Config) ->
         Peer
     end,
     First = Start(),
-    ok = peer:call(First, lobby_rooms, create, [<<"100">>, lobby_rules:preset(lecture)]),
+    ok = peer:call(First, people, create, [<<"100">>, lobby_rules:preset(lecture)]),
     {Phone, RP} = call(Config),
     {Other, RO} = call(Config),
-    Context = maps:get(context, peer:call(First, lobby_room, describe, [<<"100">>])),
+    Context = maps:get(context, peer:call(First, people, describe, [<<"100">>])),
     %% What was written is on the disc a little later.
     timer:sleep(4000),
     Pid = peer:call(First, os, getpid, []),
@@ -508,12 +509,12 @@ the_node_fails(Config) ->
          ?assertEqual("ACK", phone:status(phone:recv(P)))
      end || {P, R} <- [{Phone, RP}, {Other, RO}]],
     %% The conference goes on.
-    #{members := Members, rules := Rules, context := Now} = peer:call(Second, lobby_room, describe, [<<"100">>]),
+    #{members := Members, rules := Rules, context := Now} = peer:call(Second, people, describe, [<<"100">>]),
     ?assertEqual({2, lobby_rules:preset(lecture), Context}, {map_size(Members), Rules, Now}),
     %% Our own context, and the room's.
     ?assertEqual(2, length(gateway:contexts(lists:seq(1, 60), Gateway))),
     hang_up(Phone),
-    ?assertEqual(1, map_size(maps:get(members, peer:call(Second, lobby_room, describe, [<<"100">>])))),
+    ?assertEqual(1, map_size(maps:get(members, peer:call(Second, people, describe, [<<"100">>])))),
     peer:stop(Second),
     ok = file:del_dir_r(Folder).
 
@@ -526,7 +527,7 @@ a_call_that_starts_again_knows_its_place(Config) ->
     exit(Pid, kill),
     _ = gateway:restart_elsewhere(gateway(Config), ["--first-context", "1000", "--first-termination", "1000"]),
     [Id] = members(<<"100">>),
-    lobby_case:until(fun() -> case lobby_room:describe(<<"100">>) of
+    lobby_case:until(fun() -> case people:describe(<<"100">>) of
         #{members := #{Id := #{termination := T}}} -> T >= 1000;
         _ -> false
     end end),
@@ -534,7 +535,7 @@ a_call_that_starts_again_knows_its_place(Config) ->
     Invite = phone:recv(Phone, 4000),
     ?assertEqual("INVITE", phone:status(Invite)),
     ?assertNotEqual(local(Response), local(Invite)),
-    {ok, {Now, _}} = lobby_room:update(<<"100">>, Id, #{}),
+    [{Now, _}] = [Local || {_, _, {version, _, #{local := Local, member := Of}}, _} <- ets:tab2list(lobby_terminations), Of =:= Id],
     ?assertEqual(Now, local(Invite)),
     phone:answer(200, Invite, phone:sdp(Phone), Phone).
 
@@ -547,8 +548,7 @@ a_call_that_fails_while_it_joins(Config) ->
     Phone1 = phone:invite(phone:sdp(Phone), Phone),
     Joins = fun(N) -> lobby_case:until(fun() -> process_info(Room, message_queue_len) >= {message_queue_len, N} end) end,
     Joins(1),
-    [Pid] = [P || {_, P, _, _} <- supervisor:which_children(lobby_call_sup), process_info(P, status) =:= {status, waiting},
-                  element(1, sys_state(P)) =:= busy],
+    [Pid] = [P || {_, P, _, _} <- supervisor:which_children(lobby_call_sup), element(1, sys:get_state(P)) =:= starting],
     exit(Pid, kill),
     Joins(2),
     ok = sys:resume(Room),
@@ -559,10 +559,6 @@ a_call_that_fails_while_it_joins(Config) ->
     phone:ack(Phone2),
     hang_up(Phone2),
     lobby_case:until(fun() -> length(members(<<"100">>)) =:= 1 end).
-
-%% A call that waits for its room can't tell its state.
-sys_state(Pid) ->
-    try {idle, sys:get_state(Pid, 100)} catch exit:{timeout, _} -> {busy, none} end.
 
 %% It's acknowledged, or the phone would hang up.
 an_answer_that_comes_after_a_failure(Config) ->
@@ -733,11 +729,11 @@ baresips(Config) ->
     Ports = [baresip:start(Folder(Tone), Tone, Uri, 11) || Tone <- Tones],
     lobby_case:until(fun() -> length(members(<<"100">>)) =:= 3 end),
     timer:sleep(3000),
-    [{ok, _} = lobby_room:update(<<"100">>, id_of(Tone), #{role => Role})
+    [ok = lobby_member:change(id_of(Tone), #{role => Role})
      || {Tone, Role} <- [{Agent, <<"agent">>}, {Coach, <<"coach">>}, {Customer, <<"customer">>}]],
-    ok = lobby_room:set_rules(<<"100">>, lobby_rules:preset(coaching)),
+    ok = people:set_rules(<<"100">>, lobby_rules:preset(coaching)),
     timer:sleep(3000),
-    ok = lobby_room:add_rules(<<"100">>, lobby_rules:isolate({member, id_of(Customer)})),
+    ok = people:isolate(id_of(Customer)),
     [receive {P, {exit_status, _}} -> ok after 15000 -> error(no_end) end || P <- Ports],
     Heard = fun(Seconds) -> [{Tone, baresip:heard(Folder(Tone), Tones, Seconds)} || Tone <- Tones] end,
     ?assertEqual([{Agent, [Coach, Customer]}, {Coach, [Agent, Customer]}, {Customer, [Agent, Coach]}], Heard({1.0, 2.5})),
@@ -748,5 +744,6 @@ baresips(Config) ->
 
 id_of(Tone) ->
     Name = "tone" ++ integer_to_list(Tone),
-    [Id] = [Id || #{id := Id, caller := Caller} <- lobby_call:all(), string:find(Caller, Name) =/= nomatch],
+    Ids = [Id || Room <- lobby_rooms:names(), Id <- lobby_store:group_keys(lobby_members, Room)],
+    [Id] = [Id || {Id, Caller} <- maps:to_list(lobby_call:callers(Ids)), string:find(Caller, Name) =/= nomatch],
     Id.

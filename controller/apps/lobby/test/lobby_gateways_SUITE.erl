@@ -6,15 +6,17 @@
 
 -compile([export_all]).
 
+suite() -> [{timetrap, {seconds, 60}}].
+
 all() ->
-    [the_rules_hold_on_the_gateway, a_newcomer_enters_with_his_rules, mutes_and_holds_are_modes, members_move, a_member_between_rooms_is_inactive,
+    [the_rules_hold_on_the_gateway, a_newcomer_enters_with_his_rules, mutes_and_holds_are_modes, members_move,
      a_move_that_fails_changes_nothing, refused_media, a_refused_newcomer_disturbs_nobody,
      a_lecture_of_sixty, a_killed_gateway_is_replaced, one_that_begins_anew_is_noticed,
      one_that_begins_with_the_same_numbers_is_noticed, one_that_was_out_of_reach_is_cleaned, of_a_pair_it_is_cleaned_later,
      a_room_waits_for_a_gateway, one_with_a_journal_comes_back, one_that_comes_back_soon_is_not_missed, one_that_comes_back_soon_is_seen,
      requests_wait_for_one_with_a_journal, one_that_does_not_come_back_is_replaced, one_that_lost_its_journal_is_noticed,
      one_that_comes_back_with_less_is_corrected, another_run_takes_over,
-     rooms_that_are_gone_end_when_a_gateway_returns, rooms_that_are_gone_end_while_a_gateway_is_cleaned,
+     rooms_that_are_gone_end_when_a_gateway_returns,
      one_that_began_anew_between_two_runs, processes_fail, a_room_fails_in_the_middle_of_a_request,
      somebody_else_changes_the_topology, lost_and_doubled_datagrams, anything_for_some_seconds].
 
@@ -41,7 +43,7 @@ run(Gateways, Options) ->
 media(Port) -> {{{127, 0, 0, 1}, Port}, pcmu}.
 
 join(Room, Id, Role) ->
-    {ok, Local} = lobby_rooms:join(Room, Id, lobby_conference:member(Id, Role, media(40000), sendrecv)),
+    {ok, Local} = people:join(Room, Id, Role, media(40000), sendrecv),
     Local.
 
 %% Members by termination, in a room's description.
@@ -50,7 +52,7 @@ ids(#{members := Members}) ->
 
 %% Who is heard by whom, as the gateway itself says.
 heard(Room, Gateways) ->
-    About = #{gateway := Name, context := Context} = lobby_room:describe(Room),
+    About = #{gateway := Name, context := Context} = people:describe(Room),
     G = maps:get(Name, Gateways),
     Ids = ids(About),
     ?assertEqual(lists:sort(maps:keys(Ids)), gateway:terminations(Context, G)),
@@ -61,18 +63,18 @@ heard(Room, Gateways) ->
 the_rules_hold_on_the_gateway(_) ->
     G = gateway:start(),
     run([{<<"a">>, G}]),
-    ok = lobby_rooms:create(<<"100">>, lobby_rules:preset(coaching)),
+    ok = people:create(<<"100">>, lobby_rules:preset(coaching)),
     [join(<<"100">>, Id, Role) || {Id, Role} <- [{alice, <<"customer">>}, {bob, <<"agent">>}, {carol, <<"coach">>}]],
     Gs = #{<<"a">> => G},
     ?assertEqual([{alice, bob}, {alice, carol}, {bob, alice}, {bob, carol}, {carol, bob}], heard(<<"100">>, Gs)),
-    ok = lobby_room:add_rules(<<"100">>, lobby_rules:isolate({member, bob})),
+    ok = people:isolate(bob),
     ?assertEqual([{alice, carol}], heard(<<"100">>, Gs)),
-    ok = lobby_room:add_rules(<<"100">>, lobby_rules:release({member, bob})),
+    ok = people:release(bob),
     ?assertEqual([{alice, bob}, {alice, carol}, {bob, alice}, {bob, carol}, {carol, bob}], heard(<<"100">>, Gs)),
-    ok = lobby_room:leave(<<"100">>, carol),
+    ok = people:leave(carol),
     ?assertEqual([{alice, bob}, {bob, alice}], heard(<<"100">>, Gs)),
-    #{context := Context} = lobby_room:describe(<<"100">>),
-    [lobby_room:leave(<<"100">>, Id) || Id <- [alice, bob]],
+    #{context := Context} = people:describe(<<"100">>),
+    [people:leave(Id) || Id <- [alice, bob]],
     ?assertEqual([], gateway:contexts([Context], G)).
 
 %% Heard with ears: a talker who never pauses, and a newcomer who must not hear him. Datagrams take so long that the gateway
@@ -81,19 +83,19 @@ a_newcomer_enters_with_his_rules(_) ->
     G = gateway:start(),
     Relay = relay:start(gateway:address(G), #{lose => 0.0, double => 0.0, delay => 60}),
     run([{<<"a">>, G}], #{address => relay:address(Relay)}),
-    ok = lobby_rooms:create(<<"100">>, [{deny, {role, <<"customer">>}, {role, <<"coach">>}}]),
+    ok = people:create(<<"100">>, [{deny, {role, <<"customer">>}, {role, <<"coach">>}}]),
     Talker = caller:start(),
-    {ok, {To, _}} = lobby_rooms:join(<<"100">>, talker, lobby_conference:member(talker, <<"customer">>, caller:media(Talker), sendrecv)),
+    {ok, {To, _}} = people:join(<<"100">>, talker, <<"customer">>, caller:media(Talker), sendrecv),
     caller:talk(Talker, To),
     Agent = caller:start(),
-    {ok, _} = lobby_rooms:join(<<"100">>, agent, lobby_conference:member(agent, <<"agent">>, caller:media(Agent), sendrecv)),
+    {ok, _} = people:join(<<"100">>, agent, <<"agent">>, caller:media(Agent), sendrecv),
     lobby_case:until(fun() -> caller:heard(Agent) > 10 end),
     [begin
          Coach = caller:start(),
-         {ok, _} = lobby_rooms:join(<<"100">>, {coach, N}, lobby_conference:member({coach, N}, <<"coach">>, caller:media(Coach), sendrecv)),
+         {ok, _} = people:join(<<"100">>, {coach, N}, <<"coach">>, caller:media(Coach), sendrecv),
          lobby_case:until(fun() -> caller:received(Coach) > 5 end),
          ?assertEqual(0, caller:heard(Coach)),
-         ok = lobby_room:leave(<<"100">>, {coach, N})
+         ok = people:leave({coach, N})
      end || N <- lists:seq(1, 20)].
 
 mutes_and_holds_are_modes(_) ->
@@ -101,45 +103,30 @@ mutes_and_holds_are_modes(_) ->
     run([{<<"a">>, G}]),
     [join(<<"100">>, Id, <<"member">>) || Id <- [alice, bob]],
     Mode = fun(Id) ->
-        #{context := Context, members := #{Id := #{termination := T}}} = lobby_room:describe(<<"100">>),
+        #{context := Context, members := #{Id := #{termination := T}}} = people:describe(<<"100">>),
         maps:get(T, gateway:modes(Context, G))
     end,
     ?assertEqual('SendReceive', Mode(alice)),
-    [begin {ok, _} = lobby_room:update(<<"100">>, alice, Change), ?assertEqual(Wanted, Mode(alice)) end
+    [begin {ok, _} = people:update(alice, Change), ?assertEqual(Wanted, Mode(alice)) end
      || {Change, Wanted} <- [{#{muted => true}, 'SendOnly'}, {#{direction => sendonly}, 'Inactive'}, {#{muted => false}, 'Inactive'},
                              {#{direction => recvonly}, 'SendOnly'}, {#{direction => sendrecv}, 'SendReceive'}]],
     ?assertEqual('SendReceive', Mode(bob)),
-    ?assertEqual({error, no_member}, lobby_room:update(<<"100">>, nobody, #{muted => true})).
+    ?assertEqual({error, no_member}, people:update(nobody, #{muted => true})).
 
 members_move(_) ->
     G = gateway:start(),
     run([{<<"a">>, G}]),
     Gs = #{<<"a">> => G},
-    ok = lobby_rooms:create(<<"break">>, [{deny, {role, <<"guest">>}, everyone}]),
+    ok = people:create(<<"break">>, [{deny, {role, <<"guest">>}, everyone}]),
     Before = [join(<<"main">>, Id, <<"guest">>) || Id <- [alice, bob, carol]],
-    ?assertEqual({ok, lists:nth(1, Before)}, lobby_rooms:move(alice, <<"main">>, <<"break">>)),
-    ?assertEqual({ok, lists:nth(2, Before)}, lobby_rooms:move(bob, <<"main">>, <<"break">>)),
+    ?assertEqual({ok, lists:nth(1, Before)}, people:move(alice, <<"break">>)),
+    ?assertEqual({ok, lists:nth(2, Before)}, people:move(bob, <<"break">>)),
     ?assertEqual([], heard(<<"break">>, Gs)),
-    {ok, _} = lobby_rooms:move(carol, <<"main">>, <<"break">>),
-    ok = lobby_room:set_rules(<<"break">>, []),
+    {ok, _} = people:move(carol, <<"break">>),
+    ok = people:set_rules(<<"break">>, []),
     ?assertEqual(6, length(heard(<<"break">>, Gs))),
     ?assertEqual([<<"break">>], lobby_rooms:names()),
-    ?assertEqual({error, no_member}, lobby_rooms:move(dave, <<"break">>, <<"main">>)).
-
-%% He is still connected with a customer who comes meanwhile, and who isn't to hear him.
-a_member_between_rooms_is_inactive(_) ->
-    G = gateway:start(),
-    run([{<<"a">>, G}]),
-    [ok = lobby_rooms:create(Room, lobby_rules:preset(coaching)) || Room <- [<<"desk">>, <<"break">>]],
-    join(<<"desk">>, bob, <<"agent">>),
-    Local = join(<<"desk">>, carol, <<"coach">>),
-    #{context := Desk, members := #{carol := #{termination := T}}} = lobby_room:describe(<<"desk">>),
-    {ok, Given} = lobby_room:take(<<"desk">>, carol),
-    join(<<"desk">>, alice, <<"customer">>),
-    ?assertMatch(#{T := 'Inactive'}, gateway:modes(Desk, G)),
-    ?assertEqual({ok, Local}, lobby_room:give(<<"break">>, carol, Given)),
-    #{context := Break} = lobby_room:describe(<<"break">>),
-    ?assertEqual(#{T => 'SendReceive'}, gateway:modes(Break, G)).
+    ?assertEqual({error, no_member}, people:move(dave, <<"main">>)).
 
 %% He is in his room as before: isolated, and in the second room alone.
 a_move_that_fails_changes_nothing(_) ->
@@ -147,8 +134,8 @@ a_move_that_fails_changes_nothing(_) ->
     run([{<<"a">>, G}]),
     [join(<<"full">>, N, <<"member">>) || N <- lists:seq(1, 64)],
     [join(Room, Id, <<"guest">>) || {Room, Id} <- [{<<"desk">>, alice}, {<<"desk">>, bob}, {<<"solo">>, carol}]],
-    [ok = lobby_room:add_rules(Room, lobby_rules:isolate({member, Id})) || {Room, Id} <- [{<<"desk">>, alice}, {<<"solo">>, carol}]],
-    [?assertEqual({error, room_full}, lobby_rooms:move(Id, Room, <<"full">>)) || {Room, Id} <- [{<<"desk">>, alice}, {<<"solo">>, carol}]],
+    [ok = people:isolate(Id) || Id <- [alice, carol]],
+    [?assertEqual({error, room_full}, people:move(Id, <<"full">>)) || Id <- [alice, carol]],
     join(<<"solo">>, dave, <<"guest">>),
     [?assertEqual([], heard(Room, #{<<"a">> => G})) || Room <- [<<"desk">>, <<"solo">>]],
     ?assertEqual([<<"desk">>, <<"full">>, <<"solo">>], lobby_rooms:names()).
@@ -158,33 +145,33 @@ refused_media(_) ->
     G = gateway:start(),
     run([{<<"a">>, G}]),
     Bad = {{{127, 0, 0, 1}, 0}, pcmu},
-    ?assertEqual({error, {refused, 515}}, lobby_rooms:join(<<"100">>, x, lobby_conference:member(x, <<"member">>, Bad, sendrecv))),
+    ?assertEqual({error, {refused, 515}}, people:join(<<"100">>, x, <<"member">>, Bad, sendrecv)),
     ?assertEqual([], lobby_rooms:names()),
     Local = join(<<"100">>, alice, <<"member">>),
-    ?assertEqual({error, {refused, 515}}, lobby_room:update(<<"100">>, alice, #{media => Bad})),
-    ?assertEqual({ok, Local}, lobby_room:update(<<"100">>, alice, #{muted => false})).
+    ?assertEqual({error, {refused, 515}}, people:update(alice, #{media => Bad})),
+    ?assertEqual({ok, Local}, people:update(alice, #{muted => false})).
 
 %% The gateway refuses his Add, and also the triples with him.
 a_refused_newcomer_disturbs_nobody(_) ->
     G = gateway:start(),
     run([{<<"a">>, G}]),
-    ok = lobby_rooms:create(<<"100">>, lobby_rules:preset(coaching)),
+    ok = people:create(<<"100">>, lobby_rules:preset(coaching)),
     [join(<<"100">>, Id, Role) || {Id, Role} <- [{alice, <<"customer">>}, {bob, <<"agent">>}]],
-    Before = lobby_room:describe(<<"100">>),
+    Before = people:describe(<<"100">>),
     Bad = {{{127, 0, 0, 1}, 0}, pcmu},
-    ?assertEqual({error, {refused, 515}}, lobby_rooms:join(<<"100">>, x, lobby_conference:member(x, <<"coach">>, Bad, sendrecv))),
-    ?assertEqual(Before, lobby_room:describe(<<"100">>)),
+    ?assertEqual({error, {refused, 515}}, people:join(<<"100">>, x, <<"coach">>, Bad, sendrecv)),
+    ?assertEqual(Before, people:describe(<<"100">>)),
     ?assertEqual([{alice, bob}, {bob, alice}], heard(<<"100">>, #{<<"a">> => G})).
 
 %% So many that the topology takes several requests and can't be audited.
 a_lecture_of_sixty(_) ->
     G = gateway:start(["--first-termination", "4000000000"]),
     run([{<<"a">>, G}]),
-    ok = lobby_rooms:create(<<"hall">>, []),
+    ok = people:create(<<"hall">>, []),
     [join(<<"hall">>, N, case N rem 2 of 0 -> <<"even">>; 1 -> <<"odd">> end) || N <- lists:seq(1, 60)],
-    ok = lobby_room:set_rules(<<"hall">>, [{deny, {role, <<"even">>}, {role, <<"odd">>}}]),
-    ?assertEqual(unknown, lobby_room:audit(<<"hall">>)),
-    [ok = lobby_room:leave(<<"hall">>, N) || N <- lists:seq(21, 60)],
+    ok = people:set_rules(<<"hall">>, [{deny, {role, <<"even">>}, {role, <<"odd">>}}]),
+    ?assertEqual(unknown, people:audit(<<"hall">>)),
+    [ok = people:leave(N) || N <- lists:seq(21, 60)],
     Heard = heard(<<"hall">>, #{<<"a">> => G}),
     ?assertEqual(lists:sort([{A, B} || A <- lists:seq(1, 20), B <- lists:seq(1, 20), A =/= B, not (A rem 2 =:= 0 andalso B rem 2 =:= 1)]), Heard).
 
@@ -194,19 +181,19 @@ a_killed_gateway_is_replaced(_) ->
     Gs = #{<<"a">> => A, <<"b">> => B},
     %% With so many tries, only its host's refusals tell in time.
     run(maps:to_list(Gs), #{tries => 20}),
-    ok = lobby_rooms:create(<<"100">>, [{deny, everyone, {member, 3}}]),
-    [begin join(<<"100">>, N, <<"member">>), yes = lobby_registry:register_name({member, N}, self()) end || N <- lists:seq(1, 30)],
-    #{gateway := First} = lobby_room:describe(<<"100">>),
+    ok = people:create(<<"100">>, [{deny, everyone, {member, 3}}]),
+    [join(<<"100">>, N, <<"member">>) || N <- lists:seq(1, 30)],
+    #{gateway := First} = people:describe(<<"100">>),
     gateway:kill(maps:get(First, Gs)),
     Start = erlang:monotonic_time(millisecond),
-    [receive {lobby_room, N, {moved, _}} -> ok after 3000 -> error(not_moved) end || N <- lists:seq(1, 30)],
+    [receive {moved, N, _} -> ok after 3000 -> error(not_moved) end || N <- lists:seq(1, 30)],
     Took = erlang:monotonic_time(millisecond) - Start,
     ct:pal("made again ~b ms after the kill", [Took]),
     %% On an idle machine it is half of that.
     ?assert(Took < 1200),
-    #{gateway := Second} = lobby_room:describe(<<"100">>),
+    #{gateway := Second} = people:describe(<<"100">>),
     ?assertNotEqual(First, Second),
-    [ok = lobby_room:leave(<<"100">>, N) || N <- lists:seq(11, 30)],
+    [ok = people:leave(N) || N <- lists:seq(11, 30)],
     ?assertEqual(lists:sort([{X, Y} || X <- lists:seq(1, 10), Y <- lists:seq(1, 10), X =/= Y, Y =/= 3]), heard(<<"100">>, Gs)).
 
 one_that_begins_anew_is_noticed(_) ->
@@ -219,7 +206,7 @@ one_that_begins_with_the_same_numbers_is_noticed(_) ->
 begun_anew(First, Second) ->
     G = gateway:start(First),
     run([{<<"a">>, G}]),
-    ok = lobby_rooms:create(<<"100">>, lobby_rules:isolate({member, bob})),
+    ok = people:create(<<"100">>, people:isolation(bob)),
     Locals = [join(<<"100">>, Id, <<"member">>) || Id <- [alice, bob, carol]],
     [{Before, _}] = lobby_gateway:serving(),
     G1 = gateway:restart(G, Second),
@@ -227,12 +214,12 @@ begun_anew(First, Second) ->
     [gateway:ask("Context=${" ++ Other ++ "," ++ Other ++ "," ++ Other ++ "}", G1) || _ <- [1, 2]],
     Took = lobby_case:until(fun() -> case lobby_gateway:serving() of [_] -> made_again(Locals, G1); [] -> false end end),
     ct:pal("made again ~b ms after the others", [Took]),
-    ?assertEqual({error, lost}, lobby_gateway:request(Before, #{context => null, commands => [{audit, root, []}]})),
+    ?assertNot(lobby_gateway:reserve(Before, <<"200">>, [dave])),
     ?assertEqual([{alice, carol}, {carol, alice}], heard(<<"100">>, #{<<"a">> => G1})).
 
 %% The members are in a context that has the three of them and nobody else.
 made_again(Locals, G) ->
-    #{context := Context, members := Members} = lobby_room:describe(<<"100">>),
+    #{context := Context, members := Members} = people:describe(<<"100">>),
     Context =/= new andalso length(gateway:terminations(Context, G)) =:= length(Locals)
         andalso lists:sort([T || #{termination := T} <- maps:values(Members)]) =:= gateway:terminations(Context, G)
         andalso lists:all(fun(Mode) -> Mode =:= 'SendReceive' end, maps:values(gateway:modes(Context, G))).
@@ -243,16 +230,15 @@ one_that_was_out_of_reach_is_cleaned(_) ->
     Gs = #{<<"a">> => A, <<"b">> => B},
     run(maps:to_list(Gs)),
     [join(<<"100">>, Id, <<"member">>) || Id <- [alice, bob]],
-    #{gateway := First, context := Context} = lobby_room:describe(<<"100">>),
+    #{gateway := First, context := Context} = people:describe(<<"100">>),
     Stopped = maps:get(First, Gs),
     %% The other one has no room, so that a new room's Add is under way to the one that stops.
     Others = [H || {H, _} <- lobby_gateway:serving(), lobby_gateway:name(H) =/= First],
-    [{ok, #{results := [_, _, _]}} = lobby_gateway:request(H, #{context => new, commands => lists:duplicate(3, {add, #{mode => inactive}})})
-     || H <- Others],
+    [true = lobby_gateway:reserve(H, <<"other">>, [x, y, z]) || H <- Others],
     ?assertEqual([Context], gateway:contexts([Context], Stopped)),
     gateway:stop(Stopped),
-    spawn(fun() -> lobby_rooms:join(<<"200">>, carol, lobby_conference:member(carol, <<"member">>, media(40000), sendrecv)) end),
-    lobby_case:until(fun() -> maps:get(gateway, lobby_room:describe(<<"100">>)) =/= First end),
+    spawn(fun() -> people:join(<<"200">>, carol, <<"member">>, media(40000), sendrecv) end),
+    lobby_case:until(fun() -> maps:get(gateway, people:describe(<<"100">>)) =/= First end),
     gateway:continue(Stopped),
     lobby_case:until(fun() -> length(lobby_gateway:serving()) =:= 2 end),
     ?assertEqual([sentinel(Stopped)], gateway:contexts(lists:seq(1, 60) ++ lists:seq(500, 560), Stopped)),
@@ -264,10 +250,10 @@ of_a_pair_it_is_cleaned_later(_) ->
     ok = persistent_term:put(lobby_lease, {atomics:new(1, []), 1 bsl 60}),
     run(maps:to_list(Gs)),
     [join(<<"100">>, Id, <<"member">>) || Id <- [alice, bob]],
-    #{gateway := First, context := Context} = lobby_room:describe(<<"100">>),
+    #{gateway := First, context := Context} = people:describe(<<"100">>),
     Stopped = maps:get(First, Gs),
     gateway:stop(Stopped),
-    lobby_case:until(fun() -> maps:get(gateway, lobby_room:describe(<<"100">>)) =/= First end),
+    lobby_case:until(fun() -> maps:get(gateway, people:describe(<<"100">>)) =/= First end),
     gateway:continue(Stopped),
     timer:sleep(500),
     ?assertEqual([Context], gateway:contexts([Context], Stopped)),
@@ -280,14 +266,19 @@ a_room_waits_for_a_gateway(_) ->
     run([{<<"a">>, G}]),
     [join(<<"100">>, Id, <<"member">>) || Id <- [alice, bob]],
     gateway:stop(G),
-    lobby_case:until(fun() -> maps:get(gateway, lobby_room:describe(<<"100">>)) =:= none end),
-    ?assertEqual({error, no_room}, lobby_rooms:join(<<"100">>, x, lobby_conference:member(x, <<"member">>, media(40000), sendrecv))),
+    lobby_case:until(fun() -> maps:get(gateway, people:describe(<<"100">>)) =:= none end),
+    ?assertEqual({error, no_room}, people:join(<<"100">>, x, <<"member">>, media(40000), sendrecv)),
     %% The gateway may still mix, so a change isn't said to be made.
-    ?assertNot(lobby_room:agrees(<<"100">>)),
+    ?assertNot(people:agrees(<<"100">>)),
     gateway:continue(G),
-    lobby_case:until(fun() -> maps:get(gateway, lobby_room:describe(<<"100">>)) =:= <<"a">> end),
-    ?assert(lobby_room:agrees(<<"100">>)),
+    lobby_case:until(fun() -> maps:get(gateway, people:describe(<<"100">>)) =:= <<"a">> end),
+    lobby_case:until(fun() -> people:agrees(<<"100">>) end),
     ?assertEqual([{alice, bob}, {bob, alice}], heard(<<"100">>, #{<<"a">> => G})).
+
+%% His call ends, and nobody is told.
+ended(Id) ->
+    exit(lobby_registry:whereis_name({member, Id}), kill),
+    ok = lobby_store:delete(lobby_members, Id).
 
 %%% With a journal.
 
@@ -299,8 +290,8 @@ journaled(Returns, Others, Config) ->
     Journal = ["--journal", journal(Config)],
     G = gateway:start(Journal),
     run([{<<"a">>, G}], #{returns => Returns}),
-    ok = lobby_rooms:create(<<"100">>, lobby_rules:isolate({member, bob})),
-    [begin join(<<"100">>, Id, <<"member">>), yes = lobby_registry:register_name({member, Id}, self()) end || Id <- [alice, bob, carol]],
+    ok = people:create(<<"100">>, people:isolation(bob)),
+    [join(<<"100">>, Id, <<"member">>) || Id <- [alice, bob, carol]],
     [ok = supervisor_starts(gateway:config(Name, Other)) || {Name, Other} <- Others],
     lobby_case:until(fun() -> length(lobby_gateway:serving()) =:= 1 + length(Others) end),
     ok = lobby_events:subscribe(),
@@ -326,7 +317,7 @@ counts() ->
 one_with_a_journal_comes_back(Config) ->
     {G, Journal} = journaled(5000, [], Config),
     Gs = #{<<"a">> => G},
-    Before = lobby_room:describe(<<"100">>),
+    Before = people:describe(<<"100">>),
     [{Handle, _}] = lobby_gateway:serving(),
     ?assertEqual([0, 0, 0, 0, 0], counts()),
     lists:foldl(fun(N, Old) ->
@@ -339,25 +330,25 @@ one_with_a_journal_comes_back(Config) ->
         lobby_case:until(fun() -> count(lobby_conferences_kept_total) =:= N end),
         ?assertEqual([0, N, N, 0, 0], counts()),
         ?assertMatch([{Handle, _}], lobby_gateway:serving()),
-        ?assertEqual(Before, lobby_room:describe(<<"100">>)),
+        ?assertEqual(Before, people:describe(<<"100">>)),
         ?assertEqual([{alice, carol}, {carol, alice}], heard(<<"100">>, Gs)),
         ?assertEqual(2, length(gateway:contexts(lists:seq(1, 60), G))),
         New
     end, G, [1, 2]),
-    receive {lobby_room, Id, What} -> error({told, Id, What}) after 0 -> ok end.
+    receive {moved, Id, Local} -> error({moved, Id, Local}) after 0 -> ok end.
 
 %% Sooner than anybody asks: the calls go on, whether or not it was noticed.
 one_that_comes_back_soon_is_not_missed(Config) ->
     {G, Journal} = journaled(5000, [], Config),
-    Before = lobby_room:describe(<<"100">>),
+    Before = people:describe(<<"100">>),
     lists:foldl(fun(_, Old) ->
         New = gateway:restart(Old, Journal),
         timer:sleep(rand:uniform(300)),
-        ok = lobby_room:add_rules(<<"100">>, lobby_rules:isolate({member, bob})),
+        ok = people:add_rules(<<"100">>, people:isolation(bob)),
         New
     end, G, lists:seq(1, 10)),
     lobby_case:until(fun() -> length(lobby_gateway:serving()) =:= 1 end),
-    ?assertEqual(Before, lobby_room:describe(<<"100">>)),
+    ?assertEqual(Before, people:describe(<<"100">>)),
     ?assertEqual([{alice, carol}, {carol, alice}], heard(<<"100">>, #{<<"a">> => G})),
     ?assertEqual(0, count(lobby_gateway_losses_total)).
 
@@ -366,7 +357,7 @@ one_that_comes_back_soon_is_seen(Config) ->
     ok = application:set_env(lobby, room_audit, 500),
     {G, Journal} = journaled(5000, [], Config),
     Caller = caller:start(),
-    {ok, {To, _}} = lobby_rooms:join(<<"100">>, talker, lobby_conference:member(talker, <<"member">>, caller:media(Caller), sendrecv)),
+    {ok, {To, _}} = people:join(<<"100">>, talker, <<"member">>, caller:media(Caller), sendrecv),
     caller:talk(Caller, To),
     lists:foldl(fun(N, Old) ->
         timer:sleep(1500),
@@ -383,13 +374,13 @@ one_that_comes_back_soon_is_seen(Config) ->
 requests_wait_for_one_with_a_journal(Config) ->
     {G, Journal} = journaled(5000, [], Config),
     Self = self(),
-    Join = fun(Room, Id) -> spawn(fun() -> Self ! {Id, lobby_rooms:join(Room, Id, lobby_conference:member(Id, <<"member">>, media(40000), sendrecv))} end) end,
+    Join = fun(Room, Id) -> spawn(fun() -> Self ! {Id, people:join(Room, Id, <<"member">>, media(40000), sendrecv)} end) end,
     gateway:stop(G),
     Join(<<"100">>, dave),
     timer:sleep(50),
     gateway:kill(G),
     event({gateway, <<"a">>, away}),
-    spawn(fun() -> ok = lobby_room:add_rules(<<"100">>, lobby_rules:isolate({member, carol})), Self ! isolated end),
+    spawn(fun() -> ok = people:add_rules(<<"100">>, people:isolation(carol)), Self ! isolated end),
     receive {dave, Early} -> error(Early) after 300 -> ok end,
     _ = gateway:restart(G, Journal),
     receive {dave, {ok, _}} -> ok after 10000 -> error(no_answer) end,
@@ -408,7 +399,7 @@ one_that_does_not_come_back_is_replaced(Config) ->
     Start = erlang:monotonic_time(millisecond),
     event({gateway, <<"a">>, away}),
     event({gateway, <<"a">>, lost}),
-    [receive {lobby_room, Id, {moved, _}} -> ok after 3000 -> error(not_moved) end || Id <- [alice, bob, carol]],
+    [receive {moved, Id, _} -> ok after 3000 -> error(not_moved) end || Id <- [alice, bob, carol]],
     ct:pal("made again ~b ms after the kill", [erlang:monotonic_time(millisecond) - Start]),
     ?assertEqual([{alice, carol}, {carol, alice}], heard(<<"100">>, Gs)),
     ?assertEqual([1, 0, 0, 1, 0], counts()),
@@ -421,9 +412,9 @@ one_that_does_not_come_back_is_replaced(Config) ->
 %% gateway ended is sent again only when it is known to be the same.
 one_that_lost_its_journal_is_noticed(Config) ->
     {G, _} = journaled(5000, [], Config),
-    #{context := Context} = lobby_room:describe(<<"100">>),
+    #{context := Context} = people:describe(<<"100">>),
     gateway:stop(G),
-    Ours = spawn(fun() -> lobby_room:add_rules(<<"100">>, lobby_rules:isolate({member, carol})) end),
+    Ours = spawn(fun() -> people:add_rules(<<"100">>, people:isolation(carol)) end),
     timer:sleep(50),
     gateway:kill(G),
     event({gateway, <<"a">>, away}),
@@ -443,15 +434,15 @@ one_that_comes_back_with_less_is_corrected(Config) ->
     {G, Journal = [_, File]} = journaled(5000, [], Config),
     {ok, Copy} = file:read_file(File),
     join(<<"100">>, dave, <<"member">>),
-    ok = lobby_room:add_rules(<<"100">>, lobby_rules:isolate({member, carol})),
+    ok = people:add_rules(<<"100">>, people:isolation(carol)),
     gateway:kill(G),
     event({gateway, <<"a">>, away}),
     ok = file:write_file(File, Copy),
     _ = gateway:restart(G, Journal),
     event({gateway, <<"a">>, returned}),
-    lobby_case:until(fun() -> count(lobby_conferences_made_again_total) =:= 1 andalso all_held(<<"100">>) end),
+    lobby_case:until(fun() -> count(lobby_topologies_repaired_total) =:= 1 andalso people:agrees(<<"100">>) end),
     ?assertEqual([{alice, dave}, {dave, alice}], heard(<<"100">>, #{<<"a">> => G})),
-    ?assertEqual([0, 1, 0, 1, 0], counts()),
+    ?assertEqual([0, 1, 1, 0, 1], counts()),
     ?assertEqual(2, length(gateway:contexts(lists:seq(1, 60), G))).
 
 %% Each process of ours is killed in turn. The rooms stay, nothing is left over on the gateway, and the rules hold.
@@ -460,14 +451,15 @@ one_that_comes_back_with_less_is_corrected(Config) ->
 another_run_takes_over(_) ->
     G = gateway:start(),
     run([{<<"a">>, G}]),
-    ok = lobby_rooms:create(<<"100">>, lobby_rules:isolate({member, bob})),
+    ok = people:create(<<"100">>, people:isolation(bob)),
     Before = [join(<<"100">>, Id, <<"member">>) || Id <- [alice, bob, carol]],
     _ = join(<<"200">>, dave, <<"member">>),
-    #{context := Context} = lobby_room:describe(<<"100">>),
+    #{context := Context} = people:describe(<<"100">>),
     gateway:stop(G),
-    Joining = spawn(fun() -> lobby_rooms:join(<<"300">>, erin, lobby_conference:member(erin, <<"member">>, media(40000), sendrecv)) end),
-    lobby_case:until(fun() -> [{_, #{unknown := Unknown}}] = lobby_store:all(lobby_gateways), length(Unknown) =:= 1 end),
+    Joining = spawn(fun() -> people:join(<<"300">>, erin, <<"member">>, media(40000), sendrecv) end),
+    lobby_case:until(fun() -> lobby_store:size(lobby_requests) =:= 1 end),
     exit(Joining, kill),
+    [ended(Id) || Id <- [dave, erin]],
     ok = application:stop(lobby),
     [ok = lobby_store:delete(lobby_rooms, Room) || Room <- [<<"200">>, <<"300">>]],
     gateway:continue(G),
@@ -475,10 +467,11 @@ another_run_takes_over(_) ->
     %% Not more: the gateway keeps 32 replies.
     ?assertEqual([2, 3, 4], gateway:contexts([2, 3, 4], G)),
     run([{<<"a">>, G}]),
-    ?assertEqual(lists:sort([Context, sentinel(G)]), gateway:contexts(lists:seq(1, 60), G)),
-    ?assertMatch(#{context := Context}, lobby_room:describe(<<"100">>)),
+    lobby_case:until(fun() -> lists:sort([Context, sentinel(G)]) =:= gateway:contexts(lists:seq(1, 60), G) end),
+    ?assertMatch(#{context := Context}, people:describe(<<"100">>)),
     ?assertEqual([{alice, carol}, {carol, alice}], heard(<<"100">>, #{<<"a">> => G})),
-    ?assertEqual(Before, [begin {ok, Local} = lobby_room:update(<<"100">>, Id, #{}), Local end || Id <- [alice, bob, carol]]),
+    [people:start_again(Id) || Id <- [alice, bob, carol]],
+    ?assertEqual(Before, [begin {ok, Local} = people:update(Id, #{}), Local end || Id <- [alice, bob, carol]]),
     ?assertMatch([{_, #{terminations := 4, contexts := 2}}], lobby_gateway:serving()).
 
 %% The rooms are restored while a gateway with a journal is away.
@@ -487,6 +480,7 @@ rooms_that_are_gone_end_when_a_gateway_returns(Config) ->
     join(<<"200">>, dave, <<"member">>),
     gateway:kill(G),
     event({gateway, <<"a">>, away}),
+    ended(dave),
     ok = lobby_store:delete(lobby_rooms, <<"200">>),
     Before = killed(lobby_room_sup),
     lobby_case:until(fun() -> is_up(lobby_room_sup, Before) end),
@@ -495,32 +489,10 @@ rooms_that_are_gone_end_when_a_gateway_returns(Config) ->
     lobby_case:until(fun() -> length(gateway:contexts(lists:seq(1, 9), G)) =:= 2 end),
     ?assertEqual([{alice, carol}, {carol, alice}], heard(<<"100">>, #{<<"a">> => G})).
 
-%% The second run restores the rooms while a request of the first run has no answer yet.
-rooms_that_are_gone_end_while_a_gateway_is_cleaned(_) ->
-    G = gateway:start(),
-    Relay = relay:start(gateway:address(G), #{lose => 0.0, double => 0.0, delay => 1}),
-    run([{<<"a">>, G}], #{address => relay:address(Relay), retry => 1000}),
-    [join(Room, Id, <<"member">>) || {Room, Id} <- [{<<"100">>, alice}, {<<"200">>, bob}]],
-    relay:drop(Relay, <<"C=$">>),
-    Joining = spawn(fun() -> join(<<"300">>, carol, <<"member">>) end),
-    lobby_case:until(fun() -> [{_, #{unknown := Unknown}}] = lobby_store:all(lobby_gateways), length(Unknown) =:= 1 end),
-    exit(Joining, kill),
-    ok = application:stop(lobby),
-    ok = lobby_store:delete(lobby_rooms, <<"300">>),
-    {ok, _} = application:ensure_all_started(lobby),
-    lobby_case:until(fun() -> cleaning =:= element(1, sys:get_state(process({gateway, <<"a">>}))) end),
-    ok = lobby_store:delete(lobby_rooms, <<"200">>),
-    Before = killed(lobby_room_sup),
-    lobby_case:until(fun() -> is_up(lobby_room_sup, Before) end),
-    ?assertEqual([], lobby_gateway:serving()),
-    relay:pass(Relay),
-    lobby_case:until(fun() -> [{U, C} || {_, #{terminations := U, contexts := C}} <- lobby_gateway:serving()] =:= [{2, 2}] end),
-    ?assertEqual(2, length(gateway:contexts(lists:seq(1, 9), G))).
-
 one_that_began_anew_between_two_runs(_) ->
     G = gateway:start(),
     run([{<<"a">>, G}]),
-    ok = lobby_rooms:create(<<"100">>, lobby_rules:isolate({member, bob})),
+    ok = people:create(<<"100">>, people:isolation(bob)),
     [join(<<"100">>, Id, <<"member">>) || Id <- [alice, bob, carol]],
     ok = application:stop(lobby),
     New = gateway:restart(G, ["--first-context", "500"]),
@@ -532,7 +504,7 @@ processes_fail(_) ->
     G = gateway:start(),
     run([{<<"a">>, G}]),
     Gs = #{<<"a">> => G},
-    ok = lobby_rooms:create(<<"100">>, lobby_rules:isolate({member, bob})),
+    ok = people:create(<<"100">>, people:isolation(bob)),
     [join(<<"100">>, Id, <<"member">>) || Id <- [alice, bob, carol]],
     [begin
          Before = killed(Name),
@@ -560,7 +532,7 @@ is_up(Name, Before) ->
         andalso lobby_registry:whereis_name({room, <<"100">>}) =/= undefined.
 
 all_held(Room) ->
-    #{members := Members} = lobby_room:describe(Room),
+    #{members := Members} = people:describe(Room),
     lists:all(fun(Member) -> is_map_key(termination, Member) end, maps:values(Members)).
 
 %% The room's process ends after its Add went out: nobody knows the termination, and it has to go.
@@ -570,9 +542,10 @@ a_room_fails_in_the_middle_of_a_request(_) ->
     join(<<"100">>, alice, <<"member">>),
     [begin
          gateway:stop(G),
-         Joining = spawn(fun() -> lobby_rooms:join(Room, bob, lobby_conference:member(bob, <<"member">>, media(40000), sendrecv)) end),
+         Joining = spawn(fun() -> people:join(Room, bob, <<"member">>, media(40000), sendrecv) end),
          timer:sleep(50),
          exit(Joining, kill),
+         ended(bob),
          exit(lobby_registry:whereis_name({room, Room}), kill),
          gateway:continue(G),
          timer:sleep(300),
@@ -583,14 +556,14 @@ a_room_fails_in_the_middle_of_a_request(_) ->
 somebody_else_changes_the_topology(_) ->
     G = gateway:start(),
     run([{<<"a">>, G}]),
-    ok = lobby_rooms:create(<<"100">>, lobby_rules:isolate({member, bob})),
+    ok = people:create(<<"100">>, people:isolation(bob)),
     [join(<<"100">>, Id, <<"member">>) || Id <- [alice, bob, carol]],
-    ?assertEqual(same, lobby_room:audit(<<"100">>)),
-    #{context := Context} = lobby_room:describe(<<"100">>),
+    ?assertEqual(same, people:audit(<<"100">>)),
+    #{context := Context} = people:describe(<<"100">>),
     gateway:ask(io_lib:format("Context=~b{Topology{*,*,Bothway},AuditValue=ROOT}", [Context]), G),
     gateway:ask(io_lib:format("Context=~b{Topology{*,*,Bothway}}", [Context]), G),
     ?assertEqual(6, length(gateway:topology(Context, G))),
-    ?assertEqual(repaired, lobby_room:audit(<<"100">>)),
+    ?assertEqual(repaired, people:audit(<<"100">>)),
     ?assertEqual([{alice, carol}, {carol, alice}], heard(<<"100">>, #{<<"a">> => G})),
     %% Without being asked, too.
     gateway:ask(io_lib:format("Context=~b{Topology{*,*,Isolate}}", [Context]), G),
@@ -603,10 +576,10 @@ lost_and_doubled_datagrams(_) ->
     ok = application:set_env(lobby, gateways, [#{name => <<"a">>, address => relay:address(Relay), tries => 12, quiet => 500}]),
     {ok, _} = application:ensure_all_started(lobby),
     lobby_case:until(fun() -> length(lobby_gateway:serving()) =:= 1 end),
-    ok = lobby_rooms:create(<<"100">>, []),
+    ok = people:create(<<"100">>, []),
     [begin
          join(<<"100">>, N, <<"member">>),
-         ok = lobby_room:set_rules(<<"100">>, lobby_rules:isolate({member, N}))
+         ok = people:set_rules(<<"100">>, people:isolation(N))
      end || N <- lists:seq(1, 12)],
     Others = lists:seq(1, 11),
     ?assertEqual(lists:sort([{A, B} || A <- Others, B <- Others, A =/= B]), heard(<<"100">>, #{<<"a">> => G})),
@@ -623,13 +596,13 @@ anything_for_some_seconds(_) ->
     A = gateway:start(),
     B = gateway:start(["--first-context", "5000", "--first-termination", "5000"]),
     run([{<<"a">>, A}, {<<"b">>, B}]),
-    [ok = lobby_rooms:create(Room, []) || Room <- [<<"1">>, <<"2">>]],
+    [ok = people:create(Room, []) || Room <- [<<"1">>, <<"2">>]],
     Seed = rand:seed_s(exsss, erlang:monotonic_time()),
     ct:pal("seed ~p", [rand:export_seed_s(Seed)]),
     %% For as long as one likes: ANYTHING_SECONDS=3600.
     Seconds = list_to_integer(os:getenv("ANYTHING_SECONDS", "8")),
     End = erlang:monotonic_time(millisecond) + 1000 * Seconds,
-    Changes = anything(End, #{gateways => #{<<"a">> => A, <<"b">> => B}, changes => 0, rules => #{<<"1">> => [], <<"2">> => []}}),
+    Changes = anything(End, #{gateways => #{<<"a">> => A, <<"b">> => B}, changes => 0, rules => #{<<"1">> => [], <<"2">> => []}, ids => #{}}),
     ct:pal("~b changes", [Changes]),
     ?assert(Changes > 200).
 
@@ -651,48 +624,46 @@ anything_once(2, W) ->
     exit(lobby_registry:whereis_name({room, <<"1">>}), kill),
     lobby_case:until(fun() -> lobby_registry:whereis_name({room, <<"1">>}) =/= undefined end),
     W;
-anything_once(K, W = #{rules := Rules}) when K < 40 ->
-    Id = rand:uniform(8),
-    case lists:append([[R || is_map_key(Id, maps:get(members, lobby_room:describe(R)))] || R <- [<<"1">>, <<"2">>]]) of
-        [] ->
-            Room = integer_to_binary(rand:uniform(2)),
+%% People come and go, each with another id when he comes again.
+anything_once(K, W = #{ids := Ids}) when K < 40 ->
+    N = rand:uniform(8),
+    case Ids of
+        #{N := Id} when K < 20 -> ok = people:leave(Id), W#{ids := maps:remove(N, Ids)};
+        #{N := Id} ->
+            {ok, #{room := Room}} = lobby_member:find(Id),
+            _ = people:move(Id, case Room of <<"1">> -> <<"2">>; <<"2">> -> <<"1">> end),
+            W;
+        #{} ->
+            Id = {N, erlang:unique_integer()},
             Role = lists:nth(rand:uniform(2), [<<"x">>, <<"y">>]),
-            case lobby_rooms:join(Room, Id, lobby_conference:member(Id, Role, media(40000), sendrecv)) of
-                {ok, _} -> W;
-                {error, no_room} -> W#{rules := forget(Id, Room, Rules)}
-            end;
-        [Room] ->
-            Left = case K < 20 of
-                true -> lobby_room:leave(Room, Id);
-                false -> lobby_rooms:move(Id, Room, case Room of <<"1">> -> <<"2">>; <<"2">> -> <<"1">> end)
-            end,
-            case Left of
-                {error, Reason} when Reason =/= no_member -> W;
-                _ -> W#{rules := forget(Id, Room, Rules)}
+            case people:join(integer_to_binary(rand:uniform(2)), Id, Role) of
+                {ok, _} -> W#{ids := Ids#{N => Id}};
+                {error, _} -> W
             end
     end;
-anything_once(_, W = #{rules := Rules}) ->
-    Party = fun() -> lists:nth(rand:uniform(4), [everyone, {role, <<"x">>}, {role, <<"y">>}, {member, rand:uniform(8)}]) end,
+anything_once(K, W = #{ids := Ids}) when K < 60, map_size(Ids) > 0 ->
+    Id = lists:nth(rand:uniform(map_size(Ids)), maps:values(Ids)),
+    _ = people:update(Id, lists:nth(rand:uniform(3), [#{isolated => true}, #{isolated => false}, #{role => <<"x">>}])),
+    W;
+anything_once(_, W = #{rules := Rules, ids := Ids}) ->
+    Party = fun() -> lists:nth(rand:uniform(4), [everyone, {role, <<"x">>}, {role, <<"y">>}, {member, maps:get(rand:uniform(8), Ids, nobody)}]) end,
     Room = integer_to_binary(rand:uniform(2)),
     New = {_, From, To} = {lists:nth(rand:uniform(2), [allow, deny]), Party(), Party()},
-    ok = lobby_room:add_rules(Room, [New]),
+    _ = people:add_rules(Room, [New]),
     W#{rules := Rules#{Room := [Rule || Rule = {_, F, T} <- maps:get(Room, Rules), {F, T} =/= {From, To}] ++ [New]}}.
-
-%% Rules that name a member end when he leaves.
-forget(Id, Room, Rules) ->
-    Rules#{Room := [Rule || Rule = {_, From, To} <- maps:get(Room, Rules), From =/= {member, Id}, To =/= {member, Id}]}.
 
 %% As soon as the room has a gateway that is there.
 check(Room, #{gateways := Gs, rules := Rules}) ->
     lobby_case:until(fun() -> agrees(Room, maps:get(Room, Rules), Gs) end).
 
 agrees(Room, Rules, Gs) ->
-    case lobby_room:describe(Room) of
+    case people:describe(Room) of
         #{members := Members} when map_size(Members) =:= 0 -> true;
         #{gateway := none} -> false;
         About = #{members := Members, gateway := Name, context := Context} when is_integer(Context) ->
             G = maps:get(Name, Gs),
-            Wanted = lists:sort([{A, B} || {A, #{role := RA}} <- maps:to_list(Members), {B, #{role := RB}} <- maps:to_list(Members),
+            Wanted = lists:sort([{A, B} || {A, #{role := RA, isolated := false}} <- maps:to_list(Members),
+                                           {B, #{role := RB, isolated := false}} <- maps:to_list(Members),
                                            A =/= B, hears({B, RB}, {A, RA}, Rules)]),
             Ids = ids(About),
             There = gateway:terminations(Context, G),

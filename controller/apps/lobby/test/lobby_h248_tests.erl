@@ -46,34 +46,43 @@ answer(Text) ->
     lobby_h248:decode(iolist_to_binary(["MEGACO/1 [127.0.0.1]:2944\n", Text])).
 
 added_test() ->
-    ?assertEqual({ok, {reply, 1, {ok, #{context => 4, results => [{add, 8, #{local => {{{127, 0, 0, 1}, 13000}, pcmu}}}]}}}},
+    ?assertEqual({ok, {reply, 1, {ok, [#{context => 4, results => [{add, 8, #{local => {{{127, 0, 0, 1}, 13000}, pcmu}}}]}]}}},
                  answer("Reply=1{Context=4{Add=RTP/8{Media{Stream=1{Local{v=0\nc=IN IP4 127.0.0.1\n"
                         "m=audio 13000 RTP/AVP 0\na=ptime:20\n}}}}}}")).
 
 media_audited_test() ->
-    ?assertEqual({ok, {reply, 2, {ok, #{context => 1, results =>
+    ?assertEqual({ok, {reply, 2, {ok, [#{context => 1, results =>
                     [{audit, 1, #{mode => inactive, local => {{{127, 0, 0, 1}, 13000}, pcma},
-                                  remote => {{{10, 0, 0, 9}, 40000}, pcmu}}}]}}}},
+                                  remote => {{{10, 0, 0, 9}, 40000}, pcmu}}}]}]}}},
                  answer("Reply=2{Context=1{AuditValue=RTP/1{Media{Stream=1{LocalControl{Mode=Inactive,nt/jit=80},"
                         "Local{v=0\nc=IN IP4 127.0.0.1\nm=audio 13000 RTP/AVP 8\na=ptime:20\n},"
                         "Remote{v=0\nc=IN IP4 10.0.0.9\nm=audio 40000 RTP/AVP 0\na=ptime:20\n}}}}}}")).
 
 statistics_test() ->
-    ?assertEqual({ok, {reply, 3, {ok, #{context => 1, results =>
-                    [{audit, 1, #{statistics => #{<<"rtp/ps">> => 5, <<"rtp/pr">> => 0}}}]}}}},
+    ?assertEqual({ok, {reply, 3, {ok, [#{context => 1, results =>
+                    [{audit, 1, #{statistics => #{<<"rtp/ps">> => 5, <<"rtp/pr">> => 0}}}]}]}}},
                  answer("Reply=3{Context=1{AuditValue=RTP/1{Statistics{rtp/ps=5,rtp/pr=0}}}}")).
 
 topology_audited_test() ->
-    ?assertEqual({ok, {reply, 3, {ok, #{context => 1, results => [], topology => [{1, 2, isolate}, {1, 3, oneway}]}}}},
+    ?assertEqual({ok, {reply, 3, {ok, [#{context => 1, results => [], topology => [{1, 2, isolate}, {1, 3, oneway}]}]}}},
                  answer("Reply=3{Context=1{Topology{RTP/1,RTP/2,Isolate,RTP/1,RTP/3,Oneway}}}")).
 
 errors_test() ->
-    ?assertEqual({ok, {reply, 4, {ok, #{context => 1, results => [{add, new, {error, 515}}, {audit, 9, {error, 430}}]}}}},
+    ?assertEqual({ok, {reply, 4, {ok, [#{context => 1, results => [{add, new, {error, 515}}, {audit, 9, {error, 430}}]}]}}},
                  answer("Reply=4{Context=1{Add=${Error=515{\"x\"}},AuditValue=RTP/9{Error=430{\"x\"}}}}")),
-    ?assertEqual({ok, {reply, 4, {ok, #{context => 7, results => [], error => 411}}}},
+    ?assertEqual({ok, {reply, 4, {ok, [#{context => 7, results => [], error => 411}]}}},
                  answer("Reply=4{Context=7{Error=411{\"unknown context\"}}}")),
     ?assertEqual({ok, {reply, 4, {error, 533}}}, answer("Reply=4{Error=533{\"reply too long\"}}")),
     ?assertEqual({ok, {error, 400}}, answer("Error=400{\"syntax\"}")).
+
+%% Nothing is run behind a guard that fails.
+guarded_test() ->
+    Text = lobby_h248:request({{127, 0, 0, 1}, 2945}, 7, #{context => 4, commands => [{subtract, all}], guard => {1, 2}}),
+    ?assertMatch({match, _}, re:run(Text, "C=1\\{AV=RTP/2\\{AT\\{\\}\\}\\},C=4\\{S=", [caseless])),
+    ?assertEqual({ok, {reply, 7, {ok, [#{context => 1, results => [{audit, 2, #{}}]}, #{context => 4, results => [{subtract, 5, #{}}]}]}}},
+                 answer("Reply=7{Context=1{AuditValue=RTP/2},Context=4{Subtract=RTP/5}}")),
+    ?assertEqual({ok, {reply, 7, {ok, [#{context => 1, results => [{audit, 2, {error, 411}}]}]}}},
+                 answer("Reply=7{Context=1{AuditValue=RTP/2{Error=411{\"unknown context\"}}}}")).
 
 not_understood_test() ->
     [?assertEqual({error, not_understood}, lobby_h248:decode(Text))
@@ -82,9 +91,9 @@ not_understood_test() ->
 
 %% What isn't as the gateway writes it must not end the process that reads it.
 odd_parts_are_left_out_test() ->
-    ?assertEqual({ok, {reply, 1, {ok, #{context => 4, results => [{add, unknown, #{}}]}}}},
+    ?assertEqual({ok, {reply, 1, {ok, [#{context => 4, results => [{add, unknown, #{}}]}]}}},
                  answer("Reply=1{Context=4{Add=A/b{Media{Stream=1{Local{v=0\nm=audio x RTP/AVP 99\n}}}}}}")),
-    ?assertMatch({ok, {reply, 1, {ok, #{results := [{audit, 1, #{statistics := #{}}}]}}}},
+    ?assertMatch({ok, {reply, 1, {ok, [#{results := [{audit, 1, #{statistics := #{}}}]}]}}},
                  answer("Reply=1{Context=4{AuditValue=RTP/1{Statistics{rtp/ps=many}}}}")),
-    ?assertMatch({ok, {reply, 1, {ok, #{results := [{other, unknown, #{}}]}}}},
+    ?assertMatch({ok, {reply, 1, {ok, [#{results := [{other, unknown, #{}}]}]}}},
                  answer("Reply=1{Context=4{Notify=RTP/1}}")).

@@ -9,6 +9,8 @@
 -define(OPERATOR, "operator-token-0001").
 -define(VIEWER, "viewer-token-000001").
 
+suite() -> [{timetrap, {seconds, 120}}].
+
 all() ->
     [a_room_is_steered, rooms_are_created_and_closed, tokens, errors, what_the_gateway_says, what_the_gateway_refuses, what_takes_too_long, metrics, the_page, everything_is_described, events, watchers_are_limited, a_watcher_that_does_not_read, supervisors_fail, anything,
      every_error_is_json, bodies_are_limited, half_a_request, failures_are_logged, pages_are_closed_to_others, over_tls].
@@ -89,7 +91,7 @@ phone_joins(Config) ->
 
 %% The open flows as the gateway itself says, as many as there are.
 flows(Room, Config) ->
-    #{context := Context} = lobby_room:describe(list_to_binary(Room)),
+    #{context := Context} = people:describe(list_to_binary(Room)),
     length(gateway:topology(Context, proplists:get_value(gateway, Config))).
 
 a_room_is_steered(Config) ->
@@ -107,7 +109,7 @@ a_room_is_steered(Config) ->
     ?assertEqual(5, flows("100", Config)),
     ?assertEqual({200, #{}}, ask(put, "/rooms/100", "{\"rules\": []}", Config)),
     ?assertEqual({200, #{}}, Do(A, "oneway", "{\"listener\": \"" ++ B ++ "\"}")),
-    #{flows := Flows} = lobby_room:describe(<<"100">>),
+    #{flows := Flows} = people:describe(<<"100">>),
     ?assertEqual([{list_to_binary(B), list_to_binary(A)}], [{X, Y} || X <- members("100", Config), Y <- members("100", Config), X =/= Y] -- Flows),
     ?assertEqual({200, #{}}, ask(post, "/rooms/100/lock", "", Config)),
     ?assertMatch({200, #{<<"locked">> := true}}, ask(get, "/rooms/100", Config)),
@@ -219,7 +221,8 @@ what_the_gateway_refuses(Config) ->
     Isolate = "/members/" ++ binary_to_list(A) ++ "/isolate",
     NotYet = {503, #{<<"error">> => <<"the gateway hasn't accepted the change yet; the controller keeps trying">>}},
     ?assertEqual(NotYet, ask(post, Isolate, "", Config)),
-    ?assertMatch({200, #{<<"audited">> := true, <<"rules">> := [_, _], <<"flows">> := Flows}}, ask(get, "/rooms/100", Config)),
+    {200, #{<<"members">> := Members, <<"flows">> := Still}} = ask(get, "/rooms/100", Config),
+    ?assertEqual({Flows, [A]}, {Still, [Id || #{<<"id">> := Id, <<"isolated">> := true} <- Members]}),
     ?assertEqual(2, flows("100", Config)),
     [?assertEqual(NotYet, ask(Method, Path, Body, Config))
      || {Method, Path, Body} <- [{put, "/rooms/100", "{\"rules\": [{\"hears\": false, \"talker\": \"everyone\", \"listener\": \"everyone\"}]}"}, {post, "/rooms/100/rules", "{\"rules\": []}"}]],
@@ -276,6 +279,7 @@ everything_is_described(Config) ->
 
 body(<<"/members/{id}/oneway">>, Other) -> "{\"listener\": \"" ++ binary_to_list(Other) ++ "\"}";
 body(<<"/members/{id}/role">>, _) -> "{\"role\": \"x\"}";
+body(<<"/members/{id}/let_in">>, _) -> "{\"role\": \"agent\"}";
 body(<<"/members/{id}/move">>, _) -> "{\"room\": \"200\"}";
 body(_, _) -> "{\"rules\": []}".
 
@@ -292,7 +296,7 @@ events(Config) ->
          ?assertMatch({_, {200, _}}, {Path, ask(post, Path, Body, Config)}),
          ?assertEqual({Path, Room}, {Path, said(Watching)})
      end || {Path, Body} <- [{"/members/" ++ binary_to_list(Id) ++ "/isolate", ""}, {"/members/" ++ binary_to_list(Id) ++ "/mute", ""},
-                             {"/rooms/100/lock", ""}, {"/rooms/100/rules", "{\"rules\": []}"}]],
+                             {"/rooms/100/lock", ""}, {"/rooms/100/rules", "{\"rules\": [{\"hears\": true, \"talker\": \"everyone\", \"listener\": \"everyone\"}]}"}]],
     Phone1 = phone:request("BYE", "", Phone),
     ?assertEqual(200, phone:status(phone:recv(Phone1))),
     ?assertEqual(Room, said(Watching)),

@@ -27,9 +27,14 @@ texts_test() ->
     [?assertMatch({error, <<"\"role\" must be a string", _/binary>>}, lobby_json:text(<<"role">>, Wrong))
      || Wrong <- [#{}, #{<<"role">> => 1}, #{<<"role">> => <<>>}, #{<<"role">> => binary:copy(<<"a">>, 33)}]].
 
+flags_test() ->
+    ?assertEqual([{ok, true}, {ok, false}, {ok, false}], [lobby_json:flag(<<"door">>, O) || O <- [#{<<"door">> => true}, #{<<"door">> => false}, #{}]]),
+    ?assertMatch({error, <<"\"door\" must be true or false">>}, lobby_json:flag(<<"door">>, #{<<"door">> => 1})).
+
 %% One caller's name must not break the list for all.
 names_need_not_be_utf8_test() ->
-    Room = lobby_json:room(<<"100">>, #{members => #{<<"x">> => #{role => <<"member">>, muted => false, direction => sendrecv}}, rules => [],
-                                        flows => [], gateway => none, context => new, locked => false}, #{<<"x">> => <<"Ren", 233>>}),
+    Room = lobby_json:room(<<"100">>, #{members => [{#{id => <<"x">>, role => <<"member">>, muted => false, direction => sendrecv}, none}],
+                                        rules => [], flows => [], gateway => none, context => new, settings => #{}},
+                           #{<<"x">> => <<"Ren", 233>>}),
     #{<<"members">> := [#{<<"id">> := <<"x">>, <<"muted">> := false}], <<"gateway">> := null, <<"context">> := null} =
         jiffy:decode(lobby_json:encode(Room), [return_maps]).

@@ -6,6 +6,8 @@
 
 -compile([export_all]).
 
+suite() -> [{timetrap, {seconds, 120}}].
+
 all() ->
     [the_other_node_takes_over, a_node_that_hung_ends_itself, after_a_gap_nothing_is_sent,
      a_node_without_the_lease_ends, nobody_serves_without_the_lease, a_standby_alone_ends_and_waits,
@@ -110,7 +112,7 @@ call(Config) ->
     phone:ack(Talking),
     {Talking, Response}.
 
-room(Peer) -> peer:call(Peer, lobby_room, describe, [<<"100">>]).
+room(Peer) -> peer:call(Peer, people, describe, [<<"100">>]).
 
 flows(Peer, Config) ->
     #{context := Context} = room(Peer),
@@ -135,7 +137,7 @@ the_other_node_takes_over(Config0) ->
     {Alice, RA} = call(Config),
     {Bob, RB} = call(Config),
     [Id | _] = maps:keys(maps:get(members, room(A))),
-    ok = peer:call(A, lobby_room, add_rules, [<<"100">>, lobby_rules:isolate({member, Id})]),
+    ok = peer:call(A, people, add_rules, [<<"100">>, people:isolation(Id)]),
     ?assertEqual(0, flows(A, Config)),
     Carol = phone:start(sip(Config)),
     Carol1 = phone:invite(phone:sdp(Carol), Carol),
@@ -179,7 +181,7 @@ a_node_that_hung_ends_itself(Config0) ->
     ?assertEqual({ok, <<"0\n">>}, file:read_file(file(b, ready, Config))),
     lease(b, Config),
     lobby_case:until(fun() -> serves(B) end),
-    ok = peer:call(B, lobby_room, set_rules, [<<"100">>, [{deny, everyone, everyone}]]),
+    ok = peer:call(B, people, set_rules, [<<"100">>, [{deny, everyone, everyone}]]),
     timer:sleep(2500),
     signal("CONT", A, Config),
     ended(A),

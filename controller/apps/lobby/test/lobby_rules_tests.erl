@@ -20,23 +20,25 @@ listeners_only_hear_test() ->
     ?assertEqual([{1, 2}, {1, 3}], lists:sort(sets:to_list(lobby_rules:flows(Members, lobby_rules:preset(lecture))))).
 
 isolated_test() ->
-    ?assertEqual([{b, c}, {c, b}], flows(lobby_rules:isolate({member, a}))).
+    ?assertEqual([{b, c}, {c, b}], flows(people:isolation(a))).
 
 oneway_test() ->
     ?assertEqual([{a, b}, {a, c}, {b, c}, {c, a}, {c, b}], flows(lobby_rules:oneway({member, a}, {member, b}))).
 
 the_last_rule_decides_test() ->
-    Isolated = lobby_rules:isolate({member, a}),
-    ?assertEqual(flows([]), flows(Isolated ++ lobby_rules:release({member, a}))),
+    Isolated = people:isolation(a),
+    ?assertEqual(flows([]), flows(Isolated ++ allowed(a))),
     ?assertEqual([{b, c}, {c, a}, {c, b}], flows(Isolated ++ [{allow, {member, c}, {member, a}}])),
     ?assertEqual([{b, c}, {c, b}], flows([{allow, {member, c}, {member, a}} | Isolated])).
+
+allowed(Id) -> [{allow, {member, Id}, everyone}, {allow, everyone, {member, Id}}].
 
 nobody_hears_himself_test() ->
     ?assertNot(lobby_rules:hears(?A, ?A, [{allow, everyone, everyone}])).
 
 a_repeated_rule_replaces_test() ->
-    {ok, Once} = lobby_rules:add(lobby_rules:isolate({member, a}), []),
-    ?assertEqual({ok, lobby_rules:release({member, a})}, lobby_rules:add(lobby_rules:release({member, a}), Once)).
+    {ok, Once} = lobby_rules:add(people:isolation(a), []),
+    ?assertEqual({ok, allowed(a)}, lobby_rules:add(allowed(a), Once)).
 
 rules_are_limited_test() ->
     Rules = [{deny, {member, N}, everyone} || N <- lists:seq(1, 256)],
@@ -46,4 +48,4 @@ rules_are_limited_test() ->
 
 rules_about_who_left_are_dropped_test() ->
     ?assertEqual([{deny, {role, <<"coach">>}, everyone}],
-                 lobby_rules:forget(a, [{deny, {role, <<"coach">>}, everyone} | lobby_rules:isolate({member, a})])).
+                 lobby_rules:forget(a, [{deny, {role, <<"coach">>}, everyone} | people:isolation(a)])).

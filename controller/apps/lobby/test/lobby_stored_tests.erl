@@ -12,28 +12,29 @@ room() ->
       #{{<<"b2">>, <<"a1">>} => []}, [{6, 10}], true, #{}},
      {<<"g">>, make_ref()}, #{<<"a1">> => {{{127, 0, 0, 1}, 30000}, pcmu}}, {true, false}}.
 
-%% It is read, and the conference is one of today's.
+%% Its conference is made again, with the same rules, roles and mutes.
 a_room_without_a_version_test() ->
-    Room = {C, _, _, {true, false}} = room(),
-    ?assertEqual({ok, Room}, lobby_stored:unpack(lobby_rooms, Room)),
-    ?assertEqual([<<"a1">>, <<"b2">>], lobby_conference:ids(C)),
-    ?assertEqual({ok, #{role => <<"customer">>, muted => true, direction => recvonly, termination => 12}}, lobby_conference:find(<<"b2">>, C)),
-    ?assertEqual({7, [{deny, {member, <<"a1">>}, everyone}]}, {lobby_conference:context(C), lobby_conference:rules(C)}),
-    ?assertEqual([{<<"b2">>, <<"a1">>}], sets:to_list(lobby_conference:flows(C))),
-    ?assertMatch({#{context := 6, commands := [{subtract_optional, 10}]}, _}, lobby_conference:next(C)).
+    ?assertEqual({ok, #{rules => [{deny, {member, <<"a1">>}, everyone}], settings => #{kept => true, locked => false}, gateway => none,
+                        stale => #{}, members => #{<<"a1">> => #{role => <<"agent">>, muted => false},
+                                                   <<"b2">> => #{role => <<"customer">>, muted => true}}}},
+                 lobby_stored:unpack(lobby_rooms, room())),
+    ?assertEqual(lobby_stored:unpack(lobby_rooms, room()), lobby_stored:unpack(lobby_rooms, {version, 1, room()})).
 
+%% What it has is ended.
 a_gateway_without_a_version_test() ->
-    Gateway = #{handle => {<<"g">>, make_ref()}, sentinel => {1, 1, {{127, 1, 2, 3}, 4}}, terminations => #{11 => 7},
+    Sentinel = {1, 1, {{127, 1, 2, 3}, 4}},
+    Gateway = #{handle => {<<"g">>, make_ref()}, sentinel => Sentinel, terminations => #{11 => 7},
                 contexts => [5], unknown => [{17, #{context => new, commands => []}}]},
-    ?assertEqual({ok, Gateway#{unknown := []}}, lobby_stored:unpack(lobby_gateways, Gateway)).
+    ?assertEqual({ok, #{generation => 1, sentinel => Sentinel, unknown => [], contexts => [{5, all}, {7, all}]}},
+                 lobby_stored:unpack(lobby_gateways, Gateway)).
 
-a_call_without_a_version_test() ->
-    Call = #{invite => invite, room => <<"100">>, source => {{127, 0, 0, 1}, 5060}, call => call},
+a_call_that_was_joining_test() ->
+    Call = #{invite => invite, id => <<"a1">>, room => <<"100">>, source => {{127, 0, 0, 1}, 5060}},
     ?assertEqual({ok, Call}, lobby_stored:unpack(lobby_calls, Call)).
 
 what_is_packed_is_unpacked_test() ->
     [?assertEqual({ok, Value}, lobby_stored:unpack(Table, lobby_stored:pack(Value)))
-     || Table <- [lobby_rooms, lobby_calls, lobby_gateways], Value <- [room(), #{}, none]],
+     || Table <- [lobby_rooms, lobby_calls, lobby_gateways, lobby_members], Value <- [room(), #{}, none]],
     ?assertEqual({ok, 3}, lobby_stored:unpack(lobby_counters, 3)).
 
 what_a_later_release_writes_test() ->

@@ -10,7 +10,7 @@
 -define(OPTIONS, #{retry => 100, tries => 4, quiet => 5000}).
 -define(ACTION, #{context => null, commands => [{audit, root, []}]}).
 
-new() -> lobby_transactions:new({{127, 0, 0, 1}, 2945}, 1000, [], ?OPTIONS).
+new() -> lobby_transactions:new({{127, 0, 0, 1}, 2945}, 1000, ?OPTIONS).
 
 %%% The network: messages under way to the gateway and numbers of replies under way from it, with the time they left.
 -record(net, {t = new(), now = 0, requests = [], replies = [], kept = [], runs = #{}, submitted = 0, answered = [], lost = false, held = false}).
@@ -21,7 +21,6 @@ do(away, Net = #net{t = T, now = Now, submitted = N, held = false}) ->
     effects(lobby_transactions:submit({forever, N}, ?ACTION, Now, lobby_transactions:hold(T)), Net#net{submitted = N + 1, held = true});
 do(away, Net = #net{t = T, now = Now, held = true}) ->
     effects(lobby_transactions:resume(Now, T), Net#net{held = false});
-do(submit, Net = #net{held = true}) -> Net;
 do(submit, Net = #net{t = T, now = Now, submitted = N}) ->
     effects(lobby_transactions:submit({queued, N}, ?ACTION, Now, T), Net#net{submitted = N + 1});
 do({advance, Ms}, Net = #net{now = Now}) ->
@@ -37,7 +36,7 @@ do({answer, I, Keep}, Net = #net{replies = Replies, t = T, now = Now}) ->
         none -> Net;
         Number ->
             Rest = case Keep of true -> Replies; false -> Replies -- [Number] end,
-            effects(lobby_transactions:received(Number, {ok, #{context => null, results => []}}, Now, T), Net#net{replies = Rest})
+            effects(lobby_transactions:received(Number, {ok, [#{context => null, results => []}]}, Now, T), Net#net{replies = Rest})
     end;
 do({lose, I}, Net = #net{requests = Requests}) ->
     case pick(I, Requests) of none -> Net; Picked -> Net#net{requests = Requests -- [Picked]} end.
@@ -60,7 +59,8 @@ advance(To, Net = #net{t = T}) ->
 effects({Effects, T}, Net) -> lists:foldl(fun effect/2, Net#net{t = T}, Effects).
 
 effect({send, Message}, Net = #net{requests = Requests, now = Now}) -> Net#net{requests = Requests ++ [{Message, Now}]};
-effect({answer, From, _, _}, Net = #net{answered = Answered}) -> Net#net{answered = [From | Answered]};
+effect({'begin', _, _}, Net) -> Net;
+effect({answer, _, From, _, _}, Net = #net{answered = Answered}) -> Net#net{answered = [From | Answered]};
 effect(no_answer, Net) -> Net#net{lost = true}.
 
 %% As the gateway does it: a kept reply is sent again, and the last 32 are kept until they are acknowledged.
@@ -103,8 +103,10 @@ a_request_is_repeated_and_then_given_up_test() ->
     {1, Table2} = sends(lobby_transactions:expired(200, Table1)),
     {1, Table3} = sends(lobby_transactions:expired(300, Table2)),
     ?assertMatch({[no_answer], _}, lobby_transactions:expired(400, Table3)),
-    {Waiting, Open, _} = lobby_transactions:abandon(Table3),
-    ?assertEqual({[me], [{{{127, 0, 0, 1}, 2945}, 1000, ?ACTION}]}, {Waiting, Open}).
+    ?assert(lobby_transactions:awaits(fun(From) -> From =:= me end, Table3)),
+    {Sent, Table4} = lobby_transactions:abandon(Table3),
+    ?assertEqual([{{{127, 0, 0, 1}, 2945}, 1000, ?ACTION}], Sent),
+    ?assertNot(lobby_transactions:awaits(fun(From) -> From =:= me end, Table4)).
 
 one_that_waits_forever_is_not_given_up_test() ->
     {1, Table0} = sends(lobby_transactions:submit({forever, me}, ?ACTION, 0, new())),
@@ -115,13 +117,21 @@ the_window_begins_at_the_oldest_test() ->
     T = lists:foldl(fun(N, Acc) -> element(2, lobby_transactions:submit({queued, N}, ?ACTION, 0, Acc)) end, new(), lists:seq(1, 20)),
     Reply = {error, 501},
     {Effects, Table1} = lobby_transactions:received(1001, Reply, 1, T),
-    ?assertEqual([{answer, 2, ?ACTION, Reply}], Effects),
-    {[{answer, 1, _, _} | More], _} = lobby_transactions:received(1000, Reply, 1, Table1),
-    ?assertEqual(2, length(More)).
+    ?assertEqual([{answer, 1001, 2, ?ACTION, Reply}], Effects),
+    {2, _} = sends(lobby_transactions:received(1000, Reply, 1, Table1)).
+
+%% Less and less often, so that a gateway that is gone isn't flooded.
+a_patient_request_is_repeated_more_and_more_seldom_test() ->
+    {1, T} = sends(lobby_transactions:submit({patiently, me}, ?ACTION, 0, new())),
+    Times = lists:foldl(fun(_, {Acc, [Before | _] = All}) ->
+        {1, Next} = sends(lobby_transactions:expired(Before, Acc)),
+        {Next, [lobby_transactions:deadline(Next) | All]}
+    end, {T, [lobby_transactions:deadline(T)]}, lists:seq(1, 7)),
+    ?assertEqual([100, 300, 700, 1500, 3100, 5100, 7100, 9100], lists:reverse(element(2, Times))).
 
 a_reply_is_acknowledged_after_the_quiet_time_test() ->
     {1, Table0} = sends(lobby_transactions:submit({queued, me}, ?ACTION, 0, new())),
-    {[{answer, me, _, _}], Table1} = lobby_transactions:received(1000, {error, 501}, 10, Table0),
+    {[{answer, 1000, me, _, _}], Table1} = lobby_transactions:received(1000, {error, 501}, 10, Table0),
     ?assertEqual(5010, lobby_transactions:deadline(Table1)),
     ?assertMatch({[], _}, lobby_transactions:expired(5009, Table1)),
     {[{send, Message}], Table2} = lobby_transactions:expired(5010, Table1),
@@ -135,43 +145,36 @@ too_many_are_refused_test() ->
 an_urgent_request_is_the_next_test() ->
     T = lists:foldl(fun(N, Acc) -> element(2, lobby_transactions:submit({queued, N}, ?ACTION, 0, Acc)) end, new(), lists:seq(1, 1040)),
     {[], Table1} = lobby_transactions:submit({urgent, me}, #{context => 77, commands => [{subtract, all}]}, 0, T),
-    {[{answer, 1, _, _}, {send, Message}], _} = lobby_transactions:received(1000, {error, 501}, 1, Table1),
+    {[{answer, 1000, 1, _, _}, {'begin', _, me}, {send, Message}], _} = lobby_transactions:received(1000, {error, 501}, 1, Table1),
     ?assertMatch({match, _}, re:run(Message, "C=77")).
 
 what_is_held_back_is_sent_again_under_its_number_test() ->
     {_, Table0} = lobby_transactions:submit({queued, me}, ?ACTION, 0, new()),
     Held = lobby_transactions:hold(Table0),
     ?assertEqual(infinity, lobby_transactions:deadline(Held)),
-    {[{send, Audit}], Table1} = lobby_transactions:submit({forever, audit}, ?ACTION, 500, Held),
+    {[{'begin', _, audit}, {send, Audit}], Table1} = lobby_transactions:submit({forever, audit}, ?ACTION, 500, Held),
     ?assertMatch({match, _}, re:run(Audit, "T=1001")),
     %% An answer that is late comes again.
     {[], Table2} = lobby_transactions:received(1000, {error, 501}, 600, Table1),
-    {[{answer, audit, _, _}], Table3} = lobby_transactions:received(1001, {error, 501}, 600, Table2),
+    {[{answer, 1001, audit, _, _}], Table3} = lobby_transactions:received(1001, {error, 501}, 600, Table2),
     {[{send, Again}], Table4} = lobby_transactions:resume(600, Table3),
     ?assertMatch({match, _}, re:run(Again, "T=1000")),
-    {[{answer, me, _, _}], _} = lobby_transactions:received(1000, {error, 501}, 700, Table4),
-    {Waiting, Open, _} = lobby_transactions:abandon(Table2),
-    ?assertEqual({[audit, me], [1000, 1001]}, {lists:sort(Waiting), [Number || {_, Number, _} <- Open]}).
+    {[{answer, 1000, me, _, _}], _} = lobby_transactions:received(1000, {error, 501}, 700, Table4),
+    {Sent, _} = lobby_transactions:abandon(Table2),
+    ?assertEqual([1000, 1001], [Number || {_, Number, _} <- Sent]).
 
-%% Also if another process repeats it, from a socket of its own.
-an_abandoned_request_keeps_its_names_test() ->
-    {[{send, Message}], Table0} = lobby_transactions:submit({queued, me}, ?ACTION, 0, new()),
-    {_, [Abandoned], Table1} = lobby_transactions:abandon(Table0),
-    Other = lobby_transactions:new({{127, 0, 0, 1}, 9}, 5000, [], #{retry => 100, tries => 4, quiet => 5000}),
-    [?assertMatch({[{send, Message}], _}, lobby_transactions:resubmit(Abandoned, me, 1, T)) || T <- [Table1, Other]].
+%% What comes meanwhile waits, too.
+what_comes_while_requests_are_held_back_waits_test() ->
+    {[], T} = lobby_transactions:submit({queued, me}, ?ACTION, 0, lobby_transactions:hold(new())),
+    ?assert(lobby_transactions:awaits(fun(From) -> From =:= me end, T)),
+    {1, _} = sends(lobby_transactions:resume(10, T)).
 
-%% Otherwise, one of the two would never be answered.
-a_number_that_is_sent_again_is_not_given_again_test() ->
-    Abandoned = [{{{127, 0, 0, 1}, 9}, Number, ?ACTION} || Number <- [900, 1003]],
-    T = lobby_transactions:new({{127, 0, 0, 1}, 2945}, 1000, Abandoned, ?OPTIONS),
-    {[{send, Message}], _} = lobby_transactions:submit({queued, me}, ?ACTION, 0, T),
-    ?assertMatch({match, _}, re:run(Message, "T=1004")).
-
-what_makes_a_context_is_known_until_it_is_answered_test() ->
-    New = #{context => new, commands => [{add, #{mode => inactive}}]},
-    {_, Table0} = lobby_transactions:submit({queued, me}, ?ACTION, 0, new()),
-    ?assertEqual([], lobby_transactions:making(Table0)),
-    {_, Table1} = lobby_transactions:submit({queued, me}, New, 0, Table0),
-    [?assertEqual([{{{127, 0, 0, 1}, 2945}, 1001, New}], lobby_transactions:making(T)) || T <- [Table1, lobby_transactions:hold(Table1)]],
-    {_, Table2} = lobby_transactions:received(1001, {error, 501}, 10, Table1),
-    ?assertEqual([], lobby_transactions:making(Table2)).
+%% Also if another process repeats it, from a socket of its own. Its own numbers aren't mixed up with it.
+a_kept_request_keeps_its_names_test() ->
+    {[{'begin', Sent, me}, {send, Message}], T} = lobby_transactions:submit({queued, me}, ?ACTION, 0, new()),
+    {[Sent], Abandoned} = lobby_transactions:abandon(T),
+    ?assertMatch({[{send, Message}], _}, lobby_transactions:resubmit(Sent, me, 1, Abandoned)),
+    Other = lobby_transactions:kept([{Sent, me}], lobby_transactions:new({{127, 0, 0, 1}, 9}, 900, ?OPTIONS)),
+    {[{send, Message}], Resumed} = lobby_transactions:resume(1, Other),
+    {[{'begin', {_, Number, _}, other}, _], _} = lobby_transactions:submit({queued, other}, ?ACTION, 2, Resumed),
+    ?assertEqual(1001, Number).

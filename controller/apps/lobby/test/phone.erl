@@ -104,21 +104,28 @@ send(Text, #phone{socket = Socket, to = {Address, Port}}) -> ok = gen_udp:send(S
 
 recv(P) -> recv(P, 2000).
 
-recv(P = #phone{transport = Transport, socket = Socket}, Timeout) when Transport =/= "UDP" ->
+%% But for what only says that an answer takes a while.
+recv(P, Timeout) ->
+    case received(P, Timeout) of
+        "SIP/2.0 100" ++ _ -> recv(P, Timeout);
+        Text -> Text
+    end.
+
+received(P = #phone{transport = Transport, socket = Socket}, Timeout) when Transport =/= "UDP" ->
     Module = case Transport of "TCP" -> gen_tcp; "TLS" -> ssl end,
     Buffer = case get(Socket) of undefined -> ""; Bytes -> Bytes end,
     case whole(Buffer) of
         {Message, Rest} -> put(Socket, Rest), Message;
         more -> case Module:recv(Socket, 0, Timeout) of
-            {ok, Bytes1} -> put(Socket, Buffer ++ binary_to_list(Bytes1)), recv(P, Timeout);
+            {ok, Bytes1} -> put(Socket, Buffer ++ binary_to_list(Bytes1)), received(P, Timeout);
             {error, timeout} -> none;
             {error, closed} -> closed
         end
     end;
-recv(P = #phone{socket = Socket}, Timeout) ->
+received(P = #phone{socket = Socket}, Timeout) ->
     case gen_udp:recv(Socket, 0, Timeout) of
         %% RTP for somebody who had the port before.
-        {ok, {_, _, <<2:2, _/bits>>}} -> recv(P, Timeout);
+        {ok, {_, _, <<2:2, _/bits>>}} -> received(P, Timeout);
         {ok, {_, _, Text}} -> binary_to_list(Text);
         {error, timeout} -> none
     end.

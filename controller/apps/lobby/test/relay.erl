@@ -16,7 +16,8 @@ start(Gateway, Faults) ->
 
 address({_, Port}) -> {{127, 0, 0, 1}, Port}.
 
-%% From now on, requests with this text don't reach the gateway, and the answer to them is error 510.
+%% From now on, requests with this text don't reach the gateway, and the answer to them is error 510. In a list of texts,
+%% all have to be there.
 refuse({Pid, _}, Text) -> Pid ! {refuse, Text}, ok.
 
 %% From now on, requests with this text are dropped.
@@ -53,6 +54,7 @@ loop(Socket, Gateway = {GatewayAddress, GatewayPort}, Faults, Sockets) ->
 
 has(Key, Request, Faults) ->
     case Faults of
+        #{Key := Texts} when is_list(Texts) -> lists:all(fun(Text) -> binary:match(Request, Text) =/= nomatch end, Texts);
         #{Key := Text} -> binary:match(Request, Text) =/= nomatch;
         #{} -> false
     end.

@@ -29,6 +29,10 @@ main(Arguments) ->
     io:format("~b callers in ~b rooms on ~b gateways joined in ~.1f s: ~b a second; INVITE to 200: ~b ms at the median, ~b at most~n",
               [Callers, Rooms, Gateways, maps:get(took, Joined) / 1000, round(1000 * Callers / maps:get(took, Joined)), maps:get(median, Joined), maps:get(max, Joined)]),
     io:format("memory of the node that serves: ~b MB, of the standby: ~b MB~n", [memory(A), memory(B)]),
+    Ids = peer:call(A, lobby_store, keys, [lobby_members]),
+    Times = lists:sort([isolated(lists:nth(rand:uniform(length(Ids)), Ids), proplists:get_value(http, Common)) || _ <- lists:seq(1, 1000)]),
+    io:format("isolate by HTTP: ~.1f ms at the median, ~.1f ms at 99 %, ~.1f ms at most~n",
+              [lists:nth(N, Times) / 1000 || N <- [500, 990, 1000]]),
     timer:sleep(5000),
     io:format("the node that serves uses ~.2f processors while nobody joins~n", [used(A, 10)]),
     Before = [simulated_gateway:contexts(G) || G <- Simulated],
@@ -55,6 +59,17 @@ main(Arguments) ->
     io:format("memory of the node that serves: ~b MB~n", [memory(B)]),
     _ = os:cmd("kill -9 " ++ peer:call(B, os, getpid, []) ++ "; sleep 1; rm -r " ++ Folder),
     halt(0).
+
+%% Microseconds from a request until its answer.
+isolated(Id, {Address, Port}) ->
+    {ok, Socket} = gen_tcp:connect(Address, Port, [binary, {active, false}, {nodelay, true}]),
+    Start = erlang:monotonic_time(microsecond),
+    ok = gen_tcp:send(Socket, ["POST /members/", Id, "/isolate HTTP/1.1\r\nHost: x\r\nAuthorization: Bearer a-token-for-trials\r\n"
+                               "Connection: close\r\nContent-Length: 0\r\n\r\n"]),
+    {ok, <<"HTTP/1.1 200", _/binary>>} = gen_tcp:recv(Socket, 0, 10000),
+    Took = erlang:monotonic_time(microsecond) - Start,
+    ok = gen_tcp:close(Socket),
+    Took.
 
 now_ms() -> erlang:monotonic_time(millisecond).
 

@@ -1,0 +1,44 @@
+%%% @doc What is known of a caller before anybody hears him: who he is, his role, and whether he is to stay isolated.
+-module(lobby_identity).
+
+-include_lib("p1_sip/include/esip.hrl").
+
+-export([known/2, keep_isolated/2]).
+-export_type([rule/0]).
+
+%% Who has which role. A header counts only from a proxy in these networks.
+-type rule() :: {{user, binary()}, lobby_rules:role()} | {{network, lobby_auth:network()}, lobby_rules:role()}
+              | {header, Name :: binary(), [lobby_auth:network()]}.
+
+%% @doc His identity, his role if one is configured for him, and his isolation if it is kept.
+-spec known(lobby_sip_message:message(), lobby_sip_message:target()) ->
+          #{identity := binary(), isolated := boolean(), role => lobby_rules:role()}.
+known(Invite, Source) ->
+    Identity = identity(Invite),
+    Known = #{identity => Identity, isolated => lobby_store:has(lobby_isolated, Identity)},
+    case [Role || Rule <- application:get_env(lobby, roles, []), Role <- role(Rule, Invite, Source)] of
+        [Role | _] -> Known#{role => Role};
+        [] -> Known
+    end.
+
+%% The name that he has proved or a trusted proxy asserts, and otherwise the address that he gives.
+identity(Invite) ->
+    case lobby_auth:identity(Invite) of
+        none ->
+            {_, #uri{user = User, host = Host}, _} = lobby_sip_message:header(from, Invite),
+            <<"sip:", User/binary, "@", Host/binary>>;
+        User -> User
+    end.
+
+role({{user, User}, Role}, Invite, _) -> [Role || lobby_auth:identity(Invite) =:= User];
+role({{network, Network}, Role}, _, Source) -> [Role || lobby_auth:is_in(address(Source), [Network])];
+role({header, Name, Proxies}, #sip{hdrs = Headers}, Source) ->
+    [Role || lobby_auth:is_in(address(Source), Proxies), {role, {Of, Role}} <- Headers, Of =:= Name, byte_size(Role) >= 1, byte_size(Role) =< 32].
+
+address(Source) ->
+    element(1, lobby_sip_message:peer(Source)).
+
+%% @doc Whether somebody is isolated when he calls again.
+-spec keep_isolated(Identity :: binary(), boolean()) -> ok.
+keep_isolated(Identity, true) -> lobby_store:put(lobby_isolated, Identity, true);
+keep_isolated(Identity, false) -> lobby_store:delete(lobby_isolated, Identity).

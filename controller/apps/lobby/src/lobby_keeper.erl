@@ -1,0 +1,97 @@
+%%% @doc Starts rooms and calls again: those that the store has, when this process starts, and those whose processes fail.
+%%% One that fails again and again is set aside, so that the others go on.
+-module(lobby_keeper).
+-behaviour(gen_server).
+
+-export([start_link/1, started/3]).
+-export([init/1, handle_continue/2, handle_call/3, handle_cast/2, handle_info/2]).
+-export_type([kind/0]).
+
+%% So many failures within so many milliseconds are too many.
+-define(FAILURES, 3).
+-define(PERIOD, 60000).
+
+-type kind() :: room | call.
+-record(state, {kind :: kind(), names = #{} :: #{pid() => term()}, failures = #{} :: #{term() => [integer()]}}).
+
+-spec start_link(kind()) -> gen_server:start_ret().
+start_link(Kind) ->
+    gen_server:start_link({local, name(Kind)}, ?MODULE, Kind, []).
+
+name(room) -> lobby_room_keeper;
+name(call) -> lobby_call_keeper.
+
+%% @doc Has a process that was just started watched.
+-spec started(kind(), Name :: term(), supervisor:startchild_ret()) -> {ok, pid()}.
+started(Kind, Name, {ok, Pid}) ->
+    ok = gen_server:cast(name(Kind), {started, Name, Pid}),
+    {ok, Pid}.
+
+-spec init(kind()) -> {ok, #state{}, {continue, restore}}.
+init(Kind) ->
+    {ok, #state{kind = Kind}, {continue, restore}}.
+
+%% In the background: those that are needed before are started then.
+-spec handle_continue(restore, #state{}) -> {noreply, #state{}}.
+handle_continue(restore, State = #state{kind = Kind}) ->
+    _ = spawn_link(fun() -> lists:foreach(fun(Name) -> _ = start(Kind, Name) end, kept(Kind)) end),
+    {noreply, lists:foldl(fun({Name, Pid}, Acc) -> watch(Name, Pid, Acc) end, State, lobby_registry:names(Kind))}.
+
+kept(room) -> lists:usort(lobby_store:keys(lobby_rooms) ++ lobby_store:groups(lobby_members));
+kept(call) -> lobby_store:keys(lobby_calls).
+
+is_kept(room, Name) -> lobby_rooms:exists(Name);
+is_kept(call, Key) -> lobby_store:has(lobby_calls, Key).
+
+start(room, Name) ->
+    lobby_registry:whereis_name({room, Name}) =/= undefined orelse lobby_rooms:start(Name);
+start(call, Key) ->
+    lobby_registry:whereis_name({call, Key}) =/= undefined orelse lobby_call:restore(Key).
+
+-spec handle_call(term(), gen_server:from(), #state{}) -> {reply, {error, unknown_call}, #state{}}.
+handle_call(_, _, State) ->
+    {reply, {error, unknown_call}, State}.
+
+-spec handle_cast({started, term(), pid()}, #state{}) -> {noreply, #state{}}.
+handle_cast({started, Name, Pid}, State) ->
+    {noreply, watch(Name, Pid, State)}.
+
+watch(_, Pid, State = #state{names = Names}) when is_map_key(Pid, Names) ->
+    State;
+watch(Name, Pid, State = #state{names = Names}) ->
+    _ = monitor(process, Pid),
+    State#state{names = Names#{Pid => Name}}.
+
+-spec handle_info(term(), #state{}) -> {noreply, #state{}}.
+handle_info({'DOWN', _, process, Pid, Reason}, State = #state{names = Names}) ->
+    {Name, Rest} = maps:take(Pid, Names),
+    {noreply, ended(Name, Reason, State#state{names = Rest})};
+handle_info(_, State) ->
+    {noreply, State}.
+
+ended(Name, Reason, State = #state{failures = Failures}) when Reason =:= normal; Reason =:= shutdown ->
+    State#state{failures = maps:remove(Name, Failures)};
+%% It ended before it was watched. What is still kept has failed.
+ended(Name, noproc, State = #state{kind = Kind}) ->
+    case is_kept(Kind, Name) of
+        true -> ended(Name, failed, State);
+        false -> State
+    end;
+%% Somebody ended it, so it isn't its own fault.
+ended(Name, killed, State = #state{kind = Kind}) ->
+    _ = spawn(fun() -> start(Kind, Name) end),
+    State;
+ended(Name, _, State = #state{kind = Kind, failures = Failures}) ->
+    Now = erlang:monotonic_time(millisecond),
+    Recent = [Now | [Time || Time <- maps:get(Name, Failures, []), Now - Time < ?PERIOD]],
+    _ = spawn(case length(Recent) >= ?FAILURES of
+        true -> fun() -> set_aside(Kind, Name) end;
+        false -> fun() -> start(Kind, Name) end
+    end),
+    State#state{failures = case length(Recent) >= ?FAILURES of
+        true -> maps:remove(Name, Failures);
+        false -> Failures#{Name => Recent}
+    end}.
+
+set_aside(room, Name) -> lobby_rooms:set_aside(Name);
+set_aside(call, Key) -> lobby_call:set_aside(Key).

@@ -1,0 +1,151 @@
+%%% @doc A person in a conference as a value: what is wanted for him, as a row that the store keeps, and who waits until
+%%% it holds.
+%%%
+%%% Only his call's process changes the row. It stores a change before a room hears of it, so that the change outlives
+%%% that process, and it goes with him to whichever room he is in. A room only brings the gateway to what the rows say,
+%%% and reports the version that the gateway has. Then whoever asked for the change is answered.
+%%%
+%%% A move has the next room admit him, and changes his row's `room'. Until the old room has silenced him and let him go,
+%%% the row says where he comes `from', and the next one doesn't add him. Moves follow one another.
+-module(lobby_person).
+
+-export([new/1, restored/1, handle/2, row/1, is_settled/1]).
+-export_type([person/0, row/0, change/0, event/0, action/0, tag/0, report/0]).
+
+-type id() :: lobby_rules:id().
+-type version() :: pos_integer().
+%% `moved': the version of the last move. `waiting': he is in front of the room's door. `acknowledged': he has asked for
+%% speech, and not somebody else for him. `call': where the store has his call.
+-type row() :: #{id := id(), room := lobby_room:name(), from := lobby_room:name() | none, moved := version(),
+                 version := version(), role := lobby_rules:role(), isolated := boolean(), muted := boolean(),
+                 waiting := boolean(), acknowledged := boolean(), media := lobby_h248:media(), direction := lobby_sdp:direction(),
+                 identity := binary(), call => term()}.
+-type change() :: #{role => lobby_rules:role(), isolated => boolean(), muted => boolean(), waiting => boolean(),
+                    acknowledged => boolean(), media => lobby_h248:media(), direction => lobby_sdp:direction()}.
+%% Whom an answer is for. Somebody who asked through the interface is answered only when no phone still sends to a
+%% gateway that is lost; `media' belongs to the caller's own offer, which can't wait for others. Who `joins' isn't told that
+%% it takes longer.
+-type tag() :: {asked, From :: term()} | {media, term()} | {joins, term()}.
+%% What a room says of a version. `later': it has no gateway that takes it yet. `refused': the gateway doesn't take his
+%% media, and has those that are given.
+-type report() :: {holds, version(), Local :: lobby_h248:media(), Everywhere :: boolean()} | {later, version()}
+                | {refused, version(), Code :: pos_integer(), lobby_h248:media() | none}.
+-type event() :: {join, tag()} | {admitted, lobby_room:name(), ok | {error, term()}} | {change, tag(), change()}
+               | {move, tag(), lobby_room:name()} | {report, lobby_room:name(), report()} | again | leave.
+-type action() :: {store, row()} | {delete, id()} | {admit, lobby_room:name(), id(), From :: lobby_room:name() | none}
+                | {want, lobby_room:name(), row()} | {gone, lobby_room:name(), id()}
+                | {answer, tag(), {ok, lobby_h248:media()} | {error, term()}}.
+
+-record(person, {row :: row(), phase = in :: joining | in | {moving, lobby_room:name()},
+                 %% Who waits: for the room's admission, for a version, or for a move before theirs.
+                 asking = none :: tag() | none, pending = [] :: [{version(), tag()}],
+                 moves = [] :: [{tag(), lobby_room:name()}],
+                 %% The last version that the gateway has, as far as the room said.
+                 held = 0 :: non_neg_integer()}).
+-opaque person() :: #person{}.
+
+%% @doc Somebody who isn't in a room yet.
+-spec new(row()) -> person().
+new(Row) ->
+    #person{row = Row, phase = joining}.
+
+%% @doc Somebody whose row was kept. `again' tells his room of him.
+-spec restored(row()) -> person().
+restored(Row) ->
+    #person{row = Row}.
+
+-spec row(person()) -> row().
+row(#person{row = Row}) -> Row.
+
+%% @doc Whether nobody waits, and the room has reported all. Otherwise, `again' is to be handled now and then: whoever
+%% was told may have failed.
+-spec is_settled(person()) -> boolean().
+is_settled(#person{row = #{version := Version, from := none}, phase = in, held = Version, pending = []}) -> true;
+is_settled(#person{}) -> false.
+
+-spec handle(event(), person()) -> {person(), [action()]}.
+handle({join, Tag}, P = #person{phase = joining}) ->
+    {P#person{asking = Tag}, [admit(P)]};
+handle({admitted, Room, Result}, P = #person{phase = joining, asking = Tag, row = Row = #{room := Room, version := V}})
+  when Tag =/= none ->
+    case Result of
+        ok -> {P#person{phase = in, asking = none, pending = [{V, Tag}]}, [{store, Row}, {want, Room, Row}]};
+        {error, _} -> {P#person{asking = none}, [{answer, Tag, Result}]}
+    end;
+handle({admitted, Room, Result}, P = #person{phase = {moving, Room}, asking = Tag}) ->
+    case Result of
+        ok -> moved(Room, Tag, P#person{phase = in, asking = none});
+        {error, _} -> next_move(P#person{phase = in, asking = none}, [{answer, Tag, Result}])
+    end;
+handle({change, Tag, Change}, P = #person{row = Row, phase = Phase}) when Phase =/= joining ->
+    changed(Tag, maps:merge(Row, Change), P);
+handle({move, Tag, To}, P = #person{moves = Moves}) ->
+    next_move(P#person{moves = Moves ++ [{Tag, To}]}, []);
+handle({report, Room, Report}, P = #person{row = #{room := Room}, phase = Phase}) when Phase =/= joining ->
+    reported(Report, P);
+handle(again, P = #person{phase = joining, asking = Tag}) when Tag =/= none ->
+    {P, [admit(P)]};
+handle(again, P = #person{phase = Phase, row = Row = #{room := Room}}) when Phase =/= joining ->
+    {P, [{want, Room, Row} | [admit(P) || {moving, _} <- [Phase]]]};
+handle(leave, P = #person{row = #{id := Id, room := Room, from := From}, phase = Phase, moves = Moves}) ->
+    Waiting = [Tag || {_, Tag} <- P#person.pending] ++ [Tag || {Tag, _} <- Moves] ++ [Tag || Tag <- [P#person.asking], Tag =/= none],
+    Rooms = [R || R <- [Room, From | [To || {moving, To} <- [Phase]]], R =/= none],
+    {P#person{pending = [], moves = [], asking = none},
+     [{delete, Id} | [{gone, R, Id} || R <- Rooms]] ++ [{answer, Tag, {error, no_member}} || Tag <- Waiting]};
+handle(_, P) ->
+    {P, []}.
+
+admit(#person{phase = joining, row = #{id := Id, room := Room}}) -> {admit, Room, Id, none};
+admit(#person{phase = {moving, To}, row = #{id := Id, room := Room}}) -> {admit, To, Id, Room}.
+
+%% What is wanted already is reported again.
+changed(Tag, Row, P = #person{row = Row = #{room := Room, version := Version}, pending = Pending}) ->
+    {P#person{pending = Pending ++ [{Version, Tag}]}, [{want, Room, Row}]};
+%% The row is stored before anybody hears of it.
+changed(Tag, Row, P = #person{pending = Pending}) ->
+    #{room := Room, version := Version} = New = Row#{version := maps:get(version, Row) + 1},
+    {P#person{row = New, pending = Pending ++ [{Version, Tag}]}, [{store, New}, {want, Room, New}]}.
+
+moved(To, Tag, P = #person{row = Row = #{room := Room, version := Version}}) ->
+    %% An operator who moves somebody lets him in.
+    changed(Tag, Row#{room := To, from := Room, moved := Version + 1, waiting := false}, P).
+
+%% A move begins when the one before has ended.
+next_move(P = #person{phase = in, moves = [{Tag, To} | Moves], row = #{room := Room, from := none}}, Actions) ->
+    case To of
+        Room -> next_move(P#person{moves = Moves}, Actions ++ [{answer, Tag, {error, same_room}}]);
+        _ ->
+            Moving = P#person{phase = {moving, To}, moves = Moves, asking = Tag},
+            {Moving, Actions ++ [admit(Moving)]}
+    end;
+next_move(P, Actions) ->
+    {P, Actions}.
+
+%% He is in his room now, so whoever moves him next needn't wait for the one before.
+reported({holds, Version, Local, Everywhere}, P = #person{row = Row = #{moved := Moved, from := From}, pending = Pending}) ->
+    {Done, Waiting} = lists:partition(fun({V, Tag}) -> V =< Version andalso may_answer(Tag, Everywhere) end, Pending),
+    Held = P#person{pending = Waiting, held = max(Version, P#person.held)},
+    Answers = [{answer, Tag, {ok, Local}} || {_, Tag} <- Done],
+    case From =/= none andalso Version >= Moved of
+        true ->
+            Settled = Row#{from := none},
+            next_move(Held#person{row = Settled}, [{store, Settled} | Answers]);
+        false ->
+            {Held, Answers}
+    end;
+reported({later, Version}, P) ->
+    answered(fun({V, Tag}) -> V =< Version andalso element(1, Tag) =/= joins end, {error, not_yet}, P);
+%% He keeps the media that the gateway has.
+reported({refused, Version, Code, none}, P) ->
+    answered(fun({V, _}) -> V =< Version end, {error, {refused, Code}}, P);
+reported({refused, Version, Code, Media}, P) ->
+    {P1 = #person{row = Row = #{version := Last}}, Answers} = answered(fun({V, _}) -> V =< Version end, {error, {refused, Code}}, P),
+    #{room := Room} = New = Row#{media := Media, version := Last + 1},
+    {P1#person{row = New}, [{store, New}, {want, Room, New} | Answers]}.
+
+may_answer({asked, _}, Everywhere) -> Everywhere;
+may_answer(_, _) -> true.
+
+answered(Which, Answer, P = #person{pending = Pending}) ->
+    {Done, Waiting} = lists:partition(Which, Pending),
+    {P#person{pending = Waiting}, [{answer, Tag, Answer} || {_, Tag} <- Done]}.

@@ -1,0 +1,435 @@
+%%% @doc A room as a value: whom it admits, which gateway has its conference, and whom it reports to. `handle/3' takes
+%%% what happens and returns what is to be done, so that every order of events can be tried without processes.
+%%%
+%%% Whatever it is told may be told again, late, or never: rows are read again when the room starts, a request is
+%%% repeated under its reference until it is answered, and a member's row is reported until he has it.
+-module(lobby_room_core).
+
+-export([new/1, handle/3, describe/1, agrees/1, gateway/1, named/1]).
+-export_type([room/0, event/0, action/0, error/0, description/0, kept/0, settings/0]).
+
+%% Requests that fail one after the other until the room waits for a while.
+-define(PATIENCE, 3).
+-define(MAX_MEMBERS, 64).
+
+-type name() :: lobby_room:name().
+-type id() :: lobby_rules:id().
+-type row() :: lobby_person:row().
+-type handle() :: lobby_gateway:handle().
+-type reference_() :: {Run :: term(), pos_integer()}.
+-type error() :: no_room | no_member | room_full | room_locked | too_many_rules | not_yet.
+%% Whether the room stays when its last member leaves, lets in nobody new, and has newcomers wait at its door.
+-type settings() :: #{kept => boolean(), locked => boolean(), door => boolean()}.
+%% Whose phones may still send to a gateway that was lost, and where.
+-type stale() :: #{id() => lobby_h248:media() | unknown}.
+%% What the store has.
+-type kept() :: #{rules := [lobby_rules:rule()], settings := settings(), gateway := handle() | none, stale := stale()}.
+-type event() :: {start, kept() | none, [row()]} | {holdings, [lobby_conference:holding()] | lost, #{id() => row()}}
+               | {admit, id(), From :: name() | none, handle() | none} | {placed, handle() | none} | {reserved, boolean()}
+               | {want, row()} | {gone, id()} | {ask, row(), handle() | none}
+               | {left, id(), Moved :: pos_integer(), {handle(), lobby_conference:holding()} | none}
+               | {confirmed, id(), lobby_h248:media()}
+               | {rules, From :: term(), add | set, [lobby_rules:rule()], settings()} | {settings, From :: term(), settings()}
+               | {audit, From :: term()} | {agree, From :: term()}
+               | {answer, reference_(), {ok, lobby_h248:reply(), lobby_conference:owner()} | {error, pos_integer() | busy}}
+               | {lost, handle()} | {returned, handle()} | retry | watch.
+-type action() :: {request, handle(), reference_(), lobby_h248:action(), [id()]} | {holdings, handle()}
+                | {place, [id()], Prefer :: handle() | none, Except :: handle() | none} | {reserve, handle(), [id()]} | {seats, handle(), [id()]}
+                | {release, handle(), lobby_h248:termination(), To :: name()}
+                | {ask, From :: name(), row(), handle() | none}
+                | {left, To :: name(), id(), Moved :: pos_integer(), {handle(), lobby_conference:holding()} | none}
+                | {'end', handle(), [lobby_conference:place()]}
+                | {admitted, id(), ok | {error, error()}} | {report, id(), lobby_person:report()} | {silent, id()}
+                | {reply, From :: term(), term()} | {save, kept()} | {count, atom()} | {retry, soon | later} | published | stop.
+-type description() :: #{members := [{row(), lobby_h248:termination() | none}], rules := [lobby_rules:rule()],
+                         flows := [lobby_rules:flow()], gateway := lobby_gateway:name() | none,
+                         context := lobby_h248:context() | new, settings := settings()}.
+
+-record(room, {name :: name(), run :: term(), conference = lobby_conference:new() :: lobby_conference:conference(),
+               gateway = none :: handle() | none, settings = #{} :: settings(), stale = #{} :: stale(),
+               %% Who was admitted, and isn't wanted yet, with the time. Who waits for that.
+               admitted = #{} :: #{id() => integer()}, admits = [] :: [{id(), handle() | none}],
+               %% What is awaited: the gateway's process, a seat, or an answer.
+               busy = none :: none | holdings | {seat, id()} | place
+                            | {reference_(), lobby_h248:action(), [id()], lobby_conference:step()},
+               next = 1 :: pos_integer(), failures = 0 :: non_neg_integer(), waits = false :: boolean(),
+               %% Whether the gateway refused a member for whom it should have a seat.
+               full = false :: boolean(),
+               %% Rooms that want members who were here.
+               asks = #{} :: #{id() => {To :: name(), Moved :: pos_integer(), handle() | none}},
+               reported = #{} :: #{id() => lobby_person:report()},
+               %% Who is answered when the gateway has what the rules say, and when it was audited.
+               asked = [] :: [term()], audits = [] :: [term()], compared = unknown :: unknown | same | repaired,
+               %% The packets that each termination received, and since when there are no more.
+               packets = #{} :: #{lobby_h248:termination() => {non_neg_integer(), Since :: integer()}},
+               silent_after = 30000 :: pos_integer(),
+               saved = none :: kept() | none, shown = none :: term(), seats = none :: [id()] | none, out = [] :: [action()]}).
+-opaque room() :: #room{}.
+
+%% @doc A room of which nothing is known yet. `Run' is new for each process, so that answers for an earlier one are known.
+-spec new(#{name := name(), run := term(), silent_after => pos_integer()}) -> room().
+new(Options = #{name := Name, run := Run}) ->
+    #room{name = Name, run = Run, silent_after = maps:get(silent_after, Options, 30000)}.
+
+-spec gateway(room()) -> handle() | none.
+gateway(#room{gateway = Gateway}) -> Gateway.
+
+%% @doc Who is a member or is named by a rule.
+-spec named(room()) -> [id()].
+named(#room{conference = C}) ->
+    lists:usort(lobby_conference:ids(C) ++ lobby_rules:named(lobby_conference:rules(C))).
+
+%% @doc What happens at a time, in milliseconds, and what is to be done.
+-spec handle(event(), Now :: integer(), room()) -> {room(), [action()]}.
+handle(Event, Now, Room) ->
+    Worked = work(event(Event, Now, Room#room{out = [], waits = false})),
+    Done = #room{out = Out} = published(saved(seated(ended(Event, Worked)))),
+    {Done#room{out = []}, lists:reverse(Out)}.
+
+act(Action, Room = #room{out = Out}) ->
+    Room#room{out = [Action | Out]}.
+
+%%% What happens.
+
+event({start, none, Rows}, _, Room) ->
+    lists:foldl(fun wanted/2, Room, Rows);
+event({start, Kept, Rows}, _, Room) ->
+    #{rules := Rules, settings := Settings, gateway := Gateway, stale := Stale} = Kept,
+    C = lobby_conference:set_rules(Rules, lobby_conference:new()),
+    Started = lists:foldl(fun wanted/2, Room#room{conference = C, settings = Settings, stale = Stale, saved = Kept}, Rows),
+    case Gateway of
+        none -> Started;
+        _ -> act({holdings, Gateway}, Started#room{gateway = Gateway, busy = holdings})
+    end;
+event({holdings, lost, _}, _, Room = #room{busy = holdings}) ->
+    lost(Room);
+event({holdings, Holdings, Others}, _, Room = #room{busy = holdings, conference = C}) ->
+    Room#room{busy = none, conference = lobby_conference:resume(Holdings, Others, C)};
+event({admit, Id, From, Prefer}, Now, Room = #room{settings = Settings, admitted = Admitted, conference = C, admits = Admits}) ->
+    Locked = From =:= none andalso maps:get(locked, Settings, false),
+    case {Locked, lists:member(Id, lobby_conference:ids(C)) orelse is_map_key(Id, Admitted), number(Room) >= ?MAX_MEMBERS} of
+        {_, true, _} -> act({admitted, Id, ok}, admitted(Id, Now, Room));
+        {true, _, _} -> act({admitted, Id, {error, room_locked}}, Room);
+        {_, _, true} -> act({admitted, Id, {error, room_full}}, Room);
+        {_, _, _} -> Room#room{admits = lists:keystore(Id, 1, Admits, {Id, Prefer})}
+    end;
+event({placed, none}, _, Room = #room{busy = place, gateway = Gateway}) when Gateway =/= none ->
+    waits(Room#room{busy = none});
+event({placed, none}, _, Room = #room{busy = place, admits = Admits}) ->
+    waits(lists:foldl(fun({Id, _}, R) -> act({admitted, Id, {error, no_room}}, R) end, Room#room{busy = none, admits = []}, Admits));
+event({placed, Other}, Now, Room = #room{busy = place, gateway = Gateway, conference = C}) when Gateway =/= none ->
+    Ended = [{'end', Gateway, [{Context, all}]} || Context <- [lobby_conference:context(C)], Context =/= new],
+    event({placed, Other}, Now, lists:foldl(fun act/2, (lost(Room))#room{busy = place}, Ended ++ [{seats, Gateway, []}]));
+event({placed, Gateway}, Now, Room = #room{busy = place, admits = Admits, reported = Reported}) ->
+    Placed = Room#room{busy = none, gateway = Gateway, admits = []},
+    Counted = case map_size(Reported) of 0 -> Placed; _ -> act({count, lobby_conferences_made_again_total}, Placed) end,
+    lists:foldl(fun({Id, _}, R) -> act({admitted, Id, ok}, admitted(Id, Now, R)) end, Counted, Admits);
+event({reserved, true}, Now, Room = #room{busy = {seat, Id}}) ->
+    act({admitted, Id, ok}, admitted(Id, Now, Room#room{busy = none}));
+event({reserved, false}, _, Room = #room{busy = {seat, Id}}) ->
+    act({admitted, Id, {error, no_room}}, Room#room{busy = none});
+event({want, Row}, _, Room) ->
+    wanted(Row, Room);
+event({gone, Id}, _, Room = #room{conference = C}) ->
+    forgotten(Id, Room#room{conference = lobby_conference:leave({ended, Id}, C)});
+event({ask, Row = #{id := Id, room := To, moved := Moved}, Handle}, _, Room = #room{conference = C, asks = Asks}) ->
+    forgotten(Id, Room#room{conference = lobby_conference:leave(Row, C), asks = Asks#{Id => {To, Moved, Handle}}});
+event({left, Id, Moved, Given}, _, Room = #room{conference = C, gateway = Gateway}) ->
+    case Given of
+        none -> Room#room{conference = lobby_conference:cleared(Id, Moved, none, C)};
+        {Gateway, Holding} -> Room#room{conference = lobby_conference:cleared(Id, Moved, Holding, C)};
+        {Other, #{termination := T, context := Context}} ->
+            act({'end', Other, [{Context, T}]}, Room#room{conference = lobby_conference:cleared(Id, Moved, none, C)})
+    end;
+event({confirmed, Id, Local}, _, Room = #room{stale = Stale, reported = Reported}) ->
+    case Reported of
+        #{Id := {holds, _, Local, _}} -> Room#room{stale = maps:remove(Id, Stale)};
+        #{} -> Room
+    end;
+event({rules, From, How, Rules, Settings}, _, Room = #room{conference = C, asked = Asked, settings = Had}) ->
+    Before = case How of add -> lobby_conference:rules(C); set -> [] end,
+    case lobby_rules:add(Rules, Before) of
+        {ok, All} ->
+            Room#room{conference = lobby_conference:set_rules(All, C), asked = [From | Asked], settings = maps:merge(Had, Settings)};
+        {error, Reason} -> act({reply, From, {error, Reason}}, Room)
+    end;
+event({settings, From, Settings}, _, Room = #room{settings = Before}) ->
+    act({reply, From, ok}, Room#room{settings = maps:merge(Before, Settings)});
+event({agree, From}, _, Room = #room{asked = Asked}) ->
+    Room#room{asked = [From | Asked]};
+event({audit, From}, _, Room = #room{gateway = none}) ->
+    act({reply, From, unknown}, Room);
+event({audit, From}, _, Room = #room{conference = C, audits = Audits}) ->
+    Room#room{conference = lobby_conference:check(C), audits = [From | Audits], compared = unknown};
+event({answer, Reference, Answer}, Now, Room = #room{busy = {Reference, _, _, Step}, conference = C}) ->
+    {Events, Done} = lobby_conference:done(Step, answer(Answer), C),
+    Answered = lists:foldl(fun(Event, R) -> answered(Event, Now, R) end,
+                           progress(Step, Events, Room#room{busy = none, conference = Done}), Events),
+    case {Step, lists:member(failed, Events), lists:member(repaired, Events)} of
+        {topology, false, true} -> Answered#room{compared = repaired};
+        {topology, false, false} -> Answered#room{compared = same};
+        {_, _, _} -> Answered
+    end;
+event({lost, Gateway}, _, Room = #room{gateway = Gateway}) ->
+    lost(Room);
+event({returned, Gateway}, _, Room = #room{gateway = Gateway, conference = C}) ->
+    act({count, lobby_conferences_kept_total}, Room#room{conference = lobby_conference:check(C), packets = #{}});
+event(retry, _, Room = #room{busy = Busy}) ->
+    repeated(Busy, Room#room{failures = 0, conference = lobby_conference:unblock(Room#room.conference)});
+event(watch, Now, Room = #room{conference = C, admitted = Admitted}) ->
+    %% Whoever was admitted and never came was a call whose process failed.
+    Still = maps:filter(fun(_, Since) -> Now - Since < 30000 end, Admitted),
+    Room#room{admitted = Still, conference = lobby_conference:check(C)};
+event(_, _, Room) ->
+    Room.
+
+answer({error, busy}) -> {error, 0};
+answer(Answer) -> Answer.
+
+admitted(Id, Now, Room = #room{admitted = Admitted, conference = C}) ->
+    case lists:member(Id, lobby_conference:ids(C)) of
+        true -> Room;
+        false -> Room#room{admitted = Admitted#{Id => Now}}
+    end.
+
+number(#room{conference = C, admitted = Admitted, admits = Admits}) ->
+    length(lobby_conference:ids(C)) + map_size(Admitted) + length(Admits).
+
+%% Each row that the room is told of is reported, even if it was reported before: that report may have been lost.
+wanted(Row = #{id := Id, room := Name}, Room = #room{name = Name, conference = C, admitted = Admitted, reported = Reported, asks = Asks}) ->
+    Room#room{conference = lobby_conference:want(Row, C), admitted = maps:remove(Id, Admitted),
+              reported = without_version(Id, Reported), asks = maps:remove(Id, Asks)};
+wanted(Row = #{id := Id}, Room = #room{conference = C}) ->
+    forgotten(Id, Room#room{conference = lobby_conference:leave(Row, C)}).
+
+without_version(Id, Reported) ->
+    case Reported of
+        #{Id := {holds, _, Local, Everywhere}} -> Reported#{Id := {holds, 0, Local, Everywhere}};
+        #{} -> maps:remove(Id, Reported)
+    end.
+
+forgotten(Id, Room = #room{reported = Reported, stale = Stale, admitted = Admitted, admits = Admits}) ->
+    Room#room{reported = maps:remove(Id, Reported), stale = maps:remove(Id, Stale), admitted = maps:remove(Id, Admitted),
+              admits = lists:keydelete(Id, 1, Admits)}.
+
+%% If it is only out of reach, it may still mix for whoever still sends to it.
+lost(Room = #room{conference = C, stale = Stale, busy = Busy}) ->
+    Sent = [{Id, lobby_conference:local(Id, C)} || Id <- lobby_conference:ids(C)],
+    Left = maps:from_list([{Id, unknown} || {Id, none} <- Sent, Busy =:= holdings] ++
+                          [{Id, case Stale of #{Id := _} -> unknown; #{} -> Local end} || {Id, {ok, Local}} <- Sent]),
+    Room#room{gateway = none, busy = none, conference = lobby_conference:forget(C), stale = maps:merge(Stale, Left),
+              failures = 0, full = false, packets = #{}, seats = none}.
+
+repeated({Reference, Action, Ids, _}, Room = #room{gateway = Gateway}) ->
+    act({retry, later}, act({request, Gateway, Reference, Action, Ids}, Room));
+repeated(holdings, Room = #room{gateway = Gateway}) ->
+    act({retry, later}, act({holdings, Gateway}, Room));
+repeated(_, Room) ->
+    lists:foldl(fun asks/2, Room, lobby_conference:asked(Room#room.conference)).
+
+asks(Row = #{from := From}, Room = #room{gateway = Gateway}) ->
+    act({ask, From, Row, Gateway}, Room).
+
+%%% What the gateway's answers mean.
+
+%% An audit that succeeds is no progress.
+progress(Step, Events, Room = #room{failures = Failures}) ->
+    case lists:member(failed, Events) of
+        true -> Room#room{failures = Failures + 1};
+        false when Step =:= inventory; Step =:= topology -> Room;
+        false -> Room#room{failures = 0}
+    end.
+
+answered({refused, Id, Code, Media}, _, Room = #room{conference = C}) ->
+    case lobby_conference:find(Id, C) of
+        {#{version := Version}, _} -> act({report, Id, {refused, Version, Code, Media}}, Room);
+        none -> Room
+    end;
+answered({counts, Counts}, Now, Room) -> watched(Counts, Now, Room);
+answered(repaired, _, Room) -> act({count, lobby_topologies_repaired_total}, Room);
+answered(strays, _, Room) -> act({count, lobby_strays_total}, Room);
+answered({full, _}, _, Room) -> Room#room{full = true};
+answered(failed, _, Room) -> Room.
+
+%% Tells members who should be sending, but whose packet counts no longer rise, that they are silent.
+watched(Counts, Now, Room = #room{conference = C, packets = Before, silent_after = SilentAfter}) ->
+    Talkers = [{Id, T} || {#{id := Id, direction := sendrecv}, T} <- found(C)],
+    Still = maps:map(fun(T, Count) -> still(Count, maps:get(T, Before, none), Now) end, Counts),
+    Silent = [{Id, T} || {Id, T} <- Talkers, #{T := {_, Since}} <- [Still], Now - Since >= SilentAfter],
+    %% A gateway that came back so soon that nobody missed it counts from 0 again.
+    Seen = case [T || {T, Count} <- maps:to_list(Counts), #{T := {More, _}} <- [Before], Count < More] of
+        [] -> Room;
+        _ -> act({count, lobby_conferences_kept_total}, Room)
+    end,
+    %% They aren't told again until as much time has passed.
+    lists:foldl(fun({Id, _}, R) -> act({silent, Id}, R) end,
+                Seen#room{packets = maps:without([T || {_, T} <- Silent], Still)}, Silent).
+
+still(Count, {Count, Since}, _) -> {Count, Since};
+still(Count, _, Now) -> {Count, Now}.
+
+found(C) ->
+    [Found || Id <- lobby_conference:ids(C), Found <- [lobby_conference:find(Id, C)]].
+
+%%% What is to be done next.
+
+work(Room = #room{busy = Busy}) when Busy =/= none ->
+    Room;
+work(Room = #room{waits = true}) ->
+    Room;
+work(Room = #room{gateway = none}) ->
+    case {ids(Room), Room} of
+        {[], _} -> answer_asked(audited(left(Room)));
+        {Ids, #room{admits = [{_, Prefer} | _]}} -> act({place, Ids, Prefer, none}, left(Room#room{busy = place}));
+        {Ids, _} -> act({place, Ids, none, none}, left(Room#room{busy = place}))
+    end;
+work(Room = #room{admits = [{Id, _} | Admits], gateway = Gateway}) ->
+    act({reserve, Gateway, lists:usort([Id | ids(Room#room{admits = []})])}, Room#room{admits = Admits, busy = {seat, Id}});
+work(Room = #room{full = true, gateway = Gateway}) ->
+    act({place, ids(Room), none, Gateway}, Room#room{busy = place, full = false});
+work(Room = #room{failures = ?PATIENCE}) ->
+    waits(Room);
+work(Room = #room{conference = C0}) ->
+    {Next, C} = lobby_conference:next(C0),
+    next(Next, Room#room{conference = C}).
+
+%% Whoever has or is to have a seat.
+ids(#room{conference = C, admitted = Admitted, admits = Admits}) ->
+    lists:usort(lobby_conference:ids(C) ++ maps:keys(Admitted) ++ [Id || {Id, _} <- Admits]).
+
+next({request, Action, Step}, Room = #room{gateway = Gateway, run = Run, next = N}) ->
+    Reference = {Run, N},
+    Ids = added(Step),
+    act({retry, later}, act({request, Gateway, Reference, Action, Ids}, Room#room{busy = {Reference, Action, Ids, Step}, next = N + 1}));
+next({release, #{id := Id}, T}, Room = #room{asks = Asks, gateway = Gateway, conference = C}) ->
+    case Asks of
+        #{Id := {To, Moved, Gateway}} ->
+            {[], Done} = lobby_conference:done({released, Id}, done, C),
+            Given = {Gateway, lobby_conference:holding(Id, C)},
+            Let = act({left, To, Id, Moved, Given}, act({release, Gateway, T, To}, Room#room{asks = maps:remove(Id, Asks)})),
+            work(Let#room{conference = Done});
+        #{Id := _} -> work(Room#room{conference = lobby_conference:expel(Id, C)});
+        #{} -> settled(Room)
+    end;
+next(settled, Room) ->
+    settled(Room).
+
+%% Of whom a request makes terminations.
+added({add, New, _}) -> [Id || {#{id := Id}, _} <- New];
+added(_) -> [].
+
+settled(Room0 = #room{conference = C}) ->
+    Room = audited(left(settled_phones(Room0))),
+    Reported = answer_asked(lists:foldl(fun report/2, Room, lobby_conference:persons(C))),
+    case {lobby_conference:asked(C), lobby_conference:missing(C)} of
+        {[], []} -> Reported;
+        {[], _} -> waits(Reported);
+        {Asked, _} -> act({retry, soon}, lists:foldl(fun asks/2, Reported, Asked))
+    end.
+
+%% A phone that is received where it was before has nothing to learn.
+settled_phones(Room = #room{conference = C, stale = Stale}) ->
+    Room#room{stale = maps:filter(fun(Id, Before) -> lobby_conference:local(Id, C) =/= {ok, Before} end, Stale)}.
+
+%% A member is told of the version that the gateway has, and where it receives him.
+report(#{id := Id, version := Version}, Room = #room{conference = C}) ->
+    case lobby_conference:local(Id, C) of
+        none -> Room;
+        {ok, Local} -> reported(Id, Version, Local, Room)
+    end.
+
+reported(Id, Version, Local, Room = #room{reported = Reported, stale = Stale}) ->
+    Report = {holds, Version, Local, map_size(Stale) =:= 0},
+    case Reported of
+        #{Id := Report} -> Room;
+        #{} -> act({report, Id, Report}, Room#room{reported = Reported#{Id => Report}})
+    end.
+
+answer_asked(Room = #room{asked = Asked, stale = Stale}) when map_size(Stale) =:= 0 ->
+    lists:foldl(fun(From, R) -> act({reply, From, ok}, R) end, Room#room{asked = []}, Asked);
+answer_asked(Room) ->
+    Room.
+
+%% There is nothing to audit without members, and the topology of a large conference doesn't fit into a reply.
+audited(Room = #room{audits = Audits, compared = Result}) ->
+    lists:foldl(fun(From, R) -> act({reply, From, Result}, R) end, Room#room{audits = []}, Audits).
+
+%% Whoever was asked for, and whom the gateway has nothing for here, has left.
+left(Room = #room{asks = Asks, conference = C}) ->
+    maps:fold(fun(Id, {To, Moved, _}, R = #room{asks = Left}) -> case lobby_conference:has(Id, C) of
+        true -> R;
+        false -> act({left, To, Id, Moved, none}, R#room{asks = maps:remove(Id, Left)})
+    end end, Room, Asks).
+
+%% Until something changes, or for a while.
+waits(Room = #room{conference = C, asked = Asked}) ->
+    Later = lists:foldl(fun(#{id := Id, version := Version}, R) -> act({report, Id, {later, Version}}, R) end, Room,
+                        [Row || Row <- lobby_conference:persons(C), is_late(Row, Room)]),
+    Told = lists:foldl(fun(From, R) -> act({reply, From, {error, not_yet}}, R) end, Later, Asked),
+    act({retry, soon}, audited(Told#room{asked = [], waits = true})).
+
+is_late(#{id := Id, version := Version}, #room{reported = Reported}) ->
+    case Reported of
+        #{Id := {holds, Version, _, _}} -> false;
+        #{} -> true
+    end.
+
+%%% What outlives the process.
+
+%% An empty room ends, unless it is to be kept. One that was started for somebody isn't told of him yet.
+ended({start, _, _}, Room) ->
+    Room;
+ended(_, Room = #room{busy = none, admitted = Admitted, admits = [], asks = Asks, settings = Settings, conference = C})
+  when map_size(Admitted) =:= 0, map_size(Asks) =:= 0 ->
+    case {lobby_conference:is_empty(C), maps:get(kept, Settings, false)} of
+        {true, false} -> act(stop, Room);
+        {true, true} when Room#room.gateway =/= none ->
+            act({seats, Room#room.gateway, []}, Room#room{gateway = none, conference = lobby_conference:forget(C)});
+        {true, true} -> Room;
+        {false, _} -> Room
+    end;
+ended(_, Room) ->
+    Room.
+
+seated(Room = #room{gateway = none}) ->
+    Room#room{seats = none};
+%% What the gateway has promised to an earlier process isn't known before that.
+seated(Room = #room{busy = holdings}) ->
+    Room;
+seated(Room = #room{gateway = Gateway, seats = Before}) ->
+    case ids(Room) of
+        Before -> Room;
+        Ids -> act({seats, Gateway, Ids}, Room#room{seats = Ids})
+    end.
+
+%% What is done after it was saved isn't forgotten.
+saved(Room = #room{saved = Before, settings = Settings, gateway = Gateway, stale = Stale, conference = C, out = Out}) ->
+    case #{rules => lobby_conference:rules(C), settings => Settings, gateway => Gateway, stale => Stale} of
+        Before -> Room;
+        Kept -> Room#room{saved = Kept, out = Out ++ [{save, Kept}]}
+    end.
+
+%% If somebody who looks would see something else than before.
+published(Room = #room{busy = none, shown = Before, conference = C, gateway = Gateway, settings = Settings}) ->
+    case {lobby_conference:visible(C), Gateway, Settings} of
+        Before -> Room;
+        Shown -> act(published, Room#room{shown = Shown})
+    end;
+published(Room) ->
+    Room.
+
+%%% What it shows.
+
+%% @doc Whether a gateway has what the room wants. A lost gateway doesn't count: if it is only out of reach, it may still
+%% mix as before.
+-spec agrees(room()) -> boolean().
+agrees(#room{busy = none, stale = Stale, gateway = Gateway, conference = C}) when map_size(Stale) =:= 0 ->
+    (Gateway =/= none orelse lobby_conference:is_empty(C)) andalso lobby_conference:missing(C) =:= []
+        andalso element(1, lobby_conference:next(C)) =:= settled;
+agrees(_) -> false.
+
+-spec describe(room()) -> description().
+describe(#room{conference = C, gateway = Gateway, settings = Settings}) ->
+    #{members => found(C), rules => lobby_conference:rules(C), settings => Settings,
+      flows => lists:sort(sets:to_list(lobby_conference:flows(C))), context => lobby_conference:context(C),
+      gateway => case Gateway of none -> none; _ -> lobby_gateway:name(Gateway) end}.

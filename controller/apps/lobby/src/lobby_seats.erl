@@ -1,0 +1,131 @@
+%%% @doc What a gateway has for whom, and which seats are taken: a person's termination, or the place that a room reserved
+%%% for one.
+%%%
+%%% A room reserves seats for all of its members before it adds any. A person who goes from one room to another on the
+%%% same gateway keeps his. What the gateway has is known from its answers, for rooms that start again, and because
+%%% whatever belongs to no member is to be ended.
+-module(lobby_seats).
+
+-export([new/2, kept/2, reserve/3, keep/3, noted/4, let_go/3, ended/2, forget/1]).
+-export([holdings/2, owners/2, rooms/1, entries/1, load/1]).
+-export_type([seats/0, entry/0, change/0]).
+
+-type id() :: lobby_rules:id().
+-type room() :: lobby_room:name().
+-type termination() :: lobby_h248:termination().
+%% `given': the room that had it let it go for `room', which hasn't moved it yet.
+-type entry() :: #{context := lobby_h248:context(), room := room(), member := id(), local := lobby_h248:media(),
+                   given := boolean()}.
+%% What has changed for the store.
+-type change() :: {put, termination(), entry()} | {delete, termination()}.
+-record(seats, {max_terminations :: pos_integer(), max_contexts :: pos_integer(),
+                entries = #{} :: #{termination() => entry()}, reserved = #{} :: #{room() => [id()]}}).
+-opaque seats() :: #seats{}.
+
+-spec new(MaxTerminations :: pos_integer(), MaxContexts :: pos_integer()) -> seats().
+new(MaxTerminations, MaxContexts) ->
+    #seats{max_terminations = MaxTerminations, max_contexts = MaxContexts}.
+
+%% @doc With what was kept.
+-spec kept([{termination(), entry()}], seats()) -> seats().
+kept(Entries, S) ->
+    S#seats{entries = maps:from_list(Entries)}.
+
+%% @doc Reserves seats for all who are in a room or are to be, or changes nothing.
+-spec reserve(room(), [id()], seats()) -> {boolean(), seats()}.
+reserve(Room, Ids, S) ->
+    With = keep(Room, Ids, S),
+    case load(With) of
+        #{terminations := Used, contexts := Contexts, max_terminations := Max, max_contexts := MaxContexts}
+          when Used =< Max, Contexts =< MaxContexts -> {true, With};
+        _ -> {false, S}
+    end.
+
+%% @doc Those who have left a room no longer need their seats.
+-spec keep(room(), [id()], seats()) -> seats().
+keep(Room, [], S = #seats{reserved = Reserved}) -> S#seats{reserved = maps:remove(Room, Reserved)};
+keep(Room, Ids, S = #seats{reserved = Reserved}) -> S#seats{reserved = Reserved#{Room => Ids}}.
+
+%% @doc What an answer to a room's request says. The ids are those whom it was to add, in their order.
+-spec noted(room(), [id()], lobby_h248:reply(), seats()) -> {[change()], seats()}.
+noted(Room, Ids, #{context := Context, results := Results}, S) ->
+    {Changes, {_, Noted}} = lists:mapfoldl(fun(Result, Acc) -> note(Result, {Room, Context}, Acc) end, {Ids, S}, Results),
+    {lists:append(Changes), Noted}.
+
+note({add, T, Properties}, {Room, Context}, {Ids, S}) ->
+    case {Ids, Properties} of
+        {[Id | Rest], #{local := Local}} ->
+            {Changes, S1} = put(T, #{context => Context, room => Room, member => Id, local => Local, given => false}, S),
+            {Changes, {Rest, S1}};
+        {_, _} -> {[], {lists:nthtail(min(1, length(Ids)), Ids), S}}
+    end;
+note({move, T, #{}}, {Room, Context}, {Ids, S = #seats{entries = Entries}}) ->
+    case Entries of
+        #{T := Entry} ->
+            {Changes, S1} = put(T, Entry#{context := Context, room := Room, given := false}, S),
+            {Changes, {Ids, S1}};
+        #{} -> {[], {Ids, S}}
+    end;
+note({subtract, T, #{}}, _, {Ids, S}) ->
+    {Changes, S1} = ended(T, S),
+    {Changes, {Ids, S1}};
+note(_, _, Acc) ->
+    {[], Acc}.
+
+put(T, Entry, S = #seats{entries = Entries}) ->
+    {[{put, T, Entry}], S#seats{entries = Entries#{T => Entry}}}.
+
+%% @doc A room lets a termination go to another one.
+-spec let_go(termination(), room(), seats()) -> {[change()], seats()}.
+let_go(T, To, S = #seats{entries = Entries}) ->
+    case Entries of
+        #{T := Entry} -> put(T, Entry#{room := To, given := true}, S);
+        #{} -> {[], S}
+    end.
+
+%% @doc A termination, or all of a context, is no longer there.
+-spec ended(termination() | {all, lobby_h248:context()}, seats()) -> {[change()], seats()}.
+ended({all, Context}, S = #seats{entries = Entries}) ->
+    lists:foldl(fun(T, {Changes, Acc}) -> {More, Acc1} = ended(T, Acc), {More ++ Changes, Acc1} end, {[], S},
+                [T || {T, #{context := In}} <- maps:to_list(Entries), In =:= Context]);
+ended(T, S = #seats{entries = Entries}) ->
+    case Entries of
+        #{T := _} -> {[{delete, T}], S#seats{entries = maps:remove(T, Entries)}};
+        #{} -> {[], S}
+    end.
+
+%% @doc The gateway was lost. Returns the contexts that it may still have.
+-spec forget(seats()) -> {[lobby_h248:context()], [change()], seats()}.
+forget(S = #seats{entries = Entries}) ->
+    {lists:usort([Context || #{context := Context} <- maps:values(Entries)]), [{delete, T} || T <- maps:keys(Entries)],
+     S#seats{entries = #{}, reserved = #{}}}.
+
+%% @doc What a room has.
+-spec holdings(room(), seats()) -> [lobby_conference:holding()].
+holdings(Room, #seats{entries = Entries}) ->
+    [(maps:with([context, member, local, given], Entry))#{termination => T}
+     || {T, Entry = #{room := Of}} <- lists:sort(maps:to_list(Entries)), Of =:= Room].
+
+%% @doc Which terminations are a room's, and which are those of others.
+-spec owners(room(), seats()) -> lobby_conference:owner().
+owners(Room, #seats{entries = Entries}) ->
+    maps:map(fun(_, #{room := Of}) -> case Of of Room -> own; _ -> other end end, Entries).
+
+%% @doc The rooms that use the gateway.
+-spec rooms(seats()) -> [room()].
+rooms(#seats{entries = Entries, reserved = Reserved}) ->
+    lists:usort(maps:keys(Reserved) ++ [Room || #{room := Room} <- maps:values(Entries)]).
+
+-spec entries(seats()) -> [{termination(), entry()}].
+entries(#seats{entries = Entries}) ->
+    maps:to_list(Entries).
+
+%% @doc How much is taken. The controller's own termination and its context count.
+-spec load(seats()) -> lobby_placement:load().
+load(#seats{entries = Entries, reserved = Reserved, max_terminations = Max, max_contexts = MaxContexts}) ->
+    With = lists:usort([Id || #{member := Id} <- maps:values(Entries)]),
+    People = lists:usort(With ++ lists:append(maps:values(Reserved))),
+    %% A person has two terminations for as long as one of them is being ended.
+    Used = length(People) + map_size(Entries) - length(With) + 1,
+    Contexts = lists:usort(maps:keys(Reserved) ++ [Room || #{room := Room} <- maps:values(Entries)]),
+    #{terminations => Used, contexts => length(Contexts) + 1, max_terminations => Max, max_contexts => MaxContexts}.

@@ -1,5 +1,5 @@
 -- What a session's journal does: ticks in batches, and then a message.
-use Rattle.std.proofs.Common.{◌≡◌, ℕ, zero, suc, ◌+◌, ◌-◌, ◌<◌, ◌≤◌, inl, inr, List, [], ◌∷◌, ◌++◌, IsSome, take, replicate, flat_map, Option, Some, None, Result, Ok, Err, refl, sym, ap, subst, ◌∙◌, append_assoc, arith, codes}
+use Rattle.std.proofs.Common.{◌≡◌, ℕ, false, is_some, zero, suc, ◌+◌, ◌-◌, ◌<◌, ◌≤◌, min, inl, inr, List, [], ◌∷◌, ◌++◌, IsSome, take, replicate, flat_map, Option, Some, None, Result, Ok, Err, refl, sym, ap, subst, ◌∙◌, append_assoc, arith, codes}
 use Rattle.std.proofs.lemmas.List.{append-nil}
 use Rattle.std.proofs.lemmas.List.Elements.{All-nil, All-cons, All-append}
 use Rattle.mg_journal.specs.declared.append_fault.AppendFault.{AppendFault}
@@ -15,12 +15,12 @@ use Rattle.mg_words.specs.declared.peer.Peer.{Peer}
 use Rattle.mg_core.specs.declared.event.Event.TheVariants as events
 use Rattle.mg_core.specs.Peer.{peer_text}
 use Rattle.mg_core.specs.Recording.{IsDatagram, event_line}
-use Rattle.mg_serve.specs.Journaled.{Lacks, Announces, IsJournaled, tick_lines}
+use Rattle.mg_serve.specs.Journaled.{Lacks, Announces, IsJournaled, IsTried, tick_lines}
 use Rattle.mg_serve.specs.Session.{IsAppended}
 use Rattle.mg_serve.specs.Trace.{TraceEntry, Called, Happened, calls_of}
-use Rattle.mg_serve.specs.aids.Journaling.{AreAppends, AppendsBatch, AppendsBefore, EndsTick, LogsCalls, lacking_after_tick}
+use Rattle.mg_serve.specs.aids.Journaling.{AreAppends, AppendsBatch, AppendsBefore, EndsTick, LogsCalls, after_one_tick, with_tick}
 use Rattle.mg_serve.specs.aids.Outside.{JournalView}
-use Rattle.mg_serve.proofs.JournalLemmas.{after_both, journaled_both, nothing_journaled}
+use Rattle.mg_serve.proofs.JournalLemmas.{after_both, append_tried, journaled_both, message_tried, nothing_journaled, nothing_tried, tried_both}
 use Rattle.mg_serve.proofs.Printing.{calls_both}
 use Rattle.mg_serve.proofs.Taking.{told_both, told_none}
 
@@ -61,32 +61,35 @@ appends_one : (before after : PortsSeen) (call : Call) → Logged before.calls a
 appends_one before after call logged journaled = record { logged = logged; journaled = journaled }
 
 batch_refused : (fault : AppendFault) (d : Option Durability) (lacking ticks left : ℕ) → IsSome d →
-    lacking ≡ left + ticks →
+    lacking ≡ left + ticks → ticks ≡ min lacking 1000 →
     IsJournaled d lacking (Called (Append (tick_lines ticks) Written (Err fault)) ∷ []) lacking
-batch_refused fault None lacking ticks left some parts = absurd cc
-batch_refused fault (Some durable) lacking ticks left some parts =
-    (Lacks lacking, inl (ticks, left, parts, refl, refl, refl), refl)
+batch_refused fault None lacking ticks left some parts all = absurd cc
+batch_refused fault (Some durable) lacking ticks left some parts all =
+    (Lacks lacking, inl (ticks, left, parts, refl, refl, refl, all), refl)
 
 batch_done : (d : Option Durability) (lacking ticks left : ℕ) → IsSome d → lacking ≡ left + ticks →
+    ticks ≡ min lacking 1000 →
     IsJournaled d lacking (Called (Append (tick_lines ticks) Written (Ok tt)) ∷ []) left
-batch_done None lacking ticks left some parts = absurd cc
-batch_done (Some durable) lacking ticks left some parts =
-    (Lacks left, inl (ticks, left, parts, refl, refl, refl), refl)
+batch_done None lacking ticks left some parts all = absurd cc
+batch_done (Some durable) lacking ticks left some parts all =
+    (Lacks left, inl (ticks, left, parts, refl, refl, refl, all), refl)
 
-pub batch_fails : (fault : AppendFault) (before after : PortsSeen) (j : JournalView) (ticks : ℕ) →
-    IsSome j.durability → ticks ≤ j.lacking →
+pub batch_fails : (fault : AppendFault) (before after : PortsSeen) (j k : JournalView) (ticks : ℕ) →
+    IsSome j.durability → ticks ≡ min j.lacking 1000 → k ≡ record j { untried = 0 } →
     Logged before.calls after.calls (Append (tick_lines ticks) Written (Err fault) ∷ []) →
     AppendsDated (tick_lines ticks) Written before.journal after.journal (Err fault) →
-    AppendsBatch (Err fault) before after j j
-batch_fails fault before after j ticks some few logged dated = record {
-  ticks = ticks;
-  logs = record { logged = logged; journaled = (after.journal, dated, refl) };
-  durability = refl;
-  lacks = batch_refused fault j.durability j.lacking ticks (j.lacking - ticks) some (omega (arith, few));
-}
+    AppendsBatch (Err fault) before after j k
+batch_fails fault before after j k ticks some few is logged dated =
+    subst (λ (v : JournalView). AppendsBatch (Err fault) before after j v) (sym is) (record {
+      ticks = ticks;
+      logs = record { logged = logged; journaled = (after.journal, dated, refl) };
+      durability = refl;
+      lacks = batch_refused fault j.durability j.lacking ticks (j.lacking - ticks) some (omega (arith, few)) few;
+      tries = append_tried j.durability j.untried 0 (tick_lines ticks) Written (Err fault) some refl;
+    })
 
 pub batch_works : (before after : PortsSeen) (j k : JournalView) (ticks : ℕ) → IsSome j.durability →
-    ticks ≤ j.lacking → k ≡ record j { lacking = j.lacking - ticks } →
+    ticks ≡ min j.lacking 1000 → k ≡ record j { lacking = j.lacking - ticks; untried = 0 } →
     Logged before.calls after.calls (Append (tick_lines ticks) Written (Ok tt) ∷ []) →
     AppendsDated (tick_lines ticks) Written before.journal after.journal (Ok tt) →
     AppendsBatch (Ok tt) before after j k
@@ -96,7 +99,8 @@ batch_works before after j k ticks some few is logged dated =
       ticks = ticks;
       logs = record { logged = logged; journaled = (after.journal, dated, refl) };
       durability = refl;
-      lacks = batch_done j.durability j.lacking ticks (j.lacking - ticks) some (omega (arith, few));
+      lacks = batch_done j.durability j.lacking ticks (j.lacking - ticks) some (omega (arith, few)) few;
+      tries = append_tried j.durability j.untried 0 (tick_lines ticks) Written (Ok tt) some refl;
     })
 
 -- ## All ticks
@@ -108,6 +112,7 @@ nothing_appended seen j = record {
   logs = record { logged = told_none seen.calls; journaled = refl };
   durability = refl;
   lacks = nothing_journaled j.durability j.lacking;
+  tries = nothing_tried j.durability j.untried;
 }
 
 logs_both : (a b c : PortsSeen) (p q : List TraceEntry) → LogsCalls a b (calls_of p) → LogsCalls b c (calls_of q) →
@@ -130,6 +135,14 @@ then_journaled a b j k n q h more =
     journaled_both j.durability j.lacking k.lacking n h.trace q (lacked a b j k h)
     (subst (λ (d : Option Durability). IsJournaled d k.lacking q n) h.durability more)
 
+then_tried : (a b : PortsSeen) (j k : JournalView) (n : ℕ) (q : List TraceEntry) →
+    (h : AppendsBefore [] (Ok tt) a b j k) → IsTried k.durability k.untried q n →
+    IsTried j.durability j.untried (h.trace ++ q) n
+then_tried a b j k n q h more =
+    tried_both j.durability j.untried k.untried n h.trace q
+    (subst (λ (l : List TraceEntry). IsTried j.durability j.untried l k.untried) (append-nil h.trace) h.tries)
+    (subst (λ (d : Option Durability). IsTried d k.untried q n) h.durability more)
+
 pub batch_more : (result : Result (Unit {0}) AppendFault) (a b c : PortsSeen) (j k m : JournalView) →
     AppendsBefore [] (Ok tt) a b j k → AppendsBatch result b c k m → AppendsBefore [] result a c j m
 batch_more (Ok done) a b c j k m h more =
@@ -142,6 +155,8 @@ batch_more (Ok done) a b c j k m h more =
       durability = more.durability ∙ h.durability;
       lacks = subst (λ (l : List TraceEntry). IsJournaled j.durability j.lacking l m.lacking)
           (sym (append-nil (h.trace ++ last))) (then_journaled a b j k m.lacking last h more.lacks);
+      tries = subst (λ (l : List TraceEntry). IsTried j.durability j.untried l m.untried)
+          (sym (append-nil (h.trace ++ last))) (then_tried a b j k m.untried last h more.tries);
     }
 batch_more (Err fault) a b c j k m h more =
     let last = Called (Append (tick_lines more.ticks) Written (Err fault)) ∷ [] in
@@ -152,6 +167,8 @@ batch_more (Err fault) a b c j k m h more =
       durability = more.durability ∙ h.durability;
       lacks = subst (λ (l : List TraceEntry). IsJournaled j.durability j.lacking l m.lacking)
           (sym (append-nil (h.trace ++ last))) (then_journaled a b j k m.lacking last h more.lacks);
+      tries = subst (λ (l : List TraceEntry). IsTried j.durability j.untried l m.untried)
+          (sym (append-nil (h.trace ++ last))) (then_tried a b j k m.untried last h more.tries);
     }
 
 -- ## A message
@@ -175,16 +192,20 @@ message_refused fault None durable n source bytes is none fits = absurd cc
 message_refused fault (Some wanted) durable n source bytes is none fits =
     (Lacks 0, inr (source, bytes, none, refl, cc, refl, fits), ap Lacks none)
 
+some_is : (d : Option Durability) (durable : Durability) → d ≡ Some durable → IsSome d
+some_is None durable is = absurd cc
+some_is (Some wanted) durable is = refl
+
 pub announces : (result : Result (Unit {0}) AppendFault) (durable : Durability) (source : Peer) (bytes : List ℕ)
-    (a b c : PortsSeen) (j k : JournalView) → AppendsBefore [] (Ok tt) a b j k → j.durability ≡ Some durable →
-    k.lacking ≡ 0 → IsDatagram source bytes →
+    (a b c : PortsSeen) (j k m : JournalView) → AppendsBefore [] (Ok tt) a b j k → j.durability ≡ Some durable →
+    k.lacking ≡ 0 → m ≡ record k { untried = 0 } → IsDatagram source bytes →
     Logged b.calls c.calls (Append (event_line (events.Control source bytes)) durable result ∷ []) →
     AppendsDated (event_line (events.Control source bytes)) durable b.journal c.journal result →
-    AppendsBefore (Happened (events.Control source bytes) ∷ []) result a c j k
-announces (Ok done) durable source bytes a b c j k h is none fits logged dated =
+    AppendsBefore (Happened (events.Control source bytes) ∷ []) result a c j m
+announces (Ok done) durable source bytes a b c j k m h is none at fits logged dated =
     let append = Append (event_line (events.Control source bytes)) durable (Ok tt) in
     let happened = Happened (events.Control source bytes) ∷ [] in
-    record {
+    subst (λ (v : JournalView). AppendsBefore happened (Ok tt) a c j v) (sym at) (record {
       trace = h.trace ++ Called append ∷ [];
       are = All-append IsAppended h.trace (Called append ∷ []) h.are
           (All-cons IsAppended (Called append) [] tt (All-nil IsAppended));
@@ -195,10 +216,16 @@ announces (Ok done) durable source bytes a b c j k h is none fits logged dated =
           (sym (append_assoc h.trace (Called append ∷ []) happened))
           (then_journaled a b j k k.lacking (Called append ∷ happened) h
           (message_done k.durability durable k.lacking source bytes (h.durability ∙ is) none fits));
-    }
-announces (Err fault) durable source bytes a b c j k h is none fits logged dated =
+      tries = subst (λ (l : List TraceEntry). IsTried j.durability j.untried l 0)
+          (sym (append_assoc h.trace (Called append ∷ []) happened))
+          (then_tried a b j k 0 (Called append ∷ happened) h
+          (message_tried k.durability durable k.untried 0 (event_line (events.Control source bytes)) durable (Ok tt) source bytes
+          (h.durability ∙ is) refl));
+    })
+announces (Err fault) durable source bytes a b c j k m h is none at fits logged dated =
     let append = Append (event_line (events.Control source bytes)) durable (Err fault) in
-    record {
+    let happened = Happened (events.Control source bytes) ∷ [] in
+    subst (λ (v : JournalView). AppendsBefore happened (Err fault) a c j v) (sym at) (record {
       trace = h.trace ++ Called append ∷ [];
       are = (h.trace, event_line (events.Control source bytes), durable, refl, h.are, inr refl);
       logs = logs_both a b c h.trace (Called append ∷ []) h.logs
@@ -208,7 +235,12 @@ announces (Err fault) durable source bytes a b c j k h is none fits logged dated
           (sym (append-nil (h.trace ++ Called append ∷ [])))
           (then_journaled a b j k k.lacking (Called append ∷ []) h
           (message_refused fault k.durability durable k.lacking source bytes (h.durability ∙ is) none fits));
-    }
+      tries = subst (λ (l : List TraceEntry). IsTried j.durability j.untried l 0)
+          (sym (append-nil (h.trace ++ Called append ∷ [])))
+          (then_tried a b j k 0 (Called append ∷ []) h
+          (append_tried k.durability k.untried 0 (event_line (events.Control source bytes)) durable (Err fault)
+          (some_is k.durability durable (h.durability ∙ is)) refl));
+    })
 
 refused_before : (followed : List TraceEntry) (fault : AppendFault) (p : List TraceEntry) → AreAppends [] (Err fault) p →
     AreAppends followed (Err fault) p
@@ -225,6 +257,7 @@ not_announced followed fault a b j k h = record {
   logs = h.logs;
   durability = h.durability;
   lacks = h.lacks;
+  tries = h.tries;
 }
 
 -- without a journal
@@ -237,22 +270,65 @@ nothing_announced source bytes seen j none = record {
   durability = refl;
   lacks = subst (λ (d : Option Durability).
       IsJournaled d j.lacking (Happened (events.Control source bytes) ∷ []) j.lacking) (sym none) (refl, refl);
+  tries = subst (λ (d : Option Durability).
+      IsTried d j.untried (Happened (events.Control source bytes) ∷ []) j.untried) (sym none) refl;
 }
 
 -- ## A tick
 
-pub tick_then_batch : (result : Result (Unit {0}) AppendFault) (before after : PortsSeen) (j i k : JournalView) →
-    i ≡ record j { lacking = lacking_after_tick j.durability j.lacking } → AppendsBatch result before after i k →
-    EndsTick before after j k
-tick_then_batch result before after j i k is h = record {
-  appends = Called (Append (tick_lines h.ticks) Written result) ∷ [];
-  may = inr (tick_lines h.ticks, Written, result, refl);
-  logs = h.logs;
-  durability = h.durability ∙ ap (λ (v : JournalView). v.durability) is;
-  lacks = subst (λ (v : JournalView).
-      IsJournaled v.durability v.lacking (Called (Append (tick_lines h.ticks) Written result) ∷ []) k.lacking) is h.lacks;
-}
+-- how long ago an append was tried doesn't matter once one is tried
+tried_again : (d : Option Durability) (n left : ℕ) (lines : List ℕ) (result : Result (Unit {0}) AppendFault) →
+    IsTried d n (Called (Append lines Written result) ∷ []) left →
+    IsTried d (after_one_tick d n) (Called (Append lines Written result) ∷ []) left
+tried_again None n left lines result h = h
+tried_again (Some durable) n left lines result h = h
 
-pub counted : (d : Option Durability) (lacking : ℕ) → IsSome d → lacking_after_tick d lacking ≡ lacking + 1
+pub tick_then_batch : (result : Result (Unit {0}) AppendFault) (before after : PortsSeen) (j i k : JournalView) →
+    j.untried < 10 → i ≡ record j { lacking = after_one_tick j.durability j.lacking } → AppendsBatch result before after i k →
+    EndsTick before after j k
+tick_then_batch result before after j i k few is h =
+    let view : i.durability ≡ j.durability = ap (λ (v : JournalView). v.durability) is in
+    record {
+      appends = Called (Append (tick_lines h.ticks) Written result) ∷ [];
+      may = inr (tick_lines h.ticks, Written, result, refl);
+      logs = h.logs;
+      durability = h.durability ∙ view;
+      lacks = subst (λ (v : JournalView).
+          IsJournaled v.durability v.lacking (Called (Append (tick_lines h.ticks) Written result) ∷ []) k.lacking) is h.lacks;
+      in_time = few;
+      tries = tried_again j.durability j.untried k.untried (tick_lines h.ticks) result
+          (subst (λ (v : JournalView).
+          IsTried v.durability v.untried (Called (Append (tick_lines h.ticks) Written result) ∷ []) k.untried) is h.tries);
+    }
+
+pub counted : (d : Option Durability) (lacking : ℕ) → IsSome d → after_one_tick d lacking ≡ lacking + 1
 counted None lacking some = absurd cc
 counted (Some durable) lacking some = refl
+
+-- a tick after which no append is due
+pub tick_alone : (seen : PortsSeen) (j k : JournalView) → j.untried < 10 → k ≡ with_tick j → EndsTick seen seen j k
+tick_alone seen j k few is = subst (λ (v : JournalView). EndsTick seen seen j v) (sym is) (record {
+  appends = [];
+  may = inl refl;
+  logs = record { logged = told_none seen.calls; journaled = refl };
+  durability = refl;
+  lacks = nothing_journaled j.durability (after_one_tick j.durability j.lacking);
+  in_time = few;
+  tries = nothing_tried j.durability (after_one_tick j.durability j.untried);
+})
+
+without : (d : Option Durability) (lacking untried : ℕ) → is_some d ≡ false →
+    record { durability = d; lacking = lacking; untried = untried } ≡ with_tick (record { durability = d; lacking = lacking; untried = untried })
+without None lacking untried none = refl
+without (Some durable) lacking untried none = absurd cc
+
+-- without a journal, no tick counts for it
+pub without_journal : (j : JournalView) → is_some j.durability ≡ false → j ≡ with_tick j
+without_journal j none = without j.durability j.lacking j.untried none
+
+-- with a journal, each tick does
+pub tick_counted : (j : JournalView) → IsSome j.durability →
+    record j { lacking = j.lacking + 1; untried = j.untried + 1 } ≡ with_tick j
+tick_counted j some =
+    ap (λ (n : ℕ). record j { lacking = n; untried = j.untried + 1 }) (sym (counted j.durability j.lacking some))
+    ∙ ap (λ (n : ℕ). record j { lacking = after_one_tick j.durability j.lacking; untried = n }) (sym (counted j.durability j.untried some))

@@ -1,6 +1,7 @@
 -- Appends one after another, and what a journal lacks.
-use Rattle.std.proofs.Common.{◌≡◌, ℕ, ◌+◌, inl, inr, false, List, [], ◌∷◌, ◌++◌, All, map, Option, Some, None, Result, Ok, Err, refl, ap, subst, ◌∙◌}
+use Rattle.std.proofs.Common.{◌≡◌, ℕ, ◌+◌, ◌<◌, inl, inr, false, List, [], ◌∷◌, ◌++◌, All, map, IsSome, Option, Some, None, Result, Ok, Err, refl, ap, subst, ◌∙◌}
 use Rattle.std.proofs.lemmas.List.Elements.{All-head, All-tail}
+use Rattle.mg_words.specs.declared.peer.Peer.{Peer}
 use Rattle.std.proofs.lemmas.List.Folds.{list_any-append}
 use Rattle.std.specs.List.{list_any}
 use Rattle.mg_journal.specs.declared.append_fault.AppendFault.{AppendFault}
@@ -12,10 +13,10 @@ use Rattle.mg_ports.specs.Journaled.{JournalAfter}
 use Rattle.mg_core.specs.declared.event.Event.TheVariants as events
 use Rattle.mg_serve.specs.declared.form.Form.{Form}
 use Rattle.mg_serve.specs.declared.form.Form.TheVariants.{Plain, Recording}
-use Rattle.mg_serve.specs.Journaled.{Progress, Lacks, Advances, IsJournaled, Journals, is_append}
+use Rattle.mg_serve.specs.Journaled.{Progress, Lacks, Advances, IsJournaled, IsTried, Journals, Tries, is_append}
 use Rattle.mg_serve.specs.Session.{IsAppended, MayAppend}
 use Rattle.mg_serve.specs.Trace.{TraceEntry, Called, Happened, Printed, Noted, calls_of, output_of}
-use Rattle.mg_serve.specs.aids.Journaling.{AreAppends, lacking_after_tick}
+use Rattle.mg_serve.specs.aids.Journaling.{AreAppends, after_one_tick}
 use Rattle.mg_serve.proofs.Printing.{calls_both, output_both}
 
 -- ## The journal of the ports
@@ -108,9 +109,68 @@ calls_journaled d n (Append lines durability result ∷ calls) quiet = absurd cc
 
 -- one more tick
 pub tick_journaled : (d : Option Durability) (n : ℕ) →
-    IsJournaled d n (Happened events.Tick ∷ []) (lacking_after_tick d n)
+    IsJournaled d n (Happened events.Tick ∷ []) (after_one_tick d n)
 tick_journaled None n = (refl, refl)
 tick_journaled (Some durable) n = (Lacks (n + 1), refl, refl)
+
+-- ## When an append is tried
+
+tries_both : (a b c : ℕ) (p q : List TraceEntry) → Tries a p b → Tries b q c → Tries a (p ++ q) c
+tries_both a b c [] q h k = subst (λ (n : ℕ). Tries n q c) h k
+tries_both a b c (Called (Append lines durability result) ∷ p) q h k = tries_both 0 b c p q h k
+tries_both a b c (Called (Receive socket receipt) ∷ p) q h k = tries_both a b c p q h k
+tries_both a b c (Called (Send socket to bytes) ∷ p) q h k = tries_both a b c p q h k
+tries_both a b c (Called (BeginTick timing) ∷ p) q h k = tries_both a b c p q h k
+tries_both a b c (Happened (events.Control source bytes) ∷ p) q h k = tries_both a b c p q h k
+tries_both a b c (Happened (events.Media port source bytes) ∷ p) q h k = tries_both a b c p q h k
+tries_both a b c (Happened events.Tick ∷ p) q h k = (h.0, tries_both (a + 1) b c p q h.1 k)
+tries_both a b c (Printed text ∷ p) q h k = tries_both a b c p q h k
+tries_both a b c (Noted text ∷ p) q h k = tries_both a b c p q h k
+
+pub tried_both : (d : Option Durability) (a b c : ℕ) (p q : List TraceEntry) → IsTried d a p b → IsTried d b q c →
+    IsTried d a (p ++ q) c
+tried_both None a b c p q h k = k ∙ h
+tried_both (Some durable) a b c p q h k = tries_both a b c p q h k
+
+pub nothing_tried : (d : Option Durability) (n : ℕ) → IsTried d n [] n
+nothing_tried None n = refl
+nothing_tried (Some durable) n = refl
+
+pub idle_tried : (d : Option Durability) (n : ℕ) (entry : TraceEntry) → IsIdle entry → IsTried d n (entry ∷ []) n
+idle_tried None n entry idle = refl
+idle_tried (Some durable) n (Called (Receive socket receipt)) idle = refl
+idle_tried (Some durable) n (Called (Send socket to bytes)) idle = refl
+idle_tried (Some durable) n (Called (BeginTick timing)) idle = refl
+idle_tried (Some durable) n (Called (Append lines durability result)) idle = absurd cc
+idle_tried (Some durable) n (Happened (events.Control source bytes)) idle = absurd idle
+idle_tried (Some durable) n (Happened (events.Media port source bytes)) idle = refl
+idle_tried (Some durable) n (Happened events.Tick) idle = absurd idle
+idle_tried (Some durable) n (Printed text) idle = refl
+idle_tried (Some durable) n (Noted text) idle = refl
+
+pub calls_tried : (d : Option Durability) (n : ℕ) (calls : List Call) → list_any is_append calls ≡ false →
+    IsTried d n (map (λ (call : Call). Called call) calls) n
+calls_tried None n calls quiet = refl
+calls_tried (Some durable) n [] quiet = refl
+calls_tried (Some durable) n (Receive socket receipt ∷ calls) quiet = calls_tried (Some durable) n calls quiet
+calls_tried (Some durable) n (Send socket to bytes ∷ calls) quiet = calls_tried (Some durable) n calls quiet
+calls_tried (Some durable) n (BeginTick timing ∷ calls) quiet = calls_tried (Some durable) n calls quiet
+calls_tried (Some durable) n (Append lines durability result ∷ calls) quiet = absurd cc
+
+pub tick_tried : (d : Option Durability) (n : ℕ) → n < 10 → IsTried d n (Happened events.Tick ∷ []) (after_one_tick d n)
+tick_tried None n few = refl
+tick_tried (Some durable) n few = (few, refl)
+
+pub append_tried : (d : Option Durability) (n left : ℕ) (lines : List ℕ) (how : Durability)
+    (result : Result (Unit {0}) AppendFault) → IsSome d → left ≡ 0 → IsTried d n (Called (Append lines how result) ∷ []) left
+append_tried None n left lines how result some none = absurd cc
+append_tried (Some durable) n left lines how result some none = none
+
+pub message_tried : (d : Option Durability) (durable : Durability) (n left : ℕ) (lines : List ℕ) (how : Durability)
+    (result : Result (Unit {0}) AppendFault) (source : Peer) (bytes : List ℕ) → d ≡ Some durable → left ≡ 0 →
+    IsTried d n (Called (Append lines how result) ∷ Happened (events.Control source bytes) ∷ []) left
+message_tried None durable n left lines how result source bytes is none = absurd cc
+message_tried (Some wanted) durable n left lines how result source bytes is none = none
 
 -- ## Appends
 

@@ -196,15 +196,15 @@ append_holds : RecordingsAreRead → CutRecordingsAreRead → (durability how : 
     (lacking : ℕ) (lines : List ℕ) (result : Result (Unit {0}) AppendFault) (next : Progress) (old new : JournalState)
     → Holds durability told happened (Lacks lacking) old → AppendsLines durability lacking lines how result next
     → AppendsDated lines how old new result → Holds durability told happened next new
-append_holds read cut durability how told happened lacking lines (Ok done) next old new (events, tells, stands) (inl (n, left, count, are, weak, is)) (seal, comment, sealed, dated, (works, grew)) =
+append_holds read cut durability how told happened lacking lines (Ok done) next old new (events, tells, stands) (inl (n, left, count, are, weak, is, all)) (seal, comment, sealed, dated, (works, grew)) =
     let w = written (text_to_seal old) seal comment lines (ticks n) sealed dated are (fit_ticks n) in
     subst (λ (p : Progress). Holds durability told happened p new) (sym is)
     (ticks_done durability how told happened events lacking left n (seal ++ (comment ++ lines)) old new works grew tells stands count
     (written_script read (seal ++ (comment ++ lines)) (ticks n) w))
-append_holds read cut durability how told happened lacking lines (Err Refused) next old new holds (inl (n, left, count, are, weak, is)) (seal, comment, sealed, dated, (works, same)) =
+append_holds read cut durability how told happened lacking lines (Err Refused) next old new holds (inl (n, left, count, are, weak, is, all)) (seal, comment, sealed, dated, (works, same)) =
     subst (λ (p : Progress). Holds durability told happened p new) (sym is)
     (same_state durability told happened (Lacks lacking) old new same holds)
-append_holds read cut durability how told happened lacking lines (Err Broken) next old new (events, tells, stands) (inl (n, left, count, are, weak, is)) (seal, comment, sealed, dated, breaks) =
+append_holds read cut durability how told happened lacking lines (Err Broken) next old new (events, tells, stands) (inl (n, left, count, are, weak, is, all)) (seal, comment, sealed, dated, breaks) =
     let w = written (text_to_seal old) seal comment lines (ticks n) sealed dated are (fit_ticks n) in
     subst (λ (p : Progress). Holds durability told happened p new) (sym is)
     (ticks_broken durability told happened events lacking left n (seal ++ (comment ++ lines)) old new cut breaks tells

@@ -15,7 +15,7 @@ use Rattle.mg_lines.specs.declared.write_failed.WriteFailed.{WriteFailed}
 use Rattle.mg_lines.specs.Lines.{without_return, lines_after}
 use Rattle.mg_lines.specs.Streams.{WritesFront}
 use Rattle.mg_ports.specs.Journaled.{PortsSeen}
-use Rattle.mg_serve.specs.Journaled.{IsJournaled}
+use Rattle.mg_serve.specs.Journaled.{IsJournaled, IsTried}
 use Rattle.mg_serve.specs.declared.command.Command.{Command}
 use Rattle.mg_serve.specs.declared.form.Form.{Form}
 use Rattle.mg_serve.specs.Lines.{LastPrints, line_command, is_quit, prints, before_quit}
@@ -26,7 +26,7 @@ use Rattle.mg_serve.specs.Trace.{TraceEntry, output_of}
 use Rattle.mg_serve.specs.aids.Driving.{BytesTaken, EndsBy, EndsByFault, Finished, RanBy, RanByClock, RanLines}
 use Rattle.mg_serve.specs.aids.Printing.{PrinterView, Prints, Puts}
 use Rattle.mg_serve.specs.aids.Outside.{JournalView, Outside, LeadsByTrace, LogsTrace}
-use Rattle.mg_serve.proofs.JournalLemmas.{nothing_journaled}
+use Rattle.mg_serve.proofs.JournalLemmas.{nothing_journaled, nothing_tried}
 use Rattle.mg_serve.proofs.Printing.{prints_both}
 use Rattle.mg_serve.proofs.Steps.{finished_prints, prints_some, some_printed}
 use Rattle.mg_serve.proofs.Taking.{tells_both, told_none, takes_none, takes_as, takes_joined, takes_seen, takes_then}
@@ -461,6 +461,8 @@ serves_nothing setup w title Gave x held fault opens printed gave = record {
   session = (refl, refl);
   logs = told_none x.calls;
   lacks = nothing_journaled setup.journal 0;
+  untried = 0;
+  tries = nothing_tried setup.journal 0;
   journaled = refl;
   printed = printed;
   counts = tt;
@@ -521,6 +523,8 @@ opens_not setup w title Gave x a b held now opened failed gave =
       session = (refl, refl);
       logs = told_none x.calls;
       lacks = nothing_journaled setup.journal 0;
+      untried = 0;
+      tries = nothing_tried setup.journal 0;
       journaled = refl;
       printed = front_put a.has_failed b.has_failed (output_of (form_of title) (opening title ++ [])) held now
           (ap (λ (v : PrinterView). v.has_failed) view) failed
@@ -558,7 +562,7 @@ opened_form title a b held now opened = opened.1.form ∙ ap (λ (v : PrinterVie
 
 -- a journal that lacks no tick
 abbrev pub new_journal : Setup → JournalView
-new_journal setup = record { durability = setup.journal; lacking = 0 }
+new_journal setup = record { durability = setup.journal; lacking = 0; untried = 0 }
 
 -- a run whose commands were done
 served_by : (setup : Setup) (w : World) (title : Option (List ℕ)) (Gave : Form → List Command → Type 0)
@@ -583,6 +587,8 @@ served_by setup w title Gave result old core a held x z stands journal opened op
       session = ran.2;
       logs = logged.logged;
       lacks = subst (λ (v : JournalView). IsJournaled v.durability v.lacking p z.journal.lacking) journal logged.lacks;
+      untried = z.journal.untried;
+      tries = subst (λ (v : JournalView). IsTried v.durability v.untried p z.journal.untried) journal logged.tries;
       journaled = logged.journaled;
       printed = output (output_of (form_of title) (opening title ++ p)) (all_printed title a held x z p opened logged);
       counts = counted next after;

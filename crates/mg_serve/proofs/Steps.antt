@@ -35,7 +35,7 @@ use Rattle.mg_serve.specs.aids.Driving.{Finished, Received}
 use Rattle.mg_serve.specs.aids.Printing.{PrinterView, Prints, Puts}
 use Rattle.mg_serve.specs.aids.Outside.{JournalView, Outside, LeadsByTrace, LogsTrace, outside}
 use Rattle.mg_serve.specs.aids.Journaling.{AppendsBefore, EndsTick, with_tick}
-use Rattle.mg_serve.proofs.JournalLemmas.{appended_prints, may_print, tick_journaled}
+use Rattle.mg_serve.proofs.JournalLemmas.{appended_prints, may_print, tick_journaled, tick_tried}
 use Rattle.mg_serve.proofs.Printing.{output_both}
 use Rattle.mg_serve.proofs.Taking.{called, tells_announced, tells_appends, tells_both, tells_called, tells_print, tells_print_then, tells_refused, each_more, takes_after, takes_none}
 
@@ -222,10 +222,10 @@ tick_sent setup timing old new outbox before begun sent after x y a b j k packet
     let i = with_tick j in
     let begin = tells_called x a j before begun (BeginTick timing ∷ []) begins refl same in
     let tick = tells_print_then begun x y a b j i (Happened events.Tick) refl printed refl
-    (tick_journaled j.durability j.lacking) in
+    (tick_journaled j.durability j.lacking) (tick_tried j.durability j.untried ended.in_time) in
     let sends = tells_called y b i begun sent (packet_sends setup outbox) logged (sends_quiet setup outbox) kept in
     let appends = tells_appends y b i k sent after ended.appends ended.logs (may_print b.form ended.appends ended.may)
-    ended.durability ended.lacks in (
+    ended.durability ended.lacks ended.tries in (
       Called (BeginTick timing) ∷ (happens ++ ended.appends),
       world_after_tick w,
       tells_both (outside before x a j) (outside begun x a j) (outside after y b k) (Called (BeginTick timing) ∷ [])

@@ -12,7 +12,7 @@ use Rattle.mg_ports.specs.Calls.{Logged}
 use Rattle.mg_ports.specs.Journaled.{PortsSeen, JournalAfter}
 use Rattle.mg_journal.specs.declared.append_fault.AppendFault.{AppendFault}
 use Rattle.mg_journal.specs.declared.durability.Durability.{Durability}
-use Rattle.mg_serve.specs.Journaled.{IsJournaled, is_append}
+use Rattle.mg_serve.specs.Journaled.{IsJournaled, IsTried, is_append}
 use Rattle.mg_serve.specs.declared.form.Form.{Form}
 use Rattle.mg_serve.specs.declared.form.Form.TheVariants.{Plain, Recording}
 use Rattle.mg_serve.specs.Session.{Each, SocketTurn}
@@ -20,7 +20,7 @@ use Rattle.mg_serve.specs.Trace.{TraceEntry, Called, Happened, Noted, calls_of, 
 use Rattle.mg_serve.specs.aids.Printing.{PrinterView, Prints}
 use Rattle.mg_serve.specs.aids.Outside.{JournalView, Outside, LeadsByTrace, LogsTrace, outside}
 use Rattle.mg_serve.specs.aids.Journaling.{AppendsBefore, LogsCalls}
-use Rattle.mg_serve.proofs.JournalLemmas.{IsIdle, after_both, after_quiet, appends_print, calls_journaled, idle_journaled, journaled_both, nothing_journaled}
+use Rattle.mg_serve.proofs.JournalLemmas.{IsIdle, after_both, after_quiet, appends_print, calls_journaled, calls_tried, idle_journaled, idle_tried, journaled_both, nothing_journaled, nothing_tried, tried_both}
 use Rattle.mg_serve.proofs.Printing.{calls_both, prints_both, prints_nothing}
 
 pub told_both : (a b c : Option (List Call)) (x y : List Call) → Logged a b x → Logged b c y → Logged a c (x ++ y)
@@ -45,6 +45,8 @@ tells_both a b c p q h k = record {
   durability = k.durability ∙ h.durability;
   lacks = journaled_both a.journal.durability a.journal.lacking b.journal.lacking c.journal.lacking p q h.lacks
       (subst (λ (d : Option Durability). IsJournaled d b.journal.lacking q c.journal.lacking) h.durability k.lacks);
+  tries = tried_both a.journal.durability a.journal.untried b.journal.untried c.journal.untried p q h.tries
+      (subst (λ (d : Option Durability). IsTried d b.journal.untried q c.journal.untried) h.durability k.tries);
 }
 
 pub tells_none : (a : Outside) → LogsTrace a a []
@@ -54,19 +56,21 @@ tells_none a = record {
   prints = prints_nothing a.printer a.written [] refl;
   durability = refl;
   lacks = nothing_journaled a.journal.durability a.journal.lacking;
+  tries = nothing_tried a.journal.durability a.journal.untried;
 }
 
 -- what is printed, and what the journal lacks then
 pub tells_print_then : (seen : PortsSeen) (x y : Option (List ℕ)) (a b : PrinterView) (j k : JournalView)
     (did : TraceEntry) → calls_of (did ∷ []) ≡ [] → Prints a b x y (did ∷ []) → k.durability ≡ j.durability →
-    IsJournaled j.durability j.lacking (did ∷ []) k.lacking →
+    IsJournaled j.durability j.lacking (did ∷ []) k.lacking → IsTried j.durability j.untried (did ∷ []) k.untried →
     LogsTrace (outside seen x a j) (outside seen y b k) (did ∷ [])
-tells_print_then seen x y a b j k did none h same lacks = record {
+tells_print_then seen x y a b j k did none h same lacks tries = record {
   logged = subst (λ (l : List Call). Logged seen.calls seen.calls l) (sym none) (told_none seen.calls);
   journaled = subst (λ (l : List Call). JournalAfter l seen.journal seen.journal) (sym none) refl;
   prints = h;
   durability = same;
   lacks = lacks;
+  tries = tries;
 }
 
 -- what is printed alone
@@ -75,6 +79,7 @@ pub tells_print : (seen : PortsSeen) (x y : Option (List ℕ)) (a b : PrinterVie
     LogsTrace (outside seen x a j) (outside seen y b j) (did ∷ [])
 tells_print seen x y a b j did none idle h =
     tells_print_then seen x y a b j j did none h refl (idle_journaled j.durability j.lacking did idle)
+    (idle_tried j.durability j.untried did idle)
 
 -- calls alone
 abbrev pub called : List Call → List TraceEntry
@@ -99,19 +104,21 @@ tells_called x a j b c calls logged quiet same = record {
   prints = prints_nothing a x (called calls) (output_of-called a.form calls);
   durability = refl;
   lacks = calls_journaled j.durability j.lacking calls quiet;
+  tries = calls_tried j.durability j.untried calls quiet;
 }
 
 -- appends, after which the journal lacks something else
 pub tells_appends : (x : Option (List ℕ)) (a : PrinterView) (j k : JournalView) (b c : PortsSeen)
     (trace : List TraceEntry) → LogsCalls b c (calls_of trace) → output_of a.form trace ≡ [] →
     k.durability ≡ j.durability → IsJournaled j.durability j.lacking trace k.lacking →
-    LogsTrace (outside b x a j) (outside c x a k) trace
-tells_appends x a j k b c trace logs none same lacks = record {
+    IsTried j.durability j.untried trace k.untried → LogsTrace (outside b x a j) (outside c x a k) trace
+tells_appends x a j k b c trace logs none same lacks tries = record {
   logged = logs.logged;
   journaled = logs.journaled;
   prints = prints_nothing a x trace none;
   durability = same;
   lacks = lacks;
+  tries = tries;
 }
 
 -- appends, and the event that they announce
@@ -129,6 +136,7 @@ tells_announced event seen later x y a b j k h printed =
           (prints_nothing a x h.trace (appends_print (Happened event ∷ []) (Ok tt) a.form h.trace h.are)) printed;
       durability = h.durability;
       lacks = h.lacks;
+      tries = h.tries;
     }
 
 -- appends, the last of which failed, and a note of that
@@ -139,7 +147,8 @@ pub tells_refused : (followed : List TraceEntry) (fault : AppendFault) (text : L
 tells_refused followed fault text seen later x y a b j k h printed =
     tells_both (outside seen x a j) (outside later x a k) (outside later y b k) h.trace (Noted text ∷ [])
     (tells_appends x a j k seen later h.trace h.logs (appends_print followed (Err fault) a.form h.trace h.are) h.durability
-    (subst (λ (l : List TraceEntry). IsJournaled j.durability j.lacking l k.lacking) (append-nil h.trace) h.lacks))
+    (subst (λ (l : List TraceEntry). IsJournaled j.durability j.lacking l k.lacking) (append-nil h.trace) h.lacks)
+    (subst (λ (l : List TraceEntry). IsTried j.durability j.untried l k.untried) (append-nil h.trace) h.tries))
     (tells_print later x y a b k (Noted text) refl tt printed)
 
 -- ## Each of a list

@@ -1,5 +1,6 @@
 -- What a session appends to its journal, and when.
-use Rattle.std.specs.Prelude.{◌≡◌, ◌⊎◌, ℕ, ◌+◌, Bool, true, false, List, [], ◌∷◌, replicate, flat_map}
+use Rattle.std.specs.Prelude.{◌≡◌, ◌⊎◌, ℕ, ◌+◌, ◌<◌, min, Bool, true, false, List, [], ◌∷◌, replicate}
+use Rattle.std.specs.Prelude.{flat_map}
 use Rattle.std.specs.Prelude.{Option, Some, None, Result, Ok, Err}
 use Rattle.std.specs.List.{list_any}
 use Rattle.mg_journal.specs.declared.append_fault.AppendFault.{AppendFault}
@@ -33,13 +34,14 @@ abbrev pub after_append : Result (Unit {0}) AppendFault → (appended before : P
 after_append (Ok done) appended before = appended
 after_append (Err fault) appended before = before
 
--- An append of ticks that the journal lacks or, if it doesn't lack any, of the line for a message
--- that can arrive.
+-- An append of the ticks that the journal lacks, at most 1,000 at once, or, if it doesn't lack any,
+-- of the line for a message that can arrive.
 abbrev pub AppendsLines : Durability → ℕ → List ℕ → Durability → Result (Unit {0}) AppendFault
     → Progress → Type 0
 AppendsLines durable lacking lines durability result next =
     ((ticks left : ℕ) × (lacking ≡ left + ticks) × (lines ≡ tick_lines ticks)
-    × (durability ≡ Written) × (next ≡ after_append result (Lacks left) (Lacks lacking)))
+    × (durability ≡ Written) × (next ≡ after_append result (Lacks left) (Lacks lacking))
+    × (ticks ≡ min lacking 1000))
     ⊎ ((source : Peer) × (bytes : List ℕ) × (lacking ≡ 0)
     × (lines ≡ event_line (events.Control source bytes)) × (durability ≡ durable)
     × (next ≡ after_append result (Announces source bytes) (Lacks 0)) × IsDatagram source bytes)
@@ -67,3 +69,16 @@ IsJournaled None lacking trace left =
     (list_any is_append (calls_of trace) ≡ false) × (left ≡ lacking)
 IsJournaled (Some durable) lacking trace left =
     Journals durable (Lacks lacking) trace (Lacks left)
+
+-- Appends are tried in time: never do more than ten ticks happen after the last one, whether or not
+-- that succeeded. The numbers are how many ticks have happened since an append was tried.
+abbrev pub Tries : (untried : ℕ) → List TraceEntry → (left : ℕ) → Type 0
+Tries untried [] left = left ≡ untried
+Tries untried (Called (Append lines durability result) ∷ trace) left = Tries 0 trace left
+Tries untried (Happened events.Tick ∷ trace) left = (untried < 10) × Tries (untried + 1) trace left
+Tries untried (entry ∷ trace) left = Tries untried trace left
+
+-- nothing has to be tried without a journal
+abbrev pub IsTried : Option Durability → ℕ → List TraceEntry → ℕ → Type 0
+IsTried None untried trace left = left ≡ untried
+IsTried (Some durable) untried trace left = Tries untried trace left

@@ -14,7 +14,7 @@ use Rattle.mg_lines.specs.Lines.{lines_of}
 use Rattle.mg_lines.specs.Streams.{WritesFront}
 use Rattle.mg_ports.specs.Calls.{Logged}
 use Rattle.mg_ports.specs.Journaled.{PortsSeen, JournalAfter}
-use Rattle.mg_serve.specs.Journaled.{IsJournaled}
+use Rattle.mg_serve.specs.Journaled.{IsJournaled, IsTried}
 use Rattle.mg_serve.specs.declared.form.Form.{Form}
 use Rattle.mg_serve.specs.declared.form.Form.TheVariants.{Plain, Recording}
 use Rattle.mg_serve.specs.declared.command.Command.{Command}
@@ -136,6 +136,8 @@ pub record Served (setup : Setup) (w : World) (title : Option (List ℕ))
   pub session : Session setup commands w trace last
   pub logs : Logged old.calls new.calls (calls_of trace)
   pub lacks : IsJournaled setup.journal 0 trace lacking
+  pub untried : ℕ
+  pub tries : IsTried setup.journal 0 trace untried
   pub journaled : JournalAfter (calls_of trace) old.journal new.journal
   pub printed : IsOutput result (output_of (form_of title) (first ++ trace)) held written
   pub counts : AreCounted result last

@@ -40,7 +40,7 @@ impl<'a, M: Monitor> ClockDriver<'a, M> {
         ensures printer { IfOk result (λ driver.
             driver.server.printer ≡ record { form = form; has_failed = false }) }
         ensures journal { IfOk result (λ driver.
-            driver.server.journal ≡ record { durability = durability; lacking = 0 }) }
+            driver.server.journal ≡ record { durability = durability; lacking = 0; untried = 0 }) }
         ensures schedule { IfOk result (λ driver.
             driver.schedule ≡ record { ticks = 0; allowed = allowed; messages = 0 }) }
     {

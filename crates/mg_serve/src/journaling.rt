@@ -33,16 +33,21 @@ const TOGETHER: u64 = 10;
 pub struct Journaling {
     durability: Option<Durability>,
     lacking: u64,
+    /// How many ticks have happened since an append was tried.
+    untried: u64,
     line: EventLine,
     failed: u64,
 }
 
 impl Model for Journaling {
+    ghost use Rattle.std.specs.Prelude.{◌≤◌, ◌<◌};
     ghost use Rattle.mg_serve.specs.aids.Outside.{JournalView};
 
     ghost Value = { JournalView };
 
-    ghost view = { λ j. record { durability = j.durability; lacking = j.lacking } };
+    ghost view = { λ j. record { durability = j.durability; lacking = j.lacking; untried = j.untried } };
+
+    ghost invariant = { λ j. (j.untried ≤ j.lacking) × (j.untried < 10) };
 }
 
 /// Appends lines, and counts the append if it fails.
@@ -85,11 +90,12 @@ impl Journaling {
     /// Starts with a journal that isn't missing any ticks. Messages are appended with this durability; `None` means
     /// that there is no journal. No other call allocates.
     pub fn new(alloc: Global, durability: Option<Durability>) -> Result<Self, AllocError>
-        ensures value { IfOk result (λ j. j ≡ record { durability = durability; lacking = 0 }) }
+        ensures value { IfOk result (λ j. j ≡ record { durability = durability; lacking = 0; untried = 0 }) }
     {
         Ok(Journaling {
             durability,
             lacking: 0,
+            untried: 0,
             line: EventLine::new(alloc)?,
             failed: 0,
         })
@@ -116,6 +122,7 @@ impl Journaling {
             (ports_seen (P.calls ports.new) (P.journal ports.new)) self.old self.new }
     {
         let ticks = self.lacking.min(BATCH as u64);
+        self.untried = 0;
         if let Err(fault) = append_lines(ports, ticks as usize, &mut self.failed) {
             return Err(fault);
         }
@@ -160,6 +167,7 @@ impl Journaling {
             return Err(fault);
         }
         self.line.control(source, bytes);
+        self.untried = 0;
         append(ports, self.line.as_slice(), durability, &mut self.failed)
     }
 
@@ -174,8 +182,10 @@ impl Journaling {
             return;
         }
         self.lacking += 1;
-        if self.lacking >= TOGETHER {
-            let _ = self.append_ticks(ports);
+        if self.lacking < TOGETHER {
+            self.untried += 1;
+            return;
         }
+        let _ = self.append_ticks(ports);
     }
 }

@@ -40,7 +40,7 @@ impl<'a, M: Monitor> LineDriver<'a, M> {
         ensures printer { IfOk result (λ driver.
             driver.server.printer ≡ record { form = form; has_failed = false }) }
         ensures journal { IfOk result (λ driver.
-            driver.server.journal ≡ record { durability = durability; lacking = 0 }) }
+            driver.server.journal ≡ record { durability = durability; lacking = 0; untried = 0 }) }
         ensures partial { IfOk result (λ driver. driver.partial ≡ []) }
     {
         Ok(LineDriver {

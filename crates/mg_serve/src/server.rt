@@ -134,7 +134,7 @@ impl<'a, M: Monitor> Server<'a, M> {
     ) -> Result<Self, AllocError>
         ensures core { IfOk result (λ server. server.core ≡ core) }
         ensures printer { IfOk result (λ server. server.printer ≡ record { form = form; has_failed = false }) }
-        ensures journal { IfOk result (λ server. server.journal ≡ record { durability = durability; lacking = 0 }) }
+        ensures journal { IfOk result (λ server. server.journal ≡ record { durability = durability; lacking = 0; untried = 0 }) }
     {
         Ok(Server {
             core,

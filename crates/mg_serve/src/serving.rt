@@ -83,7 +83,7 @@ fn drive<P: Ports, R: Read, W: Write, M: Monitor>(
     requires sound { IsValidConfig setup.now.config }
     requires printer { driver.old.server.printer ≡
         record { form = form_of (option_map (λ text. text.now) title); has_failed = false } }
-    requires journal { driver.old.server.journal ≡ record { durability = setup.now.journal; lacking = 0 } }
+    requires journal { driver.old.server.journal ≡ record { durability = setup.now.journal; lacking = 0; untried = 0 } }
     requires partial { driver.old.partial ≡ [] }
     ensures session { (w : World) → StandsFor driver.old.server.core.state w →
         ServedSession setup.now w (option_map (λ text. text.now) title.entry)
@@ -159,7 +159,7 @@ fn drive_by_clock<P: Ports, K: Watch, W: Write, M: Monitor>(
     requires sound { IsValidConfig setup.now.config }
     requires printer { driver.old.server.printer ≡
         record { form = form_of (option_map (λ text. text.now) title); has_failed = false } }
-    requires journal { driver.old.server.journal ≡ record { durability = setup.now.journal; lacking = 0 } }
+    requires journal { driver.old.server.journal ≡ record { durability = setup.now.journal; lacking = 0; untried = 0 } }
     ensures session { (allowed : ℕ) → driver.old.schedule ≡ record { ticks = 0; allowed = allowed; messages = 0 } →
         (w : World) → StandsFor driver.old.server.core.state w →
         ServedByClock setup.now w (option_map (λ text. text.now) title.entry) allowed

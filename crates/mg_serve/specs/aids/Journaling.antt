@@ -1,5 +1,5 @@
 -- Steps of a session's journal, as seen by the ports and by the session's own view of the journal.
-use Rattle.std.specs.Prelude.{◌≡◌, ◌⊎◌, ℕ, ◌+◌, All, List, [], ◌∷◌, ◌++◌, Option, Some, None, Result, Ok, Err}
+use Rattle.std.specs.Prelude.{◌≡◌, ◌⊎◌, ℕ, ◌+◌, ◌<◌, All, List, [], ◌∷◌, ◌++◌, Option, Some, None, Result, Ok, Err}
 use Rattle.mg_journal.specs.declared.append_fault.AppendFault.{AppendFault}
 use Rattle.mg_journal.specs.declared.durability.Durability.{Durability}
 use Rattle.mg_journal.specs.declared.durability.Durability.TheVariants.{Written}
@@ -8,18 +8,21 @@ use Rattle.mg_ports.specs.declared.call.Call.{Call}
 use Rattle.mg_ports.specs.declared.call.Call.TheVariants.{Append}
 use Rattle.mg_ports.specs.Calls.{Logged}
 use Rattle.mg_ports.specs.Journaled.{PortsSeen, JournalAfter}
-use Rattle.mg_serve.specs.Journaled.{IsJournaled, tick_lines}
+use Rattle.mg_serve.specs.Journaled.{IsJournaled, IsTried, tick_lines}
 use Rattle.mg_serve.specs.Session.{IsAppended, MayAppend}
 use Rattle.mg_serve.specs.Trace.{TraceEntry, Called, Happened, calls_of}
 use Rattle.mg_serve.specs.aids.Outside.{JournalView}
 
--- how many ticks the journal lacks after one more tick
-abbrev pub lacking_after_tick : Option Durability → ℕ → ℕ
-lacking_after_tick None lacking = lacking
-lacking_after_tick (Some durability) lacking = lacking + 1
+-- a number of ticks that counts for a journal, if there is one, after one more tick
+abbrev pub after_one_tick : Option Durability → ℕ → ℕ
+after_one_tick None ticks = ticks
+after_one_tick (Some durability) ticks = ticks + 1
 
 abbrev pub with_tick : JournalView → JournalView
-with_tick view = record view { lacking = lacking_after_tick view.durability view.lacking }
+with_tick view = record view {
+  lacking = after_one_tick view.durability view.lacking;
+  untried = after_one_tick view.durability view.untried;
+}
 
 -- some calls, as seen by the ports
 pub record LogsCalls (old new : PortsSeen) (calls : List Call) : Type 0 where
@@ -34,6 +37,8 @@ pub record AppendsBatch (result : Result (Unit {0}) AppendFault) (before after :
   pub durability : new.durability ≡ old.durability
   pub lacks : IsJournaled old.durability old.lacking
       (Called (Append (tick_lines ticks) Written result) ∷ []) new.lacking
+  pub tries : IsTried old.durability old.untried
+      (Called (Append (tick_lines ticks) Written result) ∷ []) new.untried
 
 -- the line of the event that follows
 abbrev pub IsLineOf : (followed : List TraceEntry) → List ℕ → Type 0
@@ -61,6 +66,7 @@ pub record AppendsBefore (followed : List TraceEntry) (result : Result (Unit {0}
   pub logs : LogsCalls before after (calls_of trace)
   pub durability : new.durability ≡ old.durability
   pub lacks : IsJournaled old.durability old.lacking (trace ++ if_ok result followed) new.lacking
+  pub tries : IsTried old.durability old.untried (trace ++ if_ok result followed) new.untried
 
 -- a tick was counted, and then perhaps ticks were appended
 pub record EndsTick (before after : PortsSeen) (old new : JournalView) : Type 0 where
@@ -68,5 +74,7 @@ pub record EndsTick (before after : PortsSeen) (old new : JournalView) : Type 0 
   pub may : MayAppend appends
   pub logs : LogsCalls before after (calls_of appends)
   pub durability : new.durability ≡ old.durability
-  pub lacks : IsJournaled old.durability (lacking_after_tick old.durability old.lacking) appends
+  pub lacks : IsJournaled old.durability (after_one_tick old.durability old.lacking) appends
       new.lacking
+  pub in_time : old.untried < 10
+  pub tries : IsTried old.durability (after_one_tick old.durability old.untried) appends new.untried

@@ -5,14 +5,16 @@ use Rattle.mg_core.specs.World.{World, StandsFor}
 use Rattle.mg_journal.specs.declared.durability.Durability.{Durability}
 use Rattle.mg_ports.specs.Calls.{Logged}
 use Rattle.mg_ports.specs.Journaled.{PortsSeen, JournalAfter}
-use Rattle.mg_serve.specs.Journaled.{IsJournaled}
+use Rattle.mg_serve.specs.Journaled.{IsJournaled, IsTried}
 use Rattle.mg_serve.specs.Trace.{TraceEntry, calls_of}
 use Rattle.mg_serve.specs.aids.Printing.{PrinterView, Prints}
 
--- how durably messages are appended to the journal, if there is one, and how many ticks it lacks
+-- how durably messages are appended to the journal, if there is one, how many ticks it lacks, and
+-- how many have happened since an append was tried
 pub record JournalView : Type 0 where
   pub durability : Option Durability
   pub lacking : ℕ
+  pub untried : ℕ
 
 -- a server as seen from outside: its ports, the content of its writer, its printer, and the
 -- progress of its journal
@@ -33,6 +35,7 @@ pub record LogsTrace (old new : Outside) (trace : List TraceEntry) : Type 0 wher
   pub prints : Prints old.printer new.printer old.written new.written trace
   pub durability : new.journal.durability ≡ old.journal.durability
   pub lacks : IsJournaled old.journal.durability old.journal.lacking trace new.journal.lacking
+  pub tries : IsTried old.journal.durability old.journal.untried trace new.journal.untried
 
 -- Every world that the old core represents steps, with this trace, to a world that the new core
 -- represents.

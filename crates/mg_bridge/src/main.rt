@@ -12,11 +12,14 @@
 //! readers of standard output and standard error; the other subcommands (`check`, `heard`, `verify`, `seal`) do.
 #![tactic(auto)]
 
+mod disk_file;
 mod live_output;
+mod system_host;
 #[cfg(test)]
 mod tests;
 
 use crate::live_output::LiveOutput;
+use crate::system_host::SystemHost;
 use mg_core::RunFault;
 use mg_options::{Status, program_arguments};
 use mg_outlet::{Outlet, OutletFault, Overflow, SystemReady};
@@ -74,6 +77,7 @@ fn run_gateway(rt: &HostRuntime, words: &[String], is_serve: bool) -> Result<u8,
     let mut input = rt.stdin();
     let code = program(
         &system_of(rt),
+        &mut SystemHost::new(rt),
         rt.alloc(),
         words,
         &mut input,
@@ -100,6 +104,7 @@ fn run_plainly(rt: &HostRuntime, words: &[String]) -> u8 {
     let mut reports = rt.stderr();
     program(
         &system_of(rt),
+        &mut SystemHost::new(rt),
         rt.alloc(),
         words,
         &mut input,

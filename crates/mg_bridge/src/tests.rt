@@ -2,6 +2,7 @@
 //! else is tested on the built program.
 
 mod drawing;
+mod emptied;
 mod ending;
 mod equality;
 mod receiving;

@@ -3,7 +3,7 @@
 //! A program that appends each line before acting on it can repeat its actions after a crash:
 //!
 //! ```rust
-//! let mut opening = open_journal(&rt, "journal.txt")?;
+//! let mut opening = Opening::new(file)?;
 //! run_script(&mut opening)?;
 //! let mut journal = opening.accept()?;
 //! match journal.append(b"tick\n", Durability::Synced) {
@@ -18,13 +18,11 @@
 //!
 //! `specs/Text.antt` defines complete lines, and `specs/Journal.antt` what [`Journal::append`] does. The proof of a
 //! [`FileJournal`] relies only on what `specs/JournalFile.antt` says about a [`JournalFile`]. A [`MemoryFile`] is
-//! proved to do what `specs/JournalFile.antt` says. Nothing is proved about a [`DiskFile`], because no contract says
-//! what the system does with a file.
+//! proved to do what `specs/JournalFile.antt` says. A program has a [`JournalFile`] of its own for the system's files.
 #![tactic(auto)]
 
 mod append_fault;
 mod call_counts;
-mod disk_file;
 mod durability;
 mod extent;
 mod failed_append;
@@ -35,14 +33,12 @@ mod injected_fault;
 mod journal;
 mod journal_file;
 mod last_part;
-mod lock_file;
 mod memory_file;
 mod opening;
 mod optional;
 mod writing;
 
 pub use crate::append_fault::AppendFault;
-pub use crate::disk_file::{DiskFile, open_journal};
 pub use crate::durability::Durability;
 pub use crate::fault_effect::FaultEffect;
 pub use crate::file_call::FileCall;
@@ -50,6 +46,5 @@ pub use crate::file_journal::FileJournal;
 pub use crate::injected_fault::InjectedFault;
 pub use crate::journal::Journal;
 pub use crate::journal_file::JournalFile;
-pub use crate::lock_file::LockFile;
 pub use crate::memory_file::MemoryFile;
 pub use crate::opening::Opening;

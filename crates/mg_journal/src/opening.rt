@@ -1,6 +1,6 @@
 ghost use Rattle.std.specs.Prelude.{◌≡◌, ◌≢◌, ℕ, ◌+◌, ◌<◌, ◌≤◌, true, false, [], length, drop, take, List, Option, IfOk, IfSome, OnOk};
-ghost use Rattle.std.specs.Io.{StartsWith};
-ghost use Rattle.std.specs.Io.KnownBytes.{Consumes};
+ghost use Rattle.std.specs.Io.{ReadsAtMost, StartsWith};
+ghost use Rattle.std.specs.Io.KnownBytes.{Consumes, ReadConsumes};
 ghost use Rattle.mg_journal.specs.Text.{whole_lines};
 ghost use Rattle.mg_journal.specs.Opening.{IsSound, left_to_read, text_in};
 ghost use Rattle.mg_journal.specs.aids.Appending.{IsHashed, IsJournal};
@@ -185,7 +185,11 @@ impl<F: JournalFile> Opening<F> {
 impl<F: JournalFile> Read for Opening<F> {
     ghost remaining = { left_to_read };
 
-    fn read(&mut self, buffer: &mut [u8]) -> io::Result<usize> {
+    fn read(&mut self, buffer: &mut [u8]) -> io::Result<usize>
+        ensures bound { ReadsAtMost result buffer.new }
+        ensures bytes { ReadConsumes (left_to_read self.old) (left_to_read self.new) result buffer.new }
+        ensures file { self.new.file ≡ self.old.file }
+    {
         let left = self.extent.whole - self.read;
         let most = left.min(buffer.len() as u64) as usize;
         if most == 0 {

@@ -1,5 +1,6 @@
 -- What a run of the program does; `EndsWith` in `mg_options` says how it ends on its arguments.
 use Rattle.std.specs.Prelude.{◌≡◌, ◌⊎◌, ℕ, List, IsSome, Option}
+use Rattle.mg_host.specs.declared.host_call.HostCall.{HostCall}
 use Rattle.mg_options.specs.declared.status.Status.{Status}
 use Rattle.mg_options.specs.declared.status.Status.TheVariants.{Done, Failed, NoAnswer}
 use Rattle.mg_arguments.specs.declared.invocation.Invocation.{Invocation}
@@ -12,7 +13,8 @@ use Rattle.mg_hearing.specs.Watched.{IsAnsweredFrom}
 use Rattle.mg_sealing.specs.Seal.{SealsInput}
 use Rattle.mg_sealing.specs.Verify.{Verifies}
 use Rattle.mg_program.specs.Replay.{Replays}
-use Rattle.mg_program.specs.Serve.{Serves, ServesByClock}
+use Rattle.mg_program.specs.Serve.{ByClock, ByLines, Serves}
+use Rattle.mg_arguments.specs.Draws.{no_draws}
 use Rattle.mg_program.specs.Verify.{IsVerifiedFrom}
 
 -- a gateway was asked whether it answers; if it doesn't, nothing is printed
@@ -22,30 +24,34 @@ Checks old new status =
 
 -- A run took place, and the status says how it ended. A successful run prints no error, unless it
 -- is asked when a talker was audible and the script has no RTP datagrams. A clock-driven run reads
--- no input.
+-- no input. `before` and `after` are the calls on the host, if they are known.
 abbrev pub Runs : {R W : Type 0} → (R → Option (List ℕ)) → (W → Option (List ℕ))
-    → (silent : Type 0) → R → R → W → W → Invocation → Status → Type 0
-Runs remaining contents silent input rest old new (Replay config shown) status =
+    → (silent : Type 0) → (before after : Option (List HostCall)) → R → R → W → W → Invocation
+    → Status → Type 0
+Runs remaining contents silent before after input rest old new (Replay config shown) status =
     Replays config shown (remaining input) (remaining rest) (contents old) (contents new) status
+    × (status ≡ Done → silent) × (after ≡ before)
+Runs remaining contents silent before after input rest old new (Serve config service) status =
+    Serves (ByLines (remaining input) (remaining rest) (contents old) (contents new))
+    ((rest ≡ input) × (new ≡ old)) config service no_draws before after status
     × (status ≡ Done → silent)
-Runs remaining contents silent input rest old new (Serve config service) status =
-    Serves remaining contents config service input rest old new status
-    × (status ≡ Done → silent)
-Runs remaining contents silent input rest old new (Live config service draws late) status =
-    (rest ≡ input) × ServesByClock contents config service draws late old new status
-Runs remaining contents silent input rest old new (Check gateway) status =
-    (rest ≡ input) × Checks old new status × (status ≡ Done → silent)
-Runs remaining contents silent input rest old new (Heard request) status =
+Runs remaining contents silent before after input rest old new (Live config service draws late) status =
+    (rest ≡ input) × Serves (ByClock late (contents old) (contents new)) (new ≡ old) config service
+    draws before after status
+Runs remaining contents silent before after input rest old new (Check gateway) status =
+    (rest ≡ input) × Checks old new status × (status ≡ Done → silent) × (after ≡ before)
+Runs remaining contents silent before after input rest old new (Heard request) status =
     (IsSome request.file → rest ≡ input)
     × Hears (IsHeardFrom request (remaining input) (contents old) (contents new) status) silent status
-Runs remaining contents silent input rest old new (Watch request) status =
+Runs remaining contents silent before after input rest old new (Watch request) status =
     (IsSome request.file → rest ≡ input)
     × Hears (IsAnsweredFrom request (remaining input) (contents old) (contents new) status) silent status
-Runs remaining contents silent input rest old new (Audible request) status =
+Runs remaining contents silent before after input rest old new (Audible request) status =
     (IsSome request.heard.file → rest ≡ input)
     × Reports (IsAudibleFrom request (remaining input) (contents old) (contents new) silent) status
-Runs remaining contents silent input rest old new (Verify file) status =
+Runs remaining contents silent before after input rest old new (Verify file) status =
     (IsSome file → rest ≡ input)
-    × Verifies (IsVerifiedFrom file (remaining input) (contents old) (contents new) status) silent status
-Runs remaining contents silent input rest old new Seal status =
-    SealsInput (remaining input) (contents old) (contents new) silent status
+    × Verifies (IsVerifiedFrom file before after (remaining input) (contents old) (contents new) status)
+    silent status
+Runs remaining contents silent before after input rest old new Seal status =
+    SealsInput (remaining input) (contents old) (contents new) silent status × (after ≡ before)

@@ -11,7 +11,7 @@ use crate::system::System;
 use crate::verify::verify;
 use mg_arguments::{Invocation, requested_run};
 use mg_hearing::{audible, heard, watch};
-use mg_journal::LockFile;
+use mg_host::Host;
 use mg_options::{Status, report_error};
 use mg_sealing::seal;
 use std::alloc::Global;
@@ -23,8 +23,9 @@ use std::random::RandomSource;
 use std::time::Clock;
 
 /// Does what the arguments ask for. Returns the exit status.
-fn run<N: Net, C: Clock, G: RandomSource, F: Files, R: Read, W: Write, E: Write, T: Write>(
+fn run<N: Net, C: Clock, G: RandomSource, F: Files, H: Host, R: Read, W: Write, E: Write, T: Write>(
     system: &System<'_, N, C, G, F>,
+    host: &mut H,
     alloc: Global,
     invocation: &Invocation,
     input: &mut R,
@@ -32,18 +33,16 @@ fn run<N: Net, C: Clock, G: RandomSource, F: Files, R: Read, W: Write, E: Write,
     errors: &mut E,
     reports: &mut T,
 ) -> Status
-where
-    F::File: LockFile,
-    ensures runs { Runs R.remaining W.contents (errors.new ≡ errors.old) input.old input.new output.old output.new
-        invocation.now result }
+    ensures runs { Runs R.remaining W.contents (errors.new ≡ errors.old) (H.calls host.old) (H.calls host.new) input.old
+        input.new output.old output.new invocation.now result }
 {
     match invocation {
         Invocation::Replay(config, shown) => replay(alloc, *config, *shown, input, output, errors),
         Invocation::Serve(config, service) => serve(
-            system, alloc, *config, service, input, output, errors, reports,
+            system, host, alloc, *config, service, input, output, errors, reports,
         ),
         Invocation::Live(config, service, draws, late) => live(
-            system, alloc, *config, service, *draws, *late, output, errors, reports,
+            system, host, alloc, *config, service, *draws, *late, output, errors, reports,
         ),
         Invocation::Check(gateway) => check(system.net, system.clock, *gateway, output, errors),
         Invocation::Heard(request) => heard(system.files, alloc, request, input, output, errors),
@@ -56,12 +55,12 @@ where
             output,
             errors,
         ),
-        Invocation::Verify(file) => verify(system.files, alloc, file, input, output, errors),
+        Invocation::Verify(file) => verify(host, alloc, file, input, output, errors),
         Invocation::Seal => seal(alloc, input, output, errors),
     }
 }
 
-/// Runs the program with these arguments, which don't include the program's name. Returns its exit status.
+/// Runs the program with these arguments on a host. The arguments don't include the program's name. Returns its exit status.
 ///
 /// The status is 0 on success, 1 for a bad script line, and 2 for invalid arguments, an invalid configuration or a
 /// gateway that doesn't answer. It is 3 if a read or a write failed, if the clock can't be read, or if the system has
@@ -78,6 +77,7 @@ pub fn program<
     C: Clock,
     G: RandomSource,
     F: Files,
+    H: Host,
     S: AsStr,
     R: Read,
     W: Write,
@@ -85,6 +85,7 @@ pub fn program<
     T: Write,
 >(
     system: &System<'_, N, C, G, F>,
+    host: &mut H,
     alloc: Global,
     words: &'a [S],
     input: &mut R,
@@ -92,17 +93,26 @@ pub fn program<
     errors: &mut E,
     reports: &mut T,
 ) -> u8
-where
-    F::File: LockFile,
     ensures status { result ≤ 6 }
     // The status says whether the program did what the arguments request and, if not, why.
     ensures ends { EndsWith
-        (Runs R.remaining W.contents (errors.new ≡ errors.old) input.old input.new output.old output.new)
-        (requested (map S.text words.now)) Status.Failed (input.new ≡ input.old) (errors.new ≡ errors.old) output.old
-        output.new result }
+        (Runs R.remaining W.contents (errors.new ≡ errors.old) (H.calls host.old) (H.calls host.new) input.old input.new
+        output.old output.new)
+        (requested (map S.text words.now)) Status.Failed
+        ((input.new ≡ input.old) × (H.calls host.new ≡ H.calls host.old)) (errors.new ≡ errors.old) output.old output.new
+        result }
 {
     let status = match requested_run(alloc, words) {
-        Ok(invocation) => run(system, alloc, &invocation, input, output, errors, reports),
+        Ok(invocation) => run(
+            system,
+            host,
+            alloc,
+            &invocation,
+            input,
+            output,
+            errors,
+            reports,
+        ),
         Err(error) => report_error(&error, Status::Failed, output, errors),
     };
     status.code()

@@ -1,15 +1,17 @@
-ghost use Rattle.std.specs.Prelude.{◌≡◌, ◌≢◌, ◌⊎◌, IfErr, IsSome};
+ghost use Rattle.std.specs.Prelude.{◌≡◌, ◌≢◌, ◌⊎◌, ℕ, List, Option, None, Err, IfErr, IfSome, IsSome};
 ghost use Rattle.std.specs.Option.{option_map_or};
 ghost use Rattle.mg_clock.specs.Ticks.{clock_seen};
 ghost use Rattle.mg_engine.specs.Config.{IsValidConfig};
 ghost use Rattle.mg_journal.specs.Journal.{no_journal};
+ghost use Rattle.mg_journal.specs.Opening.{text_in};
+ghost use Rattle.mg_start.specs.Journal.{KeepsTimes};
 ghost use Rattle.mg_core.specs.World.{World, StandsFor};
 ghost use Rattle.mg_ports.specs.Journaled.{ports_seen};
 ghost use Rattle.mg_serve.specs.Serve.{ServedByClock};
 ghost use Rattle.mg_arguments.specs.Setup.{setup_of};
 ghost use Rattle.mg_arguments.specs.Title.{title_if};
 ghost use Rattle.mg_start.specs.Start.{CanResume, CanStart};
-ghost use Rattle.mg_program.specs.Serve.{ServesByClock, ServesByClockOnPorts, ServesChosenByClock};
+ghost use Rattle.mg_program.specs.Serve.{ByClock, Serves, ServesChosen, ServesOnPorts};
 
 use crate::control_watch::ControlWatch;
 use crate::metrics_file::MetricsFile;
@@ -21,7 +23,8 @@ use crate::udp_ports::UdpPorts;
 use mg_arguments::{Draws, Service, title_of};
 use mg_clock::{SystemWatch, Watch};
 use mg_core::{Config, Core, RunFault};
-use mg_journal::{Journal, JournalFile, LockFile};
+use mg_host::Journals;
+use mg_journal::{Journal, JournalFile};
 use mg_monitor::{Both, Metrics, Reports};
 use mg_options::{Status, VERSION};
 use mg_ports::Ports;
@@ -81,10 +84,10 @@ fn live_on_sockets<J: Journal + Drop, C: Clock, W: Write, M: Monitor>(
     monitor: &mut M,
 ) -> RunFault
     requires sound { IsValidConfig ready.config }
-    requires start { CanStart service.now.journal ready.config ready.core.state
-        (option_map_or (λ j. j) ready.journal no_journal) }
-    ensures value { ServesByClockOnPorts ready.entry.config service.now late (W.contents output.old) (W.contents output.new)
-        result }
+    ensures value { (text : Option (List ℕ)) → CanStart service.now.journal text ready.entry.config ready.entry.core.state
+        (option_map_or (λ j. j) ready.entry.journal no_journal) →
+        ServesOnPorts (ByClock late (W.contents output.old) (W.contents output.new)) ready.entry.config service.now text
+        (Err result) }
 {
     let mut ports = UdpPorts::new(ready.sockets, ready.journal);
     live_on(
@@ -108,8 +111,9 @@ fn live_on_sockets<J: Journal + Drop, C: Clock, W: Write, M: Monitor>(
 /// After a delay, all missed polls and ticks are executed at once. If a tick is more than `late` ticks late, its
 /// packets are not sent. So callers hear a gap, and timestamps stay in step with the clock. `reports` receives the
 /// number of packets that weren't sent, and the periodic reports if they are enabled.
-pub fn live<N: Net, C: Clock, G: RandomSource, F: Files, W: Write, E: Write, T: Write>(
+pub fn live<N: Net, C: Clock, G: RandomSource, F: Files, H: Journals, W: Write, E: Write, T: Write>(
     system: &System<'_, N, C, G, F>,
+    host: &mut H,
     alloc: Global,
     config: Config,
     service: &Service,
@@ -119,19 +123,10 @@ pub fn live<N: Net, C: Clock, G: RandomSource, F: Files, W: Write, E: Write, T: 
     errors: &mut E,
     reports: &mut T,
 ) -> Status
-where
-    F::File: LockFile,
-    ensures value { ServesByClock W.contents config service.now draws late output.old output.new result }
+    ensures value { Serves (ByClock late (W.contents output.old) (W.contents output.new)) (output.new ≡ output.old)
+        config service.now draws (H.calls host.old) (H.calls host.new) result }
 {
-    match prepare(
-        system.files,
-        system.random,
-        alloc,
-        config,
-        service,
-        draws,
-        errors,
-    ) {
+    match prepare(host, system.random, alloc, config, service, draws, errors) {
         Ok(prepared) => live_prepared(
             system, alloc, prepared, service, late, output, errors, reports,
         ),
@@ -159,9 +154,12 @@ fn live_prepared<
     errors: &mut E,
     reports: &mut T,
 ) -> Status
-    requires resumed { CanResume service.now.journal prepared.config prepared.core.state }
+    requires resumed { CanResume service.now.journal (option_map_or (λ j. text_in j.opening.file) prepared.journal None)
+        prepared.config prepared.core.state }
     requires found { IsSome service.now.journal → IsSome prepared.journal }
-    ensures value { ServesChosenByClock W.contents prepared.config service.now late output.old output.new result }
+    requires times { IfSome prepared.journal (λ j. KeepsTimes j.timeline (text_in j.opening.file)) }
+    ensures value { ServesChosen (ByClock late (W.contents output.old) (W.contents output.new)) (output.new ≡ output.old)
+        prepared.config service.now (option_map_or (λ j. text_in j.opening.file) prepared.journal None) result }
 {
     prepared.tell(service, reports);
     match make_ready(system, alloc, prepared, service, errors) {
@@ -191,9 +189,10 @@ fn live_ready<
     reports: &mut T,
 ) -> Status
     requires sound { IsValidConfig ready.config }
-    requires start { CanStart service.now.journal ready.config ready.core.state
-        (option_map_or (λ j. j) ready.journal no_journal) }
-    ensures value { ServesChosenByClock W.contents ready.entry.config service.now late output.old output.new result }
+    ensures value { (text : Option (List ℕ)) → CanStart service.now.journal text ready.entry.config ready.entry.core.state
+        (option_map_or (λ j. j) ready.entry.journal no_journal) →
+        ServesChosen (ByClock late (W.contents output.old) (W.contents output.new)) (output.new ≡ output.old)
+        ready.entry.config service.now text result }
 {
     let config = ready.config;
     let mut ready = ready;

@@ -1,7 +1,9 @@
-ghost use Rattle.std.specs.Prelude.{◌≡◌, IfErr, IfOk, IsSome, OnOk};
+ghost use Rattle.std.specs.Prelude.{◌≡◌, None, IfErr, IfOk, IfSome, IsSome, OnOk};
 ghost use Rattle.std.specs.Option.{option_map_or};
 ghost use Rattle.mg_engine.specs.Config.{IsValidConfig};
 ghost use Rattle.mg_journal.specs.Journal.{no_journal};
+ghost use Rattle.mg_journal.specs.Opening.{text_in};
+ghost use Rattle.mg_start.specs.Journal.{KeepsTimes};
 ghost use Rattle.mg_start.specs.Start.{CanResume, CanStart, FailsToStart};
 
 use crate::metrics_file::{can_write_metrics, replaces_journal};
@@ -70,11 +72,14 @@ pub fn make_ready<'a, N: Net, C: Clock, G: RandomSource, F: Files, J: JournalFil
     service: &Service,
     errors: &mut E,
 ) -> Result<Ready<'a, FileJournal<J>, C>, Status>
-    requires resumed { CanResume service.now.journal prepared.config prepared.core.state }
+    requires resumed { CanResume service.now.journal (option_map_or (λ j. text_in j.opening.file) prepared.journal None)
+        prepared.config prepared.core.state }
     requires found { IsSome service.now.journal → IsSome prepared.journal }
+    requires times { IfSome prepared.journal (λ j. KeepsTimes j.timeline (text_in j.opening.file)) }
     ensures config { IfOk result (λ r. r.config ≡ prepared.config) }
     ensures sound { IfOk result (λ r. IsValidConfig r.config) }
-    ensures start { IfOk result (λ r. CanStart service.now.journal r.config r.core.state
+    ensures start { IfOk result (λ r. CanStart service.now.journal
+        (option_map_or (λ j. text_in j.opening.file) prepared.journal None) r.config r.core.state
         (option_map_or (λ j. j) r.journal no_journal)) }
     ensures quiet { OnOk result (errors.new ≡ errors.old) }
     ensures ends { IfErr result (FailsToStart prepared.config) }

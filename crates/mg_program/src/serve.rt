@@ -1,14 +1,17 @@
-ghost use Rattle.std.specs.Prelude.{◌≡◌, ◌≢◌, Err, IfErr, IsSome, OnOk};
+ghost use Rattle.std.specs.Prelude.{◌≡◌, ◌≢◌, ℕ, List, Option, None, Err, IfErr, IfSome, IsSome, OnOk};
 ghost use Rattle.std.specs.Option.{option_map_or};
 ghost use Rattle.mg_engine.specs.Config.{IsValidConfig};
 ghost use Rattle.mg_journal.specs.Journal.{no_journal};
+ghost use Rattle.mg_journal.specs.Opening.{text_in};
+ghost use Rattle.mg_arguments.specs.Draws.{no_draws};
+ghost use Rattle.mg_start.specs.Journal.{KeepsTimes};
 ghost use Rattle.mg_core.specs.World.{World, StandsFor};
 ghost use Rattle.mg_ports.specs.Journaled.{ports_seen};
 ghost use Rattle.mg_serve.specs.Serve.{ServedSession};
 ghost use Rattle.mg_arguments.specs.Setup.{setup_of};
 ghost use Rattle.mg_arguments.specs.Title.{title_if};
 ghost use Rattle.mg_start.specs.Start.{CanResume, CanStart, FailsToStart};
-ghost use Rattle.mg_program.specs.Serve.{Serves, ServesChosen, ServesOnPorts};
+ghost use Rattle.mg_program.specs.Serve.{ByLines, Serves, ServesChosen, ServesOnPorts};
 
 use crate::readiness::SOCKETS;
 use crate::ready::{Ready, make_ready};
@@ -18,7 +21,8 @@ use crate::system::System;
 use crate::udp_ports::UdpPorts;
 use mg_arguments::{ConfigFault, Draws, Service, title_of};
 use mg_core::{Config, Core, Counts, RunFault};
-use mg_journal::{Journal, JournalFile, LockFile};
+use mg_host::Journals;
+use mg_journal::{Journal, JournalFile};
 use mg_monitor::Reports;
 use mg_options::Status;
 use mg_ports::Ports;
@@ -105,10 +109,10 @@ fn serve_on_sockets<J: Journal + Drop, C: Clock, R: Read, W: Write, M: Monitor>(
     monitor: &mut M,
 ) -> Result<Counts, RunFault>
     requires sound { IsValidConfig ready.config }
-    requires start { CanStart service.now.journal ready.config ready.core.state
-        (option_map_or (λ j. j) ready.journal no_journal) }
-    ensures value { ServesOnPorts ready.entry.config service.now (R.remaining input.old) (R.remaining input.new)
-        (W.contents output.old) (W.contents output.new) result }
+    ensures value { (text : Option (List ℕ)) → CanStart service.now.journal text ready.entry.config ready.entry.core.state
+        (option_map_or (λ j. j) ready.entry.journal no_journal) →
+        ServesOnPorts (ByLines (R.remaining input.old) (R.remaining input.new) (W.contents output.old)
+        (W.contents output.new)) ready.entry.config service.now text result }
 {
     let mut ports = UdpPorts::new(ready.sockets, ready.journal);
     serve_on(
@@ -128,8 +132,19 @@ fn serve_on_sockets<J: Journal + Drop, C: Clock, R: Read, W: Write, M: Monitor>(
 ///
 /// An invalid configuration is reported before a port is bound. A port that can't be bound is reported before a line is
 /// read, and before anything is appended to the journal.
-pub fn serve<N: Net, C: Clock, G: RandomSource, F: Files, R: Read, W: Write, E: Write, T: Write>(
+pub fn serve<
+    N: Net,
+    C: Clock,
+    G: RandomSource,
+    F: Files,
+    H: Journals,
+    R: Read,
+    W: Write,
+    E: Write,
+    T: Write,
+>(
     system: &System<'_, N, C, G, F>,
+    host: &mut H,
     alloc: Global,
     config: Config,
     service: &Service,
@@ -138,13 +153,13 @@ pub fn serve<N: Net, C: Clock, G: RandomSource, F: Files, R: Read, W: Write, E: 
     errors: &mut E,
     reports: &mut T,
 ) -> Status
-where
-    F::File: LockFile,
-    ensures value { Serves R.remaining W.contents config service.now input.old input.new output.old output.new result }
+    ensures value { Serves (ByLines (R.remaining input.old) (R.remaining input.new) (W.contents output.old)
+        (W.contents output.new)) ((input.new ≡ input.old) × (output.new ≡ output.old)) config service.now no_draws
+        (H.calls host.old) (H.calls host.new) result }
     ensures quiet { result ≡ Status.Done → errors.new ≡ errors.old }
 {
     match prepare(
-        system.files,
+        host,
         system.random,
         alloc,
         config,
@@ -180,10 +195,13 @@ fn serve_prepared<
     errors: &mut E,
     reports: &mut T,
 ) -> Status
-    requires resumed { CanResume service.now.journal prepared.config prepared.core.state }
+    requires resumed { CanResume service.now.journal (option_map_or (λ j. text_in j.opening.file) prepared.journal None)
+        prepared.config prepared.core.state }
     requires found { IsSome service.now.journal → IsSome prepared.journal }
-    ensures value { ServesChosen R.remaining W.contents prepared.config service.now input.old input.new output.old
-        output.new result }
+    requires times { IfSome prepared.journal (λ j. KeepsTimes j.timeline (text_in j.opening.file)) }
+    ensures value { ServesChosen (ByLines (R.remaining input.old) (R.remaining input.new) (W.contents output.old)
+        (W.contents output.new)) ((input.new ≡ input.old) × (output.new ≡ output.old)) prepared.config service.now
+        (option_map_or (λ j. text_in j.opening.file) prepared.journal None) result }
     ensures quiet { result ≡ Status.Done → errors.new ≡ errors.old }
 {
     prepared.tell(service, reports);
@@ -204,10 +222,11 @@ fn serve_ready<J: Journal + Drop, C: Clock, R: Read, W: Write, E: Write, T: Writ
     reports: &mut T,
 ) -> Status
     requires sound { IsValidConfig ready.config }
-    requires start { CanStart service.now.journal ready.config ready.core.state
-        (option_map_or (λ j. j) ready.journal no_journal) }
-    ensures value { ServesChosen R.remaining W.contents ready.entry.config service.now input.old input.new output.old
-        output.new result }
+    ensures value { (text : Option (List ℕ)) → CanStart service.now.journal text ready.entry.config ready.entry.core.state
+        (option_map_or (λ j. j) ready.entry.journal no_journal) →
+        ServesChosen (ByLines (R.remaining input.old) (R.remaining input.new) (W.contents output.old)
+        (W.contents output.new)) ((input.new ≡ input.old) × (output.new ≡ output.old)) ready.entry.config service.now
+        text result }
     ensures quiet { result ≡ Status.Done → errors.new ≡ errors.old }
 {
     let config = ready.config;

@@ -15,4 +15,4 @@ pub mod theorems;
 mod verifying;
 
 pub use crate::sealing::seal;
-pub use crate::verifying::{verify_file, verify_input};
+pub use crate::verifying::{verify_input, verify_text};

@@ -8,7 +8,6 @@ use crate::theorems::changes_show;
 use mg_chain::{Seals, read_seals};
 use mg_options::Status;
 use std::alloc::Global;
-use std::fs::{Files, OpenOptions};
 use std::io::{self, BufReader, Error, ErrorKind, Read, Write};
 
 /// The name of standard input in messages.
@@ -44,8 +43,9 @@ fn answer(seals: &Seals) -> Status
     }
 }
 
-/// Prints what the seals in the text with this name say. A fault is reported to `errors`.
-fn verify_text<R: Read, W: Write, E: Write>(
+/// Prints whether the seals in the text with this name are right. Returns the exit status. A fault is reported to
+/// `errors`.
+pub fn verify_text<R: Read, W: Write, E: Write>(
     alloc: Global,
     name: &str,
     reader: &mut R,
@@ -83,24 +83,4 @@ pub fn verify_input<R: Read, W: Write, E: Write>(
         result) (errors.new ≡ errors.old) result }
 {
     verify_text(alloc, INPUT, input, output, errors)
-}
-
-/// Prints whether the seals in a file are right. Returns the exit status. A fault is reported to `errors`.
-pub fn verify_file<F: Files, W: Write, E: Write>(
-    files: &F,
-    alloc: Global,
-    name: &str,
-    output: &mut W,
-    errors: &mut E,
-) -> Status
-    ensures value { Verifies ((text : Option (List ℕ)) × IsVerified text (W.contents output.old)
-        (W.contents output.new) result) (errors.new ≡ errors.old) result }
-{
-    match OpenOptions::new().read(true).open(files, name) {
-        Ok(mut file) => verify_text(alloc, name, &mut file, output, errors),
-        Err(error) => {
-            let _ = writeln!(errors, "{name}: cannot be opened: {error}");
-            Status::BadJournal
-        }
-    }
 }

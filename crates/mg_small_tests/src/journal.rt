@@ -7,10 +7,9 @@ use crate::equality::assert_right;
 use crate::failure::kind;
 use mg_journal::{
     AppendFault, Durability, FaultEffect, FileCall, FileJournal, InjectedFault, Journal,
-    MemoryFile, Opening, open_journal,
+    MemoryFile, Opening,
 };
 use std::alloc::{AllocError, Global};
-use std::fs;
 use std::io::{self, ErrorKind, Read};
 use std::test::Fail;
 
@@ -390,25 +389,5 @@ fn opens_files(rt: HostRuntime) -> Result<(), Fail> {
     assert!(rt; reports_errors_at_opening(alloc));
     assert!(rt; fails_without_a_journal(alloc)?);
     assert!(rt; AppendFault::Broken.is_final() && !AppendFault::Refused.is_final());
-    Ok(())
-}
-
-/// Another program empties the file after it is opened and before it is read. Returns whether neither a read nor the
-/// acceptance extends it.
-fn is_never_extended(rt: &HostRuntime, path: &str) -> io::Result<bool> {
-    fs::write(rt, path, "one\ntw")?;
-    let mut opening = open_journal(rt, path)?;
-    fs::write(rt, path, "")?;
-    let mut buffer = [0; 8];
-    let ended = Some(ErrorKind::UnexpectedEof);
-    let has_ended = kind(opening.read(&mut buffer)) == ended && kind(opening.accept()) == ended;
-    let is_empty = fs::metadata(rt, path)?.len() == 0;
-    fs::remove_file(rt, path)?;
-    Ok(has_ended && is_empty)
-}
-
-#[test]
-fn extends_no_file_on_disk(rt: HostRuntime) -> Result<(), Fail> {
-    assert!(rt; is_never_extended(&rt, "mg_journal.txt")?);
     Ok(())
 }

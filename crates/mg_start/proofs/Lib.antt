@@ -1,3 +1,4 @@
 pub mod JournalLemmas
 pub mod ResumeLemmas
 pub mod TitleLemmas
+pub mod StartLemmas

@@ -1,12 +1,20 @@
 -- How a gateway starts: with a new core, or from its journal.
-use Rattle.std.specs.Prelude.{◌≡◌, ◌⊎◌, ℕ, List, Option, Some, None, IsSome, false}
+use Rattle.std.specs.Prelude.{◌≡◌, ◌⊎◌, ℕ, List, [], ◌∷◌, ◌++◌, Option, Some, None, IfSome, IsSome}
+use Rattle.std.specs.Prelude.{true, false}
+use Rattle.std.specs.Option.{option_map}
 use Rattle.mg_engine.specs.declared.config.Config.{Config}
 use Rattle.mg_engine.specs.Config.{IsValidConfig}
+use Rattle.mg_lines.specs.Lines.{lines_of}
 use Rattle.mg_core.specs.declared.event.Event.{Event}
+use Rattle.mg_core.specs.Script.{events_of}
 use Rattle.mg_core.specs.Step.{Sent, Run}
 use Rattle.mg_core.specs.declared.state.CoreState.{CoreState}
 use Rattle.mg_core.specs.World.{World, StandsFor, start_of, world_after_ticks}
 use Rattle.mg_journal.specs.Journal.{JournalState}
+use Rattle.mg_journal.specs.Text.{whole_lines}
+use Rattle.mg_host.specs.declared.host_call.HostCall.{HostCall}
+use Rattle.mg_host.specs.declared.host_call.HostCall.TheVariants.{OpenJournal}
+use Rattle.mg_host.specs.HostCalls.{Grows, IsLoggedText}
 use Rattle.mg_options.specs.declared.status.Status.{Status}
 use Rattle.mg_options.specs.declared.status.Status.TheVariants.{Usage, Failed, NoMemory}
 use Rattle.mg_options.specs.declared.status.Status.TheVariants.{NoPort, BadJournal}
@@ -14,6 +22,8 @@ use Rattle.mg_arguments.specs.declared.draws.Draws.{Draws}
 use Rattle.mg_arguments.specs.declared.given.Given.{Given}
 use Rattle.mg_arguments.specs.Draws.{IsDrawn}
 use Rattle.mg_arguments.specs.Given.{Agrees}
+use Rattle.mg_arguments.specs.Title.{title_line}
+use Rattle.mg_start.specs.Journal.{missed_lines}
 
 -- why a run didn't begin: ports are bound only for a valid configuration
 abbrev pub FailsToStart : Config → Status → Type 0
@@ -24,38 +34,77 @@ FailsToStart config Failed = Unit {0}
 FailsToStart config BadJournal = Unit {0}
 FailsToStart config status = ⊥
 
--- How the configuration of a gateway is chosen, given the configuration that the options name.
--- Numbers may be drawn, or a journal has another configuration, which agrees with the options that
--- are given.
-abbrev pub IsChosen : (journal : Option (List ℕ)) → Given → Draws → (config chosen : Config) → Type 0
-IsChosen None given draws config chosen = IsDrawn draws config chosen
-IsChosen (Some path) given draws config chosen =
-    IsDrawn draws config chosen ⊎ Agrees given config chosen
+-- The only call on the host: the file of the journal, if there is one, was opened, or this failed.
+abbrev pub Opens : (journal : Option (List ℕ)) → (old new : Option (List HostCall)) → Type 0
+Opens None old new = new ≡ old
+Opens (Some path) old new = (bytes : Option (List ℕ)) × Grows old new (OpenJournal path bytes ∷ [])
 
--- The world in which a gateway is resumed: nothing has happened or, with a journal, the events of
--- the journal have happened.
-abbrev pub ResumesIn : (journal : Option (List ℕ)) → Config → World → Type 0
-ResumesIn None config w = w ≡ start_of config
-ResumesIn (Some path) config w =
+-- The only call on the host: the file of the journal, if there is one, was opened. If the host logs
+-- its calls, `text` is the complete lines in that file.
+abbrev pub Finds : (journal : Option (List ℕ)) → (old new : Option (List HostCall))
+    → (text : Option (List ℕ)) → Type 0
+Finds None old new text = new ≡ old
+Finds (Some path) old new text =
+    (bytes : List ℕ) × Grows old new (OpenJournal path (Some bytes) ∷ [])
+    × IsLoggedText new text (whole_lines bytes)
+
+-- a text whose first line is the title of this configuration
+abbrev pub BeginsWithTitle : Config → List ℕ → Type 0
+BeginsWithTitle config text = (rest : List ℕ) × (text ≡ title_line config ++ rest)
+
+-- The configuration that a gateway with a journal has. If the journal is empty, numbers may be
+-- drawn; otherwise it is that of the journal's title, which agrees with the options that are given.
+abbrev pub IsChosenBy : (text : Option (List ℕ)) → Given → Draws → (config chosen : Config) → Type 0
+IsChosenBy None given draws config chosen = IsDrawn draws config chosen ⊎ Agrees given config chosen
+IsChosenBy (Some []) given draws config chosen = IsDrawn draws config chosen
+IsChosenBy (Some (byte ∷ text)) given draws config chosen =
+    Agrees given config chosen × BeginsWithTitle chosen (byte ∷ text)
+
+-- How the configuration of a gateway is chosen, given the configuration that the options name.
+abbrev pub IsChosen : (journal text : Option (List ℕ)) → Given → Draws → (config chosen : Config)
+    → Type 0
+IsChosen None text given draws config chosen = IsDrawn draws config chosen
+IsChosen (Some path) text given draws config chosen = IsChosenBy text given draws config chosen
+
+-- The world in which a gateway is resumed: nothing has happened or, with a journal, exactly the
+-- events of the journal's text have happened.
+abbrev pub ResumesIn : (journal text : Option (List ℕ)) → Config → World → Type 0
+ResumesIn None text config w = w ≡ start_of config
+ResumesIn (Some path) text config w =
     (events : List Event) × (sent : List Sent) × Run (start_of config) events sent w
+    × IfSome text (λ lines. events_of (lines_of true lines) ≡ Some events)
 
 -- the world in which a gateway starts: with a journal, the ticks that it missed have passed too
-abbrev pub StartsIn : (journal : Option (List ℕ)) → Config → World → Type 0
-StartsIn None config w = w ≡ start_of config
-StartsIn (Some path) config w =
-    (resumed : World) × ResumesIn (Some path) config resumed
-    × (missed : ℕ) × (w ≡ world_after_ticks missed resumed)
+abbrev pub StartsIn : (journal text : Option (List ℕ)) → Config → (missed : ℕ) → World → Type 0
+StartsIn None text config missed w = w ≡ start_of config
+StartsIn (Some path) text config missed w =
+    (resumed : World) × ResumesIn (Some path) text config resumed
+    × (w ≡ world_after_ticks missed resumed)
+
+-- The text of the journal when a gateway starts: a new journal begins with the title of the
+-- gateway's configuration. Then come the ticks that were missed.
+abbrev pub started_text : Config → (missed : ℕ) → (found : List ℕ) → List ℕ
+started_text config missed [] = title_line config ++ missed_lines missed
+started_text config missed (byte ∷ found) = (byte ∷ found) ++ missed_lines missed
 
 -- a core in a world in which the gateway is resumed
-pub record CanResume (journal : Option (List ℕ)) (config : Config) (state : CoreState) : Type 0 where
-  pub world : World
-  pub stands : StandsFor state world
-  pub resumes : ResumesIn journal config world
+pub record CanResume (journal text : Option (List ℕ)) (config : Config) (state : CoreState) : Type 0
+  where
+    pub world : World
+    pub stands : StandsFor state world
+    pub resumes : ResumesIn journal text config world
 
--- a core in a world in which the gateway starts, and its journal, which works if one is wanted
-pub record CanStart (journal : Option (List ℕ)) (config : Config) (state : CoreState)
+-- The world in which a gateway starts, and its journal, if it has one, which works.
+pub record HasStarted (journal text : Option (List ℕ)) (config : Config) (start : World)
+    (before : JournalState) : Type 0 where
+  pub missed : ℕ
+  pub starts : StartsIn journal text config missed start
+  pub works : IsSome journal → before.is_broken ≡ false
+  pub writes : IsSome journal → before.text ≡ option_map (started_text config missed) text
+
+-- a core in the world in which a gateway starts
+pub record CanStart (journal text : Option (List ℕ)) (config : Config) (state : CoreState)
     (before : JournalState) : Type 0 where
   pub world : World
   pub stands : StandsFor state world
-  pub starts : StartsIn journal config world
-  pub works : IsSome journal → before.is_broken ≡ false
+  pub started : HasStarted journal text config world before

@@ -1,6 +1,8 @@
-ghost use Rattle.std.specs.Prelude.{◌≡◌, IfErr, IfOk, IsSome, OnOk};
+ghost use Rattle.std.specs.Prelude.{◌≡◌, None, IfErr, IfOk, IfSome, IsSome, OnOk};
 ghost use Rattle.std.specs.Option.{option_map_or};
 ghost use Rattle.mg_journal.specs.Journal.{no_journal};
+ghost use Rattle.mg_journal.specs.Opening.{text_in};
+ghost use Rattle.mg_start.specs.Journal.{KeepsTimes};
 ghost use Rattle.mg_start.specs.Start.{CanResume, CanStart, FailsToStart};
 
 use crate::found_journal::FoundJournal;
@@ -26,9 +28,12 @@ pub fn begin_journal<'a, F: JournalFile, C: Clock, E: Write>(
 ) -> Result<Option<DatedJournal<'a, FileJournal<F>, C>>, Status>
 where
     F: Drop,
-    requires resumed { CanResume service.now.journal config.now core.old.state }
+    requires resumed { CanResume service.now.journal (option_map_or (λ j. text_in j.opening.file) found None)
+        config.now core.old.state }
     requires found { IsSome service.now.journal → IsSome found }
-    ensures started { IfOk result (λ journal. CanStart service.now.journal config.now core.new.state
+    requires times { IfSome found (λ j. KeepsTimes j.timeline (text_in j.opening.file)) }
+    ensures started { IfOk result (λ journal. CanStart service.now.journal
+        (option_map_or (λ j. text_in j.opening.file) found None) config.now core.new.state
         (option_map_or (λ j. j) journal no_journal)) }
     ensures quiet { OnOk result (errors.new ≡ errors.old) }
     ensures ends { IfErr result (FailsToStart config.now) }

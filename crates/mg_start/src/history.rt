@@ -1,18 +1,22 @@
-ghost use Rattle.std.specs.Prelude.{◌≡◌, ◌≢◌, true, IfOk, IfSome, IsSome, None, []};
+ghost use Rattle.std.specs.Prelude.{◌≡◌, ◌≢◌, ◌++◌, ℕ, List, Option, true, codes, IfOk, IfSome, IsSome, None, []};
 ghost use Rattle.mg_journal.specs.Text.{whole_lines};
-ghost use Rattle.mg_journal.specs.Opening.{left_to_read, text_in};
+ghost use Rattle.mg_journal.specs.Opening.{text_in};
 ghost use Rattle.mg_core.specs.Resume.{IsResumed};
 ghost use Rattle.mg_engine.specs.Config.{IsValidConfig};
 ghost use Rattle.mg_arguments.specs.Given.{Agrees};
 ghost use Rattle.mg_start.specs.Journal.{may_be_title};
+ghost use Rattle.mg_start.specs.Start.{BeginsWithTitle};
 
 use crate::journal_fault::JournalFault;
+use crate::reading::{FileKey, Reading};
+use memchr::memchr;
 use mg_arguments::{ConfigFault, Given, titled};
 use mg_core::{Config, Core, RunFault, resume};
 use mg_dates::Timeline;
 use mg_journal::{JournalFile, Opening};
 use std::alloc::Global;
 use std::io::{self, ErrorKind};
+use std::marker::Brand;
 
 /// The title and its line feed must fit into this many bytes at the journal's start. A title is at most 512 bytes long.
 const FRONT: usize = 1024;
@@ -22,15 +26,32 @@ const TITLE_START: &[u8] = b"# mg_bridge replay ";
 
 /// A gateway in the state that a journal's events lead to.
 #[derive(Drop)]
-pub struct History {
+pub(crate) struct History {
     pub config: Config,
     pub core: Core,
     pub timeline: Timeline,
 }
 
+/// A journal whose events were run, and the gateway in the state that they lead to.
+#[derive(Drop)]
+struct Resumed<F: JournalFile> {
+    opening: Opening<F>,
+    core: Core,
+}
+
+/// A journal, and what its events lead to, or `None` if it is empty.
+#[derive(Drop)]
+pub(crate) struct Found<F: JournalFile> {
+    pub opening: Opening<F>,
+    pub history: Option<History>,
+}
+
 /// Returns the title at the start of a journal's text: the first line, if it is a comment, and `None` otherwise.
-fn title_in(front: &[u8]) -> Option<&[u8]> {
-    let end = front.iter().position(|b| *b == b'\n')?;
+fn title_in(front: &[u8]) -> Option<&[u8]>
+    ensures line { IfSome result (λ title. (rest : List ℕ)
+        × (front.now ≡ (codes "# " ++ (title.now ++ codes "\n")) ++ rest)) }
+{
+    let end = memchr(b'\n', front)?;
     front[..end].strip_prefix(b"# ".as_slice())
 }
 
@@ -69,6 +90,8 @@ fn config_in<F: JournalFile>(
     ensures title { IfOk result (λ config. config ≡ None →
         IfSome opening.old.file.bytes (λ bytes. may_be_title bytes ≡ true)) }
     ensures lines { IfOk result (λ config. IsSome config → IfSome (text_in opening.old.file) (λ text. text ≢ [])) }
+    ensures titled { IfOk result (λ found. IfSome found (λ config.
+        IfSome (text_in opening.old.file) (BeginsWithTitle config))) }
 {
     if !opening.has_lines() {
         check_partial(opening)?;
@@ -111,36 +134,69 @@ fn fault_of(fault: RunFault) -> JournalFault {
     }
 }
 
-impl History {
-    /// Runs the events of a journal without sending anything, or returns `None` if the journal is empty.
-    pub fn of<F: JournalFile>(
-        alloc: Global,
-        given: &Given,
-        wanted: &Config,
-        opening: &mut Opening<F>,
-    ) -> Result<Option<History>, JournalFault>
-        requires front { opening.old.read ≡ 0 }
-        ensures empty { IfOk result (λ found. found ≡ None → IfSome (text_in opening.old.file) (λ text. text ≡ [])) }
-        ensures title { IfOk result (λ found. found ≡ None →
-            IfSome opening.old.file.bytes (λ bytes. may_be_title bytes ≡ true)) }
-        ensures lines { IfOk result (λ found. IsSome found → IfSome (text_in opening.old.file) (λ text. text ≢ [])) }
-        ensures sound { IfOk result (λ found. IfSome found (λ h. IsValidConfig h.config)) }
-        ensures agrees { IfOk result (λ found. IfSome found (λ h. Agrees given.now wanted.now h.config)) }
-        ensures resumed { IfOk result (λ found. IfSome found (λ h.
-            IsResumed h.config (text_in opening.old.file) (left_to_read opening.new) h.core.state)) }
-    {
-        let Some(config) = config_in(alloc, opening)? else {
-            return Ok(None);
-        };
-        check_config(given, wanted, &config)?;
-        let mut timeline = Timeline::new();
-        match resume(alloc, config, opening, &mut timeline) {
-            Ok(core) => Ok(Some(History {
-                config,
-                core,
-                timeline,
-            })),
-            Err(fault) => Err(fault_of(fault)),
-        }
+/// Runs the events of a journal without sending anything.
+fn run_events<F: JournalFile, K: FileKey>(
+    alloc: Global,
+    config: Config,
+    opening: Opening<F>,
+    timeline: &mut Timeline,
+) -> Result<Resumed<F>, JournalFault>
+where
+    F: Drop,
+    requires front { opening.read ≡ 0 }
+    requires file { opening.file ≡ K.file }
+    ensures file { IfOk result (λ r. r.opening.file ≡ K.file) }
+    ensures resumed { IfOk result (λ r. (rest : Option (List ℕ)) ×
+        IsResumed config (text_in opening.file) rest r.core.state) }
+{
+    let mut reading = Reading::<F, K>::new(opening);
+    match resume(alloc, config, &mut reading, timeline) {
+        Ok(core) => Ok(Resumed {
+            opening: reading.into_opening(),
+            core,
+        }),
+        Err(fault) => Err(fault_of(fault)),
     }
+}
+
+/// Finds the state that a journal's events lead to, if the journal isn't empty. Sends nothing.
+pub(crate) fn find<F: JournalFile>(
+    alloc: Global,
+    given: &Given,
+    wanted: &Config,
+    opening: Opening<F>,
+) -> Result<Found<F>, JournalFault>
+where
+    F: Drop,
+    requires front { opening.read ≡ 0 }
+    ensures file { IfOk result (λ f. f.opening.file ≡ opening.file) }
+    ensures empty { IfOk result (λ f. f.history ≡ None → IfSome (text_in opening.file) (λ text. text ≡ [])) }
+    ensures title { IfOk result (λ f. f.history ≡ None →
+        IfSome opening.file.bytes (λ bytes. may_be_title bytes ≡ true)) }
+    ensures lines { IfOk result (λ f. IsSome f.history → IfSome (text_in opening.file) (λ text. text ≢ [])) }
+    ensures sound { IfOk result (λ f. IfSome f.history (λ h. IsValidConfig h.config)) }
+    ensures agrees { IfOk result (λ f. IfSome f.history (λ h. Agrees given.now wanted.now h.config)) }
+    ensures titled { IfOk result (λ f. IfSome f.history (λ h.
+        IfSome (text_in opening.file) (BeginsWithTitle h.config))) }
+    ensures resumed { IfOk result (λ f. IfSome f.history (λ h. (rest : Option (List ℕ)) ×
+        IsResumed h.config (text_in opening.file) rest h.core.state)) }
+{
+    let mut opening = opening;
+    let Some(config) = config_in(alloc, &mut opening)? else {
+        return Ok(Found {
+            opening,
+            history: None,
+        });
+    };
+    check_config(given, wanted, &config)?;
+    let mut timeline = Timeline::new();
+    let resumed = run_events::<F, Brand>(alloc, config, opening, &mut timeline)?;
+    Ok(Found {
+        opening: resumed.opening,
+        history: Some(History {
+            config,
+            core: resumed.core,
+            timeline,
+        }),
+    })
 }

@@ -4,7 +4,7 @@
 //! skips the ticks that the gateway missed, and starts appending:
 //!
 //! ```rust
-//! let prepared = prepare(&rt, &rt, alloc, config, &service, draws, &mut errors)?;
+//! let prepared = prepare(&mut host, &rt, alloc, config, &service, draws, &mut errors)?;
 //! let mut core = prepared.core;
 //! let journal = begin_journal(alloc, &prepared.config, &service, &rt, prepared.journal, &mut core, &mut errors)?;
 //! ```
@@ -21,6 +21,7 @@ mod found_journal;
 mod history;
 mod journal_fault;
 mod prepared;
+mod reading;
 
 pub use crate::beginning::begin_journal;
 pub use crate::found_journal::FoundJournal;

@@ -1,23 +1,23 @@
-ghost use Rattle.std.specs.Prelude.{◌≡◌, ◌⊎◌, ℕ, List, Option, IfErr, IfOk, IfSome, IsNone, IsSome, OnOk};
+ghost use Rattle.std.specs.Prelude.{◌≡◌, ℕ, List, Option, Some, None, IfErr, IfOk, IfSome, IsNone, IsSome, MatchResult, OnOk};
+ghost use Rattle.std.specs.Option.{option_map_or};
 ghost use Rattle.mg_engine.specs.Config.{IsValidConfig};
 ghost use Rattle.mg_core.specs.Resume.{IsResumed};
 ghost use Rattle.mg_core.specs.World.{StandsFor, start_of};
 ghost use Rattle.mg_journal.specs.Opening.{text_in};
 ghost use Rattle.mg_arguments.specs.Draws.{IsDrawn};
-ghost use Rattle.mg_arguments.specs.Given.{Agrees};
 ghost use Rattle.mg_start.specs.Journal.{KeepsTimes};
-ghost use Rattle.mg_start.specs.Start.{CanResume, FailsToStart, IsChosen};
+ghost use Rattle.mg_start.specs.Start.{CanResume, FailsToStart, Finds, IsChosen, IsChosenBy, Opens};
 
 use crate::found_journal::FoundJournal;
-use crate::history::History;
+use crate::history::{Found, find};
 use crate::journal_fault::JournalFault;
 use arrayvec::ArrayVec;
 use mg_arguments::{ConfigFault, Draws, FilePath, Service};
 use mg_core::{Config, Core, RunFault, StartFault};
-use mg_journal::{DiskFile, JournalFile, LockFile, Opening, open_journal};
+use mg_host::Journals;
+use mg_journal::{JournalFile, Opening};
 use mg_options::Status;
 use std::alloc::Global;
-use std::fs::Files;
 use std::io::{self, ErrorKind, Write};
 use std::random::RandomSource;
 
@@ -69,6 +69,8 @@ where
     ensures drawn { IfOk result (λ p. IsDrawn draws config p.config) }
     ensures start { IfOk result (λ p. StandsFor p.core.state (start_of p.config)) }
     ensures journal { IfOk result (λ p. IsSome opening → IsSome p.journal) }
+    ensures file { IfOk result (λ p. option_map_or (λ j. text_in j.opening.file) p.journal None
+        ≡ option_map_or (λ o. text_in o.file) opening None) }
     ensures times { IfOk result (λ p. IfSome p.journal (λ j. IsNone j.timeline)) }
     ensures quiet { OnOk result (errors.new ≡ errors.old) }
     ensures ends { IfErr result (FailsToStart config) }
@@ -117,27 +119,31 @@ where
     F: Drop,
     requires front { opening.read ≡ 0 }
     ensures sound { IfOk result (λ p. IsValidConfig p.config) }
-    ensures chosen { IfOk result (λ p. IsDrawn draws config p.config ⊎ Agrees service.now.given config p.config) }
+    ensures chosen { IfOk result (λ p. IsChosenBy (text_in opening.file) service.now.given draws config p.config) }
     ensures resumed { IfOk result (λ p. (rest : Option (List ℕ)) ×
         IsResumed p.config (text_in opening.file) rest p.core.state) }
-    ensures times { IfOk result (λ p. IfSome p.journal (λ j. KeepsTimes j.timeline (text_in opening.file))) }
+    ensures file { IfOk result (λ p. option_map_or (λ j. text_in j.opening.file) p.journal None ≡ text_in opening.file) }
+    ensures times { IfOk result (λ p. IfSome p.journal (λ j. KeepsTimes j.timeline (text_in j.opening.file))) }
     ensures found { IfOk result (λ p. IsSome p.journal) }
     ensures quiet { OnOk result (errors.new ≡ errors.old) }
     ensures ends { IfErr result (FailsToStart config) }
 {
-    let mut opening = opening;
-    match History::of(alloc, &service.given, &config, &mut opening) {
-        Ok(Some(history)) => Ok(Prepared {
-            config: history.config,
-            core: history.core,
-            journal: Some(FoundJournal {
-                opening,
-                timeline: Some(history.timeline),
-            }),
+    let found = match find(alloc, &service.given, &config, opening) {
+        Ok(found) => found,
+        Err(fault) => return Err(fault.report(path, errors)),
+    };
+    let Found { opening, history } = found;
+    let Some(history) = history else {
+        return new_gateway(random, alloc, config, draws, Some(opening), errors);
+    };
+    Ok(Prepared {
+        config: history.config,
+        core: history.core,
+        journal: Some(FoundJournal {
+            opening,
+            timeline: Some(history.timeline),
         }),
-        Ok(None) => new_gateway(random, alloc, config, draws, Some(opening), errors),
-        Err(fault) => Err(fault.report(path, errors)),
-    }
+    })
 }
 
 /// Returns why a journal couldn't be opened.
@@ -148,34 +154,56 @@ fn opening_fault(error: io::Error) -> JournalFault {
     }
 }
 
+/// Opens a journal's file, and finds its complete lines.
+fn open<H: Journals>(host: &mut H, path: &FilePath) -> Result<Opening<H::File>, JournalFault>
+    ensures opened { MatchResult result
+        (λ o. Finds (Some path.now) (H.calls host.old) (H.calls host.new) (text_in o.file))
+        (λ fault. Opens (Some path.now) (H.calls host.old) (H.calls host.new)) }
+    ensures front { IfOk result (λ o. o.read ≡ 0) }
+{
+    let file = match host.open_journal(path.as_str()) {
+        Ok(file) => file,
+        Err(error) => return Err(opening_fault(error)),
+    };
+    match Opening::new(file) {
+        Ok(opening) => Ok(opening),
+        Err(error) => Err(opening_fault(error)),
+    }
+}
+
 /// Prepares a gateway: a new one, or one that resumes from the journal. If that fails, reports the fault to `errors`
 /// and returns the program's exit status.
 ///
 /// Nothing is sent, and nothing is written to a journal.
-pub fn prepare<G: RandomSource, F: Files, E: Write>(
-    files: &F,
+pub fn prepare<H: Journals, G: RandomSource, E: Write>(
+    host: &mut H,
     random: &G,
     alloc: Global,
     config: Config,
     service: &Service,
     draws: Draws,
     errors: &mut E,
-) -> Result<Prepared<DiskFile<F::File>>, Status>
-where
-    F::File: LockFile,
+) -> Result<Prepared<H::File>, Status>
+    ensures opened { MatchResult result
+        (λ p. Finds service.now.journal (H.calls host.old) (H.calls host.new)
+        (option_map_or (λ j. text_in j.opening.file) p.journal None))
+        (λ status. Opens service.now.journal (H.calls host.old) (H.calls host.new)) }
     ensures sound { IfOk result (λ p. IsValidConfig p.config) }
-    ensures chosen { IfOk result (λ p. IsChosen service.now.journal service.now.given draws config p.config) }
-    ensures resumed { IfOk result (λ p. CanResume service.now.journal p.config p.core.state) }
+    ensures chosen { IfOk result (λ p. IsChosen service.now.journal
+        (option_map_or (λ j. text_in j.opening.file) p.journal None) service.now.given draws config p.config) }
+    ensures resumed { IfOk result (λ p. CanResume service.now.journal
+        (option_map_or (λ j. text_in j.opening.file) p.journal None) p.config p.core.state) }
     ensures found { IfOk result (λ p. IsSome service.now.journal → IsSome p.journal) }
+    ensures times { IfOk result (λ p. IfSome p.journal (λ j. KeepsTimes j.timeline (text_in j.opening.file))) }
     ensures quiet { OnOk result (errors.new ≡ errors.old) }
     ensures ends { IfErr result (FailsToStart config) }
 {
     let Some(path) = &service.journal else {
         return new_gateway(random, alloc, config, draws, None, errors);
     };
-    let opening = match open_journal(files, path.as_str()) {
+    let opening = match open(host, path) {
         Ok(opening) => opening,
-        Err(error) => return Err(opening_fault(error).report(path, errors)),
+        Err(fault) => return Err(fault.report(path, errors)),
     };
     resume_or_create(random, alloc, config, service, path, draws, opening, errors)
 }

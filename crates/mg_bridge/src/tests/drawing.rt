@@ -2,6 +2,7 @@
 
 use super::equality::assert_equal;
 use super::free_ports;
+use crate::system_host::SystemHost;
 use mg_arguments::Draws;
 use mg_core::Config;
 use mg_program::{System, program};
@@ -79,6 +80,7 @@ fn run_with(rt: &HostRuntime, random: &Counting, words: &[&str]) -> Outcome {
     let mut input: &[u8] = b"";
     outcome.status = program(
         &system,
+        &mut SystemHost::new(rt),
         alloc,
         words,
         &mut input,

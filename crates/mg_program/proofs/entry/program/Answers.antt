@@ -1,4 +1,4 @@
-use Rattle.std.proofs.Common.{inl, inr}
+use Rattle.std.proofs.Common.{ap, inl, inr}
 use Rattle.clap.specs.Words.{kind_of}
 use Rattle.mg_program.proofs.entry.program.Goals.{in-Ok, in-Err+in-Some-1, in-Err+in-None-1}
 use Rattle.mg_program.proofs.entry.program.Goals as goal
@@ -11,6 +11,7 @@ returns-clause-ends g c =
       ends = elim c.match-requested_run.branch [
         | in-Ok w ↦ rw (
           w.status-is,
+          w.host-is,
           w.input-is,
           w.output-is,
           w.errors-is,
@@ -19,14 +20,14 @@ returns-clause-ends g c =
         | in-Err+in-Some-1 w ↦ rw (w.status-is, w.output-is, w.errors-is) (inr (record {
           kind = kind_of w.in-Err.error;
           refused = w.in-Err.ensures.refused;
-          is_left = w.input-is;
+          is_left = (w.input-is, ap g.H.Tells.calls w.host-is);
           reported = w.report_error-status.ensures.reported;
           quiet = w.report_error-status.ensures.quiet;
         }))
         | in-Err+in-None-1 w ↦ rw (w.status-is, w.output-is, w.errors-is) (inr (record {
           kind = kind_of w.in-Err.error;
           refused = w.in-Err.ensures.refused;
-          is_left = w.input-is;
+          is_left = (w.input-is, ap g.H.Tells.calls w.host-is);
           reported = w.report_error-status.ensures.reported;
           quiet = w.report_error-status.ensures.quiet;
         }))

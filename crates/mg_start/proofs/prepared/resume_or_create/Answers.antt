@@ -1,9 +1,17 @@
+use Rattle.std.proofs.Common.{refl}
 use Rattle.mg_journal.specs.Opening.{text_in}
 use Rattle.mg_start.proofs.ResumeLemmas.{if_ok_map, new_resumed}
+use Rattle.mg_start.proofs.StartLemmas.{agreed_chosen}
 use Rattle.mg_start.proofs.prepared.resume_or_create.Goals as goal
 
-pub returns-in-Ok-None-clause-resumed : goal.returns-in-Ok-None-clause-resumed
-returns-in-Ok-None-clause-resumed g c =
+pub returns-in_default-clause-resumed : goal.returns-in_default-clause-resumed
+returns-in_default-clause-resumed g c =
     if_ok_map c.new_gateway.result
-    (λ p. new_resumed p.config (text_in c.args.opening.file) p.core.state (c.in-Ok-None.ensures.empty c.in-Ok-None.field-0-is))
+    (λ p. new_resumed p.config (text_in c.args.opening.file) p.core.state (c.in-Ok.ensures.empty c.in_default.is))
     c.new_gateway.ensures.start
+
+pub returns-clause-chosen : goal.returns-clause-chosen
+returns-clause-chosen g c =
+    agreed_chosen (text_in c.args.opening.file) c.args.service.now.given c.args.draws c.args.config
+    c.in-Some.history.config (rw c.in-Some.is at c.in-Ok.ensures.lines refl)
+    (rw c.in-Some.is at c.in-Ok.ensures.agrees) (rw c.in-Some.is at c.in-Ok.ensures.titled)

@@ -1,0 +1,36 @@
+//! A journal whose file another program empties.
+
+use crate::system_host::SystemHost;
+use mg_host::Journals;
+use mg_journal::Opening;
+use std::fs;
+use std::io::{self, ErrorKind, Read};
+use std::test::Fail;
+
+/// Returns the kind of error with which a call failed.
+fn kind<T: Drop>(outcome: io::Result<T>) -> Option<ErrorKind> {
+    match outcome {
+        Ok(_) => None,
+        Err(error) => Some(error.kind()),
+    }
+}
+
+/// Another program empties the file after it is opened and before it is read. Returns whether neither a read nor the
+/// acceptance extends it.
+fn is_never_extended(rt: &HostRuntime, path: &str) -> io::Result<bool> {
+    fs::write(rt, path, "one\ntw")?;
+    let mut opening = Opening::new(SystemHost::new(rt).open_journal(path)?)?;
+    fs::write(rt, path, "")?;
+    let mut buffer = [0; 8];
+    let ended = Some(ErrorKind::UnexpectedEof);
+    let has_ended = kind(opening.read(&mut buffer)) == ended && kind(opening.accept()) == ended;
+    let is_empty = fs::metadata(rt, path)?.len() == 0;
+    fs::remove_file(rt, path)?;
+    Ok(has_ended && is_empty)
+}
+
+#[test]
+fn extends_no_file_on_disk(rt: HostRuntime) -> Result<(), Fail> {
+    assert!(rt; is_never_extended(&rt, "mg_journal.txt")?);
+    Ok(())
+}

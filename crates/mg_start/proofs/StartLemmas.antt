@@ -1,0 +1,146 @@
+-- How a gateway finds its journal, chooses its configuration and starts.
+use Rattle.std.proofs.Common.{◌≡◌, ◌≢◌, inl, inr, ℕ, zero, suc, ◌<◌, ◌==◌, true, length, take, drop, slice_index, arith, List, [], ◌∷◌, ◌++◌, codes, Option, Some, None, refl, sym, ap, ◌∙◌, append_assoc, append-nil, IfSome, MatchOption, Bor}
+use Rattle.std.specs.Option.{option_map}
+use Rattle.std.proofs.lemmas.Bool.{eqb-true}
+use Rattle.std.specs.Io.KnownBytes.{Consumes}
+use Rattle.mg_core.specs.declared.state.CoreState.{CoreState}
+use Rattle.mg_core.specs.Resume.{IsResumed}
+use Rattle.mg_core.specs.Run.{HasRead}
+use Rattle.mg_core.specs.Script.{events_of}
+use Rattle.mg_core.specs.World.{world_after_ticks}
+use Rattle.mg_core.specs.declared.event.Event.{Event}
+use Rattle.mg_dates.specs.declared.timeline.Timeline.{Timeline}
+use Rattle.mg_engine.specs.declared.config.Config.{Config}
+use Rattle.mg_lines.specs.Lines.{lines_of}
+use Rattle.mg_journal.specs.Journal.{JournalState}
+use Rattle.mg_journal.specs.JournalFile.{FileState}
+use Rattle.mg_journal.specs.Opening.{text_in}
+use Rattle.mg_journal.specs.Text.{whole_lines}
+use Rattle.mg_host.specs.declared.host_call.HostCall.{HostCall}
+use Rattle.mg_host.specs.HostCalls.{IsLogged, IsLoggedText}
+use Rattle.mg_arguments.specs.declared.draws.Draws.{Draws}
+use Rattle.mg_arguments.specs.declared.given.Given.{Given}
+use Rattle.mg_arguments.specs.Draws.{IsDrawn}
+use Rattle.mg_arguments.specs.Given.{Agrees}
+use Rattle.mg_arguments.specs.Title.{title_line, title_text}
+use Rattle.mg_start.specs.Journal.{Begins, KeepsTimes, PassesTicks, missed_lines, title_before}
+use Rattle.mg_start.specs.Start.{BeginsWithTitle, CanResume, CanStart, IsChosenBy, started_text}
+
+-- the complete lines in a file whose bytes are logged
+pub found_lines : (calls : Option (List HostCall)) (file : FileState) (bytes : List ℕ) → IsLogged calls file bytes
+    → IsLoggedText calls (text_in file) (whole_lines bytes)
+found_lines None file bytes logged = tt
+found_lines (Some all) file bytes logged = ap (λ (known : Option (List ℕ)). option_map whole_lines known) logged
+
+-- an empty journal
+pub drawn_chosen : (text : Option (List ℕ)) (given : Given) (draws : Draws) (config chosen : Config)
+    → IfSome text (λ t. t ≡ []) → IsDrawn draws config chosen → IsChosenBy text given draws config chosen
+drawn_chosen None given draws config chosen empty drawn = inl drawn
+drawn_chosen (Some []) given draws config chosen empty drawn = drawn
+drawn_chosen (Some (byte ∷ text)) given draws config chosen empty drawn = absurd cc
+
+-- a journal with lines
+pub agreed_chosen : (text : Option (List ℕ)) (given : Given) (draws : Draws) (config chosen : Config)
+    → IfSome text (λ t. t ≢ []) → Agrees given config chosen → IfSome text (BeginsWithTitle chosen)
+    → IsChosenBy text given draws config chosen
+agreed_chosen None given draws config chosen lines agrees titled = inr agrees
+agreed_chosen (Some []) given draws config chosen lines agrees titled = absurd (lines refl)
+agreed_chosen (Some (byte ∷ text)) given draws config chosen lines agrees titled = (agrees, titled)
+
+-- a known text that was read to its end
+read_whole : (text script : List ℕ) (rest : Option (List ℕ)) → HasRead (Some text) rest script true → text ≡ script
+read_whole text script None read = absurd read.consumed
+read_whole text script (Some left) read =
+    read.consumed ∙ ap (λ (l : List ℕ). script ++ l) (read.at_end refl) ∙ append-nil script
+
+known_events : (text rest : Option (List ℕ)) (script : List ℕ) (events : List Event) → HasRead text rest script true
+    → events_of (lines_of true script) ≡ Some events
+    → IfSome text (λ lines. events_of (lines_of true lines) ≡ Some events)
+known_events None rest script events read are = tt
+known_events (Some text) rest script events read are =
+    ap (λ (l : List ℕ). events_of (lines_of true l)) (read_whole text script rest read) ∙ are
+
+pub resumes_from : (path : List ℕ) (text rest : Option (List ℕ)) (config : Config) (state : CoreState)
+    → IsResumed config text rest state → CanResume (Some path) text config state
+resumes_from path text rest config state r = record {
+  world = r.world;
+  stands = r.history.1;
+  resumes = (r.events, r.sent, r.history.0, known_events text rest r.script r.events r.read r.are);
+}
+
+-- the text of the journal, after its title and the ticks that were missed
+writes : (timeline : Option Timeline) (config : Config) (missed : ℕ) (text : Option (List ℕ)) (journal : JournalState)
+    → KeepsTimes timeline text → Begins (title_before timeline config) missed text journal
+    → journal.text ≡ option_map (started_text config missed) text
+writes None config missed None journal keeps begins = begins.text
+writes None config missed (Some []) journal keeps begins = begins.text
+writes None config missed (Some (byte ∷ text)) journal keeps begins = absurd cc
+writes (Some timeline) config missed None journal keeps begins = begins.text
+writes (Some timeline) config missed (Some []) journal keeps begins = absurd (keeps refl)
+writes (Some timeline) config missed (Some (byte ∷ text)) journal keeps begins =
+    begins.text ∙ ap (λ (l : List ℕ). Some (l ++ missed_lines missed)) (append-nil (byte ∷ text))
+
+pub starts_from : (path : List ℕ) (text : Option (List ℕ)) (config : Config) (old new : CoreState)
+    (timeline : Option Timeline) (missed : ℕ) (journal : JournalState) → CanResume (Some path) text config old
+    → KeepsTimes timeline text → PassesTicks missed old new → Begins (title_before timeline config) missed text journal
+    → CanStart (Some path) text config new journal
+starts_from path text config old new timeline missed journal can keeps passes begins = record {
+  world = world_after_ticks missed can.world;
+  stands = passes can.world can.stands;
+  started = record {
+    missed = missed;
+    starts = (can.world, can.resumes, refl);
+    works = λ some. begins.works;
+    writes = λ some. writes timeline config missed text journal keeps begins;
+  };
+}
+
+-- without a journal
+pub starts_anew : (text : Option (List ℕ)) (config : Config) (state : CoreState) (journal : JournalState)
+    → CanResume None text config state → CanStart None text config state journal
+starts_anew text config state journal can = record {
+  world = can.world;
+  stands = can.stands;
+  started = record {
+    missed = 0;
+    starts = can.resumes;
+    works = λ some. absurd cc;
+    writes = λ some. absurd cc;
+  };
+}
+
+at_byte : (text : List ℕ) (k : ℕ) → k < length text → (slice_index text k == 10) ≡ true
+    → text ≡ take k text ++ 10 ∷ drop (suc k) text
+at_byte [] k within is = absurd (omega (arith, within))
+at_byte (byte ∷ text) zero within is = ap (λ (b : ℕ). b ∷ text) (eqb-true byte 10 is)
+at_byte (byte ∷ text) (suc k) within is = ap (λ (l : List ℕ). byte ∷ l) (at_byte text k (omega (arith, within)) is)
+
+-- the first line of a text, after its mark
+first_line : (text title : List ℕ) (k : ℕ) → k < length text → (slice_index text k == 10) ≡ true
+    → take k text ≡ codes "# " ++ title
+    → (rest : List ℕ) × (text ≡ (codes "# " ++ (title ++ codes "\n")) ++ rest)
+first_line text title k within is marked = (
+  drop (suc k) text,
+  at_byte text k within is ∙ ap (λ (l : List ℕ). l ++ 10 ∷ drop (suc k) text) marked
+      ∙ ap (λ (l : List ℕ). codes "# " ++ l) (sym (append_assoc title (codes "\n") (drop (suc k) text))),
+)
+
+pub marked_line : (text : List ℕ) (k : ℕ) (found : Option (Bor (List ℕ))) → k < length text
+    → (slice_index text k == 10) ≡ true
+    → MatchOption found ((rest : List ℕ) → take k text ≢ codes "# " ++ rest) (λ title. take k text ≡ codes "# " ++ title.now)
+    → IfSome found (λ title. (rest : List ℕ) × (text ≡ (codes "# " ++ (title.now ++ codes "\n")) ++ rest))
+marked_line text k None within is cases = tt
+marked_line text k (Some title) within is cases = first_line text title.now k within is cases
+
+-- the first line of what was read is the title of a configuration
+pub title_found : (text rest : Option (List ℕ)) (front title more : List ℕ) (config : Config) → Consumes text rest front
+    → front ≡ (codes "# " ++ (title ++ codes "\n")) ++ more → title ≡ title_text config
+    → IfSome text (BeginsWithTitle config)
+title_found None rest front title more config consumed line is = tt
+title_found (Some text) None front title more config consumed line is = absurd consumed
+title_found (Some text) (Some left) front title more config consumed line is = (
+  more ++ left,
+  consumed ∙ ap (λ (l : List ℕ). l ++ left)
+      (line ∙ ap (λ (l : List ℕ). (codes "# " ++ (l ++ codes "\n")) ++ more) is)
+      ∙ append_assoc (title_line config) more left,
+)

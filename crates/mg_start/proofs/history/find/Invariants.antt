@@ -1,0 +1,4 @@
+use Rattle.mg_start.proofs.history.find.Given as goal
+
+abbrev pub ghosts-run_events : goal.ghosts-run_events
+ghosts-run_events g a = record { file = a.opening.file }

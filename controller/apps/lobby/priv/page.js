@@ -35,7 +35,7 @@ function member(it) {
   const button = (action, body) => element("button", { onclick: () => act(it.id, action, body && body()) }, action.replace("_", " "));
   const ask_for = (key, text) => () => ({ [key]: prompt(text) || "" });
   return element("tr", {},
-    element("td", {}, it.caller), element("td", {}, it.role), element("td", {}, [it.direction, it.muted && "muted", it.isolated && "isolated",
+    element("td", {}, it.proved && it.says !== it.caller ? `${it.caller} (says ${it.says})` : it.caller), element("td", {}, it.role), element("td", {}, [it.direction, it.muted && "muted", it.isolated && "isolated",
       it.waiting && "waits at the door"].filter(Boolean).join(", ")),
     element("td", {}, ...it.waiting ? [button("let_in", ask_for("role", "With which role?"))] : [],
       button(it.isolated ? "release" : "isolate"), button(it.muted ? "unmute" : "mute"),

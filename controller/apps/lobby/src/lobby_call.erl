@@ -68,10 +68,10 @@ start_link(Room, Invite, Source) ->
     end.
 
 %% @doc How members name themselves.
--spec callers([binary()]) -> #{binary() => binary()}.
-callers(Ids) ->
+-spec callers([lobby_person:row()]) -> #{binary() => binary()}.
+callers(Rows) ->
     maps:from_list([{Id, lobby_dialog:caller(Dialog)}
-                    || Id <- Ids, {ok, #{call := Key}} <- [lobby_member:find(Id)],
+                    || #{id := Id, call := Key} <- Rows,
                        {ok, #{call := #call{dialog = Dialog}}} <- [lobby_store:get(lobby_calls, Key)]]).
 
 %% @doc The calls' processes, with where their callers' first requests came from.
@@ -180,9 +180,12 @@ handle_event({timeout, trying}, Request, _, #call{source = Source}) ->
     keep_state_and_data;
 handle_event({timeout, let_in}, again, starting, Call = #call{changing = Invite}) ->
     person({join, {joins, {invite, Invite}}}, starting, Call);
-%% No gateway has had a seat for so long.
+%% No gateway has had a seat for so long, or he doesn't want to wait any longer.
 handle_event({timeout, let_in_at_all}, over, starting, Call = #call{changing = Invite}) ->
-    refuse(503, [{'retry-after', {10, []}}], Invite, Call);
+    case lobby_session_timer:invitation(Invite) < ?LET_IN of
+        true -> refuse(487, [], Invite, Call);
+        false -> refuse(503, [{'retry-after', {10, []}}], Invite, Call)
+    end;
 handle_event({timeout, repeat}, {Message, Target, Interval}, _, _) ->
     ok = lobby_sip:send(Target, Message),
     {keep_state_and_data, [repeat(Message, Target, min(2 * Interval, ?T2))]};
@@ -301,7 +304,8 @@ start(Id, Room, Invite, Source) ->
             ok = lobby_store:put(lobby_calls, Key, #{invite => Invite, id => Id, room => Room, source => Source}),
             yes = lobby_registry:register_name({member, Id}, self()),
             {keep_state, Joining, Actions} = person({join, {joins, {invite, Invite}}}, starting, Call#call{person = wanted(Key, Room, Invite, Call)}),
-            {keep_state, Joining, [trying_later(Invite), {{timeout, let_in_at_all}, ?LET_IN, over} | Actions]}
+            LetIn = min(?LET_IN, lobby_session_timer:invitation(Invite)),
+            {keep_state, Joining, [trying_later(Invite), {{timeout, let_in_at_all}, LetIn, over} | Actions]}
     end.
 
 %% What is known of him before anybody hears him. One whose process failed before he was in his room is wanted as before.
@@ -316,12 +320,12 @@ wanted(Key, Room, Invite, Call = #call{id = Id}) ->
                                                          waiting => Waits, acknowledged => false}))
     end.
 
-%% Section 17.2.1: if nothing else can be answered within 200 ms, a 100 is.
-trying_later(Invite) -> {{timeout, trying}, 200, Invite}.
+%% Section 17.2.1: if nothing else can be answered within 200 ms, a 100 is. It's sent early enough to arrive by then.
+trying_later(Invite) -> {{timeout, trying}, 100, Invite}.
 no_trying() -> {{timeout, trying}, infinity, none}.
 
 trying(Invite, Source) ->
-    Response = lobby_sip_message:response(100, Invite, lobby_sip:own_tag(Invite), {[], <<>>}),
+    Response = lobby_sip_message:response(100, Invite, <<>>, {[], <<>>}),
     lobby_sip:send(lobby_sip_message:response_target(Invite, Source), Response).
 
 refuse(Status, Headers, Invite, #call{dialog = Dialog, source = Source, person = Person}) ->
@@ -523,7 +527,7 @@ content(Text) ->
     {[lobby_sip:allow(), {'content-type', {<<"application/sdp">>, []}}], Text}.
 
 own(#call{source = Source}) ->
-    {lobby_sip_message:transport(Source), lobby_sip:own()}.
+    lobby_sip:own(Source).
 
 %% The answer to our offer, in an ACK or in a 200.
 answered(Session, State, Call) ->

@@ -209,7 +209,7 @@ routes() ->
 room(Name) ->
     case {lobby_rooms:call(Name, audit), lobby_rooms:call(Name, describe)} of
         {Audited, Description = #{members := Members}} ->
-            Callers = lobby_call:callers([Id || {#{id := Id}, _} <- Members]),
+            Callers = lobby_call:callers([Row || {Row, _} <- Members]),
             {200, (lobby_json:room(Name, Description, Callers))#{audited => lists:member(Audited, [same, repaired])}};
         {_, Error} -> changed(Error)
     end.

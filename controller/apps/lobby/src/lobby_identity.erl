@@ -12,23 +12,21 @@
 
 %% @doc His identity, his role if one is configured for him, and his isolation if it is kept.
 -spec known(lobby_sip_message:message(), lobby_sip_message:target()) ->
-          #{identity := binary(), isolated := boolean(), role => lobby_rules:role()}.
+          #{identity := binary(), isolated := boolean(), name => binary(), role => lobby_rules:role()}.
 known(Invite, Source) ->
-    Identity = identity(Invite),
-    Known = #{identity => Identity, isolated => lobby_store:has(lobby_isolated, Identity)},
+    Named = named(lobby_auth:identity(Invite), Invite),
+    Known = Named#{isolated => lobby_store:has(lobby_isolated, maps:get(identity, Named))},
     case [Role || Rule <- application:get_env(lobby, roles, []), Role <- role(Rule, Invite, Source)] of
         [Role | _] -> Known#{role => Role};
         [] -> Known
     end.
 
-%% The name that he has proved or a trusted proxy asserts, and otherwise the address that he gives.
-identity(Invite) ->
-    case lobby_auth:identity(Invite) of
-        none ->
-            {_, #uri{user = User, host = Host}, _} = lobby_sip_message:header(from, Invite),
-            <<"sip:", User/binary, "@", Host/binary>>;
-        User -> User
-    end.
+%% The name that he has proved or that a trusted proxy asserts, and otherwise the address that he gives.
+named(none, Invite) ->
+    {_, #uri{user = User, host = Host}, _} = lobby_sip_message:header(from, Invite),
+    #{identity => <<"sip:", User/binary, "@", Host/binary>>};
+named(Name, _) ->
+    #{identity => Name, name => Name}.
 
 role({{user, User}, Role}, Invite, _) -> [Role || lobby_auth:identity(Invite) =:= User];
 role({{network, Network}, Role}, _, Source) -> [Role || lobby_auth:is_in(address(Source), [Network])];

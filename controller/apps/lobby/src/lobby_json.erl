@@ -86,7 +86,12 @@ room(Name, Description, Callers) ->
 member(Row = #{id := Id}, Termination, Callers) ->
     Shown = maps:with([id, role, muted, isolated, waiting, direction], Row),
     With = case Termination of none -> Shown; _ -> Shown#{termination => Termination} end,
-    With#{caller => maps:get(Id, Callers, <<>>)}.
+    %% Anybody can call himself anything. A name that was proved or that a trusted proxy asserts comes first.
+    Says = maps:get(Id, Callers, <<>>),
+    case Row of
+        #{name := Name} -> With#{caller => Name, says => Says, proved => true};
+        #{} -> With#{caller => Says, says => Says, proved => false}
+    end.
 
 or_null(Atom) when is_atom(Atom) -> null;
 or_null(Value) -> Value.

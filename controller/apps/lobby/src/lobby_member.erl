@@ -50,7 +50,7 @@ find(Id) ->
 
 %% @doc The row of somebody who joins a room.
 -spec new(id(), #{room := lobby_room:name(), media := lobby_h248:media(), direction := lobby_sdp:direction(),
-                  identity := binary(), call => term(), role => lobby_rules:role(), isolated => boolean(), muted => boolean(), waiting => boolean(), acknowledged => boolean()}) -> lobby_person:row().
+                  identity := binary(), name => binary(), call => term(), role => lobby_rules:role(), isolated => boolean(), muted => boolean(), waiting => boolean(), acknowledged => boolean()}) -> lobby_person:row().
 new(Id, Wanted) ->
     maps:merge(#{id => Id, from => none, version => 1, moved => 1, role => <<"member">>, isolated => false, muted => false,
                  waiting => false, acknowledged => true}, Wanted).

@@ -19,7 +19,7 @@
 -type row() :: #{id := id(), room := lobby_room:name(), from := lobby_room:name() | none, moved := version(),
                  version := version(), role := lobby_rules:role(), isolated := boolean(), muted := boolean(),
                  waiting := boolean(), acknowledged := boolean(), media := lobby_h248:media(), direction := lobby_sdp:direction(),
-                 identity := binary(), call => term()}.
+                 identity := binary(), name => binary(), call => term()}.
 -type change() :: #{role => lobby_rules:role(), isolated => boolean(), muted => boolean(), waiting => boolean(),
                     acknowledged => boolean(), media => lobby_h248:media(), direction => lobby_sdp:direction()}.
 %% Whom an answer is for. Somebody who asked through the interface is answered only when no phone still sends to a

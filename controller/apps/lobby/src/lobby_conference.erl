@@ -113,9 +113,11 @@ leave(Row = #{id := Id}, C = #conference{held = Held, departing = Departing}) ->
     end.
 
 %% He is no longer a member, and it doesn't matter any more what is open between him and others.
-without(Id, C = #conference{members = Members, open = Open}) ->
-    C#conference{members = [Row || Row = #{id := Other} <- Members, Other =/= Id], open = flows_without(Id, Open),
-                 refused = maps:remove(Id, C#conference.refused), blocked = lists:delete(Id, C#conference.blocked)}.
+without(Id, C = #conference{members = Members, open = Open, agreed = Agreed}) ->
+    Without = C#conference{members = [Row || Row = #{id := Other} <- Members, Other =/= Id], open = flows_without(Id, Open),
+                           refused = maps:remove(Id, C#conference.refused), blocked = lists:delete(Id, C#conference.blocked)},
+    %% Without him, there may be nothing left to change.
+    agree(not Agreed, Without).
 
 flows_without(Id, Flows) ->
     sets:filter(fun({A, B}) -> A =/= Id andalso B =/= Id end, Flows).

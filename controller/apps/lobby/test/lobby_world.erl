@@ -31,8 +31,9 @@
                 %% Where each phone sends to.
                 phones = #{} :: #{atom() => {atom(), lobby_h248:endpoint()}},
                 changes = 0 :: non_neg_integer(), faults = 0 :: non_neg_integer(), races = 0 :: non_neg_integer(),
-                %% What was answered and holds until something else is asked for.
-                promised = #{} :: #{{isolated | muted | gone, atom()} => true}}).
+                %% What is asked for, with a number, and what of that was answered. It holds until the contrary is asked for.
+                asked = #{} :: #{promise() => non_neg_integer()}, promised = #{} :: #{promise() => true}}).
+-type promise() :: {isolated | muted, atom()}.
 -opaque world() :: #world{}.
 
 %%% The start: gateways that serve, and those who have joined.
@@ -150,22 +151,25 @@ step({fault, Fault}, W = #world{faults = N}) -> fault(Fault, W#world{faults = N 
 
 %%% What people do.
 
-change({join, Id, Room}, W = #world{options = #{people := Roles}, people = People, promised = Promised}) ->
+change({join, Id, Room}, W = #world{options = #{people := Roles}, people = People}) ->
     #{Id := Role} = Roles,
     Row = lobby_member:new(Id, #{room => Room, role => Role, media => remote(Id), direction => sendrecv, identity => atom_to_binary(Id)}),
-    Called = W#world{people = People#{Id => lobby_person:new(Row)}, promised = maps:remove({gone, Id}, Promised)},
-    handled({person, Id}, {join, {joins, Id}}, Called);
-change({move, Id, Room}, W) -> handled({person, Id}, {move, {asked, {moved, Id}}, Room}, W);
-change({isolate, Id}, W) -> handled({person, Id}, {change, {asked, {isolated, Id}}, #{isolated => true}}, W);
+    handled({person, Id}, {join, {joins, Id}}, W#world{people = People#{Id => lobby_person:new(Row)}});
+change({move, Id, Room}, W) -> handled({person, Id}, {move, {asked, none}, Room}, W);
+change({isolate, Id}, W) -> closing({isolated, Id}, #{isolated => true}, W);
 change({release, Id}, W) -> handled({person, Id}, {change, {asked, none}, #{isolated => false}}, unpromised({isolated, Id}, W));
-change({mute, Id}, W) -> handled({person, Id}, {change, {asked, {muted, Id}}, #{muted => true}}, W);
+change({mute, Id}, W) -> closing({muted, Id}, #{muted => true}, W);
 change({unmute, Id}, W) -> handled({person, Id}, {change, {asked, none}, #{muted => false}}, unpromised({muted, Id}, W));
 change({leave, Id}, W) ->
     Left = #world{people = People, phones = Phones} = handled({person, Id}, leave, unpromised({isolated, Id}, unpromised({muted, Id}, W))),
     Left#world{people = maps:remove(Id, People), phones = maps:remove(Id, Phones), queues = to_nobody({person, Id}, Left)}.
 
-unpromised(Promise, W = #world{promised = Promised}) ->
-    W#world{promised = maps:remove(Promise, Promised)}.
+closing(Promise = {_, Id}, Change, W = #world{asked = Asked, changes = Left}) ->
+    N = maps:get(Promise, Asked, Left),
+    handled({person, Id}, {change, {asked, {Promise, N}}, Change}, W#world{asked = Asked#{Promise => N}}).
+
+unpromised(Promise, W = #world{asked = Asked, promised = Promised}) ->
+    W#world{asked = maps:remove(Promise, Asked), promised = maps:remove(Promise, Promised)}.
 
 %%% What fails.
 
@@ -284,8 +288,12 @@ person_acts(Id, {admit, R, Id, From}, W = #world{store = Store}) ->
     tell_room(R, {admit, Id, From, Prefer}, {person, Id}, W);
 person_acts(Id, {want, R, Row}, W) -> tell_room(R, {want, Row}, {person, Id}, W);
 person_acts(Id, {gone, R, Id}, W) -> tell_room(R, {gone, Id}, {person, Id}, W);
-person_acts(_, {answer, {asked, Promise = {_, _}}, {ok, _}}, W = #world{promised = Promised}) when element(1, Promise) =/= moved ->
-    W#world{promised = Promised#{Promise => true}};
+%% Somebody may have asked for the contrary meanwhile.
+person_acts(_, {answer, {asked, {Promise, N}}, {ok, _}}, W = #world{asked = Asked, promised = Promised}) ->
+    case Asked of
+        #{Promise := N} -> W#world{promised = Promised#{Promise => true}};
+        #{} -> W
+    end;
 person_acts(Id, {answer, {joins, Id}, {error, _}}, W = #world{people = People}) ->
     W#world{people = maps:remove(Id, People)};
 person_acts(_, {answer, _, _}, W) -> W.
@@ -429,8 +437,10 @@ has_seats(#world{loads = Loads, store = Store}) ->
 
 %% Times and numbers that only grow don't matter but for their order.
 canonical(#world{people = People, rooms = Rooms, gateways = Gateways, timers = Timers, store = Store, worlds = Worlds, late = Late,
-                 queues = Queues, phones = Phones, changes = Changes, faults = Faults, races = Races, promised = Promised, now = Now}) ->
-    canonical:ranked({Now, People, Rooms, Gateways, Timers, Store, Worlds, Late, Queues, Phones, Changes, Faults, Races, Promised}, 1000000).
+                 queues = Queues, phones = Phones, changes = Changes, faults = Faults, races = Races, asked = Asked, promised = Promised,
+                 now = Now}) ->
+    canonical:ranked({Now, People, Rooms, Gateways, Timers, Store, Worlds, Late, Queues, Phones, Changes, Faults, Races, Asked, Promised},
+                     1000000).
 
 -spec format(world()) -> iodata().
 format(W = #world{people = People, phones = Phones, queues = Queues, promised = Promised, timers = Timers}) ->

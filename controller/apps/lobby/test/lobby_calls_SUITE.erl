@@ -12,7 +12,8 @@ all() ->
     [a_call, callers_hear_each_other, a_repeated_invite_has_the_same_answer, the_answer_is_repeated_until_the_ack,
      without_an_ack_the_call_ends, hold_and_resume, hold_by_update, streams_are_declined, an_offer_that_comes_late, cancel_and_options,
      session_timers, who_is_silent_is_asked, requests_that_are_refused, limits, addresses_that_may_call, passwords, a_lost_gateway_is_replaced, sixty_callers_hear_each_other_again, our_invite_is_repeated_and_acknowledged, both_invite_at_once,
-     who_vanished_is_removed, who_refuses_our_invite_is_hung_up, hung_up_and_moved, addresses_of_ipv6, routes, a_call_that_starts_again_knows_its_place, a_call_that_fails_while_it_joins, an_answer_that_comes_after_a_failure, processes_fail, the_node_fails, garbage,
+     who_vanished_is_removed, who_refuses_our_invite_is_hung_up, hung_up_and_moved, addresses_of_ipv6, routes, a_call_that_starts_again_knows_its_place, a_call_that_fails_while_it_joins,
+     a_call_that_fails_again_and_again_ends, an_answer_that_comes_after_a_failure, processes_fail, the_node_fails, garbage,
      over_tcp, connections_are_limited, answers_are_quick, sipp, baresips].
 
 init_per_testcase(Case, Config) ->
@@ -560,6 +561,20 @@ a_call_that_fails_while_it_joins(Config) ->
     hang_up(Phone2),
     lobby_case:until(fun() -> length(members(<<"100">>)) =:= 1 end).
 
+%% Its phone is hung up, and nothing of it is left.
+a_call_that_fails_again_and_again_ends(Config) ->
+    {Phone, _} = call(Config),
+    [{Key, _}] = lobby_store:all(lobby_calls),
+    lists:foldl(fun(_, Before) ->
+        lobby_case:until(fun() -> lists:member(lobby_registry:whereis_name({call, Key}), [undefined, Before]) =:= false end),
+        Pid = lobby_registry:whereis_name({call, Key}),
+        exit(Pid, fails),
+        Pid
+    end, none, [1, 2, 3]),
+    ?assertEqual("BYE", phone:status(next(["INVITE"], Phone))),
+    lobby_case:until(fun() -> lobby_store:all(lobby_calls) =:= [] andalso members(<<"100">>) =:= [] end),
+    lobby_case:until(fun() -> length(gateway:contexts(lists:seq(1, 60), gateway(Config))) =:= 1 end).
+
 %% It's acknowledged, or the phone would hang up.
 an_answer_that_comes_after_a_failure(Config) ->
     {Phone, Invite} = our_invite(Config),
@@ -744,6 +759,6 @@ baresips(Config) ->
 
 id_of(Tone) ->
     Name = "tone" ++ integer_to_list(Tone),
-    Ids = [Id || Room <- lobby_rooms:names(), Id <- lobby_store:group_keys(lobby_members, Room)],
-    [Id] = [Id || {Id, Caller} <- maps:to_list(lobby_call:callers(Ids)), string:find(Caller, Name) =/= nomatch],
+    Rows = [Row || Room <- lobby_rooms:names(), {_, Row} <- lobby_store:group(lobby_members, Room)],
+    [Id] = [Id || {Id, Caller} <- maps:to_list(lobby_call:callers(Rows)), string:find(Caller, Name) =/= nomatch],
     Id.

@@ -1,7 +1,7 @@
 %% A SIP phone for tests, that writes and reads its messages as text, and only does what it is told.
 -module(phone).
 
--export([automatic/2, start_tcp/2, start_tls/2, send_slowly/2, start/1, start/2, invite/2, invite/3, request/3, request/4, answer/3, answer/4, ack/1, ack/2, recv/1, recv/2, flush/1, sdp/1, sdp/2,
+-export([received/2, automatic/2, start_tcp/2, start_tls/2, send_slowly/2, start/1, start/2, invite/2, invite/3, request/3, request/4, answer/3, answer/4, ack/1, ack/2, recv/1, recv/2, flush/1, sdp/1, sdp/2,
          close/1, port/1, media/1, header/2, status/1, learn/2, send/2, room/2, number/2, quiet/2, as/2, tagged/2]).
 
 -record(phone, {transport = "UDP", socket, port, to, room, call_id, tag, cseq = 0, remote_tag = "", extra = [], caller}).

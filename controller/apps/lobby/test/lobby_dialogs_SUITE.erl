@@ -1,0 +1,128 @@
+%% What a call answers in its dialog (RFC 3261, RFC 3264, RFC 4028), and to whom the gateway sends.
+-module(lobby_dialogs_SUITE).
+
+-include_lib("stdlib/include/assert.hrl").
+
+-compile([export_all]).
+
+-import(lobby_answers_SUITE, [message/3, call/1, status/1, sip/1]).
+
+all() ->
+    [a_merged_request, a_cancel_of_another_branch, an_old_bye, a_refused_invite_ends_no_call, a_refusal_has_a_reason, a_foreign_address,
+     nothing_is_sent_before_the_ack, an_answer_at_once, timers_for_who_does_not_know_them].
+
+init_per_testcase(Case, Config) -> 
+    ok = application:load(lobby),
+    Gateway = gateway:start(),
+    Sip = gateway:free_address(),
+    More = case Case of a_refused_invite_ends_no_call -> [{silent_after, 1000}, {room_audit, 500}]; _ -> [] end,
+    [ok = application:set_env(lobby, Key, Value)
+     || {Key, Value} <- [{gateways, [gateway:config(<<"1">>, Gateway)]}, {sip, Sip}, {http, gateway:free_address()} | More]],
+    {ok, _} = application:ensure_all_started(lobby),
+    lobby_case:until(fun() -> length(lobby_gateway:serving()) =:= 1 end),
+    [{sip, Sip} | Config].
+
+end_per_testcase(_, Config) ->
+    ok = lobby_case:stop(),
+    Config.
+
+%% An INVITE of one call, by its branch.
+send(Method, Branch, Phone) ->
+    Body = case Method of "INVITE" -> phone:sdp(Phone); _ -> "" end,
+    Port = integer_to_list(phone:port(Phone)),
+    phone:send(message(Method ++ " sip:100@127.0.0.1 SIP/2.0",
+                       [{"Via", "SIP/2.0/UDP 127.0.0.1:" ++ Port ++ ";rport;branch=z9hG4bK" ++ Branch}, {"Call-ID", "merged"}, {"From", "<sip:a@127.0.0.1>;tag=1"},
+                        {"CSeq", "7 " ++ Method}, {"Contact", "<sip:a@127.0.0.1:" ++ Port ++ ">"}, {"Content-Type", "application/sdp"}], Body), Phone).
+
+%% Section 8.2.2.2.
+a_merged_request(Config) ->
+    Phone = phone:start(sip(Config)),
+    send("INVITE", "one", Phone),
+    First = phone:recv(Phone),
+    ?assertEqual(200, phone:status(First)),
+    send("INVITE", "two", Phone),
+    ?assertEqual(482, phone:status(until_not(200, Phone))),
+    send("INVITE", "one", Phone),
+    ?assertEqual(First, phone:recv(Phone)).
+
+until_not(Status, Phone) ->
+    Text = phone:recv(Phone),
+    case phone:status(Text) of Status -> until_not(Status, Phone); _ -> Text end.
+
+%% Section 9.2.
+a_cancel_of_another_branch(Config) ->
+    Phone = phone:start(sip(Config)),
+    send("INVITE", "one", Phone),
+    ?assertEqual(200, phone:status(phone:recv(Phone))),
+    send("CANCEL", "two", Phone),
+    ?assertEqual(481, phone:status(until_not(200, Phone))),
+    ?assertEqual(1, length(lobby_store:all(lobby_calls))).
+
+%% Section 12.2.2.
+an_old_bye(Config) ->
+    Phone = phone:number(5, call(Config)),
+    P1 = phone:request("OPTIONS", "", Phone),
+    ?assertEqual(200, status(P1)),
+    ?assertEqual(500, status(phone:request("BYE", "", phone:number(1, P1)))),
+    ?assertEqual(1, length(lobby_store:all(lobby_calls))),
+    ?assertEqual(200, status(phone:request("BYE", "", P1))).
+
+%% Section 14.1. He is silent, so he is invited.
+a_refused_invite_ends_no_call(Config) ->
+    Phone = call(Config),
+    [begin
+         Invite = phone:recv(Phone, 3000),
+         ?assertEqual({Status, "INVITE"}, {Status, phone:status(Invite)}),
+         phone:answer(Status, Invite, Phone),
+         ?assertEqual({Status, "ACK"}, {Status, phone:status(phone:recv(Phone))})
+     end || Status <- [488, 500, 401, 503]],
+    ?assertEqual(1, length(lobby_store:all(lobby_calls))).
+
+%% Section 20.43.
+a_refusal_has_a_reason(Config) ->
+    [?assertEqual({Line, 488, Warning}, begin
+         Phone = phone:start(sip(Config)),
+         P1 = phone:invite(phone:sdp(Phone) ++ Line, Phone),
+         Answer = phone:recv(P1),
+         {Line, phone:status(Answer), phone:header("Warning", Answer)}
+     end) || {Line, Warning} <- [{"a=ptime:30\r\n", "306 lobby \"packets must be of 20 ms\""}, {"a=maxptime:10\r\n", "306 lobby \"packets must be of 20 ms\""}]].
+
+%% Nobody has somebody else sent speech.
+a_foreign_address(Config) ->
+    Phone = phone:start(sip(Config)),
+    Foreign = fun(P) -> re:replace(phone:sdp(P), "c=IN IP4 127.0.0.1", "c=IN IP4 127.0.0.9", [{return, list}]) end,
+    P1 = phone:invite(Foreign(Phone), Phone),
+    Answer = phone:recv(P1),
+    ?assertEqual({488, "399 lobby \"media must go to the caller's own address\""}, {phone:status(Answer), phone:header("Warning", Answer)}),
+    Talking = call(Config),
+    ?assertEqual(488, status(phone:request("INVITE", Foreign(Talking), Talking))),
+    ?assertEqual(1, length(lobby_store:all(lobby_calls))).
+
+nothing_is_sent_before_the_ack(Config) ->
+    Phone = phone:start(sip(Config)),
+    Calling = phone:invite(phone:sdp(Phone), Phone),
+    Response = phone:recv(Calling),
+    ?assertEqual(200, phone:status(Response)),
+    timer:sleep(400),
+    ?assertEqual(0, caller:received(phone:media(Phone))),
+    phone:ack(phone:learn(Response, Calling)),
+    lobby_case:until(fun() -> caller:received(phone:media(Phone)) > 5 end).
+
+%% Section 17.2.1. His room doesn't answer.
+an_answer_at_once(Config) ->
+    _ = call(Config),
+    ok = sys:suspend(lobby_registry:whereis_name({room, <<"100">>})),
+    Phone = phone:start(sip(Config)),
+    _ = phone:invite(phone:sdp(Phone), Phone),
+    Answer = phone:received(Phone, 200),
+    ?assertEqual(100, phone:status(Answer)),
+    ?assertEqual(nomatch, re:run(phone:header("To", Answer), "tag=")),
+    ok = sys:resume(lobby_registry:whereis_name({room, <<"100">>})),
+    ?assertEqual(200, phone:status(phone:recv(Phone))).
+
+%% RFC 4028, section 9: a proxy asked for it.
+timers_for_who_does_not_know_them(Config) ->
+    Phone = phone:start(sip(Config)),
+    P1 = phone:invite(phone:sdp(Phone), ["Session-Expires: 1800"], Phone),
+    Answer = phone:recv(P1),
+    ?assertEqual({200, "1800;refresher=uas", none}, {phone:status(Answer), phone:header("Session-Expires", Answer), phone:header("Require", Answer)}).

@@ -11,7 +11,8 @@ suite() -> [{timetrap, {seconds, 120}}].
 all() ->
     [the_other_node_takes_over, a_node_that_hung_ends_itself, after_a_gap_nothing_is_sent,
      a_node_without_the_lease_ends, nobody_serves_without_the_lease, a_standby_alone_ends_and_waits,
-     both_end_and_begin, a_node_leaves_and_joins, without_the_other_node, what_the_standby_lacks_is_not_durable, what_the_standby_lacks_was_not_answered,
+     both_end_and_begin, a_node_leaves_and_joins, without_the_other_node, what_the_standby_lacks_is_not_durable,
+     what_the_standby_lacks_was_not_answered, a_change_waits_for_the_standby,
      a_standby_that_ended_costs_nothing, a_standby_that_hangs, a_standby_whose_process_is_started_again,
      nobody_takes_over].
 
@@ -321,6 +322,16 @@ what_the_standby_lacks_was_not_answered(Config0) ->
     lobby_case:until(fun() -> serves(B) end),
     ?assertEqual(error, peer:call(B, lobby_store, get, [lobby_settings, written])),
     ?assertMatch({ok, Passed} when Passed < 500, until_durable(B)).
+
+%% So isolation isn't undone by a take-over.
+a_change_waits_for_the_standby(Config) ->
+    A = get(a, Config),
+    {_, _} = call(Config),
+    [Id] = maps:keys(maps:get(members, room(A))),
+    settle(),
+    true = peer:call(A, erlang, disconnect_node, [name(b)]),
+    {Passed, ok} = timer:tc(fun() -> peer:call(A, people, isolate, [Id], 10000) end),
+    ?assert(Passed > 2500000).
 
 %% Except for a write that was under way, see above.
 a_standby_that_ended_costs_nothing(Config0) ->

@@ -13,8 +13,9 @@ all() ->
     [isolated_people_stay_isolated_when_they_move, isolate_and_move_at_once, a_call_fails_while_it_moves,
      a_room_fails_while_somebody_moves, a_room_fails_before_its_request_arrives, who_cannot_be_silenced_does_not_move,
      release_overrides_no_rule, rules_do_not_release_anybody, a_role_comes_before_audio, a_door, who_calls_again_stays_isolated,
-     a_gateway_that_begins_anew_runs_nothing, a_gateway_that_hung_sends_nothing, rooms_of_a_lost_gateway_spread,
-     the_last_one_in_a_context, a_room_that_fails_is_set_aside, a_muted_caller_vanishes, a_large_room_is_closed_again].
+     a_newcomer_whose_topology_is_refused, a_gateway_that_begins_anew_runs_nothing, a_gateway_that_hung_sends_nothing,
+     a_phone_still_sends_to_a_gateway_out_of_reach, rooms_of_a_lost_gateway_spread, who_is_refused_a_seat_waits,
+     the_last_one_in_a_context, a_stray_is_ended, a_lock_outlives_its_room, a_room_that_fails_is_set_aside, a_muted_caller_vanishes, a_large_room_is_closed_again].
 
 init_per_testcase(Case, Config) ->
     ok = application:load(lobby),
@@ -219,6 +220,25 @@ rules_do_not_release_anybody(_) ->
     ok = people:release(carol),
     hears(Bob).
 
+%% Somebody else has ended a member, so the gateway adds the newcomer and refuses his Topology. Nothing more reaches it.
+a_newcomer_whose_topology_is_refused(_) ->
+    G = gateway:start(),
+    Relay = relay:start(gateway:address(G), #{lose => 0.0, double => 0.0, delay => 1}),
+    run([{<<"a">>, G}], #{address => relay:address(Relay), retry => 200, tries => 20}),
+    ok = people:create(<<"100">>, lobby_rules:preset(coaching)),
+    {ok, _} = people:join(<<"100">>, eve, <<"coach">>),
+    _ = talker(<<"100">>, carol, <<"coach">>),
+    #{context := Context, members := #{eve := #{termination := T}}} = people:describe(<<"100">>),
+    _ = gateway:ask(io_lib:format("Context=~b{Subtract=RTP/~b}", [Context, T]), G),
+    relay:drop(Relay, [<<"AV=">>, <<"=*">>]),
+    {Self, Bob} = {self(), caller:start()},
+    spawn(fun() -> Self ! {joined, people:join(<<"100">>, bob, <<"customer">>, caller:media(Bob), sendrecv)} end),
+    lobby_case:until(fun() -> terminations(G) =:= 2 end),
+    ?assertMatch({_, 0}, heard(Bob, 300)),
+    relay:pass(Relay),
+    receive {joined, {ok, _}} -> ok after 5000 -> error(not_joined) end,
+    ?assertEqual(?SILENT, heard(Bob, 300)).
+
 %%% With phones.
 
 sip() -> element(2, application:get_env(lobby, sip)).
@@ -326,15 +346,38 @@ a_gateway_that_hung_sends_nothing(_) ->
     ?assertEqual(0, caller:heard(Bob)),
     ?assertEqual(?SILENT, heard(Bob, 300)).
 
+started(Name, G, Options) ->
+    {ok, #{gateways := [Whole]}} = lobby_config:check([{gateways, [maps:merge(gateway:config(Name, G), Options)]}]),
+    {ok, _} = supervisor:start_child(lobby_gateway_sup, #{id => Name, start => {lobby_gateway, start_link, [Whole]}}).
+
+%% The controller takes it for lost, and it mixes on. Alice's phone doesn't learn of the other one for a while.
+a_phone_still_sends_to_a_gateway_out_of_reach(_) ->
+    G = gateway:start(),
+    Relay = relay:start(gateway:address(G), #{lose => 0.0, double => 0.0, delay => 1}),
+    run([{<<"a">>, G}], #{address => relay:address(Relay)}),
+    _ = talker(<<"100">>, alice, <<"member">>),
+    Bob = listener(<<"100">>, bob, <<"member">>),
+    hears(Bob),
+    _ = started(<<"b">>, gateway:start(), #{}),
+    Alice = lobby_registry:whereis_name({member, alice}),
+    true = erlang:suspend_process(Alice),
+    relay:drop(Relay, <<"!/1">>),
+    lobby_case:until(fun() -> maps:get(gateway, people:describe(<<"100">>)) =:= <<"b">> end),
+    Self = self(),
+    spawn(fun() -> Self ! {isolated, people:isolate(bob)} end),
+    caller:reset(Bob),
+    hears(Bob),
+    receive {isolated, _} -> error(answered) after 300 -> ok end,
+    true = erlang:resume_process(Alice),
+    receive {isolated, ok} -> ok after 5000 -> error(not_answered) end,
+    ?assertEqual(?SILENT, heard(Bob, 300)).
+
 %% Three rooms of 26 see the same free seats. Nobody is hung up.
 rooms_of_a_lost_gateway_spread(_) ->
     [A, B, C] = [gateway:start() || _ <- [1, 2, 3]],
     run([{<<"a">>, A}]),
     [{ok, _} = people:join(Room, {Room, N}, <<"member">>) || Room <- [<<"1">>, <<"2">>, <<"3">>], N <- lists:seq(1, 26)],
-    [begin
-         {ok, #{gateways := [Whole]}} = lobby_config:check([{gateways, [maps:merge(gateway:config(Name, G), #{terminations => Seats + 1})]}]),
-         {ok, _} = supervisor:start_child(lobby_gateway_sup, #{id => Name, start => {lobby_gateway, start_link, [Whole]}})
-     end || {Name, G, Seats} <- [{<<"b">>, B, 59}, {<<"c">>, C, 58}]],
+    [started(Name, G, #{terminations => Seats + 1}) || {Name, G, Seats} <- [{<<"b">>, B, 59}, {<<"c">>, C, 58}]],
     lobby_case:until(fun() -> length(lobby_gateway:serving()) =:= 3 end),
     gateway:kill(A),
     lobby_case:until(fun() -> lists:all(fun(Room) ->
@@ -342,6 +385,20 @@ rooms_of_a_lost_gateway_spread(_) ->
     end, [<<"1">>, <<"2">>, <<"3">>]) end),
     ?assertEqual([26, 26, 26], [length([T || #{termination := T} <- maps:values(members(Room))]) || Room <- [<<"1">>, <<"2">>, <<"3">>]]),
     ?assertEqual([<<"b">>, <<"c">>], lists:usort([maps:get(gateway, people:describe(Room)) || Room <- [<<"1">>, <<"2">>, <<"3">>]])).
+
+%% It has fewer seats than the controller thinks. The room goes to another gateway with him.
+who_is_refused_a_seat_waits(_) ->
+    run([{<<"a">>, gateway:start()}]),
+    [{ok, _} = people:join(Room, {Room, N}, <<"member">>)
+     || {Room, Number} <- [{<<"1">>, 64}, {<<"2">>, 15}], N <- lists:seq(1, Number)],
+    Self = self(),
+    spawn(fun() -> Self ! {joined, people:join(<<"2">>, bob, <<"member">>)} end),
+    receive {joined, Early} -> error(Early) after 500 -> ok end,
+    _ = started(<<"b">>, gateway:start(), #{}),
+    receive {joined, {ok, _}} -> ok after 5000 -> error(not_joined) end,
+    lobby_case:until(fun() -> people:agrees(<<"1">>) andalso people:agrees(<<"2">>) end),
+    ?assertEqual([{<<"a">>, 64}, {<<"b">>, 16}],
+                 [{maps:get(gateway, people:describe(Room)), map_size(members(Room))} || Room <- [<<"1">>, <<"2">>]]).
 
 %% Somebody else has ended the others. What is audited then is understood.
 the_last_one_in_a_context(_) ->
@@ -354,6 +411,33 @@ the_last_one_in_a_context(_) ->
     _ = people:audit(<<"100">>),
     lobby_case:until(fun() -> people:agrees(<<"100">>) andalso length(gateway:terminations(Context, G)) =:= 3 end),
     ?assertEqual([], [N || {{lobby_gateway_losses_total, _}, N} <- lobby_events:counts()]).
+
+%% Somebody else has added it, and it would hear everyone.
+a_stray_is_ended(_) ->
+    G = gateway:start(),
+    run([{<<"a">>, G}]),
+    _ = talker(<<"100">>, alice, <<"member">>),
+    Bob = listener(<<"100">>, bob, <<"member">>),
+    hears(Bob),
+    #{context := Context} = people:describe(<<"100">>),
+    Media = "Media{LocalControl{Mode=SendReceive},Remote{\nv=0\nc=IN IP4 127.0.0.1\nm=audio 9 RTP/AVP 0\n}}",
+    _ = gateway:ask(io_lib:format("Context=~b{Add=${~s}}", [Context, Media]), G),
+    ?assertEqual(3, terminations(G)),
+    _ = people:audit(<<"100">>),
+    lobby_case:until(fun() -> terminations(G) =:= 2 end),
+    hears(Bob).
+
+%% Its process is started again.
+a_lock_outlives_its_room(_) ->
+    run([{<<"a">>, gateway:start()}]),
+    {ok, _} = people:join(<<"100">>, alice, <<"member">>),
+    ok = lobby_rooms:call(<<"100">>, {settings, #{locked => true}}),
+    Room = lobby_registry:whereis_name({room, <<"100">>}),
+    killed({room, <<"100">>}),
+    lobby_case:until(fun() -> not lists:member(lobby_registry:whereis_name({room, <<"100">>}), [undefined, Room]) end),
+    ?assertEqual({error, room_locked}, people:join(<<"100">>, bob, <<"member">>)),
+    ok = lobby_rooms:call(<<"100">>, {settings, #{locked => false}}),
+    {ok, _} = people:join(<<"100">>, carol, <<"member">>).
 
 %% Its state can't be read. The others go on, and its members' calls end.
 a_room_that_fails_is_set_aside(_) ->

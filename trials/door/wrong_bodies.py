@@ -1,0 +1,209 @@
+#!/usr/bin/env python3
+"""Plants wrong bodies in a copy of the controller, one at a time, and runs the test that has to notice each. Before that,
+each of these tests has to pass on the controller as it is.
+
+usage: wrong_bodies.py [NAME..]
+Without names, all wrong bodies are planted. It exits with status 1 if one isn't noticed.
+
+Run it in a network namespace of its own. It needs the Debian packages that controller/test needs, and the gateway in
+dist/, or where BRIDGE says.
+"""
+import os
+import pathlib
+import re
+import shutil
+import subprocess
+import sys
+import tempfile
+from dataclasses import dataclass
+
+ROOT = pathlib.Path(__file__).resolve().parent.parent.parent
+CONTROLLER = ROOT / "controller"
+
+
+@dataclass
+class Wrong:
+    """Each old text occurs exactly once in the module. A test is MODULE:FUNCTION for EUnit (a generator ends in `_`), or
+    SUITE:CASE for Common Test."""
+    name: str
+    module: str
+    edits: list
+    test: str
+
+
+SEARCH = "lobby_search_tests:"
+PROMISE = "lobby_promise_SUITE:"
+CONFERENCE, CORE, GATEWAY = "lobby_conference", "lobby_room_core", "lobby_gateway_core"
+
+BODIES = [
+    Wrong("activate before topology", CONFERENCE,
+          [("first_mode(_, _) -> inactive.", "first_mode(_, Mode) -> Mode.")],
+          PROMISE + "a_newcomer_whose_topology_is_refused"),
+    Wrong("skip a rule", CONFERENCE,
+          [("isolated := false, waiting := false} <- Rows], Rules).",
+            "isolated := false, waiting := false} <- Rows], lists:sublist(Rules, length(Rules) - 1)).")],
+          SEARCH + "coaching_test_"),
+    Wrong("move without silencing", CONFERENCE,
+          [("++ [{Id, inactive} || Id <- maps:keys(Departing)],", ","), ("termination = T, mode = inactive}} = Held,", "termination = T}} = Held,"),
+           ("commands => [{move, T, #{mode => inactive}}]},", "commands => [{move, T, #{mode => sendRecv}}]},")],
+          SEARCH + "moves_test_"),
+    Wrong("let go before silencing", CONFERENCE,
+          [("fun subtract/1, fun silence/1,", "fun subtract/1, fun release/1, fun silence/1,"),
+           ("fun settle/1, fun release/1]", "fun settle/1]"), ("termination = T, mode = inactive}} = Held,", "termination = T}} = Held,")],
+          SEARCH + "moves_test_"),
+    Wrong("add before the old room has let him go", CONFERENCE,
+          [("not is_map_key(Id, Held), not is_asked(Id, Arriving)].", "not is_map_key(Id, Held)].")],
+          SEARCH + "moves_test_"),
+    Wrong("go on if silencing fails", CONFERENCE,
+          [("        [] -> Next();\n        _ -> failed(C)\n", "        _ -> Next()\n"), ("done(_, {error, _}, C) ->\n    failed(C);",
+           "done(Step, {error, Code}, C) when element(1, Step) =/= modify ->\n    _ = Code, failed(C);\n"
+           "done({modify, Modes}, {error, _}, C) ->\n    {[], lists:foldl(fun set_mode/2, C, Modes)};")],
+          PROMISE + "who_cannot_be_silenced_does_not_move"),
+    Wrong("no inventory", CONFERENCE,
+          [("Holdings),\n    doubt(Resumed).", "Holdings),\n    Resumed.")],
+          SEARCH + "a_process_is_killed_test_"),
+    Wrong("no barrier", GATEWAY,
+          [("{Waiting, Ready} = lists:partition(Open, Asking),", "{Waiting, Ready} = lists:partition(fun(_) -> false andalso Open end, Asking),")],
+          SEARCH + "a_process_is_killed_test_"),
+    Wrong("stray left by the room", CONFERENCE,
+          [("leaving = lists:usort(Strays ++ Leaving), doubts = tl(Doubts)", "leaving = Leaving, doubts = tl(Doubts)")],
+          PROMISE + "a_stray_is_ended"),
+    Wrong("stray left by the gateway's process", GATEWAY,
+          [("is_left_behind(_, error) -> true;", "is_left_behind(_, error) -> false;")],
+          SEARCH + "a_process_is_killed_test_"),
+    Wrong("isolate kept in the room", "lobby_person",
+          [("Row#{room := To, from := Room, moved := Version + 1, waiting := false}",
+            "Row#{room := To, from := Room, moved := Version + 1, waiting := false, isolated := false}")],
+          SEARCH + "moves_test_"),
+    Wrong("answer before the gateway has it", "lobby_person",
+          [("fun({V, Tag}) -> V =< Version andalso may_answer(Tag, Everywhere) end, Pending)",
+            "fun({V, Tag}) -> V =< Version + 1 andalso may_answer(Tag, Everywhere) end, Pending)")],
+          SEARCH + "a_race_test_"),
+    Wrong("a row isn't stored", "lobby_person",
+          [("{P#person{row = New, pending = Pending ++ [{Version, Tag}]}, [{store, New}, {want, Room, New}]}.",
+            "{P#person{row = New, pending = Pending ++ [{Version, Tag}]}, [{want, Room, New}]}.")],
+          SEARCH + "a_process_is_killed_test_"),
+    Wrong("stale phones not awaited", "lobby_person",
+          [("may_answer({asked, _}, Everywhere) -> Everywhere;", "may_answer({asked, _}, _) -> true;")],
+          PROMISE + "a_phone_still_sends_to_a_gateway_out_of_reach"),
+    Wrong("a muted talker's mode unchanged", CONFERENCE,
+          [("mode(#{direction := sendrecv, muted := true}) -> sendOnly;", "mode(#{direction := sendrecv, muted := true}) -> sendRecv;")],
+          SEARCH + "changes_test_"),
+    Wrong("nothing to change once someone has left", CONFERENCE,
+          [("    agree(not Agreed, Without).", "    agree(false andalso Agreed, Without).")],
+          SEARCH + "changes_test_"),
+    Wrong("guard left out", GATEWAY,
+          [("guarded({_, {room, _, _, _}}, Action, #gateway{sentinel = {Context, T, _}}) -> Action#{guard => {Context, T}};",
+            "guarded({_, {room, _, _, _}}, Action, _) -> Action;")],
+          PROMISE + "a_gateway_that_begins_anew_runs_nothing"),
+    Wrong("requests not kept before they are sent", GATEWAY,
+          [("    act({request, Number, {Sent, Purpose}}, G);", "    _ = {Number, Sent, Purpose}, G;")],
+          SEARCH + "a_process_is_killed_test_"),
+    Wrong("seats not reserved", "lobby_seats",
+          [("when Used =< Max, Contexts =< MaxContexts ->", "when Used + Max + Contexts + MaxContexts > 0 ->")],
+          "lobby_seats_tests:what_is_reserved_is_taken_test"),
+    Wrong("a refused Add ends the call", CONFERENCE,
+          [("added({{#{id := Id}, _}, {add, _, {error, _}}}, C) ->\n    {[{full, Id}], block(Id, C)}.",
+            "added({{#{id := Id}, _}, {add, _, {error, Code}}}, C) ->\n    {[{refused, Id, Code, none}], block(Id, C)}.")],
+          PROMISE + "who_is_refused_a_seat_waits"),
+    Wrong("large rooms not closed again", CONFERENCE,
+          [("agree(true, C#conference{open = lobby_topology:everyone([Id || #{id := Id} <- held_members(C)]), doubts = []});",
+            "agree(true, C#conference{doubts = []});")],
+          PROMISE + "a_large_room_is_closed_again"),
+    Wrong("a lock lost at a restart", CORE,
+          [("Room#room{conference = C, settings = Settings, stale = Stale, saved = Kept}, Rows),",
+            "Room#room{conference = C, settings = maps:remove(locked, Settings), stale = Stale, saved = Kept}, Rows),")],
+          PROMISE + "a_lock_outlives_its_room"),
+    Wrong("the lease isn't looked at", "lobby_lease_core",
+          [("looked(#{lease := false}, _, #state{permit = serves}) ->\n    throw({stop, \"another node has the lease\"});\n", "")],
+          "lobby_lease_core_tests:it_ends_without_the_lease_test"),
+    Wrong("hold does nothing", "lobby_lease",
+          [("within(Passed, Gap) when Passed =< Gap -> ok;", "within(Passed, Gap) when Passed =< Gap; Passed > 0 -> ok;")],
+          "lobby_pair_SUITE:a_node_that_hung_ends_itself"),
+    Wrong("nothing holds before a request is sent", "lobby_gateway",
+          [("    ok = lobby_lease:hold(),\n    %% What can't", "    %% What can't")],
+          "lobby_pair_SUITE:after_a_gap_nothing_is_sent"),
+    Wrong("a gap 100 times as long, for the node that hung", "lobby_lease",
+          [("ok = persistent_term:put(?MODULE, {Times, Gap}),", "ok = persistent_term:put(?MODULE, {Times, 100 * Gap}),")],
+          "lobby_pair_SUITE:a_node_that_hung_ends_itself"),
+    Wrong("a gap 100 times as long, for the other node", "lobby_lease_core",
+          [("  when Now - At > Gap ->", "  when Now - At > 100 * Gap ->")],
+          "lobby_lease_core_tests:it_drops_a_silent_node_once_test"),
+    Wrong("rows written asynchronously", "lobby_store",
+          [("mnesia:sync_dirty(Change).", "mnesia:async_dirty(Change).")],
+          "lobby_pair_SUITE:what_is_written_is_on_the_standby"),
+    Wrong("answers don't wait for what the standby lacks", "lobby_member",
+          [("    case lobby_lease:durable() of\n        ok ->", "    case lobby_lease:durable() of\n        _ when From =/= none ->")],
+          "lobby_pair_SUITE:what_the_standby_lacks_was_not_answered"),
+    Wrong("a viewer may POST and DELETE", "lobby_http",
+          [("{_, _, _} when Role =:= viewer ->", "{_, _, _} when Role =:= nobody ->")],
+          "lobby_http_SUITE:tokens"),
+]
+
+
+def command(test):
+    module, function = test.split(":")
+    if module.endswith("_SUITE"):
+        return ["ct", "--suite", f"apps/lobby/test/{module}", "--case", function, "--logdir", "logs"]
+    return ["eunit", "--generator" if function.endswith("_") else "--test", test]
+
+
+def rebar(copy, arguments):
+    environment = dict(os.environ, REBAR_BASE_DIR=str(copy / "built"),
+                       BRIDGE=os.environ.get("BRIDGE", str(ROOT / "dist" / "mg_bridge")))
+    return subprocess.run(["rebar3", *arguments], cwd=copy, env=environment, stdin=subprocess.DEVNULL,
+                          stdout=subprocess.PIPE, stderr=subprocess.STDOUT, text=True)
+
+
+def passes(copy, test):
+    result = rebar(copy, command(test))
+    if not re.search(r"[1-9]\d* tests?\b", result.stdout):
+        sys.exit(f"{test} wasn't run:\n{result.stdout}")
+    return result.returncode == 0
+
+
+def compile_all(copy, name):
+    result = rebar(copy, ["as", "test", "compile"])
+    if result.returncode != 0:
+        sys.exit(f"{name} isn't compiled:\n{result.stdout}")
+
+
+def plant(wrong, copy):
+    """Whether the test notices the wrong body."""
+    path = copy / "apps" / "lobby" / "src" / f"{wrong.module}.erl"
+    right = body = path.read_text()
+    for old, new in wrong.edits:
+        if body.count(old) != 1:
+            sys.exit(f"{wrong.name}: this occurs {body.count(old)} times: {old}")
+        body = body.replace(old, new)
+    try:
+        path.write_text(body)
+        compile_all(copy, wrong.name)
+        return not passes(copy, wrong.test)
+    finally:
+        path.write_text(right)
+
+
+def main():
+    bodies = [wrong for wrong in BODIES if not sys.argv[1:] or wrong.name in sys.argv[1:]]
+    with tempfile.TemporaryDirectory() as folder:
+        copy = pathlib.Path(folder) / "controller"
+        shutil.copytree(CONTROLLER, copy, ignore=shutil.ignore_patterns("_build"))
+        #  A wrong body may leave a variable unused.
+        config = copy / "rebar.config"
+        config.write_text(config.read_text().replace("warnings_as_errors, ", ""))
+        compile_all(copy, "the controller")
+        for test in sorted({wrong.test for wrong in bodies}):
+            if not passes(copy, test):
+                sys.exit(f"without a wrong body, {test} fails")
+        print("| wrong body | noticed by |\n|---|---|", flush=True)
+        missed = 0
+        for wrong in bodies:
+            noticed = plant(wrong, copy)
+            missed += not noticed
+            print(f"| {wrong.name} | {'`' + wrong.test + '`' if noticed else 'NOBODY: ' + wrong.test} |", flush=True)
+    sys.exit(1 if missed else 0)
+
+
+if __name__ == "__main__":
+    main()

@@ -99,7 +99,8 @@ event({start, Kept, Rows}, _, Room) ->
     Started = lists:foldl(fun wanted/2, Room#room{conference = C, settings = Settings, stale = Stale, saved = Kept}, Rows),
     case Gateway of
         none -> Started;
-        _ -> act({holdings, Gateway}, Started#room{gateway = Gateway, busy = holdings})
+        %% Its process may be starting again, too, and miss this.
+        _ -> act({retry, later}, act({holdings, Gateway}, Started#room{gateway = Gateway, busy = holdings}))
     end;
 event({holdings, lost, _}, _, Room = #room{busy = holdings}) ->
     lost(Room);

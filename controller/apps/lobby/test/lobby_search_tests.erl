@@ -13,7 +13,9 @@
 
 searched(World) ->
     Limits = #{workers => min(3, erlang:system_info(schedulers_online))},
-    {timeout, 300, fun() -> nothing_is_broken(search:breadth(lobby_world:model(maps:merge(?WORLD, World)), Limits)) end}.
+    {timeout, 300, fun() ->
+        nothing_is_broken(search:breadth(lobby_world:model(maps:merge(?WORLD, World)), Limits))
+    end}.
 
 nothing_is_broken(Result = #{found := Found, limit := Limit}) ->
     Found =:= [] orelse io:format("~s", [search:format(Result)]),
@@ -34,6 +36,13 @@ two_processes_are_killed_test_() ->
 
 a_process_is_killed_between_changes_test_() ->
     searched(#{changes => {2, [move, isolate]}, faults => {1, [kill_room, kill_person]}}).
+
+two_failures_for_a_newcomer_test_() ->
+    searched(#{joined => [{bob, <<"1">>}], rooms => [<<"1">>], changes => {1, [join]},
+               faults => {2, [kill_room, kill_person, kill_gateway, lose, late]}}).
+
+two_failures_in_a_room_test_() ->
+    searched(#{rooms => [<<"1">>], changes => {1, [isolate, leave]}, faults => {2, [kill_room, kill_gateway, lose]}}).
 
 a_datagram_test_() ->
     searched(#{joined => ?APART, changes => {1, [move, isolate, leave]}, faults => {1, [lose, double, late]}}).

@@ -10,6 +10,7 @@ suite() -> [{timetrap, {seconds, 120}}].
 
 all() ->
     [the_other_node_takes_over, a_node_that_hung_ends_itself, after_a_gap_nothing_is_sent,
+     nothing_is_sent_without_a_look_at_the_lease,
      a_node_without_the_lease_ends, nobody_serves_without_the_lease, a_standby_alone_ends_and_waits,
      both_end_and_begin, a_node_leaves_and_joins, without_the_other_node, what_the_standby_lacks_is_not_durable,
      what_the_standby_lacks_was_not_answered, a_change_waits_for_the_standby,
@@ -200,6 +201,13 @@ after_a_gap_nothing_is_sent(Config0) ->
     signal("CONT", A, Config),
     ended(A),
     ?assertEqual(none, phone:status(phone:recv(Calling, 100))).
+
+%% Only the process that looks at it hangs.
+nothing_is_sent_without_a_look_at_the_lease(Config) ->
+    A = get(a, Config),
+    settle(),
+    ok = peer:call(A, sys, suspend, [lobby_lease]),
+    ended(A).
 
 %% Nor does the other one serve without it.
 nobody_serves_without_the_lease(Config) ->

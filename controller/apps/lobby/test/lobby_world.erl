@@ -24,8 +24,8 @@
                 timers = #{} :: #{{room | gateway, term(), atom()} => integer()}, loads = #{} :: #{atom() => {term(), map()}},
                 %% Tables: {Table, Key} => Value.
                 store = #{} :: #{{atom(), term()} => term()},
-                %% The proved gateways' worlds, or `ended'. Datagrams that may come at any later time.
-                worlds = #{} :: #{atom() => oracle:world() | ended}, late = [] :: [{atom(), binary()}],
+                %% The proved gateways' worlds, or `ended'. Datagrams that may still come, until when.
+                worlds = #{} :: #{atom() => oracle:world() | ended}, late = [] :: [{atom(), binary(), integer()}],
                 %% Between processes (and `net'), in order.
                 queues = #{} :: #{{From :: term(), To :: term()} => [term()]},
                 %% Where each phone sends to.
@@ -35,6 +35,9 @@
                 asked = #{} :: #{promise() => non_neg_integer()}, promised = #{} :: #{promise() => true}}).
 -type promise() :: {isolated | muted, atom()}.
 -opaque world() :: #world{}.
+
+%% Milliseconds within which a copy of a request can arrive.
+-define(QUIET, 5000).
 
 %%% The start: gateways that serve, and those who have joined.
 
@@ -50,7 +53,7 @@ address(G) -> {10, 0, 1, maps:get(G, #{a => 1, b => 2, c => 3})}.
 remote(Id) -> {{{10, 0, 0, maps:get(Id, #{ann => 1, bob => 2, cay => 3, dan => 4})}, 40000}, pcmu}.
 
 config(G, #{seats := Seats, journal := Journal}) ->
-    #{name => G, address => {address(G), 2944}, here => {127, 0, 0, 1}, retry => 100, tries => 4, quiet => 5000, audit => 250,
+    #{name => G, address => {address(G), 2944}, here => {127, 0, 0, 1}, retry => 100, tries => 4, quiet => ?QUIET, audit => 250,
       returns => case Journal of true -> 10000; false -> 0 end, terminations => maps:get(G, Seats), contexts => 64};
 config(G, Options) ->
     config(G, Options#{journal => false}).
@@ -75,9 +78,12 @@ model(Options) ->
 
 events(World) ->
     case deliveries(World) of
-        [] -> timeouts(World) ++ changes(World) ++ faults(World);
-        [First | Others] -> [First | [{race, Other} || World#world.races > 0, Other <- Others]] ++ changes(World) ++ faults(World)
+        [] -> timeouts(World) ++ changes(World) ++ faults(World) ++ arrivals(World);
+        [First | Others] ->
+            [First | [{race, Other} || World#world.races > 0, Other <- Others]] ++ changes(World) ++ faults(World) ++ arrivals(World)
     end.
+
+arrivals(#world{late = Late}) -> [{arrive, N} || N <- lists:seq(1, length(Late))].
 
 deliveries(#world{queues = Queues}) -> [{deliver, From, To} || {From, To} <- lists:sort(maps:keys(Queues))].
 
@@ -125,7 +131,7 @@ faults(#world{options = #{faults := {_, Kinds}}, people = People, rooms = Rooms,
         kill_gateway -> [{kill, {gateway, G}} || G <- lists:sort(maps:keys(Gateways))];
         lose_gateway -> [{'end', G} || {G, W} <- lists:sort(maps:to_list(Worlds)), W =/= ended];
         begin_anew -> [{anew, G} || {G, W} <- lists:sort(maps:to_list(Worlds)), W =/= ended]
-    end] ++ [{fault, {arrive, N}} || N <- lists:seq(1, length(Late))].
+    end].
 
 is_net({net, _}) -> true;
 is_net(_) -> false.
@@ -138,7 +144,7 @@ step({race, Delivery}, W = #world{races = N}) ->
     step(Delivery, W#world{races = N - 1});
 step({timer, Key = {Kind, Name, Timer}}, W = #world{timers = Timers, now = Now}) ->
     {Due, Rest} = maps:take(Key, Timers),
-    Later = W#world{timers = Rest, now = max(Now, Due)},
+    Later = W#world{timers = Rest, now = max(Now, Due), late = [Datagram || Datagram = {_, _, Until} <- W#world.late, Until > Due]},
     case Kind of
         gateway -> handled({gateway, Name}, {timer, Timer, {{127, 0, 0, 9}, 9}}, Later);
         room -> handled({room, Name}, retry, Later)
@@ -146,7 +152,9 @@ step({timer, Key = {Kind, Name, Timer}}, W = #world{timers = Timers, now = Now})
 step({look, G}, W) -> handled({gateway, G}, {orphans, orphans(G, W)}, W);
 step({again, Id}, W) -> handled({person, Id}, again, W);
 step({change, Change}, W = #world{changes = N}) -> change(Change, W#world{changes = N - 1});
-step({fault, Fault = {arrive, _}}, W) -> fault(Fault, W);
+step({arrive, N}, W = #world{late = Late}) ->
+    {G, Datagram, _} = Arriving = lists:nth(N, Late),
+    run(G, Datagram, W#world{late = Late -- [Arriving]});
 step({fault, Fault}, W = #world{faults = N}) -> fault(Fault, W#world{faults = N - 1}).
 
 %%% What people do.
@@ -181,13 +189,10 @@ fault({lose, Key}, W = #world{queues = Queues}) ->
 fault({double, Key}, W = #world{queues = Queues}) ->
     #{Key := [First | Rest]} = Queues,
     W#world{queues = Queues#{Key := [First, First | Rest]}};
-%% A copy comes at any later time, and the first one is lost.
-fault({late, Key = {_, {net, G}}}, W = #world{queues = Queues, late = Late}) ->
+%% A copy comes at any time within `quiet', and the first one is lost.
+fault({late, Key = {_, {net, G}}}, W = #world{queues = Queues, late = Late, now = Now}) ->
     #{Key := [First | _]} = Queues,
-    fault({lose, Key}, W#world{late = [{G, First} | Late]});
-fault({arrive, N}, W = #world{late = Late}) ->
-    {G, Datagram} = lists:nth(N, Late),
-    run(G, Datagram, W#world{late = Late -- [{G, Datagram}]});
+    fault({lose, Key}, W#world{late = [{G, First, Now + ?QUIET} | Late]});
 fault({kill, Process}, W) ->
     started(Process, W#world{queues = to_nobody(Process, W)});
 fault({'end', G}, W = #world{worlds = Worlds}) ->

@@ -1,6 +1,7 @@
-"""Random joins, rules, roles, mutes, moves and failures, on two gateways with journals. Every second, what the gateways
-themselves answer is compared with what the rooms' rules say, and with what each phone hears. The trial keeps its own record
-of rules, roles and mutes. Only after a change that wasn't answered by 200, it reads them from the controller.
+"""Random joins, isolations, rules, roles, mutes, moves and failures, on two gateways with journals. Every second, what the
+gateways themselves answer is compared with what the rooms' rules say and with who is isolated, and with what each phone
+hears. The trial keeps its own record of rules, roles, mutes and isolations. Only after a change that wasn't answered by 200,
+it reads them from the controller.
 
 usage: anything.py [MINUTES]
 """
@@ -60,9 +61,9 @@ class World:
         parties = [rule[1:] for rule in rules]
         self.rules[room] = [rule for rule in self.rules[room] if rule[1:] not in parties] + list(rules)
 
-    def forget(self, room, member):
-        """Rules that name a member end when he leaves."""
-        self.rules[room] = [rule for rule in self.rules[room] if {"member": member["id"]} not in rule]
+    def forget(self, member):
+        """Rules that name a member end with his call, in each room."""
+        self.rules = {room: [rule for rule in rules if {"member": member["id"]} not in rule] for room, rules in self.rules.items()}
 
     def change(self):
         self.changes += 1
@@ -78,7 +79,7 @@ class World:
         match random.choice(["isolate", "release", "oneway", "mute", "role", "move", "rules", "preset", "hang_up", "bye", "lock"]):
             case "isolate" | "release" as how:
                 if self.ask("POST", f"{act}/{how}"):
-                    self.add(room, (how == "release", own, "everyone"), (how == "release", "everyone", own))
+                    self.known[phone.name]["isolated"] = how == "isolate"
             case "oneway":
                 others = [m for r, m in self.members().values() if r == room and m["id"] != member["id"]]
                 if others:
@@ -96,7 +97,6 @@ class World:
             case "move":
                 to = random.choice(ROOMS)
                 if to != room and self.ask("POST", f"{act}/move", {"room": to}):
-                    self.forget(room, member)
                     self.known[phone.name]["room"] = to
             case "rules":
                 heard, talker, listener = random.random() < 0.5, *(random.choice(["everyone", {"role": random.choice(ROLES)}, own]) for _ in "tl")
@@ -116,12 +116,12 @@ class World:
                 else:
                     self.ask("POST", f"{act}/hang_up")
                 self.loop.run(5, lambda: phone.name not in self.members())
-                self.forget(room, member)
+                self.forget(member)
 
     def call(self, phone):
         phone.number, phone.to_tag = 0, ""
         phone.call_id, phone.room = f"{random.random()}@trial", random.choice(ROOMS)
-        self.known[phone.name] = {"room": phone.room, "role": "member", "muted": False}
+        self.known[phone.name] = {"room": phone.room, "role": "member", "muted": False, "isolated": False}
         phone.call()
         self.loop.run(5, lambda: phone.state != "new")
 
@@ -158,11 +158,12 @@ class World:
             room = self.door.ask("GET", f"/rooms/{name}")
             if self.unsure:
                 self.rules[name] = [(rule["hears"], rule["talker"], rule["listener"]) for rule in room["rules"]]
-                self.known |= {m["caller"]: {"room": name, "role": m["role"], "muted": m["muted"]} for m in room["members"]}
+                self.known |= {m["caller"]: {"room": name, "role": m["role"], "muted": m["muted"], "isolated": m["isolated"]} for m in room["members"]}
             for member in room["members"]:
                 member |= self.known[member["caller"]]
             pairs = [(talker, listener) for talker in room["members"] for listener in room["members"]
-                     if talker is not listener and hears(listener, talker, self.rules[name])]
+                     if talker is not listener and not talker["isolated"] and not listener["isolated"]
+                     and hears(listener, talker, self.rules[name])]
             if not room["members"]:
                 continue
             if any(member["room"] != name for member in room["members"]):

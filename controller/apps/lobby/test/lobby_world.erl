@@ -89,7 +89,7 @@ deliveries(#world{queues = Queues}) -> [{deliver, From, To} || {From, To} <- lis
 
 %% Timers that run out next, but for those that begin again for ever.
 timeouts(World = #world{timers = Timers, people = People}) ->
-    Needed = [{timer, Key} || Key <- lists:sort(maps:keys(Timers)), is_needed(Key, World)],
+    Needed = [{timer, Key} || {_, Key} <- lists:sort([{Due, Key} || {Key, Due} <- maps:to_list(Timers)]), is_needed(Key, World)],
     Again = [{again, Id} || {Id, Person} <- lists:sort(maps:to_list(People)), not lobby_person:is_settled(Person)],
     Looks = [{look, G} || G <- lists:sort(maps:keys(World#world.gateways)), orphans(G, World) =/= []],
     lists:sublist(Needed ++ Again ++ Looks, 1).

@@ -1,6 +1,7 @@
 #!/usr/bin/env python3
-"""Plants wrong bodies in a copy of the controller, one at a time, and runs the test that has to notice each. Before that,
-each of these tests has to pass on the controller as it is.
+"""Plants wrong bodies in a copy of the controller, one at a time, and runs the test that has to notice each. Before
+that, each of these tests has to pass on the unchanged controller. Some need a machine that isn't busy: each is run up
+to three times until it passes, and has to fail twice on a wrong body.
 
 usage: wrong_bodies.py [NAME..]
 Without names, all wrong bodies are planted. It exits with status 1 if one isn't noticed.
@@ -23,8 +24,8 @@ CONTROLLER = ROOT / "controller"
 
 @dataclass
 class Wrong:
-    """Each old text occurs exactly once in the module. A test is MODULE:FUNCTION for EUnit (a generator ends in `_`), or
-    SUITE:CASE for Common Test."""
+    """Each old text occurs exactly once in the module. A test is MODULE:FUNCTION for EUnit (a generator ends in `_`),
+    or SUITE:CASE for Common Test."""
     name: str
     module: str
     edits: list
@@ -44,18 +45,21 @@ BODIES = [
             "isolated := false, waiting := false} <- Rows], lists:sublist(Rules, length(Rules) - 1)).")],
           SEARCH + "coaching_test_"),
     Wrong("move without silencing", CONFERENCE,
-          [("++ [{Id, inactive} || Id <- maps:keys(Departing)],", ","), ("termination = T, mode = inactive}} = Held,", "termination = T}} = Held,"),
+          [("++ [{Id, inactive} || Id <- maps:keys(Departing)],", ","),
+           ("termination = T, mode = inactive}} = Held,", "termination = T}} = Held,"),
            ("commands => [{move, T, #{mode => inactive}}]},", "commands => [{move, T, #{mode => sendRecv}}]},")],
           SEARCH + "moves_test_"),
     Wrong("let go before silencing", CONFERENCE,
           [("fun subtract/1, fun silence/1,", "fun subtract/1, fun release/1, fun silence/1,"),
-           ("fun settle/1, fun release/1]", "fun settle/1]"), ("termination = T, mode = inactive}} = Held,", "termination = T}} = Held,")],
+           ("fun settle/1, fun release/1]", "fun settle/1]"),
+           ("termination = T, mode = inactive}} = Held,", "termination = T}} = Held,")],
           SEARCH + "moves_test_"),
     Wrong("add before the old room has let him go", CONFERENCE,
           [("not is_map_key(Id, Held), not is_asked(Id, Arriving)].", "not is_map_key(Id, Held)].")],
           SEARCH + "moves_test_"),
     Wrong("go on if silencing fails", CONFERENCE,
-          [("        [] -> Next();\n        _ -> failed(C)\n", "        _ -> Next()\n"), ("done(_, {error, _}, C) ->\n    failed(C);",
+          [("        [] -> Next();\n        _ -> failed(C)\n", "        _ -> Next()\n"),
+           ("done(_, {error, _}, C) ->\n    failed(C);",
            "done(Step, {error, Code}, C) when element(1, Step) =/= modify ->\n    _ = Code, failed(C);\n"
            "done({modify, Modes}, {error, _}, C) ->\n    {[], lists:foldl(fun set_mode/2, C, Modes)};")],
           PROMISE + "who_cannot_be_silenced_does_not_move"),
@@ -63,10 +67,11 @@ BODIES = [
           [("Holdings),\n    doubt(Resumed).", "Holdings),\n    Resumed.")],
           SEARCH + "two_failures_in_a_room_test_"),
     Wrong("no barrier", GATEWAY,
-          [("{Waiting, Ready} = lists:partition(Open, Asking),", "{Waiting, Ready} = lists:partition(fun(_) -> false andalso Open end, Asking),")],
+          [("{Waiting, Ready} = lists:partition(Open, Asking),",
+            "{Waiting, Ready} = lists:partition(fun(_) -> false andalso Open end, Asking),")],
           SEARCH + "two_failures_for_a_newcomer_test_"),
     Wrong("stray left by the room", CONFERENCE,
-          [("leaving = lists:usort(Strays ++ Leaving), doubts = tl(Doubts)", "leaving = Leaving, doubts = tl(Doubts)")],
+          [("leaving = lists:usort(Strays ++ Leaving), doubts", "leaving = Leaving, doubts")],
           PROMISE + "a_stray_is_ended"),
     Wrong("stray left by the gateway's process", GATEWAY,
           [("is_left_behind(_, error) -> true;", "is_left_behind(_, error) -> false;")],
@@ -87,13 +92,14 @@ BODIES = [
           [("may_answer({asked, _}, Everywhere) -> Everywhere;", "may_answer({asked, _}, _) -> true;")],
           PROMISE + "a_phone_still_sends_to_a_gateway_out_of_reach"),
     Wrong("a muted talker's mode unchanged", CONFERENCE,
-          [("mode(#{direction := sendrecv, muted := true}) -> sendOnly;", "mode(#{direction := sendrecv, muted := true}) -> sendRecv;")],
+          [("sendrecv, muted := true}) -> sendOnly;", "sendrecv, muted := true}) -> sendRecv;")],
           SEARCH + "changes_test_"),
     Wrong("nothing to change once someone has left", CONFERENCE,
           [("    agree(not Agreed, Without).", "    agree(false andalso Agreed, Without).")],
           SEARCH + "changes_test_"),
     Wrong("guard left out", GATEWAY,
-          [("guarded({_, {room, _, _, _}}, Action, #gateway{sentinel = {Context, T, _}}) -> Action#{guard => {Context, T}};",
+          [("guarded({_, {room, _, _, _}}, Action, #gateway{sentinel = {Context, T, _}}) ->"
+            " Action#{guard => {Context, T}};",
             "guarded({_, {room, _, _, _}}, Action, _) -> Action;")],
           PROMISE + "a_gateway_that_begins_anew_runs_nothing"),
     Wrong("requests not kept before they are sent", GATEWAY,
@@ -107,27 +113,29 @@ BODIES = [
           "lobby_seats_tests:what_is_reserved_is_taken_test"),
     Wrong("a refused Add ends the call", CONFERENCE,
           [("added({{#{id := Id}, _}, {add, _, {error, _}}}, C) ->\n    {[{full, Id}], block(Id, C)}.",
-            "added({{#{id := Id}, _}, {add, _, {error, Code}}}, C) ->\n    {[{refused, Id, Code, none}], block(Id, C)}.")],
+            "added({{#{id := Id}, _}, {add, _, {error, Code}}}, C) ->\n"
+            "    {[{refused, Id, Code, none}], block(Id, C)}.")],
           PROMISE + "who_is_refused_a_seat_waits"),
     Wrong("large rooms not closed again", CONFERENCE,
-          [("agree(true, C#conference{open = lobby_topology:everyone([Id || #{id := Id} <- held_members(C)]), doubts = []});",
-            "agree(true, C#conference{doubts = []});")],
+          [("C#conference{open = lobby_topology:everyone([Id || #{id := Id} <- held_members(C)]), doubts",
+            "C#conference{doubts")],
           PROMISE + "a_large_room_is_closed_again"),
     Wrong("a lock lost at a restart", CORE,
-          [("Room#room{conference = C, settings = Settings, stale = Stale, saved = Kept}, Rows),",
-            "Room#room{conference = C, settings = maps:remove(locked, Settings), stale = Stale, saved = Kept}, Rows),")],
+          [("settings = Settings, stale = Stale, saved = Kept}",
+            "settings = maps:remove(locked, Settings), stale = Stale, saved = Kept}")],
           PROMISE + "a_lock_outlives_its_room"),
     Wrong("the lease isn't looked at", "lobby_lease_core",
-          [("looked(#{lease := false}, _, #state{permit = serves}) ->\n    throw({stop, \"another node has the lease\"});\n", "")],
+          [("looked(#{lease := false}, _, #state{permit = serves}) ->\n"
+            "    throw({stop, \"another node has the lease\"});\n", "")],
           "lobby_lease_core_tests:it_ends_without_the_lease_test"),
     Wrong("hold does nothing", "lobby_lease",
-          [("within(Passed, Gap) when Passed =< Gap -> ok;", "within(Passed, Gap) when Passed =< Gap; Passed > 0 -> ok;")],
+          [("within(Passed, Gap) when Passed =< Gap ->", "within(Passed, Gap) when Passed =< Gap; Passed > 0 ->")],
           "lobby_pair_SUITE:after_a_gap_nothing_is_sent"),
     Wrong("nothing holds before a request is sent", "lobby_gateway",
           [("    ok = lobby_lease:hold(),\n    %% What can't", "    %% What can't")],
           "lobby_pair_SUITE:nothing_is_sent_without_a_look_at_the_lease"),
     Wrong("a gap 100 times as long, for the node that hung", "lobby_lease",
-          [("ok = persistent_term:put(?MODULE, {Times, Gap}),", "ok = persistent_term:put(?MODULE, {Times, 100 * Gap}),")],
+          [("persistent_term:put(?MODULE, {Times, Gap}),", "persistent_term:put(?MODULE, {Times, 100 * Gap}),")],
           "lobby_pair_SUITE:after_a_gap_nothing_is_sent"),
     Wrong("a gap 100 times as long, for the other node", "lobby_lease_core",
           [("  when Now - At > Gap ->", "  when Now - At > 100 * Gap ->")],
@@ -136,7 +144,8 @@ BODIES = [
           [("mnesia:sync_dirty(Change).", "mnesia:async_dirty(Change).")],
           "lobby_pair_SUITE:a_standby_that_hangs"),
     Wrong("answers don't wait for what the standby lacks", "lobby_member",
-          [("    case lobby_lease:durable() of\n        ok ->", "    case lobby_lease:durable() of\n        _ when From =/= none ->")],
+          [("    case lobby_lease:durable() of\n        ok ->",
+            "    case lobby_lease:durable() of\n        _ when From =/= none ->")],
           "lobby_pair_SUITE:a_change_waits_for_the_standby"),
     Wrong("a viewer may POST and DELETE", "lobby_http",
           [("{_, _, _} when Role =:= viewer ->", "{_, _, _} when Role =:= nobody ->")],
@@ -182,7 +191,7 @@ def plant(wrong, copy):
     try:
         path.write_text(body)
         compile_all(copy, wrong.name)
-        return not passes(copy, wrong.test)
+        return not any(passes(copy, wrong.test) for _ in range(2))
     finally:
         path.write_text(right)
 
@@ -197,7 +206,7 @@ def main():
         config.write_text(config.read_text().replace("warnings_as_errors, ", ""))
         compile_all(copy, "the controller")
         for test in sorted({wrong.test for wrong in bodies}):
-            if not passes(copy, test):
+            if not any(passes(copy, test) for _ in range(3)):
                 sys.exit(f"without a wrong body, {test} fails")
         print("| wrong body | noticed by |\n|---|---|", flush=True)
         missed = 0

@@ -597,10 +597,11 @@ anything_for_some_seconds(_) ->
     B = gateway:start(["--first-context", "5000", "--first-termination", "5000"]),
     run([{<<"a">>, A}, {<<"b">>, B}]),
     [ok = people:create(Room, []) || Room <- [<<"1">>, <<"2">>]],
-    Seed = rand:seed_s(exsss, erlang:monotonic_time()),
-    ct:pal("seed ~p", [rand:export_seed_s(Seed)]),
-    %% For as long as one likes: ANYTHING_SECONDS=3600.
+    %% For as long as one likes, and the same changes again: ANYTHING_SECONDS=3600 ANYTHING_SEED=1.
     Seconds = list_to_integer(os:getenv("ANYTHING_SECONDS", "8")),
+    Seed = list_to_integer(os:getenv("ANYTHING_SEED", integer_to_list(erlang:monotonic_time()))),
+    _ = rand:seed(exsss, Seed),
+    ct:pal("seed ~b", [Seed]),
     End = erlang:monotonic_time(millisecond) + 1000 * Seconds,
     Changes = anything(End, #{gateways => #{<<"a">> => A, <<"b">> => B}, changes => 0, rules => #{<<"1">> => [], <<"2">> => []}, ids => #{}}),
     ct:pal("~b changes", [Changes]),

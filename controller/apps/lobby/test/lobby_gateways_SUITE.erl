@@ -650,8 +650,11 @@ anything_once(_, W = #{rules := Rules, ids := Ids}) ->
     Party = fun() -> lists:nth(rand:uniform(4), [everyone, {role, <<"x">>}, {role, <<"y">>}, {member, maps:get(rand:uniform(8), Ids, nobody)}]) end,
     Room = integer_to_binary(rand:uniform(2)),
     New = {_, From, To} = {lists:nth(rand:uniform(2), [allow, deny]), Party(), Party()},
-    _ = people:add_rules(Room, [New]),
-    W#{rules := Rules#{Room := [Rule || Rule = {_, F, T} <- maps:get(Room, Rules), {F, T} =/= {From, To}] ++ [New]}}.
+    case people:add_rules(Room, [New]) of
+        %% A room that is killed again and again has no time to look for those who have left.
+        {error, too_many_rules} -> W;
+        _ -> W#{rules := Rules#{Room := [Rule || Rule = {_, F, T} <- maps:get(Room, Rules), {F, T} =/= {From, To}] ++ [New]}}
+    end.
 
 %% As soon as the room has a gateway that is there.
 check(Room, #{gateways := Gs, rules := Rules}) ->

@@ -114,7 +114,9 @@ changes(W = #world{options = #{people := Roles, rooms := Names, changes := {_, K
     Ids = lists:sort(maps:keys(Roles)),
     Here = [Id || Id <- Ids, is_map_key(Id, People)],
     [{change, Change} || Kind <- Kinds, Change <- case Kind of
-        join -> [{join, Id, R} || Id <- Ids, not is_map_key(Id, People), not is_map_key({lobby_members, Id}, W#world.store), R <- Names];
+        %% His next call would have another id and another port, so nothing may be left of the one before.
+        join -> [{join, Id, R} || Id <- Ids, not is_map_key(Id, People), not is_map_key({lobby_members, Id}, W#world.store),
+                                  not lists:member(Id, there(W)), R <- Names];
         move -> [{move, Id, R} || Id <- Here, R <- Names];
         _ -> [{Kind, Id} || Id <- Here]
     end].
@@ -425,15 +427,19 @@ rooms(Id, Store) ->
     end.
 
 %% When nothing happens any more: everybody is in his room, as the gateway says, and nobody else is anywhere.
-final(W = #world{worlds = Worlds, oracles = Oracles, store = Store, people = People, rooms = Rooms}) ->
+final(W = #world{store = Store, people = People, rooms = Rooms}) ->
     Members = [Id || {{lobby_members, Id}, _} <- maps:to_list(Store)],
-    There = [Id || {G, World} <- maps:to_list(Worlds), World =/= ended,
-                   {Id, _} <- maps:values(persons(oracle:content(maps:get(G, Oracles), World)))],
+    There = there(W),
     Serving = map_size(W#world.loads) > 0,
     [{missing, Members -- There} || Serving, Members -- There =/= [], has_seats(W)] ++ [{stray, There -- Members} || There -- Members =/= []]
         ++ [{forgotten, Members -- maps:keys(People)} || Members -- maps:keys(People) =/= []]
         ++ [{disagrees, R} || Serving, {R, Core} <- maps:to_list(Rooms), not lobby_room_core:agrees(Core), has_seats(W)]
         ++ [{unanswered, Id} || Serving, {Id, Person} <- maps:to_list(People), not lobby_person:is_settled(Person), has_seats(W)].
+
+%% Those for whom gateways have something.
+there(#world{worlds = Worlds, oracles = Oracles}) ->
+    [Id || {G, World} <- maps:to_list(Worlds), World =/= ended,
+           {Id, _} <- maps:values(persons(oracle:content(maps:get(G, Oracles), World)))].
 
 has_seats(#world{loads = Loads, store = Store}) ->
     length([1 || {{lobby_members, _}, _} <- maps:to_list(Store)]) =< lists:max([0 | [Max - 1 || {_, #{max_terminations := Max}} <- maps:values(Loads)]]).

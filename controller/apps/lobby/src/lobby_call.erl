@@ -42,7 +42,7 @@
                session_timer = none :: lobby_session_timer:timer(),
                %% Our last request, and whether another re-INVITE has to follow.
                request = none :: lobby_sip_message:message() | none, again = false :: boolean(),
-               %% Where he was told that the gateway receives him, in the offer that waits for an answer.
+               %% Where he was told that the gateway receives him, in the description that waits for his answer or ACK.
                told = none :: lobby_h248:media() | none,
                %% Where he has agreed to send.
                agreed = none :: lobby_h248:media() | none,
@@ -279,6 +279,9 @@ reported(Report, {next_state, State, Call, Actions}) ->
         Result -> more(Result, Actions)
     end.
 
+%% His room may not have heard that he agreed.
+reported({holds, _, Local, false}, _, Call = #call{local = Local, agreed = Local}) ->
+    {keep_state, agreed(Local, Call)};
 reported({holds, _, Local, _}, _, Call = #call{local = Local}) ->
     {keep_state, Call};
 reported({holds, _, Local, _}, _, Call) ->
@@ -383,9 +386,9 @@ request(<<"ACK">>, Ack, confirming, Call = #call{response = Response, offered = 
     case {lobby_sip_message:sequence(Ack) =:= lobby_sip_message:sequence(Response), Offered andalso offer(Ack, Call#call.source)} of
         {false, _} -> keep_state_and_data;
         {true, false} ->
-            {Acknowledged, Actions} = acknowledged(confirming, Call),
+            {Acknowledged, Actions} = acknowledged(confirming, agreed(Call#call.told, Call)),
             more(talk(Acknowledged), Actions);
-        {true, {ok, Session}} -> answered(Session, confirming, Call);
+        {true, {ok, Session}} -> answered(Session, confirming, agreed(Call#call.told, Call));
         {true, _} -> bye(confirming, Call)
     end;
 request(<<"ACK">>, _, _, _) ->
@@ -471,7 +474,9 @@ updated_to(Request, Call = #call{session = Session}) ->
     Call2 = refreshed(Request, Call1#call{session_timer = Timer}),
     More = [lobby_dialog:contact(own(Call2)) | lobby_session_timer:answer(Timer)],
     {keep_state, Call3} = answer(200, {More ++ Headers, Body}, Request, Call2),
-    {keep_state, Call3, [session_timeout(Call3)]}.
+    %% Nobody acknowledges this answer, so he is told of another address by an INVITE.
+    Tell = [{{timeout, invite}, 0, again} || Call3#call.local =/= Call3#call.agreed],
+    {keep_state, Call3, [session_timeout(Call3) | Tell]}.
 
 answer_to(Session, Call = #call{local = Local}) ->
     {Text, New} = described(fun(Id, Version) -> lobby_sdp:answer(Session, Local, Id, Version) end, Call),
@@ -508,7 +513,7 @@ accept(Request, Call = #call{session = Session, local = Local, source = Source})
     Response = lobby_sip_message:response(200, Request, lobby_sip:own_tag(Request), Content),
     Target = lobby_sip_message:response_target(Request, Source),
     ok = lobby_sip:send(Target, Response),
-    Call2 = Call1#call{response = Response, offered = Offered, session_timer = Timer, agreed = Local},
+    Call2 = Call1#call{response = Response, offered = Offered, session_timer = Timer, told = Local},
     {Call2, [repeat(Response, Target, t1()), give_up(), session_timeout(Call2), no_trying()]}.
 
 confirm({Call, Actions}) ->
@@ -592,15 +597,20 @@ response(Response = #sip{status = Status, method = Method}, State, Call = #call{
         {_, _, _} -> keep_state_and_data
     end.
 
-accepted(Response, Call = #call{id = Id, person = Person, told = Told}) ->
+accepted(Response, Call = #call{told = Told}) ->
     Call1 = refreshed(Response, Call),
     acknowledge(Response, Call1),
-    #{room := Room} = lobby_person:row(Person),
-    _ = lobby_rooms:tell(Room, {confirmed, Id, Told}),
+    Agreed = agreed(Told, Call1),
     case offer(Response, Call#call.source) of
-        {ok, Session} -> answered(Session, offering, Call1#call{agreed = Told});
-        _ -> bye(talking, Call1)
+        {ok, Session} -> answered(Session, offering, Agreed);
+        _ -> bye(talking, Agreed)
     end.
+
+%% He sends there from now on.
+agreed(Local, Call = #call{id = Id, person = Person}) ->
+    #{room := Room} = lobby_person:row(Person),
+    _ = lobby_rooms:tell(Room, {confirmed, Id, Local}),
+    Call#call{agreed = Local}.
 
 acknowledge(Response, Call = #call{dialog = Dialog, source = Source}) ->
     ok = lobby_sip:send(lobby_dialog:target(Dialog, Source), lobby_dialog:ack(Response, own(Call), Dialog)).

@@ -141,7 +141,7 @@ act({'end', Gateway, Places}, State) ->
 act({ask, From, Row = #{id := Id, moved := Moved}, Gateway}, State) ->
     case lobby_rooms:tell(From, {ask, Row, Gateway}) of
         ok -> State;
-        {error, no_such_room} -> ok = gen_server:cast(self(), {left, Id, Moved, none}), State
+        {error, no_such_room} -> ok = gen_server:cast(self(), {left, Id, Moved, {none, none}}), State
     end;
 act({left, To, Id, Moved, Given}, State) ->
     _ = lobby_rooms:tell(To, {left, Id, Moved, Given}),

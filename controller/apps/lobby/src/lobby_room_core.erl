@@ -22,12 +22,14 @@
 -type settings() :: #{kept => boolean(), locked => boolean(), door => boolean()}.
 %% Whose phones may still send to a gateway that was lost, and where.
 -type stale() :: #{id() => lobby_h248:media() | unknown}.
+%% What is handed over to another room: his termination, and where he may still send to.
+-type given() :: {{handle(), lobby_conference:holding()} | none, Sends :: lobby_h248:media() | unknown | none}.
 %% What the store has.
 -type kept() :: #{rules := [lobby_rules:rule()], settings := settings(), gateway := handle() | none, stale := stale()}.
 -type event() :: {start, kept() | none, [row()]} | {holdings, [lobby_conference:holding()] | lost, #{id() => row()}}
                | {admit, id(), From :: name() | none, handle() | none} | {placed, handle() | none} | {reserved, boolean()}
                | {want, row()} | {gone, id()} | {ask, row(), handle() | none}
-               | {left, id(), Moved :: pos_integer(), {handle(), lobby_conference:holding()} | none}
+               | {left, id(), Moved :: pos_integer(), given()}
                | {confirmed, id(), lobby_h248:media()}
                | {rules, From :: term(), add | set, [lobby_rules:rule()], settings()} | {settings, From :: term(), settings()}
                | {audit, From :: term()} | {agree, From :: term()}
@@ -37,7 +39,7 @@
                 | {place, [id()], Prefer :: handle() | none, Except :: handle() | none} | {reserve, handle(), [id()]} | {seats, handle(), [id()]}
                 | {release, handle(), lobby_h248:termination(), To :: name()}
                 | {ask, From :: name(), row(), handle() | none}
-                | {left, To :: name(), id(), Moved :: pos_integer(), {handle(), lobby_conference:holding()} | none}
+                | {left, To :: name(), id(), Moved :: pos_integer(), given()}
                 | {'end', handle(), [lobby_conference:place()]}
                 | {admitted, id(), ok | {error, error()}} | {report, id(), lobby_person:report()} | {silent, id()}
                 | {reply, From :: term(), term()} | {save, kept()} | {count, atom()} | {retry, soon | later} | published | stop.
@@ -133,9 +135,11 @@ event({want, Row}, _, Room) ->
     wanted(Row, Room);
 event({gone, Id}, _, Room = #room{conference = C}) ->
     forgotten(Id, Room#room{conference = lobby_conference:leave({ended, Id}, C)});
-event({ask, Row = #{id := Id, room := To, moved := Moved}, Handle}, _, Room = #room{conference = C, asks = Asks}) ->
-    forgotten(Id, Room#room{conference = lobby_conference:leave(Row, C), asks = Asks#{Id => {To, Moved, Handle}}});
-event({left, Id, Moved, Given}, _, Room = #room{conference = C, gateway = Gateway}) ->
+event({ask, Row = #{id := Id, room := To, moved := Moved}, Handle}, _, Room = #room{conference = C, asks = Asks, stale = Stale}) ->
+    Forgotten = forgotten(Id, Room#room{conference = lobby_conference:leave(Row, C), asks = Asks#{Id => {To, Moved, Handle}}}),
+    Forgotten#room{stale = Stale};
+event({left, Id, Moved, {Given, Sends}}, _, Before) ->
+    Room = #room{conference = C, gateway = Gateway} = may_send(Id, Moved, Sends, Before),
     case Given of
         none -> Room#room{conference = lobby_conference:cleared(Id, Moved, none, C)};
         {Gateway, Holding} -> Room#room{conference = lobby_conference:cleared(Id, Moved, Holding, C)};
@@ -214,8 +218,8 @@ forgotten(Id, Room = #room{reported = Reported, stale = Stale, admitted = Admitt
               admits = lists:keydelete(Id, 1, Admits)}.
 
 %% If it is only out of reach, it may still mix for whoever still sends to it.
-lost(Room = #room{conference = C, stale = Stale, busy = Busy}) ->
-    Sent = [{Id, lobby_conference:local(Id, C)} || Id <- lobby_conference:ids(C)],
+lost(Room = #room{conference = C, stale = Stale, busy = Busy, asks = Asks}) ->
+    Sent = [{Id, lobby_conference:local(Id, C)} || Id <- lists:usort(lobby_conference:ids(C) ++ maps:keys(Asks))],
     Left = maps:from_list([{Id, unknown} || {Id, none} <- Sent, Busy =:= holdings] ++
                           [{Id, case Stale of #{Id := _} -> unknown; #{} -> Local end} || {Id, {ok, Local}} <- Sent]),
     Room#room{gateway = none, busy = none, conference = lobby_conference:forget(C), stale = maps:merge(Stale, Left),
@@ -307,7 +311,7 @@ next({release, #{id := Id}, T}, Room = #room{asks = Asks, gateway = Gateway, con
         #{Id := {To, Moved, Gateway}} ->
             {[], Done} = lobby_conference:done({released, Id}, done, C),
             Given = {Gateway, lobby_conference:holding(Id, C)},
-            Let = act({left, To, Id, Moved, Given}, act({release, Gateway, T, To}, Room#room{asks = maps:remove(Id, Asks)})),
+            Let = left(Id, To, Moved, Given, act({release, Gateway, T, To}, Room)),
             work(Let#room{conference = Done});
         #{Id := _} -> work(Room#room{conference = lobby_conference:expel(Id, C)});
         #{} -> settled(Room)
@@ -357,10 +361,23 @@ audited(Room = #room{audits = Audits, compared = Result}) ->
 
 %% Whoever was asked for, and whom the gateway has nothing for here, has left.
 left(Room = #room{asks = Asks, conference = C}) ->
-    maps:fold(fun(Id, {To, Moved, _}, R = #room{asks = Left}) -> case lobby_conference:has(Id, C) of
+    maps:fold(fun(Id, {To, Moved, _}, R) -> case lobby_conference:has(Id, C) of
         true -> R;
-        false -> act({left, To, Id, Moved, none}, R#room{asks = maps:remove(Id, Left)})
+        false -> left(Id, To, Moved, none, R)
     end end, Room, Asks).
+
+left(Id, To, Moved, Given, Room = #room{asks = Asks, stale = Stale}) ->
+    act({left, To, Id, Moved, {Given, maps:get(Id, Stale, none)}},
+        Room#room{asks = maps:remove(Id, Asks), stale = maps:remove(Id, Stale)}).
+
+%% Whoever still sends to a lost gateway is awaited in his new room.
+may_send(_, _, none, Room) ->
+    Room;
+may_send(Id, Moved, Sends, Room = #room{conference = C, stale = Stale}) ->
+    case lobby_conference:find(Id, C) of
+        {#{moved := Moved}, _} -> Room#room{stale = Stale#{Id => Sends}};
+        _ -> Room
+    end.
 
 %% Until something changes, or for a while.
 waits(Room = #room{conference = C, asked = Asked}) ->

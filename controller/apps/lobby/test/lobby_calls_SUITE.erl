@@ -11,20 +11,28 @@ suite() -> [{timetrap, {seconds, 60}}].
 all() ->
     [a_call, callers_hear_each_other, a_repeated_invite_has_the_same_answer, the_answer_is_repeated_until_the_ack,
      without_an_ack_the_call_ends, hold_and_resume, hold_by_update, streams_are_declined, an_offer_that_comes_late, cancel_and_options,
-     session_timers, who_is_silent_is_asked, requests_that_are_refused, limits, addresses_that_may_call, passwords, a_lost_gateway_is_replaced, sixty_callers_hear_each_other_again, our_invite_is_repeated_and_acknowledged, both_invite_at_once,
+     session_timers, who_is_silent_is_asked, requests_that_are_refused, limits, addresses_that_may_call, passwords, a_lost_gateway_is_replaced, who_moves_after_a_loss_is_awaited, who_invites_during_a_loss_is_not_awaited,
+     sixty_callers_hear_each_other_again, our_invite_is_repeated_and_acknowledged, both_invite_at_once,
      who_vanished_is_removed, who_refuses_our_invite_is_hung_up, hung_up_and_moved, addresses_of_ipv6, routes, a_call_that_starts_again_knows_its_place, a_call_that_fails_while_it_joins,
      a_call_that_fails_again_and_again_ends, an_answer_that_comes_after_a_failure, processes_fail, the_node_fails, garbage,
      over_tcp, connections_are_limited, answers_are_quick, sipp, baresips].
 
 init_per_testcase(Case, Config) ->
     ok = application:load(lobby),
-    Gateways = [gateway:start() || _ <- lists:seq(1, case lists:member(Case, [a_lost_gateway_is_replaced, sixty_callers_hear_each_other_again]) of true -> 2; false -> 1 end)],
+    Gateways = [gateway:start() || _ <- lists:seq(1, gateways(Case))],
     Sip = gateway:free_address(),
     Env = [{gateways, [gateway:config(integer_to_binary(N), G) || {N, G} <- lists:enumerate(Gateways)]}, {sip, Sip}, {http, gateway:free_address()} | env(Case)],
     [ok = application:set_env(lobby, Key, Value) || {Key, Value} <- Env],
     {ok, _} = application:ensure_all_started(lobby),
     lobby_case:until(fun() -> length(lobby_gateway:serving()) =:= length(Gateways) end),
     [{sip, Sip}, {gateways, Gateways} | Config].
+
+gateways(Case) ->
+    case lists:member(Case, [a_lost_gateway_is_replaced, who_moves_after_a_loss_is_awaited, who_invites_during_a_loss_is_not_awaited,
+                             sixty_callers_hear_each_other_again]) of
+        true -> 2;
+        false -> 1
+    end.
 
 %% Short timers: a phone that doesn't answer is given up after 64 * t1.
 env(addresses_that_may_call) -> [{callers, [{{192, 0, 2, 0}, 24}]}];
@@ -322,11 +330,9 @@ passwords(Config) ->
     ?assertEqual(1, length(members(<<"100">>))).
 
 a_lost_gateway_is_replaced(Config) ->
-    [A, B] = proplists:get_value(gateways, Config),
     Phones = [element(1, call(Config)) || _ <- lists:seq(1, 5)],
-    #{gateway := First} = people:describe(<<"100">>),
     Start = erlang:monotonic_time(millisecond),
-    gateway:kill(case First of <<"1">> -> A; <<"2">> -> B end),
+    lose_gateway(Config),
     Locals = [begin
         Invite = phone:recv(Phone),
         ?assertEqual("INVITE", phone:status(Invite)),
@@ -341,6 +347,39 @@ a_lost_gateway_is_replaced(Config) ->
     ?assertEqual(5, length(lists:usort(Locals))),
     caller:talk(phone:media(hd(Phones)), hd(Locals)),
     [lobby_case:until(fun() -> caller:heard(phone:media(Phone)) > 5 end) || Phone <- tl(Phones)].
+
+lose_gateway(Config) ->
+    [A, B] = proplists:get_value(gateways, Config),
+    #{gateway := Name} = people:describe(<<"100">>),
+    gateway:kill(case Name of <<"1">> -> A; <<"2">> -> B end).
+
+%% The lost gateway may still run, out of reach, and mix for him.
+who_moves_after_a_loss_is_awaited(Config) ->
+    {Mover, _} = call(Config),
+    [Id] = members(<<"100">>),
+    {Other, _} = call(Config),
+    lose_gateway(Config),
+    [Invite, OthersInvite] = [phone:recv(Phone) || Phone <- [Mover, Other]],
+    phone:answer(200, OthersInvite, phone:sdp(Other), Other),
+    Self = self(),
+    spawn(fun() -> Self ! {moved, lobby_member:move(Id, <<"200">>)} end),
+    receive {moved, _} -> error(answered) after 500 -> ok end,
+    ?assertEqual([Id], members(<<"200">>)),
+    phone:answer(200, Invite, phone:sdp(Mover), Mover),
+    receive {moved, Result} -> ?assertEqual(ok, Result) after 5000 -> error(not_answered) end.
+
+%% He has learnt from the answer where he is to send to.
+who_invites_during_a_loss_is_not_awaited(Config) ->
+    {Phone, _} = call(Config),
+    [Id] = members(<<"100">>),
+    lose_gateway(Config),
+    Inviting = phone:invite(phone:sdp(Phone, "recvonly"), Phone),
+    Response = next([100], Inviting),
+    ?assertEqual(200, phone:status(Response)),
+    phone:ack(phone:learn(Response, Inviting)),
+    Self = self(),
+    spawn(fun() -> Self ! {isolated, lobby_member:change(Id, #{isolated => true})} end),
+    receive {isolated, Result} -> ?assertEqual(ok, Result) after 5000 -> error(not_answered) end.
 
 %% Sixty callers who talk all the time, of whom one is isolated, in one room whose gateway is killed three times.
 sixty_callers_hear_each_other_again(Config) ->

@@ -232,14 +232,16 @@ received({net, G}, _, Datagram, W) -> run(G, Datagram, W);
 received({gateway, G}, {net, G}, Datagram, W) ->
     {ok, Message} = lobby_h248:decode(Datagram),
     handled({gateway, G}, {received, Message}, W);
-received({phone, Id}, _, {Room, Local}, W = #world{phones = Phones, worlds = Worlds}) ->
-    {Endpoint = {Address, _}, _} = Local,
-    [G] = [G || G <- maps:keys(Worlds), address(G) =:= Address],
-    tell_room(Room, {confirmed, Id, Local}, {phone, Id}, W#world{phones = Phones#{Id => {G, Endpoint}}});
+received({phone, Id}, _, {Room, Local}, W = #world{phones = Phones}) ->
+    tell_room(Room, {confirmed, Id, Local}, {phone, Id}, W#world{phones = Phones#{Id => target(Local, W)}});
 received({room, R}, _, {holdings, Holdings}, W = #world{store = Store}) ->
     Others = maps:from_list([{Id, Row} || #{member := Id} <- Holdings, {ok, Row} <- [maps:find({lobby_members, Id}, Store)]]),
     handled({room, R}, {holdings, Holdings, Others}, W);
 received(Process, _, Message, W) -> handled(Process, Message, W).
+
+target({Endpoint = {Address, _}, _}, #world{worlds = Worlds}) ->
+    [G] = [G || G <- maps:keys(Worlds), address(G) =:= Address],
+    {G, Endpoint}.
 
 run(G, Datagram, W = #world{worlds = Worlds, oracles = Oracles}) ->
     case Worlds of
@@ -274,11 +276,14 @@ handled({gateway, G}, Event, W = #world{gateways = Gateways, now = Now}) ->
     {Changed, Actions} = lobby_gateway_core:handle(Event, Now, Core),
     lists:foldl(fun(Action, Acc) -> gateway_acts(G, Action, Acc) end, W#world{gateways = Gateways#{G := Changed}}, Actions).
 
-%% A call tells its phone when the gateway receives it somewhere else.
-told(Id, {report, Room, {holds, _, Local, _}}, Person, W) ->
+%% A call tells its phone when the gateway receives it somewhere else, and its room again that the phone sends there.
+told(Id, {report, Room, {holds, _, Local, Everywhere}}, Person, W) ->
     case lobby_person:row(Person) of
         #{room := Room} -> case maps:get({local, Id}, W#world.store, none) of
-            Local -> W;
+            Local -> case {Everywhere, target(Local, W), W#world.phones} of
+                {false, Target, #{Id := Target}} -> tell_room(Room, {confirmed, Id, Local}, {person, Id}, W);
+                _ -> W
+            end;
             _ -> send({person, Id}, {phone, Id}, {Room, Local}, put_in({local, Id}, Local, W))
         end;
         _ -> W
@@ -352,7 +357,7 @@ room_act(R, {'end', H = {G, _}, Places}, W) -> send({room, R}, {gateway, G}, {'e
 room_act(R, {ask, From, Row = #{id := Id, moved := Moved}, Gateway}, W = #world{rooms = Rooms, store = Store}) ->
     case is_map_key(From, Rooms) orelse is_map_key({lobby_rooms, From}, Store) of
         true -> tell_room(From, {ask, Row, Gateway}, {room, R}, W);
-        false -> send({room, R}, {room, R}, {left, Id, Moved, none}, W)
+        false -> send({room, R}, {room, R}, {left, Id, Moved, {none, none}}, W)
     end;
 room_act(R, {left, To, Id, Moved, Given}, W) -> tell_room(To, {left, Id, Moved, Given}, {room, R}, W);
 room_act(R, {admitted, Id, Result}, W) -> tell_person(Id, {admitted, R, Result}, R, W);

@@ -102,6 +102,9 @@ told({holds, _, Local = {Address, _}, _}, Room, State = #state{local = Before, p
     Before =:= none orelse (Parent ! {moved, id(State), Local}),
     lobby_rooms:tell(Room, {confirmed, id(State), Local}),
     State#state{local = Local};
+told({holds, _, Local, false}, Room, State = #state{local = Local}) ->
+    lobby_rooms:tell(Room, {confirmed, id(State), Local}),
+    State;
 told(_, _, State) ->
     State.
 

@@ -469,7 +469,7 @@ done(Step, {ok, Reply = #{results := Results}, Owners}, C) ->
         {none, {add, New, After}} -> added(New, After, Reply, C);
         {none, {settle, Rows}} -> changed(Rows, Results, C);
         {none, {modify, Modes}} -> kept(Results, C, fun() -> {[], lists:foldl(fun set_mode/2, C, Modes)} end);
-        {none, {connect, After}} -> kept(Results, C, fun() -> {[], agree(true, C#conference{open = After})} end);
+        {none, {connect, After}} -> kept(Results, C, fun() -> {[], agree(true, opened(After, C))} end);
         {none, topology} -> kept(Results, C, fun() -> compared(maps:get(topology, Reply, []), C) end);
         {none, inventory} -> found(Results, Owners, C);
         {Code, inventory} when ?IS_GONE(Code) -> {[], gone(C)};

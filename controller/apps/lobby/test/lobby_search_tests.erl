@@ -24,6 +24,9 @@ nothing_is_broken(Result = #{found := Found, limit := Limit}) ->
 changes_test_() ->
     searched(#{changes => {3, [mute, isolate, leave]}}).
 
+leaving_test_() ->
+    searched(#{rooms => [<<"1">>], changes => {3, [isolate, release, leave]}}).
+
 moves_test_() ->
     searched(#{changes => {3, [move, isolate, release]}}).
 

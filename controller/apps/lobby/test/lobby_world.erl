@@ -73,7 +73,8 @@ settled(World, Left) ->
 -spec model(options()) -> search:model().
 model(Options) ->
     World = start(Options),
-    #{start => World, events => fun events/1, step => fun step/2, broken => fun broken/1, final => fun final/1,
+    #{start => World, events => fun events/1, step => fun step/2, broken => fun broken/1,
+      final => fun(W) -> at_rest(W, 2000) end,
       canonical => fun canonical/1}.
 
 events(World) ->
@@ -429,6 +430,14 @@ rooms(Id, Store) ->
     case Store of
         #{{lobby_members, Id} := #{room := Room, from := From}} -> [Room, From] -- [none];
         #{} -> [<<"1">>, <<"2">>]
+    end.
+
+%% A walk ends while something is under way. If no gateway is left, that never ends.
+at_rest(_, 0) -> [];
+at_rest(W, Left) ->
+    case deliveries(W) ++ timeouts(W) of
+        [Event | _] -> at_rest(step(Event, W), Left - 1);
+        [] -> final(W)
     end.
 
 %% When nothing happens any more: everybody is in his room, as the gateway says, and nobody else is anywhere.

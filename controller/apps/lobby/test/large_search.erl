@@ -5,8 +5,8 @@
 -export([run/1]).
 
 -define(WORLD, #{people => #{ann => <<"coach">>, bob => <<"customer">>, cay => <<"agent">>},
-                 rooms => [<<"1">>, <<"2">>], joined => [{ann, <<"1">>}, {cay, <<"1">>}, {bob, <<"2">>}], rules => lobby_rules:preset(coaching),
-                 seats => #{a => 5, b => 5}}).
+                 rooms => [<<"1">>, <<"2">>], joined => [{ann, <<"1">>}, {cay, <<"1">>}, {bob, <<"2">>}],
+                 rules => lobby_rules:preset(coaching), seats => #{a => 5, b => 5}}).
 -define(CHANGES, [join, leave, move, isolate, release, mute, unmute]).
 -define(FAULTS, [kill_room, kill_person, kill_gateway, lose, double, late, lose_gateway, begin_anew]).
 

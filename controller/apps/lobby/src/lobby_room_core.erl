@@ -136,8 +136,13 @@ event({want, Row}, _, Room) ->
 event({gone, Id}, _, Room = #room{conference = C}) ->
     forgotten(Id, Room#room{conference = lobby_conference:leave({ended, Id}, C)});
 event({ask, Row = #{id := Id, room := To, moved := Moved}, Handle}, _, Room = #room{conference = C, asks = Asks, stale = Stale}) ->
-    Forgotten = forgotten(Id, Room#room{conference = lobby_conference:leave(Row, C), asks = Asks#{Id => {To, Moved, Handle}}}),
-    Forgotten#room{stale = Stale};
+    case last_moved(Id, Room) of
+        %% This was asked before he came back, or before he moved on.
+        Later when Later > Moved -> act({left, To, Id, Moved, {none, none}}, Room);
+        _ ->
+            Asked = Room#room{conference = lobby_conference:leave(Row, C), asks = Asks#{Id => {To, Moved, Handle}}},
+            (forgotten(Id, Asked))#room{stale = Stale}
+    end;
 event({left, Id, Moved, {Given, Sends}}, _, Before) ->
     Room = #room{conference = C, gateway = Gateway} = may_send(Id, Moved, Sends, Before),
     case Given of
@@ -187,6 +192,10 @@ event(watch, Now, Room = #room{conference = C, admitted = Admitted}) ->
     Room#room{admitted = Still, conference = lobby_conference:check(C)};
 event(_, _, Room) ->
     Room.
+
+%% The version of the last move that is known of somebody.
+last_moved(Id, #room{conference = C, asks = Asks}) ->
+    lists:max([0] ++ [Moved || {#{moved := Moved}, _} <- [lobby_conference:find(Id, C)]] ++ [Moved || #{Id := {_, Moved, _}} <- [Asks]]).
 
 answer({error, busy}) -> {error, 0};
 answer(Answer) -> Answer.

@@ -72,3 +72,13 @@ two_races_test_() ->
 a_race_and_a_failure_test_() ->
     searched(#{joined => ?APART, races => 1, changes => {1, [isolate, move]},
                faults => {1, [kill_room, kill_person]}}).
+
+%% A walk found this: when a request for someone is repeated, he may have been given, and be back.
+who_comes_back_test() ->
+    Way = [{fault, {kill, {room, <<"1">>}}}, {fault, {anew, a}}, {change, {move, cay, <<"2">>}}, {change, {move, cay, <<"1">>}},
+           {change, {mute, bob}}, {change, {move, ann, <<"2">>}}, {change, {move, ann, <<"1">>}}, {change, {move, bob, <<"1">>}},
+           {race, {deliver, {person, bob}, {room, <<"2">>}}}],
+    World = #{people => #{ann => <<"coach">>, bob => <<"customer">>, cay => <<"agent">>}, rooms => [<<"1">>, <<"2">>],
+              joined => [{ann, <<"1">>}, {cay, <<"1">>}, {bob, <<"2">>}], rules => lobby_rules:preset(coaching),
+              seats => #{a => 5, b => 5}, changes => {length(Way), [move, mute]}, faults => {2, [kill_room, begin_anew]}, races => 1},
+    ?assertEqual({Way, []}, search:replay(Way, lobby_world:model(World))).

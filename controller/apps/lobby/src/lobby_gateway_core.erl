@@ -169,8 +169,11 @@ event({timer, audit, _}, Now, G = #gateway{state = serving}) ->
     submit({urgent, audit}, sentinel_audit(G), Now, G);
 event({timer, back, _}, Now, G = #gateway{state = away}) ->
     lost(not_back, Now, G);
+%% This node may have been cut off, and the other one goes on with what would be ended. It hears of that first.
+event({timer, clean, _}, _, G = #gateway{state = probing, settled = Settled}) when Settled > 0 ->
+    G;
 event({timer, clean, _}, Now, G) ->
-    clean(Now, G);
+    cleaned(clean(Now, G));
 event(_, _, G) ->
     G.
 
@@ -192,7 +195,7 @@ entered(probing, G) ->
 entered(away, G = #gateway{config = #{returns := Returns, retry := Retry, tries := Tries}}) ->
     acts([{timer, back, max(Returns, Retry * Tries)}, {timer, probe, 0}], G);
 entered(cleaning, G = #gateway{settled = Settled}) ->
-    cleaned(act({timer, clean, Settled}, G));
+    act({timer, clean, Settled}, G);
 entered(serving, G = #gateway{config = #{name := Name, audit := Interval}}) ->
     answer_asking(acts([{log, notice, "gateway ~p is in service", [Name]}, {publish, serving}, {timer, audit, Interval}], G)).
 
@@ -218,8 +221,7 @@ lost(Why, Now, G) ->
     Probing = submit({forever, audit}, sentinel_audit(G), Now, (forgotten(Why, G))#gateway{state = probing}),
     case G#gateway.settled of
         0 -> clean(Now, Probing);
-        %% This node may have been cut off, and the other one goes on with what would be ended. It hears of that first.
-        Settled -> act({timer, clean, Settled}, Probing)
+        _ -> Probing
     end.
 
 forgotten(Why, G = #gateway{config = #{name := Name}, transactions = T, seats = Seats, contexts = Before, unknown = Unknown}) ->

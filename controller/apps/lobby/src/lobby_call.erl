@@ -21,7 +21,7 @@
 %% Milliseconds after which an idle call takes less memory.
 -define(IDLE, 1000).
 %% Milliseconds in which a new caller is let in, and until it is tried again if no gateway has a seat. Milliseconds until a
-%% room is told again of somebody for whom it hasn't reported.
+%% row is sent again to a room that hasn't reported it.
 -define(LET_IN, 5000).
 -define(RETRY, 250).
 -define(AGAIN, 1000).
@@ -205,7 +205,7 @@ handle_event(_, _, _, _) ->
 
 %%% What is wanted for him.
 
-%% Has something happen to the person, and does what follows. Whoever isn't settled is told of again.
+%% Handles an event of the person, and carries out the actions. The row is sent again until the room has reported it.
 person(Event, State, Call = #call{person = Person}) ->
     {Changed, Actions} = lobby_person:handle(Event, Person),
     Again = {{timeout, person}, case lobby_person:is_settled(Changed) of true -> infinity; false -> ?AGAIN end, again},
@@ -268,7 +268,7 @@ media(answer, {error, {refused, _}}, State, Call) ->
 media(_, _, _, Call) ->
     {keep_state, Call}.
 
-%% He is told when the gateway receives him somewhere else. If it doesn't take him, his call ends.
+%% If the gateway receives him at another address, he is re-invited. If it refuses him, his call ends.
 reported(_, Stopped = {stop, _}) ->
     Stopped;
 reported(Report, {keep_state, Call, Actions}) ->
@@ -474,7 +474,7 @@ updated_to(Request, Call = #call{session = Session}) ->
     Call2 = refreshed(Request, Call1#call{session_timer = Timer}),
     More = [lobby_dialog:contact(own(Call2)) | lobby_session_timer:answer(Timer)],
     {keep_state, Call3} = answer(200, {More ++ Headers, Body}, Request, Call2),
-    %% Nobody acknowledges this answer, so he is told of another address by an INVITE.
+    %% No ACK confirms this answer, so a new address also goes out in an INVITE.
     Tell = [{{timeout, invite}, 0, again} || Call3#call.local =/= Call3#call.agreed],
     {keep_state, Call3, [session_timeout(Call3) | Tell]}.
 

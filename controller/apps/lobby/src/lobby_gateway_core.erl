@@ -10,8 +10,8 @@
 %%% - a gateway with a journal is awaited before it counts as lost. If it comes back and still has this termination, it
 %%%   has all others, too, and nothing was lost but time;
 %%% - if a lost gateway answers again and still has this termination, it was only out of reach, or hung. What it has of
-%%%   ours was made again elsewhere, so it is ended first. That is asked for at once, so that a gateway that hangs ends it
-%%%   before it sends anything;
+%%%   ours exists elsewhere by now, so it is ended first. The requests go out at once, so that a gateway that hangs reads
+%%%   them before it sends anything. A node of a pair waits until the gateway answers, and until the nodes agree again;
 %%% - if this process or another node had it before, its conferences go on. Requests are kept before they are sent, and
 %%%   repeated under their numbers until they are answered. Before that, no room is told what it has: so no request of an
 %%%   earlier owner is run after that.

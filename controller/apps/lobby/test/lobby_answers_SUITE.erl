@@ -9,7 +9,7 @@
 all() ->
     [messages, responses, any_bytes, in_dialogs, dialogs_are_known_by_both_tags, answers_have_both_tags, a_stranger_is_not_read, a_bomb_stops_nobody,
      one_address_shuts_out_nobody, too_fast, a_digest_is_used_once, a_proxy_is_trusted, a_long_session,
-     silent_connections_end, a_call_keeps_its_connection, strangers_do_not_connect, a_call_over_tls].
+     silent_connections_end, a_call_keeps_its_connection, strangers_do_not_connect, a_call_over_tls, a_renewed_certificate_is_used].
 
 init_per_testcase(Case, Config) ->
     ok = application:load(lobby),
@@ -21,7 +21,7 @@ init_per_testcase(Case, Config) ->
     lobby_case:until(fun() -> length(lobby_gateway:serving()) =:= 1 end),
     [{sip, Sip} | Config].
 
-env(a_call_over_tls, Config) ->
+env(Case, Config) when Case =:= a_call_over_tls; Case =:= a_renewed_certificate_is_used ->
     {Certificate, Key} = certificate:new("lobby", proplists:get_value(priv_dir, Config)),
     [{tls, #{certificate => Certificate, key => Key, sip => gateway:free_address()}}];
 env(Case, _) -> env(Case).
@@ -416,3 +416,20 @@ a_call_over_tls(_) ->
     {ok, Silent} = gen_tcp:connect({127, 0, 0, 1}, Port, [list, {active, false}]),
     ?assertEqual(200, begin P = phone:request("OPTIONS", "", phone:start_tls(Own, "100")), status(P) end),
     ?assertEqual({error, closed}, gen_tcp:recv(Silent, 0, 7000)).
+
+%% By who connects after it was renewed. A call that has a connection keeps it.
+a_renewed_certificate_is_used(Config) ->
+    {ok, #{sip := Own = {Address, Port}}} = application:get_env(lobby, tls),
+    Shown = fun() ->
+        {ok, Socket} = ssl:connect(Address, Port, [{verify, verify_none}, {active, false}], 2000),
+        {ok, Der} = ssl:peercert(Socket),
+        ok = ssl:close(Socket),
+        certificate:name(Der)
+    end,
+    Before = phone:start_tls(Own, "100"),
+    ?assertEqual("lobby", Shown()),
+    _ = certificate:new("renewed", proplists:get_value(priv_dir, Config)),
+    ok = ssl:clear_pem_cache(),
+    ?assertEqual("renewed", Shown()),
+    ?assertEqual(200, status(phone:request("OPTIONS", "", Before))),
+    ?assertEqual(200, status(phone:request("OPTIONS", "", phone:start_tls(Own, "100")))).

@@ -78,11 +78,12 @@ def ports(place, slots):
 
 
 class Gateway:
-    """A gateway that runs until the end of the `with` block."""
+    """A gateway that runs until the end of the `with` block, perhaps on a `Kernel` of a test's own."""
 
-    def __init__(self, *words):
+    def __init__(self, *words, kernel=None):
         pipes = {it: subprocess.PIPE for it in ("stdin", "stdout", "stderr")}
-        self.process = subprocess.Popen([program("mg_bridge"), *words], text=True, **pipes)
+        install = kernel.install if kernel else None
+        self.process = subprocess.Popen([program("mg_bridge"), *words], text=True, preexec_fn=install, **pipes)
         # So no read waits for ever.
         self.end = threading.Timer(2 * LIMIT, self.process.kill)
         self.end.start()

@@ -5,7 +5,7 @@ import tempfile
 from datetime import datetime, timedelta, timezone
 from pathlib import Path
 
-from media import add, conference, request, spoken
+from media import add, conference, header, request, spoken
 from programs import FIRST, Commands, Gateway, bound, counted, ports, run, udp, waiting
 from seals import right_seals
 
@@ -18,7 +18,7 @@ def line_of(message):
 class Journals(Commands):
     TITLE = (
         "# mg_bridge replay --address=127.0.0.1 --control-address=127.0.0.1 --control-port=28807 --base-port=28808"
-        " --slots=2 --first-termination=1 --first-context=1 --ssrc=7 --sequence=0 --timestamp=0\n"
+        " --slots=2 --first-termination=11 --first-context=12 --ssrc=7 --sequence=8 --timestamp=9\n"
     )
 
     def setUp(self):
@@ -47,6 +47,20 @@ class Journals(Commands):
             self.assertEqual((status, output.startswith("control=1 media=0 ticks=")), (0, True))
             self.assertTrue(errors.endswith(": continues after 1 messages and 2 ticks\n"), errors)
             self.assertEqual(caller.recv(2000), answer)
+
+    def test_a_title_has_the_numbers_that_the_gateway_begins_with(self):
+        """Five different ones, in a new journal, and after a restart that isn't given them."""
+        os.remove(self.path)
+        numbers = "--first-termination=11 --first-context=12 --ssrc=7 --sequence=8 --timestamp=9"
+        words = [*ports(0, 2), "--journal", self.path]
+        for given, conference_number, termination in ((numbers.split(), 12, 11), ([], 13, 12)):
+            with self.subTest(given=given), udp() as caller, Gateway("serve", *words, *given) as gateway:
+                caller.sendto(request(termination, f"Context=${{{add(caller.getsockname()[1])}}}"), ("127.0.0.1", FIRST))
+                gateway.tell("poll", "tick")
+                self.assertIn(f"{{Context={conference_number}{{Add=RTP/{termination}{{", caller.recv(2000).decode())
+                self.assertEqual(caller.recv(2000)[:12], header(8, 9, 7 + termination, marker=True))
+                self.assertEqual(gateway.finish("quit")[0], 0)
+            self.assertTrue(Path(self.path).read_text().partition("\n")[0].endswith(f" --slots=2 {numbers}"))
 
     def test_seals(self):
         os.remove(self.path)
@@ -92,7 +106,7 @@ class Journals(Commands):
             f"rtp {FIRST + 2 + 2 * slot} 127.0.0.1:40000 {spoken(1, byte * 160).hex()}\n"
             for slot, byte in enumerate((b"\x10", b"\x9c"))
         )
-        part = request(2, "Context=1{Topology{RTP/1,RTP/2,Oneway}}")
+        part = request(2, "Context=12{Topology{RTP/11,RTP/12,Oneway}}")
         for end in ("", speech + "tick\ntick\n"):
             with self.subTest(end=end), udp() as controller, udp() as first, udp() as second, udp() as third:
                 modes = {first: "SendReceive", second: "SendReceive", third: "SendOnly"}
@@ -102,7 +116,7 @@ class Journals(Commands):
 
     def check_resumed(self, text, controller, callers):
         """A gateway that resumes from this script goes on like a replay of it."""
-        audit = request(3, "Context=1{AuditValue=RTP/1{Audit{Media,Statistics}}},Context=1{ContextAudit{Topology}}")
+        audit = request(3, "Context=12{AuditValue=RTP/11{Audit{Media,Statistics}}},Context=12{ContextAudit{Topology}}")
         title = self.TITLE.replace("28807", str(FIRST)).replace("28808", str(FIRST + 2)).replace("=2 ", "=3 ")
         Path(self.path).write_text(title + text)
         source = "127.0.0.1:%d" % controller.getsockname()[1]
@@ -139,7 +153,7 @@ class Journals(Commands):
             return rtp(2, f"8000{sequence:04x}0000000000000063" + "ff" * 160, source)
 
         callers = line_of(conference(*(add(port, "SendReceive") for port in (40000, 40002, 40004))))
-        no_local = line_of(request(2, "Context=1{Add=$}"))
+        no_local = line_of(request(2, "Context=12{Add=$}"))
         header = "0000010000000000000063"
         frames = [100, 101, *[102] * 5, 104, 105, 106, *[100] * 5]
         for script, control, media, ticks, dropped, results, sent in (

@@ -33,6 +33,22 @@ class Outputs(unittest.TestCase):
         self.assertEqual((status, errors), (0, ""))
         self.assertTrue(output == "tick\n" * ticks + message, output[-300:])
 
+    def test_a_reader_that_is_too_slow(self):
+        """It gets the beginning of the recording, without holes, and the operator is told once. Calls go on."""
+        with udp() as controller, Gateway(*WORDS) as gateway:
+            lines = []
+            # Each line has 32 KB. The queue and the pipe hold some 2,080 of them.
+            for number in range(2200):
+                message = number.to_bytes(2, "big") + b"x" * 16_000
+                controller.sendto(message, ("127.0.0.1", FIRST))
+                gateway.tell("poll")
+                self.assertIn(b"Error=", controller.recv(2000))
+                lines.append(f"control 127.0.0.1:{controller.getsockname()[1]} {message.hex()}")
+            status, output, errors = gateway.finish("quit")
+        self.assertEqual((status, errors), (0, "standard output ended: its reader is too slow\n"))
+        recorded = output.splitlines()
+        self.assertTrue(recorded == lines[: len(recorded)] and 2000 < len(recorded) < 2150, len(recorded))
+
     def test_a_reader_that_is_gone(self):
         reader, writer = os.pipe()
         near, far = socket.socketpair()

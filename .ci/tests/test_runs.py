@@ -46,3 +46,20 @@ class Runs(Commands):
             self.ends(2, "", f"127.0.0.1:{FIRST} doesn't answer: timed out\n", "check", f"127.0.0.1:{FIRST}")
             heartbeat = b"MEGACO/1 <check>\nTransaction=1{Context=-{AuditValue=ROOT}}"
             self.assertEqual([gateway.recv(100) for _ in range(3)], [heartbeat] * 3)
+
+    def test_check_acknowledges_the_answer(self):
+        """So the gateway need not keep it."""
+        found = []
+
+        def serve(gateway):
+            message, check = gateway.recvfrom(200)
+            gateway.sendto(b"MEGACO/1 [127.0.0.1]:2944\nReply=1{Context=-{AuditValue=ROOT}}", check)
+            found.extend([message, gateway.recv(200)])
+
+        with bound(FIRST) as (gateway,):
+            other = threading.Thread(target=serve, args=(gateway,))
+            other.start()
+            self.assertEqual(run("check", f"127.0.0.1:{FIRST}")[0], 0)
+            other.join()
+        sender = b"MEGACO/1 <check>\n"
+        self.assertEqual(found, [sender + b"Transaction=1{Context=-{AuditValue=ROOT}}", sender + b"TransactionResponseAck{1}"])

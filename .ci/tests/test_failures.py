@@ -1,0 +1,83 @@
+"""What a gateway does when the system refuses something, or takes long."""
+import contextlib
+import errno
+import tempfile
+import time
+from pathlib import Path
+
+from kernel import Kernel
+from programs import FIRST, HEARTBEAT, LIMIT, Commands, Gateway, ports, udp
+
+CONTROL = ("127.0.0.1", FIRST)
+POLLS, SYNCS = ["epoll_wait", "epoll_pwait"], ["fsync", "fdatasync"]
+
+
+def processor_seconds(gateway):
+    """The processor time that a gateway has taken."""
+    fields = Path(f"/proc/{gateway.process.pid}/stat").read_text().rpartition(")")[2].split()
+    return (int(fields[11]) + int(fields[12])) / 100
+
+
+class Failures(Commands):
+    def setUp(self):
+        folder = tempfile.TemporaryDirectory()
+        self.addCleanup(folder.cleanup)
+        self.journal = Path(folder.name) / "journal.txt"
+
+    def ask(self, caller, number, wait=LIMIT):
+        """The answer to a request that creates a context, or `None` if there is none within this time."""
+        caller.settimeout(wait)
+        caller.sendto(f"MEGACO/1 [127.0.0.1]:2945 Transaction={number}{{Context=${{Add=$}}}}".encode(), CONTROL)
+        with contextlib.suppress(TimeoutError):
+            return caller.recv(2000).decode().partition("\n")[2]
+        return None
+
+    def test_a_message_is_answered_once_it_is_on_the_disk(self):
+        failing = []
+        words = [*ports(0, 4), "--sync", f"--journal={self.journal}"]
+        with Kernel(SYNCS, lambda call: errno.EIO if failing else None) as kernel, udp() as caller:
+            with Gateway("live", *words, kernel=kernel) as gateway:
+                for number in (1, 2):
+                    before = sum(kernel.made.values())
+                    self.assertEqual(self.ask(caller, number), f"Reply={number}{{Context={number}{{Add=RTP/{number}}}}}")
+                    self.assertGreater(sum(kernel.made.values()), before)
+                failing.append(True)
+                self.assertIsNone(self.ask(caller, 3, 0.5))
+                line = gateway.process.stderr.readline()
+                self.assertEqual(line, "the journal can't be written: messages get no answer\n")
+                failing.clear()
+                # Nobody knows what the disk has, so only a restart helps.
+                self.assertIsNone(self.ask(caller, 3, 0.5))
+        with udp() as caller, Gateway("live", *words):
+            self.assertEqual(self.ask(caller, 3), "Reply=3{Context=3{Add=RTP/3}}")
+
+    def test_without_sync_nothing_waits_for_the_disk(self):
+        failing = []
+        with Kernel(SYNCS, lambda call: errno.EIO if failing else None) as kernel, udp() as caller:
+            with Gateway("live", *ports(0, 4), f"--journal={self.journal}", kernel=kernel):
+                failing.append(True)
+                self.assertEqual(self.ask(caller, 1), "Reply=1{Context=1{Add=RTP/1}}")
+        self.assertIn("\ncontrol 127.0.0.1:", self.journal.read_text())
+
+    def test_polls_fail(self):
+        """Then every socket is asked."""
+        for words in (["serve"], ["live"]):
+            failing = []
+            with self.subTest(words), udp() as caller, Kernel(POLLS, lambda call: errno.EBADF if failing else None) as kernel:
+                with Gateway(*words, *ports(0, 4), kernel=kernel) as gateway:
+                    failing.append(True)
+                    for number in (1, 2):
+                        made = sum(kernel.made.values())
+                        caller.sendto(HEARTBEAT.encode(), CONTROL)
+                        if words == ["serve"]:
+                            gateway.tell("poll")
+                        self.assertTrue(caller.recv(2000).startswith(b"MEGACO/1 "))
+                        self.assertGreater(sum(kernel.made.values()), made)
+
+    def test_an_idle_gateway_hardly_works(self):
+        with udp() as caller, Gateway("live", *ports(0, 4)) as gateway:
+            caller.sendto(HEARTBEAT.encode(), CONTROL)
+            caller.recv(2000)
+            before = processor_seconds(gateway)
+            time.sleep(2)
+            self.assertLess(processor_seconds(gateway) - before, 0.3)

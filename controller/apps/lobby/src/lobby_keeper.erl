@@ -7,9 +7,11 @@
 -export([init/1, handle_continue/2, handle_call/3, handle_cast/2, handle_info/2]).
 -export_type([kind/0]).
 
-%% So many failures within so many milliseconds are too many.
+%% So many failures within so many milliseconds are too many. After one, it starts again at once; after another one only
+%% after a while. If it fails because one of our supervisors is being started again, this process ends before.
 -define(FAILURES, 3).
 -define(PERIOD, 60000).
+-define(PAUSE, 500).
 
 -type kind() :: room | call.
 -record(state, {kind :: kind(), names = #{} :: #{pid() => term()}, failures = #{} :: #{term() => [integer()]}}).
@@ -66,6 +68,9 @@ watch(Name, Pid, State = #state{names = Names}) ->
 handle_info({'DOWN', _, process, Pid, Reason}, State = #state{names = Names}) ->
     {Name, Rest} = maps:take(Pid, Names),
     {noreply, ended(Name, Reason, State#state{names = Rest})};
+handle_info({start, Name}, State = #state{kind = Kind}) ->
+    _ = spawn(fun() -> start(Kind, Name) end),
+    {noreply, State};
 handle_info(_, State) ->
     {noreply, State}.
 
@@ -78,20 +83,22 @@ ended(Name, noproc, State = #state{kind = Kind}) ->
         false -> State
     end;
 %% Somebody ended it, so it isn't its own fault.
-ended(Name, killed, State = #state{kind = Kind}) ->
-    _ = spawn(fun() -> start(Kind, Name) end),
-    State;
+ended(Name, killed, State) ->
+    start_after(0, Name, State);
 ended(Name, _, State = #state{kind = Kind, failures = Failures}) ->
     Now = erlang:monotonic_time(millisecond),
     Recent = [Now | [Time || Time <- maps:get(Name, Failures, []), Now - Time < ?PERIOD]],
-    _ = spawn(case length(Recent) >= ?FAILURES of
-        true -> fun() -> set_aside(Kind, Name) end;
-        false -> fun() -> start(Kind, Name) end
-    end),
-    State#state{failures = case length(Recent) >= ?FAILURES of
-        true -> maps:remove(Name, Failures);
-        false -> Failures#{Name => Recent}
-    end}.
+    case length(Recent) of
+        ?FAILURES ->
+            _ = spawn(fun() -> set_aside(Kind, Name) end),
+            State#state{failures = maps:remove(Name, Failures)};
+        N ->
+            start_after((N - 1) * ?PAUSE, Name, State#state{failures = Failures#{Name => Recent}})
+    end.
+
+start_after(Time, Name, State) ->
+    _ = erlang:send_after(Time, self(), {start, Name}),
+    State.
 
 set_aside(room, Name) -> lobby_rooms:set_aside(Name);
 set_aside(call, Key) -> lobby_call:set_aside(Key).

@@ -14,7 +14,7 @@ all() ->
      session_timers, who_is_silent_is_asked, requests_that_are_refused, limits, addresses_that_may_call, passwords, a_lost_gateway_is_replaced, who_moves_after_a_loss_is_awaited, who_invites_during_a_loss_is_not_awaited,
      sixty_callers_hear_each_other_again, our_invite_is_repeated_and_acknowledged, both_invite_at_once,
      who_vanished_is_removed, who_refuses_our_invite_is_hung_up, hung_up_and_moved, addresses_of_ipv6, routes, a_call_that_starts_again_knows_its_place, a_call_that_fails_while_it_joins,
-     a_call_that_fails_again_and_again_ends, an_answer_that_comes_after_a_failure, processes_fail, the_node_fails, garbage,
+     a_call_that_fails_again_and_again_ends, a_call_outlives_a_slow_supervisor, an_answer_that_comes_after_a_failure, processes_fail, the_node_fails, garbage,
      over_tcp, connections_are_limited, answers_are_quick, sipp, baresips].
 
 init_per_testcase(Case, Config) ->
@@ -613,6 +613,22 @@ a_call_that_fails_again_and_again_ends(Config) ->
     ?assertEqual("BYE", phone:status(next(["INVITE"], Phone))),
     lobby_case:until(fun() -> lobby_store:all(lobby_calls) =:= [] andalso members(<<"100">>) =:= [] end),
     lobby_case:until(fun() -> length(gateway:contexts(lists:seq(1, 60), gateway(Config))) =:= 1 end).
+
+%% Until the rooms' supervisor is started again, a call fails as often as it starts. That isn't its own fault.
+a_call_outlives_a_slow_supervisor(Config) ->
+    {Phone, _} = call(Config),
+    [{Key, _}] = lobby_store:all(lobby_calls),
+    Before = lobby_registry:whereis_name({call, Key}),
+    ok = sys:suspend(lobby_serving),
+    exit(whereis(lobby_room_sup), kill),
+    _ = phone:request("UPDATE", phone:sdp(Phone), Phone),
+    lobby_case:until(fun() -> lobby_registry:whereis_name({call, Key}) =/= Before end),
+    timer:sleep(200),
+    ok = sys:resume(lobby_serving),
+    lobby_case:until(fun() -> is_pid(whereis(lobby_room_sup)) andalso is_pid(whereis(lobby_connections)) end),
+    ?assertMatch([{Key, _}], lobby_store:all(lobby_calls)),
+    lobby_case:until(fun() -> is_pid(lobby_registry:whereis_name({call, Key})) end),
+    lobby_case:until(fun() -> length(members(<<"100">>)) =:= 1 end).
 
 %% It's acknowledged, or the phone would hang up.
 an_answer_that_comes_after_a_failure(Config) ->

@@ -379,8 +379,8 @@ a_standby_whose_process_is_started_again(Config0) ->
 nobody_takes_over(Config0) ->
     Config = [{a, A}, {b, B} | _] = with_pids_first(Config0),
     settle(),
-    ok = file:delete(file(a, lease, Config)),
     signal("KILL", A, Config),
+    ok = file:delete(file(a, lease, Config)),
     ended(B),
     lease(b, Config),
     B1 = started_node(b, Config),

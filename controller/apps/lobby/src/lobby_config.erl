@@ -28,7 +28,7 @@
                max_calls => {{1, 100000}, 1024}, max_calls_from => {share, quarter}, max_rooms_from => {share, quarter},
                messages_from => {{1, 100000}, 200}, new_calls_from => {{1, 100000}, 50},
                silent_after => {{1000, 3600000}, 30000}, room_audit => {{500, 600000}, 5000},
-               store => {store, memory}, pair => {pair, none}, tls => {pair, none}, roles => {roles, []},
+               store => {store, memory}, pair => {part, none}, tls => {part, none}, roles => {roles, []},
                http => {address, {{127, 0, 0, 1}, 8080}}, tokens => {tokens, []}}).
 -define(GATEWAY, #{name => {text, required}, address => {address, required}, here => {ip, {127, 0, 0, 1}},
                    retry => {{10, 5000}, 100}, tries => {{1, 20}, 4}, quiet => {{100, 60000}, 5000},
@@ -44,51 +44,54 @@
 %% @doc The configuration with defaults, or what is wrong with it.
 -spec check([{atom(), term()}]) -> {ok, config()} | {error, string()}.
 check(Env) ->
-    case values("the configuration", ?TOP, maps:from_list(Env)) of
-        {ok, Config} -> parts(Config);
-        Error -> Error
-    end.
+    caught(fun() -> checked(Env) end).
 
-parts(#{pair := Pair, store := memory}) when Pair =/= none ->
-    wrong("a pair needs {store,disc}", []);
-parts(Config = #{pair := Pair, tls := Tls}) ->
-    case {part("the pair", ?PAIR, Pair), part("tls", ?TLS, Tls)} of
-        {{ok, #{self := Node, peer := Node}}, _} -> wrong("self and peer are both ~0p", [Node]);
-        {{ok, CheckedPair}, {ok, CheckedTls}} -> gateways(Config#{pair := CheckedPair, tls := CheckedTls});
-        {{ok, _}, Error} -> Error;
-        {Error, _} -> Error
-    end.
+caught(Check) ->
+    try {ok, Check()} catch throw:{wrong, Text} -> {error, Text} end.
 
-part(_, _, none) -> {ok, none};
+checked(Env) ->
+    Config = values("the configuration", ?TOP, maps:from_list(Env)),
+    #{gateways := Gateways, pair := Pair, store := Store, tls := Tls} = Config,
+    _ = [wrong("a pair needs {store,disc}", []) || Pair =/= none, Store =:= memory],
+    shares(Config#{pair := pair(part("the pair", ?PAIR, Pair)), tls := part("tls", ?TLS, Tls),
+                   gateways := gateways([values("a gateway", ?GATEWAY, Gateway) || Gateway <- Gateways])}).
+
+part(_, _, none) -> none;
 part(What, Kinds, Values) -> values(What, Kinds, Values).
+
+pair(#{self := Node, peer := Node}) -> wrong("self and peer are both ~0p", [Node]);
+pair(Pair) -> Pair.
+
+gateways(Gateways) ->
+    Names = [Name || #{name := Name} <- Gateways],
+    _ = [wrong("two gateways have the name ~0p", [Name]) || Name <- Names -- lists:usort(Names)],
+    Gateways.
 
 %% @doc Sets the applications' environment to what a file says, if the application's is right: a list as in
 %% `sys.config', such as `[{lobby, [{gateways, [..]}]}].'
 -spec load(file:filename()) -> {ok, config()} | {error, string()}.
 load(File) ->
+    caught(fun() ->
+        {Applications, Env} = consulted(File),
+        Config = checked(Env),
+        ok = application:set_env(Applications),
+        Config
+    end).
+
+consulted(File) ->
     case file:consult(File) of
-        {ok, [Applications]} -> set(File, Applications);
+        {ok, [Applications]} -> {Applications, environment(File, Applications)};
         {ok, _} -> wrong("~ts must contain one list, followed by a full stop", [File]);
         {error, Reason} -> wrong("~ts: ~ts", [File, file:format_error(Reason)])
     end.
 
-set(File, Applications) ->
-    case is(applications, Applications) andalso lists:keyfind(lobby, 1, Applications) of
-        {lobby, Env} -> case check(Env) of
-            {ok, Config} -> ok = application:set_env(Applications), {ok, Config};
-            Error -> Error
-        end;
+environment(File, Applications) ->
+    case holds(all(fun is_application/1), Applications) andalso lists:keyfind(lobby, 1, Applications) of
+        {lobby, Env} -> Env;
         false -> wrong("~ts must contain a list such as [{lobby,[{gateways,[..]}]}]", [File])
     end.
 
-gateways(Config = #{gateways := Gateways}) ->
-    Checked = [values("a gateway", ?GATEWAY, G) || G <- Gateways],
-    Names = [Name || {ok, #{name := Name}} <- Checked],
-    case {[Error || Error = {error, _} <- Checked], Names -- lists:usort(Names)} of
-        {[Error | _], _} -> Error;
-        {[], [Name | _]} -> wrong("two gateways have the name ~0p", [Name]);
-        {[], []} -> {ok, shares(Config#{gateways := [Gateway || {ok, Gateway} <- Checked]})}
-    end.
+is_application({Name, Env}) -> is_atom(Name) andalso lists:all(fun({Key, _}) -> is_atom(Key) end, Env).
 
 %% By default, one address gets a quarter of what the gateways have.
 shares(Config = #{gateways := Gateways, max_calls_from := Calls, max_rooms_from := Rooms}) ->
@@ -98,87 +101,80 @@ shares(Config = #{gateways := Gateways, max_calls_from := Calls, max_rooms_from 
     Config#{max_calls_from := Share(Calls, terminations), max_rooms_from := Share(Rooms, contexts)}.
 
 values(What, Kinds, Values) when is_map(Values) ->
-    case maps:keys(Values) -- maps:keys(Kinds) of
-        [] -> maps:fold(fun(Key, Kind, Acc) -> value(What, Key, Kind, Values, Acc) end, {ok, #{}}, Kinds);
-        [Unknown | _] -> wrong("~s has the unknown key ~0p", [What, Unknown])
-    end;
+    _ = [wrong("~s has the unknown key ~0p", [What, Unknown]) || Unknown <- maps:keys(Values) -- maps:keys(Kinds)],
+    maps:map(fun(Key, {Kind, Default}) -> value(What, Key, Kind, maps:get(Key, Values, Default)) end, Kinds);
 values(What, _, Other) ->
     wrong("~s must be a map, not ~0p", [What, Other]).
 
-value(_, _, _, _, Error = {error, _}) ->
-    Error;
-value(What, Key, {Kind, Default}, Values, {ok, Checked}) ->
-    Value = maps:get(Key, Values, Default),
-    case {Value, is(Kind, Value)} of
-        {required, _} -> wrong("~s must have the key ~0p", [What, Key]);
-        {_, true} -> {ok, Checked#{Key => Value}};
-        {_, false} -> wrong("~0p must be ~s, not ~0p", [Key, described(Kind), Value])
+value(What, Key, _, required) ->
+    wrong("~s must have the key ~0p", [What, Key]);
+value(_, Key, Kind, Value) ->
+    case is(Kind, Value) of
+        true -> Value;
+        false -> wrong("~0p must be ~s, not ~0p", [Key, element(1, kind(Kind)), Value])
     end.
 
-is(applications, Value) ->
-    is_list(Value) andalso lists:all(fun({Name, Env}) -> is_atom(Name) andalso is(env, Env); (_) -> false end, Value);
-is(env, Value) -> is_list(Value) andalso lists:all(fun({Key, _}) -> is_atom(Key); (_) -> false end, Value);
-is(gateways, Value) -> is_list(Value) andalso Value =/= [];
-is(tokens, Value) -> is_list(Value) andalso lists:all(fun is_token/1, Value);
-is(roles, Value) -> is_list(Value) andalso lists:all(fun is_role/1, Value);
-is(pair, Value) -> Value =:= none orelse is_map(Value);
-is(node, Value) ->
-    is_atom(Value) andalso re:run(atom_to_list(Value), "^[^@]+@[^@]+$", [dollar_endonly]) =/= nomatch;
-is(secret, Value) -> is_binary(Value) andalso byte_size(Value) >= 16 andalso byte_size(Value) < 256;
-is(lease, {file, File}) -> is_path(File);
-is(lease, Value) -> Value =:= address;
-is(file, Value) -> Value =:= none orelse is_path(Value);
-is(path, Value) -> is_path(Value) andalso filelib:is_regular(Value);
-is(port, Value) -> Value =:= none orelse is(address, Value);
-is(boolean, Value) -> is_boolean(Value);
-is(share, Value) -> Value =:= quarter orelse is({1, 100000}, Value);
-is(digest, Value) -> lists:member(Value, [[md5], [sha256], [sha256, md5], [md5, sha256]]);
-is(store, Value) -> lists:member(Value, [memory, disc]);
-is(networks, Value) -> is_list(Value) andalso lists:all(fun is_network/1, Value);
-is(users, Value) ->
-    is_map(Value) andalso lists:all(fun(Text) -> is(text, Text) end, maps:keys(Value) ++ maps:values(Value));
-is(text, Value) -> is_binary(Value) andalso Value =/= <<>>;
-is(ip, Value) -> inet:is_ipv4_address(Value);
-is(address, {Address, Port}) -> inet:is_ipv4_address(Address) andalso is({1, 65535}, Port);
-is(address, _) -> false;
-is({Min, Max}, Value) -> is_integer(Value) andalso Value >= Min andalso Value =< Max.
+-spec wrong(io:format(), [term()]) -> no_return().
+wrong(Format, Values) ->
+    throw({wrong, lists:flatten(io_lib:format(Format, Values))}).
+
+is(Kind, Value) -> holds(element(2, kind(Kind)), Value).
+
+%% What isn't as it should be may have no matching clause.
+holds(Is, Value) ->
+    try Is(Value) catch error:_ -> false end.
+
+%% What a value must be, in words and as a test.
+kind(gateways) -> {"a list of at least one gateway", fun([_ | _]) -> true end};
+kind(tokens) ->
+    {"a list of tokens such as {<<\"sixteen bytes or more\">>,operator} (or viewer)", all(fun is_token/1)};
+kind(roles) ->
+    {"a list such as {{user,<<\"ann\">>},<<\"coach\">>}, {{network,{{192,0,2,0},24}},<<\"agent\">>} or "
+     "{header,<<\"x-role\">>,[{{192,0,2,9},32}]} (in lower case)", all(fun is_role/1)};
+kind(networks) -> {"a list of networks such as {{192,0,2,0},24}", all(fun is_network/1)};
+kind(users) ->
+    {"a map from names to passwords, all of them non-empty binaries",
+     fun(Users) -> lists:all(fun is_text/1, maps:keys(Users) ++ maps:values(Users)) end};
+kind(part) -> {"a map or none", fun(Value) -> Value =:= none orelse is_map(Value) end};
+kind(node) ->
+    {"a node's name such as 'lobby@10.0.0.20'",
+     fun(Node) -> re:run(atom_to_list(Node), "^[^@]+@[^@]+$", [dollar_endonly]) =/= nomatch end};
+kind(secret) ->
+    {"a binary of 16 to 255 bytes", fun(Secret) -> is_text(Secret) andalso is({16, 255}, byte_size(Secret)) end};
+kind(lease) -> {"address or {file,\"/path\"}", fun(address) -> true; ({file, File}) -> is_path(File) end};
+kind(path) -> {"the path of a file", fun(Path) -> is_path(Path) andalso filelib:is_regular(Path) end};
+kind(file) -> {"a path such as \"/path\"", fun(Value) -> Value =:= none orelse is_path(Value) end};
+kind(boolean) -> {"true or false", fun is_boolean/1};
+kind(share) ->
+    {"quarter or a whole number from 1 to 100000", fun(Value) -> Value =:= quarter orelse is({1, 100000}, Value) end};
+kind(digest) ->
+    {"a list of md5 and sha256", fun(Value) -> lists:member(lists:sort(Value), [[md5], [sha256], [md5, sha256]]) end};
+kind(store) -> {"memory or disc", fun(Value) -> lists:member(Value, [memory, disc]) end};
+kind(text) -> {"a non-empty binary", fun is_text/1};
+kind(ip) -> {"an IPv4 address such as {127,0,0,1}", fun inet:is_ipv4_address/1};
+kind(address) -> {"an IPv4 address and a port such as {{127,0,0,1},2944}", fun is_address/1};
+kind(port) -> {element(1, kind(address)), fun(Value) -> Value =:= none orelse is_address(Value) end};
+kind({Min, Max}) ->
+    {io_lib:format("a whole number from ~b to ~b", [Min, Max]),
+     fun(Value) -> is_integer(Value) andalso Value >= Min andalso Value =< Max end}.
+
+all(Is) -> fun(Values) -> lists:all(Is, Values) end.
+
+is_text(Value) -> is_binary(Value) andalso Value =/= <<>>.
 
 is_path(Value) -> Value =/= [] andalso io_lib:printable_list(Value).
 
-is_network({Address, Bits}) -> inet:is_ipv4_address(Address) andalso is({0, 32}, Bits);
-is_network(_) -> false.
+is_address({Address, Port}) -> inet:is_ipv4_address(Address) andalso is({1, 65535}, Port).
 
-is_role({{user, User}, Role}) -> is(text, User) andalso is_role_name(Role);
-is_role({{network, Network}, Role}) -> is_network(Network) andalso is_role_name(Role);
-is_role({header, Name, Proxies}) -> is(text, Name) andalso Name =:= string:lowercase(Name) andalso Proxies =/= [] andalso is(networks, Proxies);
-is_role(_) -> false.
+is_network({Address, Bits}) -> inet:is_ipv4_address(Address) andalso is({0, 32}, Bits).
 
-is_role_name(Role) -> is(text, Role) andalso byte_size(Role) =< 32.
+is_role({header, Name, Proxies}) ->
+    is_text(Name) andalso Name =:= string:lowercase(Name) andalso Proxies =/= [] andalso is(networks, Proxies);
+is_role({Who, Role}) ->
+    is_text(Role) andalso byte_size(Role) =< 32 andalso case Who of
+        {user, User} -> is_text(User);
+        {network, Network} -> is_network(Network)
+    end.
 
-is_token({Token, Role}) when is_binary(Token), byte_size(Token) >= 16 -> lists:member(Role, [operator, viewer]);
-is_token(_) -> false.
-
-described(roles) -> "a list such as {{user,<<\"ann\">>},<<\"coach\">>}, {{network,{{192,0,2,0},24}},<<\"agent\">>} or "
-                    "{header,<<\"x-role\">>,[{{192,0,2,9},32}]} (in lower case)";
-described(pair) -> "a map or none";
-described(node) -> "a node's name such as 'lobby@10.0.0.20'";
-described(secret) -> "a binary of 16 to 255 bytes";
-described(lease) -> "address or {file,\"/path\"}";
-described(boolean) -> "true or false";
-described(port) -> described(address);
-described(path) -> "the path of a file";
-described(file) -> "a path such as \"/path\"";
-described(share) -> "quarter or a whole number from 1 to 100000";
-described(digest) -> "a list of md5 and sha256";
-described(store) -> "memory or disc";
-described(networks) -> "a list of networks such as {{192,0,2,0},24}";
-described(users) -> "a map from names to passwords, all of them non-empty binaries";
-described(tokens) -> "a list of tokens such as {<<\"sixteen bytes or more\">>,operator} (or viewer)";
-described(gateways) -> "a list of at least one gateway";
-described(text) -> "a non-empty binary";
-described(ip) -> "an IPv4 address such as {127,0,0,1}";
-described(address) -> "an IPv4 address and a port such as {{127,0,0,1},2944}";
-described({Min, Max}) -> io_lib:format("a whole number from ~b to ~b", [Min, Max]).
-
-wrong(Format, Values) ->
-    {error, lists:flatten(io_lib:format(Format, Values))}.
+is_token({Token, Role}) ->
+    is_binary(Token) andalso byte_size(Token) >= 16 andalso lists:member(Role, [operator, viewer]).

@@ -7,31 +7,22 @@
 %% Milliseconds without an event until a comment is sent, so that a browser that is gone is noticed.
 -define(QUIET, 10000).
 
-%% @doc Sends events. At the end, the process is left with the message by which httpd ends the connection.
+%% @doc Sends events to somebody who has subscribed. At the end, the process is left with the message by which httpd ends
+%% the connection.
 -spec run(lobby_socket:socket(), lobby_events:watcher()) -> ok.
 run(Socket, Watcher) ->
     %% A browser that doesn't read is disconnected: what waits for it stays small.
     _ = lobby_socket:setopts(Socket, [{active, once}, {sndbuf, 65536}, {send_timeout, 2000},
                                       {send_timeout_close, true}]),
-    End = case lobby_events:subscribe(Watcher) of
-        ok ->
-            Reason = loop(Socket, lobby_socket:send(Socket, head("200 OK", "text/event-stream"))),
-            ok = lobby_events:unsubscribe(Watcher),
-            Reason;
-        {error, too_many} ->
-            Json = lobby_json:encode(#{error => <<"too many clients are watching with this token">>}),
-            _ = lobby_socket:send(Socket, [head("503 Service Unavailable", "application/json"), Json]),
-            closed(Socket)
-    end,
+    End = loop(Socket, lobby_socket:send(Socket, ["HTTP/1.1 200 OK\r\nContent-Type: text/event-stream\r\n"
+                                                  "Cache-Control: no-store\r\nConnection: close\r\n\r\n"])),
+    ok = lobby_events:unsubscribe(Watcher),
     self() ! End,
     ok.
 
 %% As it comes from the socket.
 closed(Socket) when is_port(Socket) -> {tcp_closed, Socket};
 closed(Socket) -> {ssl_closed, Socket}.
-
-head(Status, Type) ->
-    ["HTTP/1.1 ", Status, "\r\nContent-Type: ", Type, "\r\nCache-Control: no-store\r\nConnection: close\r\n\r\n"].
 
 loop(Socket, ok) ->
     receive

@@ -47,10 +47,7 @@ flush() ->
 
 -spec publish(event()) -> ok.
 publish(Event) ->
-    lists:foreach(fun(Pid) -> Pid ! {lobby_event, Event} end, watchers()).
-
-watchers() ->
-    pg:get_local_members(lobby, events).
+    lists:foreach(fun(Pid) -> Pid ! {lobby_event, Event} end, pg:get_local_members(lobby, events)).
 
 -spec count(counter()) -> ok.
 count(Counter) ->

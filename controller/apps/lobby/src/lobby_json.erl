@@ -4,21 +4,28 @@
 -export([decode/1, encode/1, rules/1, text/2, flag/2, room/3, gateway/2]).
 -export_type([json/0]).
 
+-define(NO_RULE, <<"a rule must be {\"hears\": true or false, \"talker\": PARTY, \"listener\": PARTY}, "
+                   "where PARTY is \"everyone\", {\"role\": TEXT} or {\"member\": ID}">>).
+
 -type json() :: #{binary() | atom() => term()}.
 
-%% @doc An object, and nothing else.
--spec decode(binary()) -> {ok, #{binary() => term()}} | {error, binary()}.
+%% @doc An object, and nothing else. This and what follows throws what is wrong with a body.
+-spec decode(binary()) -> #{binary() => term()}.
 decode(Text) ->
     try jiffy:decode(Text, [return_maps]) of
-        Object when is_map(Object) -> {ok, Object};
-        _ -> {error, <<"the body is not a JSON object">>}
+        Object when is_map(Object) -> Object;
+        _ -> invalid(<<"the body is not a JSON object">>)
     catch
         %% jiffy's error has the position and a name.
         error:{At, Reason} when is_integer(At), is_atom(Reason) ->
-            {error, iolist_to_binary(io_lib:format("the body is not JSON: ~s at byte ~b", [Reason, At]))};
+            invalid(iolist_to_binary(io_lib:format("the body is not JSON: ~s at byte ~b", [Reason, At])));
         %% A number that is too large has another one.
-        error:_ -> {error, <<"the body is not JSON">>}
+        error:_ -> invalid(<<"the body is not JSON">>)
     end.
+
+-spec invalid(binary()) -> no_return().
+invalid(Text) ->
+    throw({invalid, Text}).
 
 %% @doc Names that callers sent needn't be UTF-8.
 -spec encode(json()) -> iodata().
@@ -26,60 +33,51 @@ encode(Json) ->
     jiffy:encode(Json, [force_utf8]).
 
 %% @doc The rules of {"rules": [..]} or {"preset": ".."}.
--spec rules(#{binary() => term()}) -> {ok, [lobby_rules:rule()]} | {error, binary()}.
+-spec rules(#{binary() => term()}) -> [lobby_rules:rule()].
 rules(#{<<"preset">> := Preset}) ->
-    case lists:keyfind(Preset, 1, [{atom_to_binary(P), P} || P <- [plain, lecture, coaching, monitored]]) of
-        {_, Known} -> {ok, lobby_rules:preset(Known)};
-        false -> {error, <<"\"preset\" must be plain, lecture, coaching or monitored">>}
+    case [Known || Known <- [plain, lecture, coaching, monitored], atom_to_binary(Known) =:= Preset] of
+        [Known] -> lobby_rules:preset(Known);
+        [] -> invalid(<<"\"preset\" must be plain, lecture, coaching or monitored">>)
     end;
 rules(#{<<"rules">> := Rules}) when is_list(Rules) ->
-    Read = [rule(Rule) || Rule <- Rules],
-    case lists:member(error, Read) of
-        false -> {ok, Read};
-        true -> {error, <<"a rule must be {\"hears\": true or false, \"talker\": PARTY, \"listener\": PARTY}, "
-                          "where PARTY is \"everyone\", {\"role\": TEXT} or {\"member\": ID}">>}
-    end;
+    [rule(Rule) || Rule <- Rules];
 rules(_) ->
-    {error, <<"\"rules\" or \"preset\" is missing">>}.
+    invalid(<<"\"rules\" or \"preset\" is missing">>).
 
 rule(#{<<"hears">> := Hears, <<"talker">> := Talker, <<"listener">> := Listener}) when is_boolean(Hears) ->
-    case {party(Talker), party(Listener)} of
-        {From, To} when From =/= error, To =/= error -> {case Hears of true -> allow; false -> deny end, From, To};
-        _ -> error
-    end;
+    {case Hears of true -> allow; false -> deny end, party(Talker), party(Listener)};
 rule(_) ->
-    error.
+    invalid(?NO_RULE).
 
 party(<<"everyone">>) -> everyone;
-party(Party) when map_size(Party) =:= 1 -> case maps:to_list(Party) of
-    [{<<"role">>, Role}] when is_binary(Role), byte_size(Role) =< 32 -> {role, Role};
-    [{<<"member">>, Id}] when is_binary(Id), byte_size(Id) =< 32 -> {member, Id};
-    _ -> error
-end;
-party(_) -> error.
+party(Party = #{<<"role">> := Role}) when map_size(Party) =:= 1, is_binary(Role), byte_size(Role) =< 32 -> {role, Role};
+party(Party = #{<<"member">> := Id}) when map_size(Party) =:= 1, is_binary(Id), byte_size(Id) =< 32 -> {member, Id};
+party(_) -> invalid(?NO_RULE).
 
 %% @doc A text of 1 to 32 bytes under this key.
--spec text(binary(), #{binary() => term()}) -> {ok, binary()} | {error, binary()}.
+-spec text(binary(), #{binary() => term()}) -> binary().
 text(Key, Object) ->
     case Object of
-        #{Key := Text} when is_binary(Text), byte_size(Text) >= 1, byte_size(Text) =< 32 -> {ok, Text};
-        #{} -> {error, <<"\"", Key/binary, "\" must be a string of 1 to 32 bytes">>}
+        #{Key := Text} when is_binary(Text), byte_size(Text) >= 1, byte_size(Text) =< 32 -> Text;
+        #{} -> invalid(<<"\"", Key/binary, "\" must be a string of 1 to 32 bytes">>)
     end.
 
 %% @doc Whether something is wanted; without the key it isn't.
--spec flag(binary(), #{binary() => term()}) -> {ok, boolean()} | {error, binary()}.
+-spec flag(binary(), #{binary() => term()}) -> boolean().
 flag(Key, Object) ->
     case maps:get(Key, Object, false) of
-        Flag when is_boolean(Flag) -> {ok, Flag};
-        _ -> {error, <<"\"", Key/binary, "\" must be true or false">>}
+        Flag when is_boolean(Flag) -> Flag;
+        _ -> invalid(<<"\"", Key/binary, "\" must be true or false">>)
     end.
 
 %% @doc A room, with what the gateway says of its topology and with callers' names by id.
 -spec room(lobby_room:name(), lobby_room_core:description(), #{lobby_rules:id() => binary()}) -> json().
 room(Name, Description, Callers) ->
-    #{members := Members, rules := Rules, flows := Flows, gateway := Gateway, context := Context, settings := Settings} = Description,
-    #{name => Name, gateway => or_null(Gateway), context => or_null(Context), locked => maps:get(locked, Settings, false),
-      door => maps:get(door, Settings, false), rules => [written(Rule) || Rule <- Rules],
+    #{members := Members, rules := Rules, flows := Flows, gateway := Gateway, context := Context,
+      settings := Settings} = Description,
+    #{name => Name, gateway => or_null(Gateway), context => or_null(Context),
+      locked => maps:get(locked, Settings, false), door => maps:get(door, Settings, false),
+      rules => [written(Rule) || Rule <- Rules],
       members => [member(Row, Termination, Callers) || {Row, Termination} <- lists:sort(Members)],
       flows => [#{talker => Talker, listener => Listener} || {Talker, Listener} <- Flows]}.
 

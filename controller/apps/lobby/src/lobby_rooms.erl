@@ -18,29 +18,23 @@ is_name(Text) ->
 %% @doc A room that stays when its last member leaves.
 -spec create(lobby_room:name(), [lobby_rules:rule()], lobby_room_core:settings()) -> ok | {error, error()}.
 create(Name, Rules, Settings) ->
-    case started(Name, new) of
-        ok -> called(Name, {create, Rules, Settings}, ?TRIES);
-        {error, Reason} -> {error, Reason}
-    end.
+    call(Name, new, {create, Rules, Settings}, ?TRIES).
 
 %% @doc Asks a room that exists.
 -spec call(lobby_room:name(), lobby_room:request()) -> term() | {error, no_such_room}.
 call(Name, Request) ->
-    case started(Name, old) of
-        ok -> called(Name, Request, ?TRIES);
-        {error, Reason} -> {error, Reason}
-    end.
+    call(Name, old, Request, ?TRIES).
 
 %% A room that ends, because it is empty or because it fails, is started again.
-called(Name, Request, Tries) ->
+call(Name, Kind, Request, Tries) ->
     try
-        lobby_room:call(Name, Request)
+        case started(Name, Kind) of
+            ok -> lobby_room:call(Name, Request);
+            Error -> Error
+        end
     catch
         exit:{Reason, {gen_server, call, _}} when Tries > 1, Reason =/= timeout ->
-            case started(Name, old) of
-                ok -> called(Name, Request, Tries - 1);
-                {error, no_such_room} -> {error, no_such_room}
-            end
+            call(Name, Kind, Request, Tries - 1)
     end.
 
 %% @doc Tells a room of what happened to a member. A room that ends or fails at this moment doesn't hear of it: whoever has
@@ -49,7 +43,7 @@ called(Name, Request, Tries) ->
 tell(Name, Event) ->
     case started(Name, case element(1, Event) of admit -> new; want -> new; _ -> old end) of
         ok -> gen_server:cast({via, lobby_registry, {room, Name}}, Event);
-        {error, Reason} -> {error, Reason}
+        Error -> Error
     end.
 
 %% @doc Sends a room a message, if it runs.

@@ -1,7 +1,7 @@
 %%% @doc Connections over TCP, or over TLS with the operator's certificate.
 -module(lobby_socket).
 
--export([listen/2, accept/1, secured/1, give/2, peer/1, send/2, setopts/2, close/1]).
+-export([opened/1, listen/2, accept/1, secured/1, give/2, peer/1, send/2, setopts/2, close/1]).
 -export_type([socket/0, tls/0, address/0]).
 
 -type socket() :: gen_tcp:socket() | ssl:sslsocket().
@@ -11,6 +11,17 @@
 %% Milliseconds.
 -define(ACCEPT, 1000).
 -define(HANDSHAKE, 5000).
+
+%% @doc Opens a port. The socket of a process that was killed is closed a little later.
+-spec opened(fun(() -> {ok, Opened} | {error, term()})) -> {ok, Opened} | {error, term()}.
+opened(Open) ->
+    opened(Open, 50).
+
+opened(Open, Tries) ->
+    case Open() of
+        {error, _} when Tries > 1 -> timer:sleep(20), opened(Open, Tries - 1);
+        Opened -> Opened
+    end.
 
 -spec listen(address(), tls() | none) -> {ok, socket()} | {error, term()}.
 listen({Address, Port}, Tls) ->

@@ -5,8 +5,7 @@
 -export([new/1, message/3, call/4, entered/4, left/2]).
 -export_type([limits/0, admission/0]).
 
-%% Calls at all; calls and rooms of one address, and its messages and new calls a second. Without networks of callers,
-%% anybody may call.
+%% Calls at all; calls and rooms of one address, and its messages and new calls a second.
 -type limits() :: #{callers := [lobby_auth:network()], proxies := [lobby_auth:network()], max_calls := pos_integer(),
                     max_calls_from := pos_integer(), max_rooms_from := pos_integer(), messages_from := pos_integer(),
                     new_calls_from := pos_integer(), _ => _}.
@@ -21,14 +20,12 @@ new(Limits) -> #admission{limits = Limits}.
 
 %% @doc Returns whether a message from this address is read. The time is in milliseconds.
 -spec message(inet:ip4_address(), Now :: integer(), admission()) -> {boolean(), admission()}.
-message(Address, Now, A = #admission{limits = #{callers := Callers, messages_from := Rate}}) ->
-    case {is_proxy(Address, A), Callers =:= [] orelse lobby_auth:is_in(Address, Callers)} of
-        {true, _} -> {true, A};
-        {false, true} -> take(message, Address, Rate, Now, A);
-        {false, false} -> {false, A}
+message(Address, Now, A = #admission{limits = Limits = #{messages_from := Rate}}) ->
+    case lobby_auth:sender(Address, Limits) of
+        proxy -> {true, A};
+        caller -> take(message, Address, Rate, Now, A);
+        stranger -> {false, A}
     end.
-
-is_proxy(Address, #admission{limits = #{proxies := Proxies}}) -> lobby_auth:is_in(Address, Proxies).
 
 take(Kind, Address, Rate, Now, A = #admission{buckets = Buckets}) ->
     {Taken, Buckets1} = lobby_buckets:take({Kind, Address}, Rate, Now, Buckets),
@@ -43,7 +40,7 @@ call(Address, {Room, IsNew}, Now, A = #admission{limits = Limits, calls = Calls,
     Rooms = maps:get(Address, ByAddress, #{}),
     TooMany = lists:sum(maps:values(Rooms)) >= MaxFrom
         orelse IsNew andalso not is_map_key(Room, Rooms) andalso map_size(Rooms) >= MaxRooms,
-    case {map_size(Calls) >= Max, is_proxy(Address, A), TooMany} of
+    case {map_size(Calls) >= Max, lobby_auth:sender(Address, Limits) =:= proxy, TooMany} of
         {true, _, _} -> {full, A};
         {false, true, _} -> {ok, A};
         {false, false, true} -> {too_many, A};

@@ -8,7 +8,7 @@
 
 -include_lib("p1_sip/include/esip.hrl").
 
--export([is_in/2, new/1, check/4, identity/1, asserted/2, may_offer/3]).
+-export([is_in/2, sender/2, new/1, check/4, identity/1, asserted/2, may_offer/3]).
 -export_type([network/0, users/0, algorithm/0, auth/0]).
 
 -type network() :: {inet:ip4_address(), Bits :: 0..32}.
@@ -31,6 +31,15 @@ is_in(Address, Networks) ->
     end, Networks).
 
 number({A, B, C, D}) -> (A bsl 24) bor (B bsl 16) bor (C bsl 8) bor D.
+
+%% @doc Who sends from an address. Without networks of callers, anybody may call.
+-spec sender(inet:ip4_address(), #{callers := [network()], proxies := [network()], _ => _}) -> proxy | caller | stranger.
+sender(Address, #{callers := Callers, proxies := Proxies}) ->
+    case {is_in(Address, Proxies), Callers =:= [] orelse is_in(Address, Callers)} of
+        {true, _} -> proxy;
+        {false, true} -> caller;
+        {false, false} -> stranger
+    end.
 
 %% @doc Returns whether media may be sent to the address that a caller offers: it is his own, it lies in one of the
 %% networks, or a trusted proxy sent the offer.

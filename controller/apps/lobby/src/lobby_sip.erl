@@ -73,7 +73,7 @@ allow() ->
 
 -spec init(config()) -> {ok, #state{}} | {stop, {cannot_bind, lobby_sip_message:peer(), inet:posix()}}.
 init(Config = #{sip := Own, digest := Algorithms, tls := Tls}) ->
-    case open(Own, 50) of
+    case lobby_socket:opened(fun() -> open(Own) end) of
         {ok, Socket} ->
             OwnTls = case Tls of #{sip := Address} -> Address; none -> none end,
             ok = persistent_term:put(?MODULE, {Socket, Own, secret(), OwnTls}),
@@ -84,12 +84,8 @@ init(Config = #{sip := Own, digest := Algorithms, tls := Tls}) ->
             {stop, {cannot_bind, Own, Reason}}
     end.
 
-%% The socket of a process that was killed is closed a little later.
-open(Own = {Address, Port}, Tries) ->
-    case gen_udp:open(Port, [binary, {ip, Address}, {active, 100}, {recbuf, 1048576}, {buffer, 65536}]) of
-        {error, eaddrinuse} when Tries > 1 -> timer:sleep(20), open(Own, Tries - 1);
-        Opened -> Opened
-    end.
+open({Address, Port}) ->
+    gen_udp:open(Port, [binary, {ip, Address}, {active, 100}, {recbuf, 1048576}, {buffer, 65536}]).
 
 %% It is kept, so that tags stay as they are when this process is started again, or a node takes over.
 secret() ->

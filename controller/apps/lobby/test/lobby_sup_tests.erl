@@ -10,7 +10,7 @@ waits_for_what_ends_late_test_() ->
         yes = lobby_registry:register_name({room, <<"100">>}, Room),
         Own = self(),
         _ = spawn(fun() ->
-            {ok, Rooms} = lobby_sup:start_link(lobby_room_sup, rooms),
+            {ok, Rooms} = lobby_sup:start_link(lobby_room_sup, {many, lobby_room}),
             Own ! {started, is_process_alive(Room)},
             unlink(Rooms),
             exit(Rooms, kill)

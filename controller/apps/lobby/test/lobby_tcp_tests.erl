@@ -41,6 +41,6 @@ connections_start_when_the_old_ones_have_ended_test() ->
     Old = spawn(fun() -> receive stop -> timer:sleep(50) end end),
     true = register(lobby_connections, Old),
     Old ! stop,
-    {ok, New} = lobby_tcp_sup:start_connections(),
+    {ok, New} = lobby_sup:start_link(lobby_connections, {many, lobby_tcp}),
     ?assertNot(is_process_alive(Old)),
     gen_server:stop(New).

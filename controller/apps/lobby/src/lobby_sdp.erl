@@ -23,14 +23,14 @@ parse(Text) ->
         _ -> {error, bad_syntax}
     end.
 
-session({Head, Blocks}) ->
-    case length(Blocks) =< ?MAX_STREAMS andalso [stream(Block) || Block <- Blocks] of
-        false -> {error, bad_syntax};
-        Streams -> case lists:member(bad, Streams) of
-            true -> {error, bad_syntax};
-            false -> take(Head, lists:zip(Streams, Blocks))
-        end
-    end.
+session({Head, Blocks}) when length(Blocks) =< ?MAX_STREAMS ->
+    Streams = [stream(Block) || Block <- Blocks],
+    case lists:member(bad, Streams) of
+        true -> {error, bad_syntax};
+        false -> take([{Stream, audio(Stream, Lines, Head)} || {Stream, Lines} <- lists:zip(Streams, Blocks)])
+    end;
+session(_) ->
+    {error, bad_syntax}.
 
 %% Bytes, because a description needn't be UTF-8 as a whole.
 words(Text) ->
@@ -41,17 +41,9 @@ trim(Line) ->
 
 %% The lines before the first m= line, and a list of lines for each m= line.
 blocks(Lines) ->
-    {Head, Rest} = lists:splitwith(fun(Line) -> not is_media(Line) end, Lines),
-    {Head, media_blocks(Rest)}.
-
-media_blocks([]) ->
-    [];
-media_blocks([First | Rest]) ->
-    {Lines, Others} = lists:splitwith(fun(Line) -> not is_media(Line) end, Rest),
-    [[First | Lines] | media_blocks(Others)].
-
-is_media(<<"m=", _/binary>>) -> true;
-is_media(_) -> false.
+    lists:foldr(fun(First = <<"m=", _/binary>>, {Rest, Blocks}) -> {[], [[First | Rest] | Blocks]};
+                   (Line, {Rest, Blocks}) -> {[Line | Rest], Blocks}
+                end, {[], []}, Lines).
 
 stream([<<"m=", Value/binary>> | _]) ->
     case words(Value) of
@@ -67,19 +59,17 @@ port(Text) ->
     end.
 
 %% The first stream that can be served is taken, and the others are declined.
-take(Head, Streams) ->
-    Tried = [{Stream, audio(Stream, Lines, Head)} || {Stream, Lines} <- Streams],
-    case [Found || {_, Found = {ok, _, _}} <- Tried] of
-        [{ok, Media, Direction} | _] ->
-            {Before, [_ | After]} = lists:splitwith(fun({_, Found}) -> element(1, Found) =/= ok end, Tried),
-            Streams1 = [declined(S) || {S, _} <- Before] ++ [taken] ++ [declined(S) || {S, _} <- After],
-            {ok, #session{media = Media, direction = Direction, streams = Streams1}};
-        [] ->
+take(Tried) ->
+    case lists:splitwith(fun({_, Found}) -> element(1, Found) =:= error end, Tried) of
+        {Before, [{_, {ok, Media, Direction}} | After]} ->
+            Streams = declined(Before) ++ [taken | declined(After)],
+            {ok, #session{media = Media, direction = Direction, streams = Streams}};
+        {_, []} ->
             {error, hd([Reason || {_, {error, Reason}} <- Tried, Reason =/= no_audio] ++ [no_audio])}
     end.
 
-declined({Kind, _, Transport, Formats}) ->
-    {declined, Kind, Transport, Formats}.
+declined(Tried) ->
+    [{declined, Kind, Transport, Formats} || {{Kind, _, Transport, Formats}, _} <- Tried].
 
 audio({<<"audio">>, Port, <<"RTP/AVP">>, Formats}, Lines, Head) when Port =/= none ->
     Common = [Format || Type <- Formats, Format <- format(Type)],
@@ -113,16 +103,8 @@ address(Lines) ->
     end.
 
 direction_of(Lines) ->
-    case [Direction || <<"a=", Value/binary>> <- Lines, Direction <- direction_named(Value)] of
-        [Direction | _] -> Direction;
-        [] -> sendrecv
-    end.
-
-direction_named(<<"sendrecv">>) -> [sendrecv];
-direction_named(<<"sendonly">>) -> [sendonly];
-direction_named(<<"recvonly">>) -> [recvonly];
-direction_named(<<"inactive">>) -> [inactive];
-direction_named(_) -> [].
+    hd([Direction || <<"a=", Value/binary>> <- Lines, Direction <- [sendrecv, sendonly, recvonly, inactive],
+                     Value =:= atom_to_binary(Direction)] ++ [sendrecv]).
 
 %% @doc Where the caller receives, and in which format.
 -spec media(session()) -> lobby_h248:media().

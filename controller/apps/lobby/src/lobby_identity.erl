@@ -16,7 +16,8 @@
 known(Invite, Source) ->
     Named = named(lobby_auth:identity(Invite), Invite),
     Known = Named#{isolated => lobby_store:has(lobby_isolated, maps:get(identity, Named))},
-    case [Role || Rule <- application:get_env(lobby, roles, []), Role <- role(Rule, Invite, Source)] of
+    Address = lobby_sip_message:address(Source),
+    case [Role || Rule <- application:get_env(lobby, roles, []), Role <- role(Rule, Invite, Address)] of
         [Role | _] -> Known#{role => Role};
         [] -> Known
     end.
@@ -29,12 +30,10 @@ named(Name, _) ->
     #{identity => Name, name => Name}.
 
 role({{user, User}, Role}, Invite, _) -> [Role || lobby_auth:identity(Invite) =:= User];
-role({{network, Network}, Role}, _, Source) -> [Role || lobby_auth:is_in(address(Source), [Network])];
-role({header, Name, Proxies}, #sip{hdrs = Headers}, Source) ->
-    [Role || lobby_auth:is_in(address(Source), Proxies), {role, {Of, Role}} <- Headers, Of =:= Name, byte_size(Role) >= 1, byte_size(Role) =< 32].
-
-address(Source) ->
-    element(1, lobby_sip_message:peer(Source)).
+role({{network, Network}, Role}, _, Address) -> [Role || lobby_auth:is_in(Address, [Network])];
+role({header, Name, Proxies}, #sip{hdrs = Headers}, Address) ->
+    [Role || lobby_auth:is_in(Address, Proxies), {role, {Of, Role}} <- Headers, Of =:= Name,
+             byte_size(Role) >= 1, byte_size(Role) =< 32].
 
 %% @doc Whether somebody is isolated when he calls again.
 -spec keep_isolated(Identity :: binary(), boolean()) -> ok.

@@ -18,30 +18,27 @@
                 'p-asserted-identity']).
 -define(HOST, "(\\[[0-9A-Fa-f:.]+\\]|[A-Za-z0-9_.-]+)").
 
-%% @doc A message. With a status: a request that can be answered by it, but not served. A header that can't be read is in
-%% it as a text, and of a header that comes twice, the first one.
+%% @doc A message. With a status: a request that can be answered by it, but not served. A header that can't be read is
+%% in it as a text, and of a header that comes twice, the first one.
 -spec decode(binary()) -> {ok | 400 | 505, #sip{}} | {error, not_sip}.
 decode(Datagram) ->
     case binary:split(Datagram, <<"\r\n\r\n">>) of
-        [Head, Body] when byte_size(Head) =< ?MAX_HEAD -> head(has_few_parts(Head, ?MAX_PARTS), Head, Body);
+        [Head, Body] when byte_size(Head) =< ?MAX_HEAD ->
+            Separators = binary:matches(Head, [<<",">>, <<";">>, <<"&">>, <<"\n">>]),
+            head(Head, length(Separators), Body);
         _ -> {error, not_sip}
     end.
 
-has_few_parts(<<Char, Rest/binary>>, Left) when Char =:= $,; Char =:= $;; Char =:= $&; Char =:= $\n ->
-    Left > 0 andalso has_few_parts(Rest, Left - 1);
-has_few_parts(<<_, Rest/binary>>, Left) -> has_few_parts(Rest, Left);
-has_few_parts(<<>>, _) -> true.
-
-head(false, _, _) ->
-    {error, not_sip};
-head(true, Head, Body) ->
+head(Head, Parts, Body) when Parts =< ?MAX_PARTS ->
     %% A line that begins with white space continues the one before (section 7.3.1).
     Unfolded = binary:replace(Head, [<<"\r\n ">>, <<"\r\n\t">>], <<" ">>, [global]),
     [First | Lines] = binary:split(Unfolded, <<"\r\n">>, [global]),
     case start_line(binary:split(First, <<" ">>, [global])) of
         {Status, Message} -> with_headers(Lines, Status, Message#sip{body = Body});
         error -> {error, not_sip}
-    end.
+    end;
+head(_, _, _) ->
+    {error, not_sip}.
 
 start_line([<<"SIP/2.0">>, Code | Reason]) ->
     case read(fun(Text) -> number(Text, 699) end, Code) of
@@ -88,7 +85,8 @@ name({Key, _}) ->
 header(Line) ->
     case {binary:split(Line, <<":">>), binary:match(Line, [<<"\r">>, <<"\n">>])} of
         {[Name, Value], nomatch} -> case key(lower(trim(Name))) of
-            unused -> [{role, {Role, trim(Value)}} || {header, Role, _} <- application:get_env(lobby, roles, []), Role =:= lower(trim(Name))];
+            unused -> [{role, {Known, trim(Value)}} || {header, Known, _} <- application:get_env(lobby, roles, []),
+                                                       Known =:= lower(trim(Name))];
             Key -> case read(fun(Text) -> value(Key, Text) end, trim(Value)) of
                 {ok, Read} -> [{Key, Read}];
                 error -> [{atom_to_binary(Key), trim(Value)}]

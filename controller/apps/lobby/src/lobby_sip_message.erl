@@ -3,7 +3,7 @@
 
 -include_lib("p1_sip/include/esip.hrl").
 
--export([decode/2, encode/1, refusal/1, response/4, response_target/2, peer/1, connection/1, transport/1]).
+-export([decode/2, encode/1, refusal/1, response/4, response_target/2, peer/1, address/1, connection/1, transport/1]).
 -export([header/2, headers/2, tag/2, sequence/1, body/1, branch/0, allow/0, accept/0]).
 -export_type([message/0, peer/0, target/0]).
 
@@ -28,7 +28,7 @@ checked(Status, Message = #sip{type = Type}) ->
     Present = [Key || Key <- [via, from, to, 'call-id', cseq], not lists:member(header(Key, Message), [undefined, []])],
     case {Present, Status, Type} of
         {[via, from, to, 'call-id', cseq], ok, response} -> {ok, Message};
-        {[via, from, to, 'call-id', cseq], ok, request} -> case whole_body(Message) of
+        {[via, from, to, 'call-id', cseq], ok, request} -> case is_whole(Message) of
             true -> {ok, Message};
             false -> {refused, 400, Message}
         end;
@@ -38,11 +38,8 @@ checked(Status, Message = #sip{type = Type}) ->
     end.
 
 %% Section 18.3: a body that is shorter than its Content-Length was cut off.
-whole_body(Message = #sip{body = Body}) ->
-    case header('content-length', Message) of
-        Length when is_integer(Length) -> Length =< byte_size(Body);
-        undefined -> true
-    end.
+is_whole(Message = #sip{body = Body}) ->
+    header('content-length', Message, 0) =< byte_size(Body).
 
 %% @doc The answer to a request that asks for what nobody here has (section 8.2), whatever call it is of. An ACK isn't
 %% answered, and a CANCEL isn't refused for its contents.
@@ -75,19 +72,13 @@ has_contact(Request) ->
     end.
 
 is_sdp(Request) ->
-    case {body(Request), header('content-type', Request)} of
-        {<<>>, _} -> true;
-        {_, undefined} -> true;
-        {_, {Type, _}} -> Type =:= <<"application/sdp">>
-    end.
+    Sdp = <<"application/sdp">>,
+    body(Request) =:= <<>> orelse element(1, header('content-type', Request, {Sdp, []})) =:= Sdp.
 
 accepts_sdp(Request) ->
-    case lists:keymember(accept, 1, Request#sip.hdrs) of
-        true -> lists:any(fun({Type, _}) ->
-            lists:member(Type, [<<"application/sdp">>, <<"application/*">>, <<"*/*">>])
-        end, headers(accept, Request));
-        false -> true
-    end.
+    Fitting = [Type || {Type, _} <- headers(accept, Request),
+                       lists:member(Type, [<<"application/sdp">>, <<"application/*">>, <<"*/*">>])],
+    Fitting =/= [] orelse not lists:keymember(accept, 1, Request#sip.hdrs).
 
 -spec allow() -> {allow, [binary()]}.
 allow() ->
@@ -99,15 +90,13 @@ accept() ->
 
 %% RFC 3261, section 18.2.1, and RFC 3581: where the message came from.
 received(Message = #sip{type = request, hdrs = Headers}, {Address, Port}) ->
-    case lists:keyfind(via, 1, Headers) of
-        {via, [Top = #via{params = Params} | Rest]} ->
-            Host = list_to_binary(inet:ntoa(Address)),
-            Known = [{Key, Value} || {Key, Value} <- Params, Key =/= <<"received">>],
-            New = [{<<"received">>, Host} | case lists:keymember(<<"rport">>, 1, Known) of
-                true -> lists:keyreplace(<<"rport">>, 1, Known, {<<"rport">>, integer_to_binary(Port)});
-                false -> Known
-            end],
-            Message#sip{hdrs = lists:keyreplace(via, 1, Headers, {via, [Top#via{params = New} | Rest]})};
+    case header(via, Message) of
+        [Top = #via{params = Params} | Rest] ->
+            From = {<<"received">>, list_to_binary(inet:ntoa(Address))},
+            Known = [Param || Param = {Key, _} <- Params, Key =/= <<"received">>],
+            Asked = lists:keyreplace(<<"rport">>, 1, Known, {<<"rport">>, integer_to_binary(Port)}),
+            Via = {via, [Top#via{params = [From | Asked]} | Rest]},
+            Message#sip{hdrs = lists:keyreplace(via, 1, Headers, Via)};
         _ ->
             Message
     end;
@@ -151,6 +140,10 @@ response_target(Request, {Address, Port}) ->
 peer({tcp, _, Peer}) -> Peer;
 peer(Peer) -> Peer.
 
+-spec address(target()) -> inet:ip4_address().
+address(Target) ->
+    element(1, peer(Target)).
+
 -spec connection(target()) -> pid() | none.
 connection({tcp, {tls, Pid}, _}) -> Pid;
 connection({tcp, Pid, _}) -> Pid;
@@ -164,8 +157,11 @@ transport(_) -> <<"UDP">>.
 
 %% @doc The first header of this name, if it could be decoded.
 -spec header(atom(), message()) -> term().
-header(Key, #sip{hdrs = Headers}) ->
-    proplists:get_value(Key, Headers).
+header(Key, Message) ->
+    header(Key, Message, undefined).
+
+header(Key, #sip{hdrs = Headers}, Default) ->
+    proplists:get_value(Key, Headers, Default).
 
 %% @doc The values of all headers of this name that have lists.
 -spec headers(atom(), message()) -> [term()].
@@ -175,10 +171,8 @@ headers(Key, #sip{hdrs = Headers}) ->
 %% @doc The tag of From or To, or nothing.
 -spec tag(from | to, message()) -> binary().
 tag(Key, Message) ->
-    case header(Key, Message) of
-        {_, _, Params} -> proplists:get_value(<<"tag">>, Params, <<>>);
-        undefined -> <<>>
-    end.
+    {_, _, Params} = header(Key, Message, {none, none, []}),
+    proplists:get_value(<<"tag">>, Params, <<>>).
 
 -spec sequence(message()) -> non_neg_integer().
 sequence(Message) ->
@@ -187,10 +181,8 @@ sequence(Message) ->
 %% @doc The body, without what comes after its Content-Length.
 -spec body(message()) -> binary().
 body(Message = #sip{body = Body}) ->
-    case header('content-length', Message) of
-        Length when is_integer(Length), Length < byte_size(Body) -> binary:part(Body, 0, Length);
-        _ -> Body
-    end.
+    Size = byte_size(Body),
+    binary:part(Body, 0, min(Size, header('content-length', Message, Size))).
 
 %% @doc A branch for a Via (section 8.1.1.7).
 -spec branch() -> binary().

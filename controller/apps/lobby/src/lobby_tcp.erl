@@ -3,7 +3,7 @@
 -behaviour(gen_server).
 
 -export([start_link/2, send/2, in_call/2, frame/1]).
--export([init/1, handle_continue/2, handle_call/3, handle_cast/2, handle_info/2]).
+-export([init/1, handle_call/3, handle_cast/2, handle_info/2]).
 
 -define(MAX_MESSAGE, 65535).
 -define(MAX_HEAD, 8192).
@@ -64,8 +64,7 @@ content_length(Head) ->
 init({Socket, Peer}) ->
     {ok, #state{socket = Socket, peer = Peer, due = erlang:start_timer(?MESSAGE, self(), due)}}.
 
--spec handle_continue(listen, #state{}) -> {noreply, #state{}, timeout()} | {stop, normal, #state{}}.
-handle_continue(listen, State = #state{socket = Socket}) ->
+listen(State = #state{socket = Socket}) ->
     case lobby_socket:setopts(Socket, [{active, once}]) of
         ok -> waits(State);
         {error, _} -> {stop, normal, State}
@@ -78,8 +77,7 @@ waits(State) -> {noreply, State, ?IN_CALL}.
 handle_call(_, _, State) ->
     {reply, {error, unknown_call}, State, ?IDLE}.
 
--spec handle_cast({send, binary()} | {call, pid()} | term(), #state{}) ->
-          {noreply, #state{}, timeout()} | {stop, normal, #state{}}.
+-spec handle_cast(term(), #state{}) -> {noreply, #state{}, timeout()} | {stop, normal, #state{}}.
 handle_cast({send, Message}, State = #state{socket = Socket}) ->
     case lobby_socket:send(Socket, Message) of
         ok -> waits(State);
@@ -90,11 +88,10 @@ handle_cast({call, Call}, State = #state{calls = Calls}) when not is_map_key(Cal
 handle_cast(_, State) ->
     waits(State).
 
--spec handle_info(term(), #state{}) ->
-          {noreply, #state{}, timeout() | {continue, listen}} | {stop, normal, #state{}}.
+-spec handle_info(term(), #state{}) -> {noreply, #state{}, timeout()} | {stop, normal, #state{}}.
 handle_info(ready, State = #state{socket = Socket}) ->
     case lobby_socket:secured(Socket) of
-        {ok, Secured} -> {noreply, State#state{socket = Secured}, {continue, listen}};
+        {ok, Secured} -> listen(State#state{socket = Secured});
         {error, _} -> {stop, normal, State}
     end;
 handle_info({Kind, Socket, Bytes}, State = #state{socket = Socket, buffer = Buffer}) when Kind =:= tcp; Kind =:= ssl ->
@@ -119,12 +116,9 @@ frames(State = #state{buffer = Bytes}) ->
             ok = lobby_sip:received(Message, target(State)),
             frames(due(State#state{buffer = Rest}));
         more when State#state.due =:= none, Buffer =/= <<>> ->
-            Due = erlang:start_timer(?MESSAGE, self(), due),
-            {noreply, State#state{buffer = Buffer, due = Due}, {continue, listen}};
-        more ->
-            {noreply, State#state{buffer = Buffer}, {continue, listen}};
-        {error, too_long} ->
-            {stop, normal, State}
+            listen(State#state{buffer = Buffer, due = erlang:start_timer(?MESSAGE, self(), due)});
+        more -> listen(State#state{buffer = Buffer});
+        {error, too_long} -> {stop, normal, State}
     end.
 
 target(#state{socket = Socket, peer = Peer}) when is_port(Socket) -> {tcp, self(), Peer};

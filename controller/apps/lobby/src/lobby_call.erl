@@ -3,14 +3,14 @@
 %%% This process is also the transactions of its dialog. It answers a request that comes again by the same response,
 %%% repeats its 200 until the ACK comes (RFC 3261, section 13.3.1.4), and its own requests until they are answered.
 %%%
-%%% States: `starting', until his room has him; `confirming', a 200 waits for its ACK; `talking'; `offering', our re-INVITE
-%%% waits for an answer; `ending', our BYE does.
+%%% States: `starting', until his room has him; `confirming', a 200 waits for its ACK; `talking'; `offering', our
+%%% re-INVITE waits for an answer; `ending', our BYE does.
 -module(lobby_call).
 -behaviour(gen_statem).
 
 -include_lib("p1_sip/include/esip.hrl").
 
--export([start/3, start_link/3, callers/1, sources/0, restore/1, set_aside/1, upgraded/1, upgraded_row/3]).
+-export([start/3, start_link/3, callers/1, sources/0, find/1, set_aside/1, upgraded/1, upgraded_row/3]).
 -export([callback_mode/0, init/1, handle_event/4]).
 
 %% RFC 3261, section 17: T2 is 8 times T1, and after 64 times T1 nobody waits any longer.
@@ -20,8 +20,8 @@
 -define(SPREAD, 2).
 %% Milliseconds after which an idle call takes less memory.
 -define(IDLE, 1000).
-%% Milliseconds in which a new caller is let in, and until it is tried again if no gateway has a seat. Milliseconds until a
-%% row is sent again to a room that hasn't reported it.
+%% Milliseconds in which a new caller is let in, and until it is tried again if no gateway has a seat. Milliseconds
+%% until a row is sent again to a room that hasn't reported it.
 -define(LET_IN, 5000).
 -define(RETRY, 250).
 -define(AGAIN, 1000).
@@ -49,14 +49,17 @@
                %% His request whose offer the gateway hasn't taken yet.
                changing = none :: lobby_sip_message:message() | none,
                %% What is wanted for him. The store keeps it apart.
-               person = none :: lobby_person:person() | none}).
-%% What is done when the gateway has what he offers.
--type purpose() :: {invite | reinvite | update, lobby_sip_message:message()} | answer | none.
+               person = none :: lobby_person:person() | none,
+               %% The state, and what gen_statem is to do after this event.
+               state = talking :: state(), out = [] :: [gen_statem:action()]}).
+%% What is done when the gateway has what he offers: in his INVITE, in a request after that, or in an answer.
+-type purpose() :: invite | {change, lobby_sip_message:message()} | answer | none.
 
 %% @doc Starts a call for a first INVITE.
 -spec start(lobby_room:name(), lobby_sip_message:message(), lobby_sip_message:target()) -> {ok, pid()}.
 start(Room, Invite, Source) ->
-    lobby_keeper:started(call, lobby_dialog:key(Invite), supervisor:start_child(lobby_call_sup, [Room, Invite, Source])).
+    Started = supervisor:start_child(lobby_call_sup, [Room, Invite, Source]),
+    lobby_keeper:started(call, lobby_dialog:key(Invite), Started).
 
 -spec start_link(lobby_room:name(), lobby_sip_message:message(), lobby_sip_message:target()) -> gen_statem:start_ret().
 start_link(Room, Invite, Source) ->
@@ -77,41 +80,42 @@ callers(Rows) ->
 %% @doc The calls' processes, with where their callers' first requests came from.
 -spec sources() -> [{pid(), lobby_sip_message:target()}].
 sources() ->
-    [{Pid, Source} || {Key, Pid} <- lobby_registry:names(call), {ok, #{source := Source}} <- [lobby_store:get(lobby_calls, Key)]].
+    [{Pid, Source} || {Key, Pid} <- lobby_registry:names(call),
+                      {ok, #{source := Source}} <- [lobby_store:get(lobby_calls, Key)]].
 
-%% @doc Starts a call that was kept.
--spec restore(Key :: {binary(), binary()}) -> {ok, pid()} | error.
-restore(Key) ->
-    case lobby_store:get(lobby_calls, Key) of
-        {ok, #{invite := Invite, room := Room, source := Source}} ->
-            {ok, Pid} = start(Room, Invite, Source),
-            _ = [Sip ! {started, Pid, Source} || Sip <- [whereis(lobby_sip)], is_pid(Sip)],
-            {ok, Pid};
-        error ->
-            error
+%% @doc The process of a call. It is started if the call was kept.
+-spec find(Key :: {binary(), binary()}) -> {ok, pid()} | error.
+find(Key) ->
+    case lobby_registry:whereis_name({call, Key}) of
+        undefined -> restored(lobby_store:get(lobby_calls, Key));
+        Pid -> {ok, Pid}
     end.
+
+restored({ok, #{invite := Invite, room := Room, source := Source}}) ->
+    {ok, Pid} = start(Room, Invite, Source),
+    _ = [Sip ! {started, Pid, Source} || Sip <- [whereis(lobby_sip)], is_pid(Sip)],
+    {ok, Pid};
+restored(error) ->
+    error.
 
 %% @doc Ends a call whose process fails again and again.
 -spec set_aside(Key :: {binary(), binary()}) -> ok.
 set_aside(Key) ->
     logger:error("the call ~0p fails again and again. It is ended", [Key]),
     ok = lobby_events:count(lobby_set_aside_total),
-    case lobby_store:get(lobby_calls, Key) of
-        {ok, #{id := Id, call := Call = #call{dialog = Dialog, source = Source}}} ->
-            {Bye, _} = lobby_dialog:request(<<"BYE">>, {[], <<>>}, own(Call), Dialog),
-            ok = lobby_sip:send(lobby_dialog:target(Dialog, Source), Bye),
-            forget(Id, Key);
-        {ok, #{id := Id}} -> forget(Id, Key);
-        error -> ok
-    end.
-
-forget(Id, Key) ->
-    Person = case lobby_member:find(Id) of
-        {ok, Row} -> [lobby_person:restored(Row)];
-        error -> []
-    end,
-    lists:foreach(fun(P) -> lists:foreach(fun lobby_member:act/1, element(2, lobby_person:handle(leave, P))) end, Person),
+    Kept = [Kept || {ok, Kept} <- [lobby_store:get(lobby_calls, Key)]],
+    lists:foreach(fun(Call = #call{dialog = Dialog}) ->
+        {Bye, _} = lobby_dialog:request(<<"BYE">>, {[], <<>>}, own(Call), Dialog),
+        ok = to_caller(Bye, Call)
+    end, [Call || #{call := Call} <- Kept]),
+    Rows = [Row || #{id := Id} <- Kept, {ok, Row} <- [lobby_member:find(Id)]],
+    lists:foreach(fun(Row) -> ok = leave(lobby_person:restored(Row)) end, Rows),
     lobby_store:delete(lobby_calls, Key).
+
+%% Nobody who waits is answered.
+leave(Person) ->
+    {_, Actions} = lobby_person:handle(leave, Person),
+    lists:foreach(fun lobby_member:act/1, [Action || Action <- Actions, element(1, Action) =/= answer]).
 
 -spec callback_mode() -> handle_event_function.
 callback_mode() ->
@@ -125,7 +129,8 @@ init({Room, Invite, Source}) ->
             yes = lobby_registry:register_name({member, Id}, self()),
             Ask = {{timeout, ask}, rand:uniform(?SPREAD * lobby_store:size(lobby_calls)), again},
             case lobby_member:find(Id) of
-                {ok, Row} -> {ok, talking, Call#call{person = lobby_person:restored(Row)}, [Ask, {next_event, internal, again}]};
+                {ok, Row} ->
+                    {ok, talking, Call#call{person = lobby_person:restored(Row)}, [Ask, {next_event, internal, again}]};
                 error -> {ok, talking, Call, [{next_event, internal, lost}]}
             end;
         {ok, #{id := Id}} ->
@@ -136,161 +141,146 @@ init({Room, Invite, Source}) ->
     end.
 
 -spec handle_event(gen_statem:event_type(), term(), state(), #call{} | new) -> gen_statem:event_handler_result(state()).
-handle_event(internal, {start, Id, Room, Invite, Source}, starting, new) ->
+handle_event(Type, Content, _, Call) ->
+    case event(Type, Content, Call) of
+        stopped -> {stop, normal};
+        Next = #call{state = State, out = Out} -> {next_state, State, Next#call{out = []}, Out}
+    end.
+
+%% Has gen_statem do something after this event. Of two times for a timeout, the later one counts.
+with(Actions, Call = #call{out = Out}) -> Call#call{out = Out ++ Actions}.
+
+-spec event(gen_statem:event_type(), term(), #call{} | new) -> #call{} | stopped.
+event(internal, {start, Id, Room, Invite, Source}, new) ->
     start(Id, Room, Invite, Source);
-handle_event(internal, again, State, Call) ->
-    person(again, State, Call);
-handle_event(internal, lost, State, Call) ->
-    bye(State, Call);
+event(internal, again, Call) ->
+    person(again, Call);
+event(internal, lost, Call) ->
+    bye(Call);
 %% The caller is asked whether he is still there, and told where the gateway receives him now.
-handle_event({timeout, ask}, again, State, Call) ->
-    invite(State, Call);
-handle_event(info, {sip, Request = #sip{type = request, method = Method}, Source}, State, Call) ->
-    request(Method, Request, State, Call#call{source = Source});
-handle_event(info, {sip, Response = #sip{type = response}, _}, State, Call) ->
-    response(Response, State, Call);
-handle_event(info, {lobby_room, _, _}, ending, _) ->
-    keep_state_and_data;
-handle_event(info, {lobby_room, Room, {admitted, Result}}, State, Call) ->
-    person({admitted, Room, Result}, State, Call);
-handle_event(info, {lobby_room, Room, {report, Report}}, State, Call) ->
-    reported(Report, person({report, Room, Report}, State, Call));
+event({timeout, ask}, again, Call) ->
+    invite(Call);
+event(info, {sip, Request = #sip{type = request, method = Method}, Source}, Call) ->
+    request(Method, Request, Source, Call);
+event(info, {sip, Response = #sip{type = response}, _}, Call) ->
+    response(Response, Call);
+event(info, {lobby_room, _, _}, Call = #call{state = ending}) ->
+    Call;
+event(info, {lobby_room, Room, {admitted, Result}}, Call) ->
+    person({admitted, Room, Result}, Call);
+event(info, {lobby_room, Room, {report, Report}}, Call) ->
+    reported(Report, person({report, Room, Report}, Call));
 %% No packets come from him: is he still there?
-handle_event(info, {lobby_room, _, silent}, talking, Call) ->
-    invite(talking, Call);
-handle_event(info, {lobby_call, refused}, State, Call) ->
-    bye(State, Call);
-handle_event(info, {answer, From, Answer}, _, _) ->
+event(info, {lobby_room, _, silent}, Call = #call{state = talking}) ->
+    invite(Call);
+event(info, {lobby_call, refused}, Call) ->
+    bye(Call);
+event(info, {answer, From, Answer}, Call) ->
     ok = lobby_member:answer(From, Answer),
-    keep_state_and_data;
-handle_event({call, From}, hang_up, State, Call) ->
-    Ended = bye(State, Call),
+    Call;
+event({call, From}, hang_up, Call) ->
+    Ended = bye(Call),
     gen_statem:reply(From, ok),
     Ended;
-handle_event({call, From}, _, ending, _) ->
-    {keep_state_and_data, [{reply, From, {error, no_member}}]};
-handle_event({call, From}, {change, Change}, State, Call) ->
-    person({change, {asked, From}, Change}, State, Call);
-handle_event({call, From}, {move, To}, State, Call) ->
-    person({move, {asked, From}, To}, State, Call);
-handle_event({timeout, person}, again, State, Call) ->
-    person(again, State, Call);
-handle_event({timeout, trying}, Request, _, #call{source = Source}) ->
-    ok = trying(Request, Source),
-    keep_state_and_data;
-handle_event({timeout, let_in}, again, starting, Call = #call{changing = Invite}) ->
-    person({join, {joins, {invite, Invite}}}, starting, Call);
+event({call, From}, _, Call = #call{state = ending}) ->
+    with([{reply, From, {error, no_member}}], Call);
+event({call, From}, {change, Change}, Call) ->
+    person({change, {asked, From}, Change}, Call);
+event({call, From}, {move, To}, Call) ->
+    person({move, {asked, From}, To}, Call);
+event({timeout, person}, again, Call) ->
+    person(again, Call);
+event({timeout, trying}, Request, Call = #call{source = Source}) ->
+    reply(100, Request, Source, Call);
+event({timeout, let_in}, again, Call = #call{state = starting}) ->
+    person({join, {joins, invite}}, Call);
 %% No gateway has had a seat for so long, or he doesn't want to wait any longer.
-handle_event({timeout, let_in_at_all}, over, starting, Call = #call{changing = Invite}) ->
+event({timeout, let_in_at_all}, over, Call = #call{state = starting, changing = Invite}) ->
     case lobby_session_timer:invitation(Invite) < ?LET_IN of
-        true -> refuse(487, [], Invite, Call);
-        false -> refuse(503, [{'retry-after', {10, []}}], Invite, Call)
+        true -> refuse(487, [], Call);
+        false -> refuse(503, [{'retry-after', {10, []}}], Call)
     end;
-handle_event({timeout, repeat}, {Message, Target, Interval}, _, _) ->
+event({timeout, repeat}, {Message, Target, Interval}, Call) ->
     ok = lobby_sip:send(Target, Message),
-    {keep_state_and_data, [repeat(Message, Target, min(2 * Interval, ?T2))]};
+    with([repeat(Message, Target, min(2 * Interval, ?T2))], Call);
 %% Nobody acknowledged our 200, or answered our request.
-handle_event({timeout, give_up}, give_up, ending, Call) ->
+event({timeout, give_up}, give_up, Call = #call{state = ending}) ->
     stop(Call);
-handle_event({timeout, give_up}, give_up, State, Call) ->
-    bye(State, Call);
-handle_event({timeout, invite}, again, State, Call) ->
-    invite(State, Call);
-handle_event({timeout, session}, refresh, State, Call) ->
-    invite(State, Call);
-handle_event({timeout, session}, expired, State, Call) ->
-    bye(State, Call);
-handle_event(_, _, _, _) ->
-    keep_state_and_data.
+event({timeout, give_up}, give_up, Call) ->
+    bye(Call);
+event({timeout, invite}, again, Call) ->
+    invite(Call);
+event({timeout, session}, refresh, Call) ->
+    invite(Call);
+event({timeout, session}, expired, Call) ->
+    bye(Call);
+event(_, _, Call) ->
+    Call.
 
 %%% What is wanted for him.
 
 %% Handles an event of the person, and carries out the actions. The row is sent again until the room has reported it.
-person(Event, State, Call = #call{person = Person}) ->
+person(Event, Call = #call{person = Person}) ->
     {Changed, Actions} = lobby_person:handle(Event, Person),
     Again = {{timeout, person}, case lobby_person:is_settled(Changed) of true -> infinity; false -> ?AGAIN end, again},
-    lists:foldl(fun act/2, {keep_state, Call#call{person = Changed}, [Again]}, [{Action, State} || Action <- Actions]).
+    lists:foldl(fun act/2, with([Again], Call#call{person = Changed}), Actions).
 
 %% Nothing more happens to a call that has stopped.
-act({_, _}, Stopped = {stop, _}) ->
-    Stopped;
-act({{answer, {asked, From}, Answer}, _}, Result) ->
+act(_, stopped) ->
+    stopped;
+act({answer, {asked, From}, Answer}, Call) ->
     ok = lobby_member:answer(From, case Answer of {ok, _} -> ok; _ -> Answer end),
-    Result;
-act({{answer, {_, Purpose}, Answer}, State}, {keep_state, Call, Actions}) ->
-    more(media(Purpose, Answer, State, Call), Actions);
-act({{answer, {_, Purpose}, Answer}, _}, {next_state, State, Call, Actions}) ->
-    more(media(Purpose, Answer, State, Call), Actions);
-act({Action, State}, Result) ->
+    Call;
+act({answer, {_, Purpose}, Answer}, Call) ->
+    media(Purpose, Answer, Call);
+act(Action, Call) ->
     case lobby_member:act(Action) of
-        ok -> Result;
-        {admitted, Room, Error} -> self() ! {lobby_room, Room, {admitted, Error}}, _ = State, Result
-    end.
-
-%% Actions before others, which may undo them.
-more_after(Before, {keep_state, Call, Actions}) -> {keep_state, Call, Before ++ Actions};
-more_after(Before, {next_state, State, Call, Actions}) -> {next_state, State, Call, Before ++ Actions};
-more_after(_, Stopped) -> Stopped.
-
-%% What follows from what, with the actions of both.
-more({keep_state, Call, New}, Actions) -> {keep_state, Call, Actions ++ New};
-more({keep_state, Call}, Actions) -> {keep_state, Call, Actions};
-more({next_state, State, Call, New}, Actions) -> {next_state, State, Call, Actions ++ New};
-more({stop, Reason}, _) -> {stop, Reason}.
+        ok -> ok;
+        {admitted, Room, Error} -> self() ! {lobby_room, Room, {admitted, Error}}
+    end,
+    Call.
 
 %% What the gateway has now, or doesn't take.
--spec media(purpose(), {ok, lobby_h248:media()} | {error, term()}, state(), #call{}) -> gen_statem:event_handler_result(state()).
-media({invite, Invite}, {ok, Local}, starting, Call) ->
-    {Confirmed, Actions} = accept(Invite, keep(Call#call{local = Local, changing = none})),
-    {next_state, confirming, keep(Confirmed), [{{timeout, let_in}, infinity, none}, {{timeout, let_in_at_all}, infinity, none} | Actions]};
-media({invite, _}, {error, no_room}, starting, Call) ->
-    {keep_state, Call, [{{timeout, let_in}, ?RETRY, again}]};
-media({invite, Invite}, {error, Reason}, starting, Call) ->
-    refuse(status(Reason), [], Invite, Call);
-media({reinvite, Request}, Result, State, Call = #call{changing = Request}) ->
-    case {Result, State} of
-        {_, ending} -> {keep_state, Call};
+-spec media(purpose(), {ok, lobby_h248:media()} | {error, term()}, #call{}) -> #call{} | stopped.
+media(invite, {ok, Local}, Call = #call{state = starting, changing = Invite}) ->
+    LetIn = [{{timeout, Name}, infinity, none} || Name <- [let_in, let_in_at_all]],
+    accept(Invite, keep(with(LetIn, Call#call{local = Local, changing = none})));
+media(invite, {error, no_room}, Call = #call{state = starting}) ->
+    with([{{timeout, let_in}, ?RETRY, again}], Call);
+media(invite, {error, Reason}, Call = #call{state = starting}) ->
+    refuse(status(Reason), [], Call);
+media({change, Request}, Result, Call = #call{changing = Request, state = State}) ->
+    case {Result, Request#sip.method, State} of
+        {_, <<"INVITE">>, ending} -> Call;
+        {{error, {refused, _}}, _, _} ->
+            with([no_trying()], answer(488, {[], <<>>}, Request, Call#call{changing = none}));
         %% Without a gateway, it is done later.
-        {{error, {refused, _}}, _} ->
-            {keep_state, Refused} = answer(488, {[], <<>>}, Request, Call#call{changing = none}),
-            {keep_state, Refused, [no_trying()]};
-        {{ok, Local}, _} -> confirm(accept(Request, refreshed(Request, Call#call{local = Local, changing = none})));
-        {{error, _}, _} -> confirm(accept(Request, refreshed(Request, Call#call{changing = none})))
+        {_, <<"INVITE">>, _} -> accept(Request, refreshed(Request, received_at(Result, Call)));
+        {_, <<"UPDATE">>, _} -> updated(Request, received_at(Result, Call))
     end;
-media({update, Request}, Result, _, Call = #call{changing = Request}) ->
-    case Result of
-        {error, {refused, _}} -> answer(488, {[], <<>>}, Request, Call#call{changing = none});
-        {ok, Local} -> updated_to(Request, Call#call{local = Local, changing = none});
-        {error, _} -> updated_to(Request, Call#call{changing = none})
-    end;
-media(answer, {error, {refused, _}}, State, Call) ->
-    bye(State, Call);
-media(_, _, _, Call) ->
-    {keep_state, Call}.
+media(answer, {error, {refused, _}}, Call) ->
+    bye(Call);
+media(_, _, Call) ->
+    Call.
+
+received_at({ok, Local}, Call) -> Call#call{local = Local, changing = none};
+received_at({error, _}, Call) -> Call#call{changing = none}.
 
 %% If the gateway receives him at another address, he is re-invited. If it refuses him, his call ends.
-reported(_, Stopped = {stop, _}) ->
-    Stopped;
-reported(Report, {keep_state, Call, Actions}) ->
-    more(reported(Report, none, Call), Actions);
-reported(Report, {next_state, State, Call, Actions}) ->
-    case reported(Report, State, Call) of
-        {keep_state, Call1} -> {next_state, State, Call1, Actions};
-        Result -> more(Result, Actions)
-    end.
-
+reported(_, stopped) ->
+    stopped;
 %% His room may not have heard that he agreed.
-reported({holds, _, Local, false}, _, Call = #call{local = Local, agreed = Local}) ->
-    {keep_state, agreed(Local, Call)};
-reported({holds, _, Local, _}, _, Call = #call{local = Local}) ->
-    {keep_state, Call};
-reported({holds, _, Local, _}, _, Call) ->
-    {keep_state, keep(Call#call{local = Local}), [{{timeout, invite}, 0, again}]};
-reported({refused, _, _, none}, _, Call) ->
+reported({holds, _, Local, false}, Call = #call{local = Local, agreed = Local}) ->
+    agreed(Local, Call);
+reported({holds, _, Local, _}, Call = #call{local = Local}) ->
+    Call;
+reported({holds, _, Local, _}, Call) ->
+    with([{{timeout, invite}, 0, again}], keep(Call#call{local = Local}));
+reported({refused, _, _, none}, Call) ->
     self() ! {lobby_call, refused},
-    {keep_state, Call};
-reported(_, _, Call) ->
-    {keep_state, Call}.
+    Call;
+reported(_, Call) ->
+    Call.
 
 %%% The first INVITE.
 
@@ -301,17 +291,18 @@ start(Id, Room, Invite, Source) ->
         {_, {error, Reason}, _} -> refuse(488, lobby_sdp:warning(Reason), Invite, Source);
         {_, _, {too_short, Headers}} -> refuse(422, Headers, Invite, Source);
         {{ok, Dialog}, Offer, _} ->
-            Call = heard(Offer, #call{id = Id, dialog = Dialog, source = Source, changing = Invite}),
+            Call = heard(Offer, #call{id = Id, dialog = Dialog, source = Source, changing = Invite, state = starting}),
             Key = lobby_dialog:key(Dialog),
             %% Before he joins, so that a process that takes over doesn't have him join twice.
             ok = lobby_store:put(lobby_calls, Key, #{invite => Invite, id => Id, room => Room, source => Source}),
             yes = lobby_registry:register_name({member, Id}, self()),
-            {keep_state, Joining, Actions} = person({join, {joins, {invite, Invite}}}, starting, Call#call{person = wanted(Key, Room, Invite, Call)}),
             LetIn = min(?LET_IN, lobby_session_timer:invitation(Invite)),
-            {keep_state, Joining, [trying_later(Invite), {{timeout, let_in_at_all}, LetIn, over} | Actions]}
+            Waits = with([trying_later(Invite), {{timeout, let_in_at_all}, LetIn, over}], Call),
+            person({join, {joins, invite}}, Waits#call{person = wanted(Key, Room, Invite, Call)})
     end.
 
-%% What is known of him before anybody hears him. One whose process failed before he was in his room is wanted as before.
+%% What is known of him before anybody hears him. One whose process failed before he was in his room is wanted as
+%% before.
 wanted(Key, Room, Invite, Call = #call{id = Id}) ->
     case lobby_member:find(Id) of
         {ok, Row} -> lobby_person:new(Row);
@@ -319,34 +310,31 @@ wanted(Key, Room, Invite, Call = #call{id = Id}) ->
             {Media, Direction} = described(Call),
             Known = lobby_identity:known(Invite, Call#call.source),
             Waits = lobby_rooms:has_door(Room) andalso not is_map_key(role, Known),
-            lobby_person:new(lobby_member:new(Id, Known#{room => Room, media => Media, direction => Direction, call => Key,
-                                                         waiting => Waits, acknowledged => false}))
+            Wanted = Known#{room => Room, media => Media, direction => Direction, call => Key, waiting => Waits,
+                            acknowledged => false},
+            lobby_person:new(lobby_member:new(Id, Wanted))
     end.
 
 %% Section 17.2.1: if nothing else can be answered within 200 ms, a 100 is. It's sent early enough to arrive by then.
 trying_later(Invite) -> {{timeout, trying}, 100, Invite}.
 no_trying() -> {{timeout, trying}, infinity, none}.
 
-trying(Invite, Source) ->
-    Response = lobby_sip_message:response(100, Invite, <<>>, {[], <<>>}),
-    lobby_sip:send(lobby_sip_message:response_target(Invite, Source), Response).
-
-refuse(Status, Headers, Invite, #call{dialog = Dialog, source = Source, person = Person}) ->
-    lists:foreach(fun lobby_member:act/1, [A || A <- element(2, lobby_person:handle(leave, Person)), element(1, A) =/= answer]),
+refuse(Status, Headers, #call{dialog = Dialog, source = Source, person = Person, changing = Invite}) ->
+    ok = leave(Person),
     ok = lobby_store:delete(lobby_calls, lobby_dialog:key(Dialog)),
-    refuse(Status, Headers, Invite, Source);
+    refuse(Status, Headers, Invite, Source).
+
 refuse(Status, Headers, Invite, Source) ->
-    Response = lobby_sip_message:response(Status, Invite, lobby_sip:own_tag(Invite), {Headers, <<>>}),
-    ok = lobby_sip:send(lobby_sip_message:response_target(Invite, Source), Response),
-    {stop, normal}.
+    _ = lobby_sip:answer(Status, {Headers, <<>>}, Invite, Source),
+    stopped.
 
 status(room_full) -> 486;
 status(room_locked) -> 403;
 status({refused, 515}) -> 488;
 status(_) -> 503.
 
-%% What a message describes. Nothing is described by a caller who wants an offer. Media go to his own address, or to one that
-%% is configured.
+%% What a message describes. Nothing is described by a caller who wants an offer. Media go to his own address, or to one
+%% that is configured.
 offer(Message, Source) ->
     case lobby_sip_message:body(Message) of
         <<>> -> none;
@@ -356,7 +344,7 @@ offer(Message, Source) ->
 allowed({ok, Session}, Source) ->
     {{Address, _}, _} = lobby_sdp:media(Session),
     Networks = #{media => application:get_env(lobby, media, []), proxies => application:get_env(lobby, proxies, [])},
-    case lobby_auth:may_offer(Address, element(1, lobby_sip_message:peer(Source)), Networks) of
+    case lobby_auth:may_offer(Address, lobby_sip_message:address(Source), Networks) of
         true -> {ok, Session};
         false -> {error, foreign_address}
     end;
@@ -371,101 +359,91 @@ described(#call{session = Session}) -> {lobby_sdp:media(Session), lobby_sdp:dire
 
 %%% His requests.
 
-request(Method, Request, starting, Call = #call{changing = Invite, source = Source}) ->
+request(Method, Request, Source, Call = #call{state = starting, changing = Invite}) ->
     case {Method, lobby_dialog:is_same_transaction(Request, Invite)} of
-        {<<"INVITE">>, true} -> ok = trying(Request, Source), keep_state_and_data;
+        {<<"INVITE">>, true} -> reply(100, Request, Source, Call);
         %% It came by another way, too (section 8.2.2.2).
-        {<<"INVITE">>, false} -> ok = answer_only(482, {[], <<>>}, Request, Call), keep_state_and_data;
-        {<<"CANCEL">>, false} -> ok = answer_only(481, {[], <<>>}, Request, Call), keep_state_and_data;
+        {<<"INVITE">>, false} -> reply(482, Request, Source, Call);
+        {<<"CANCEL">>, false} -> reply(481, Request, Source, Call);
         {_, _} when Method =:= <<"CANCEL">>; Method =:= <<"BYE">> ->
-            ok = answer_only(200, {[], <<>>}, Request, Call),
-            refuse(487, [], Invite, Call);
-        {_, _} -> keep_state_and_data
+            refuse(487, [], reply(200, Request, Source, Call#call{source = Source}));
+        {_, _} -> Call
     end;
-request(<<"ACK">>, Ack, confirming, Call = #call{response = Response, offered = Offered}) ->
-    case {lobby_sip_message:sequence(Ack) =:= lobby_sip_message:sequence(Response), Offered andalso offer(Ack, Call#call.source)} of
-        {false, _} -> keep_state_and_data;
+request(<<"ACK">>, Ack, Source, Call = #call{state = confirming, response = Response, offered = Offered}) ->
+    IsOurs = lobby_sip_message:sequence(Ack) =:= lobby_sip_message:sequence(Response),
+    case {IsOurs, Offered andalso offer(Ack, Source)} of
+        {false, _} -> Call;
         {true, false} ->
-            {Acknowledged, Actions} = acknowledged(confirming, agreed(Call#call.told, Call)),
-            more(talk(Acknowledged), Actions);
-        {true, {ok, Session}} -> answered(Session, confirming, agreed(Call#call.told, Call));
-        {true, _} -> bye(confirming, Call)
+            talk(person({change, {media, none}, #{acknowledged => true}}, agreed(Call#call{source = Source})));
+        {true, {ok, Session}} -> answered(Session, agreed(Call#call{source = Source}));
+        {true, _} -> bye(Call#call{source = Source})
     end;
-request(<<"ACK">>, _, _, _) ->
-    keep_state_and_data;
-request(<<"CANCEL">>, Request, _, Call = #call{response = Last}) ->
+request(<<"ACK">>, _, _, Call) ->
+    Call;
+request(Method, Request, Source, Call) ->
+    in_dialog(Method, Request, Call#call{source = Source}).
+
+in_dialog(<<"CANCEL">>, Request, Call = #call{response = Last}) ->
     %% It comes too late: the INVITE has its answer.
     case Last =/= none andalso lobby_dialog:is_same_transaction(Request, Last) of
         true -> answer(200, {[], <<>>}, Request, Call);
         false -> answer(481, {[], <<>>}, Request, Call)
     end;
-request(<<"BYE">>, Request, _, Call = #call{dialog = Dialog}) ->
-    case lobby_dialog:received(Request, Dialog) of
-        old -> answer(500, {[], <<>>}, Request, Call);
-        _ ->
-            _ = answer(200, {[], <<>>}, Request, Call),
-            stop(Call)
-    end;
-request(Method, Request, State, Call = #call{dialog = Dialog, response = Last}) ->
+in_dialog(Method, Request, Call = #call{dialog = Dialog, state = State, changing = Changing}) ->
     case {lobby_dialog:received(Request, Dialog), Method, State} of
         {old, _, _} -> answer(500, {[], <<>>}, Request, Call);
-        {repeated, <<"INVITE">>, _} when Call#call.changing =/= none ->
-            ok = trying(Request, Call#call.source),
-            {keep_state, Call};
-        {repeated, <<"INVITE">>, _} -> again(Request, Last, Call);
-        {{new, D}, _, _} when Call#call.changing =/= none, Method =:= <<"INVITE">> orelse Method =:= <<"UPDATE">> ->
+        {_, <<"BYE">>, _} -> stop(answer(200, {[], <<>>}, Request, Call));
+        {repeated, <<"INVITE">>, _} -> again(Request, Call);
+        {{new, D}, _, _} when Changing =/= none, Method =:= <<"INVITE">> orelse Method =:= <<"UPDATE">> ->
             answer(500, {[{'retry-after', {1, []}}], <<>>}, Request, Call#call{dialog = D});
         {_, <<"INVITE">>, ending} -> answer(481, {[], <<>>}, Request, Call);
         {{new, D}, <<"INVITE">>, offering} -> answer(491, {[], <<>>}, Request, Call#call{dialog = D});
-        {{new, D}, <<"INVITE">>, _} -> reinvited(Request, State, Call#call{dialog = D});
         {_, <<"UPDATE">>, offering} -> answer(491, {[], <<>>}, Request, Call);
-        {Received, <<"UPDATE">>, _} -> updated(Request, State, newer(Received, Call));
-        {Received, <<"OPTIONS">>, _} -> answer(200, {[lobby_sip:allow()], <<>>}, Request, newer(Received, Call));
-        {Received, _, _} -> answer(405, {[lobby_sip:allow()], <<>>}, Request, newer(Received, Call))
+        {Received, _, _} when Method =:= <<"INVITE">>; Method =:= <<"UPDATE">> ->
+            changes(Method, Request, newer(Received, Call));
+        {Received, <<"OPTIONS">>, _} ->
+            answer(200, {[lobby_sip_message:allow()], <<>>}, Request, newer(Received, Call));
+        {Received, _, _} -> answer(405, {[lobby_sip_message:allow()], <<>>}, Request, newer(Received, Call))
     end.
 
 newer({new, Dialog}, Call) -> Call#call{dialog = Dialog};
 newer(repeated, Call) -> Call.
 
-answer(Status, Content, Request, Call) ->
-    ok = answer_only(Status, Content, Request, Call),
-    {keep_state, keep(Call)}.
+answer(Status, Content, Request, Call = #call{source = Source}) ->
+    _ = lobby_sip:answer(Status, Content, Request, Source),
+    keep(Call).
 
-answer_only(Status, Content, Request, #call{source = Source}) ->
-    Response = lobby_sip_message:response(Status, Request, lobby_sip:own_tag(Request), Content),
-    lobby_sip:send(lobby_sip_message:response_target(Request, Source), Response).
+%% Changes nothing.
+reply(Status, Request, Source, Call) ->
+    _ = lobby_sip:answer(Status, {[], <<>>}, Request, Source),
+    Call.
 
 %% A repeated INVITE is answered as before. Its response is kept for this.
-again(Request, Last = #sip{}, Call = #call{source = Source}) ->
+again(Request, Call = #call{source = Source, response = Last, changing = none}) when Last =/= none ->
     case {lobby_dialog:is_same_transaction(Request, Last), lobby_sip_message:tag(to, Request)} of
-        {true, _} -> ok = lobby_sip:send(lobby_sip_message:response_target(Request, Source), Last);
+        {true, _} -> ok = lobby_sip:send(lobby_sip_message:response_target(Request, Source), Last), Call;
         %% It came by another way, too (section 8.2.2.2).
-        {false, <<>>} -> ok = answer_only(482, {[], <<>>}, Request, Call);
-        {false, _} -> ok
-    end,
-    {keep_state, Call};
-again(_, none, Call) ->
-    {keep_state, Call}.
-
-reinvited(Request, State, Call) ->
-    case {session_timer(Request), offer(Request, Call#call.source)} of
-        {{too_short, Headers}, _} -> answer(422, {Headers, <<>>}, Request, Call);
-        {_, {error, Reason}} -> answer(488, {lobby_sdp:warning(Reason), <<>>}, Request, Call);
-        {_, none} -> confirm(accept(Request, refreshed(Request, Call)));
-        {_, {ok, Session}} ->
-            more_after([trying_later(Request)], change(Session, {reinvite, Request}, State, Call#call{changing = Request}))
-    end.
+        {false, <<>>} -> reply(482, Request, Source, Call);
+        {false, _} -> Call
+    end;
+again(_, Call = #call{changing = none}) ->
+    Call;
+again(Request, Call = #call{source = Source}) ->
+    reply(100, Request, Source, Call).
 
 %% An UPDATE that describes nothing only refreshes the session.
-updated(Request, State, Call) ->
-    case {session_timer(Request), offer(Request, Call#call.source)} of
-        {{too_short, Headers}, _} -> answer(422, {Headers, <<>>}, Request, Call);
-        {_, {error, Reason}} -> answer(488, {lobby_sdp:warning(Reason), <<>>}, Request, Call);
-        {_, none} -> updated_to(Request, Call);
-        {_, {ok, Session}} -> change(Session, {update, Request}, State, Call#call{changing = Request})
+changes(Method, Request, Call = #call{source = Source}) ->
+    case {session_timer(Request), offer(Request, Source), Method} of
+        {{too_short, Headers}, _, _} -> answer(422, {Headers, <<>>}, Request, Call);
+        {_, {error, Reason}, _} -> answer(488, {lobby_sdp:warning(Reason), <<>>}, Request, Call);
+        {_, none, <<"INVITE">>} -> accept(Request, refreshed(Request, Call));
+        {_, none, <<"UPDATE">>} -> updated(Request, Call);
+        {_, {ok, Session}, _} ->
+            Later = [trying_later(Request) || Method =:= <<"INVITE">>],
+            change(Session, #{}, {change, Request}, with(Later, Call#call{changing = Request}))
     end.
 
-updated_to(Request, Call = #call{session = Session}) ->
+updated(Request, Call = #call{session = Session}) ->
     {{Headers, Body}, Call1} = case lobby_sip_message:body(Request) of
         <<>> -> {{[], <<>>}, Call};
         _ -> answer_to(Session, Call)
@@ -473,14 +451,9 @@ updated_to(Request, Call = #call{session = Session}) ->
     Timer = session_timer(Request),
     Call2 = refreshed(Request, Call1#call{session_timer = Timer}),
     More = [lobby_dialog:contact(own(Call2)) | lobby_session_timer:answer(Timer)],
-    {keep_state, Call3} = answer(200, {More ++ Headers, Body}, Request, Call2),
+    Call3 = #call{local = Local, agreed = Agreed} = answer(200, {More ++ Headers, Body}, Request, Call2),
     %% No ACK confirms this answer, so a new address also goes out in an INVITE.
-    Tell = [{{timeout, invite}, 0, again} || Call3#call.local =/= Call3#call.agreed],
-    {keep_state, Call3, [session_timeout(Call3) | Tell]}.
-
-answer_to(Session, Call = #call{local = Local}) ->
-    {Text, New} = described(fun(Id, Version) -> lobby_sdp:answer(Session, Local, Id, Version) end, Call),
-    {content(Text), New}.
+    with([session_timeout(Call3) | [{{timeout, invite}, 0, again} || Local =/= Agreed]], Call3).
 
 refreshed(Message, Call = #call{dialog = Dialog}) ->
     Call#call{dialog = lobby_dialog:refreshed(Message, Dialog)}.
@@ -493,118 +466,100 @@ session_timeout(#call{session_timer = Timer}) ->
     {{timeout, session}, Time, What}.
 
 %% Has what he describes now changed on the gateway.
-change(Session, Purpose, State, Call) ->
-    change(Session, #{}, Purpose, State, Call).
-
-change(Session, More, Purpose, State, Call) ->
+change(Session, More, Purpose, Call) ->
     Change = More#{media => lobby_sdp:media(Session), direction => lobby_sdp:direction(Session)},
-    person({change, {media, Purpose}, Change}, State, keep(Call#call{session = Session})).
+    person({change, {media, Purpose}, Change}, keep(Call#call{session = Session})).
 
 %% The 200 with our answer, or with our offer if he described nothing.
 accept(Request, Call = #call{session = Session, local = Local, source = Source}) ->
     Timer = session_timer(Request),
     Offered = lobby_sip_message:body(Request) =:= <<>>,
-    {Text, Call1} = described(fun(Id, Version) -> case Offered of
-        true -> lobby_sdp:offer(Session, Local, {Id, Version});
-        false -> lobby_sdp:answer(Session, Local, Id, Version)
-    end end, Call),
-    {Headers, Body} = content(Text),
+    {{Headers, Body}, Call1} = case Offered of
+        true -> our_offer(Call);
+        false -> answer_to(Session, Call)
+    end,
     Content = {[lobby_dialog:contact(own(Call)) | lobby_session_timer:answer(Timer)] ++ Headers, Body},
-    Response = lobby_sip_message:response(200, Request, lobby_sip:own_tag(Request), Content),
+    Response = lobby_sip:answer(200, Content, Request, Source),
     Target = lobby_sip_message:response_target(Request, Source),
-    ok = lobby_sip:send(Target, Response),
     Call2 = Call1#call{response = Response, offered = Offered, session_timer = Timer, told = Local},
-    {Call2, [repeat(Response, Target, t1()), give_up(), session_timeout(Call2), no_trying()]}.
+    Timeouts = [repeat(Response, Target, t1()), give_up(), session_timeout(Call2), no_trying()],
+    with(Timeouts, keep(Call2#call{state = confirming})).
 
-confirm({Call, Actions}) ->
-    {next_state, confirming, keep(Call), Actions}.
+answer_to(Session, Call = #call{local = Local}) ->
+    described(fun(Id, Version) -> lobby_sdp:answer(Session, Local, Id, Version) end, Call).
+
+our_offer(Call = #call{session = Session, local = Local}) ->
+    described(fun(Id, Version) -> lobby_sdp:offer(Session, Local, {Id, Version}) end, Call).
 
 %% Our description, with another version if it changed (RFC 3264, section 8).
 described(Describe, Call = #call{description = {Id, Version, Before}}) ->
-    case Describe(Id, Version) of
-        Before -> {Before, Call};
-        _ ->
-            Text = Describe(Id, Version + 1),
-            {Text, Call#call{description = {Id, Version + 1, Text}}}
-    end.
-
-content(Text) ->
-    {[lobby_sip:allow(), {'content-type', {<<"application/sdp">>, []}}], Text}.
+    Description = case Describe(Id, Version) of
+        Before -> {Id, Version, Before};
+        _ -> {Id, Version + 1, Describe(Id, Version + 1)}
+    end,
+    Headers = [lobby_sip_message:allow(), {'content-type', {<<"application/sdp">>, []}}],
+    {{Headers, element(3, Description)}, Call#call{description = Description}}.
 
 own(#call{source = Source}) ->
     lobby_sip:own(Source).
 
-%% The answer to our offer, in an ACK or in a 200.
-answered(Session, State, Call) ->
-    {next_state, Next, Talking, Actions} = talk(Call),
-    more_from(Next, change(Session, #{acknowledged => true}, answer, State, Talking), Actions).
+%% The answer to our offer, in an ACK or in a 200. Whoever has acknowledged an answer is sent speech.
+answered(Session, Call) ->
+    change(Session, #{acknowledged => true}, answer, talk(Call)).
 
-more_from(State, {keep_state, Call, New}, Actions) -> {next_state, State, Call, Actions ++ New};
-more_from(_, Result, Actions) -> more(Result, Actions).
-
-talk(Call = #call{again = true}) -> invite(talking, Call#call{again = false});
-talk(Call) -> {next_state, talking, keep(Call), [session_timeout(Call) | quiet()]}.
-
-%% Whoever has acknowledged an answer is sent speech.
-acknowledged(State, Call) ->
-    {keep_state, Acknowledged, Actions} = person({change, {media, none}, #{acknowledged => true}}, State, Call),
-    {Acknowledged, Actions}.
+talk(Call = #call{again = true}) -> invite(Call#call{state = talking, again = false});
+talk(Call) -> with([session_timeout(Call) | quiet()], keep(Call#call{state = talking})).
 
 %%% Our requests.
 
-invite(talking, Call = #call{session = Session, local = Local, session_timer = Timer}) ->
-    {Text, Call1} = described(fun(Id, Version) -> lobby_sdp:offer(Session, Local, {Id, Version}) end, Call),
-    {Headers, Body} = content(Text),
+invite(Call = #call{state = talking, local = Local, session_timer = Timer}) ->
+    {{Headers, Body}, Call1} = our_offer(Call),
     send(<<"INVITE">>, {lobby_session_timer:request(Timer) ++ Headers, Body}, offering, Call1#call{told = Local});
-invite(State, Call) when State =:= confirming; State =:= offering ->
-    {keep_state, Call#call{again = true}};
-invite(_, _) ->
-    keep_state_and_data.
+invite(Call = #call{state = State}) when State =:= confirming; State =:= offering ->
+    Call#call{again = true};
+invite(Call) ->
+    Call.
 
-bye(ending, _) ->
-    keep_state_and_data;
-bye(starting, Call = #call{changing = Invite}) ->
-    refuse(480, [], Invite, Call);
-bye(State, Call) ->
-    {keep_state, Left, Actions} = left(State, Call),
-    {next_state, ending, Ending, More} = send(<<"BYE">>, {[], <<>>}, ending, Left),
-    {next_state, ending, Ending, Actions ++ More}.
+bye(Call = #call{state = ending}) -> Call;
+bye(Call = #call{state = starting}) -> refuse(480, [], Call);
+bye(Call) -> send(<<"BYE">>, {[], <<>>}, ending, left(Call)).
 
 %% What is wanted for him ends before his call does.
-left(_, Call = #call{person = none}) -> {keep_state, Call, []};
-left(State, Call) -> person(leave, State, Call).
+left(Call = #call{person = none}) -> Call;
+left(Call) -> person(leave, Call).
 
 %% The number of the request is kept before it goes out.
 send(Method, Content, Next, Call = #call{dialog = Dialog, source = Source}) ->
     {Request, Dialog1} = lobby_dialog:request(Method, Content, own(Call), Dialog),
-    Call1 = keep(Call#call{dialog = Dialog1, request = Request}),
+    Call1 = keep(Call#call{dialog = Dialog1, request = Request, state = Next}),
     Target = lobby_dialog:target(Dialog1, Source),
     ok = lobby_sip:send(Target, Request),
     %% Over TCP, a request isn't repeated (section 17.1.1.2).
     Interval = case Target of {tcp, _, _} -> infinity; _ -> t1() end,
-    {next_state, Next, Call1, [repeat(Request, Target, Interval), give_up()]}.
+    with([repeat(Request, Target, Interval), give_up()], Call1).
 
-response(Response = #sip{status = Status, method = Method}, State, Call = #call{request = Request}) ->
+response(Response = #sip{status = Status, method = Method}, Call = #call{request = Request, state = State}) ->
     IsLast = Request =/= none andalso lobby_sip_message:sequence(Response) =:= lobby_sip_message:sequence(Request),
     case {IsLast, Method, State} of
-        {true, <<"INVITE">>, offering} when Status < 200 ->
-            {keep_state_and_data, [{{timeout, repeat}, infinity, none}]};
+        {true, <<"INVITE">>, offering} when Status < 200 -> with([{{timeout, repeat}, infinity, none}], Call);
         {true, <<"INVITE">>, offering} when Status < 300 -> accepted(Response, Call);
         {true, <<"INVITE">>, offering} -> refused(Status, Response, Call);
         %% He didn't get our ACK, or this answers an INVITE that was sent before a node took over.
-        {_, <<"INVITE">>, _} when Status >= 200, Status < 300 -> acknowledge(Response, Call), keep_state_and_data;
+        {_, <<"INVITE">>, _} when Status >= 200, Status < 300 -> ok = acknowledge(Response, Call), Call;
         {true, <<"BYE">>, ending} when Status >= 200 -> stop(Call);
-        {_, _, _} -> keep_state_and_data
+        {_, _, _} -> Call
     end.
 
-accepted(Response, Call = #call{told = Told}) ->
-    Call1 = refreshed(Response, Call),
-    acknowledge(Response, Call1),
-    Agreed = agreed(Told, Call1),
-    case offer(Response, Call#call.source) of
-        {ok, Session} -> answered(Session, offering, Agreed);
-        _ -> bye(talking, Agreed)
+accepted(Response, Call = #call{source = Source}) ->
+    Accepted = refreshed(Response, Call),
+    ok = acknowledge(Response, Accepted),
+    case offer(Response, Source) of
+        {ok, Session} -> answered(Session, agreed(Accepted));
+        _ -> bye((agreed(Accepted))#call{state = talking})
     end.
+
+agreed(Call = #call{told = Told}) ->
+    agreed(Told, Call).
 
 %% He sends there from now on.
 agreed(Local, Call = #call{id = Id, person = Person}) ->
@@ -612,21 +567,24 @@ agreed(Local, Call = #call{id = Id, person = Person}) ->
     _ = lobby_rooms:tell(Room, {confirmed, Id, Local}),
     Call#call{agreed = Local}.
 
-acknowledge(Response, Call = #call{dialog = Dialog, source = Source}) ->
-    ok = lobby_sip:send(lobby_dialog:target(Dialog, Source), lobby_dialog:ack(Response, own(Call), Dialog)).
+acknowledge(Response, Call = #call{dialog = Dialog}) ->
+    to_caller(lobby_dialog:ack(Response, own(Call), Dialog), Call).
+
+to_caller(Message, #call{dialog = Dialog, source = Source}) ->
+    lobby_sip:send(lobby_dialog:target(Dialog, Source), Message).
 
 %% The ACK to a refusal is of the same transaction (section 17.1.1.3). If both sides invited each other, the one who
 %% doesn't own the Call-ID waits for up to 2 s (section 14.1).
-refused(Status, Response, Call = #call{request = Invite = #sip{hdrs = Headers}, dialog = Dialog, source = Source}) ->
+refused(Status, Response, Call = #call{request = Invite = #sip{hdrs = Headers}}) ->
     Keys = [via, 'max-forwards', from, 'call-id', cseq, route],
     Kept = [Header || Header = {Key, _} <- Headers, lists:member(Key, Keys)],
     Ack = Invite#sip{method = <<"ACK">>, body = <<>>, hdrs = Kept ++ [{to, lobby_sip_message:header(to, Response)}]},
-    ok = lobby_sip:send(lobby_dialog:target(Dialog, Source), Ack),
+    ok = to_caller(Ack, Call),
     case lobby_dialog:after_refusal(Status) of
         ended -> stop(Call);
-        again -> {next_state, talking, Call, quiet() ++ [{{timeout, invite}, 10 * rand:uniform(200), again}]};
+        again -> with(quiet() ++ [{{timeout, invite}, 10 * rand:uniform(200), again}], Call#call{state = talking});
         %% He doesn't send to where the gateway receives him now.
-        goes_on when Call#call.told =/= Call#call.agreed -> bye(talking, Call);
+        goes_on when Call#call.told =/= Call#call.agreed -> bye(Call#call{state = talking});
         goes_on -> talk(Call)
     end.
 
@@ -639,9 +597,11 @@ quiet() -> [{{timeout, repeat}, infinity, none}, {{timeout, give_up}, infinity, 
 
 %% @doc What release 0.4.0 kept of a call.
 -spec upgraded(map()) -> map().
-upgraded(Kept = #{call := {call, Id, _, Dialog, Source, Session, Local, Description, Response, Offered, Timer, Request, Again}}) ->
-    Kept#{call := #call{id = Id, dialog = Dialog, source = Source, session = Session, local = Local, description = Description,
-                        response = Response, offered = Offered, session_timer = Timer, request = Request, again = Again}};
+upgraded(Kept = #{call := Call}) ->
+    {call, Id, _, Dialog, Source, Session, Local, Description, Response, Offered, Timer, Request, Again} = Call,
+    Kept#{call := #call{id = Id, dialog = Dialog, source = Source, session = Session, local = Local,
+                        description = Description, response = Response, offered = Offered, session_timer = Timer,
+                        request = Request, again = Again}};
 upgraded(Kept) ->
     Kept.
 
@@ -652,12 +612,14 @@ upgraded_row(Key, #{id := Id, room := Room, invite := Invite, source := Source, 
     lobby_member:new(Id, maps:merge(lobby_identity:known(Invite, Source),
                                     Known#{room => Room, media => Media, direction => Direction, call => Key})).
 
+%% A process that is started again takes him to be talking.
 keep(Call = #call{dialog = Dialog, source = Source}) ->
     {ok, Kept} = lobby_store:get(lobby_calls, lobby_dialog:key(Dialog)),
-    ok = lobby_store:put(lobby_calls, lobby_dialog:key(Dialog), Kept#{source := Source, call => Call#call{person = none}}),
+    Known = Call#call{person = none, state = talking, out = []},
+    ok = lobby_store:put(lobby_calls, lobby_dialog:key(Dialog), Kept#{source := Source, call => Known}),
     Call.
 
 stop(Call = #call{dialog = Dialog}) ->
-    _ = left(ending, Call),
+    _ = left(Call#call{state = ending}),
     ok = lobby_store:delete(lobby_calls, lobby_dialog:key(Dialog)),
-    {stop, normal}.
+    stopped.

@@ -48,7 +48,7 @@ is_kept(call, Key) -> lobby_store:has(lobby_calls, Key).
 start(room, Name) ->
     lobby_registry:whereis_name({room, Name}) =/= undefined orelse lobby_rooms:start(Name);
 start(call, Key) ->
-    lobby_registry:whereis_name({call, Key}) =/= undefined orelse lobby_call:restore(Key).
+    lobby_call:find(Key).
 
 -spec handle_call(term(), gen_server:from(), #state{}) -> {reply, {error, unknown_call}, #state{}}.
 handle_call(_, _, State) ->

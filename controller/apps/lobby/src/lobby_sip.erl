@@ -5,7 +5,7 @@
 
 -include_lib("p1_sip/include/esip.hrl").
 
--export([start_link/1, received/2, send/2, own/0, own/1, own_tag/1, allow/0]).
+-export([start_link/1, received/2, send/2, answer/4, own/1, own_tag/1]).
 -export([init/1, handle_call/3, handle_cast/2, handle_info/2]).
 -export_type([config/0]).
 
@@ -33,9 +33,6 @@ received(Message, Source) ->
 -spec send(lobby_sip_message:target(), lobby_sip_message:message()) -> ok.
 send(Target, Message) ->
     ok = lobby_lease:hold(),
-    sent(Target, Message).
-
-sent(Target, Message) ->
     case {lobby_sip_message:connection(Target), lobby_sip_message:peer(Target)} of
         {none, {Address, Port}} ->
             Socket = element(1, persistent_term:get(?MODULE)),
@@ -44,17 +41,21 @@ sent(Target, Message) ->
         {Connection, _} -> lobby_tcp:send(Connection, lobby_sip_message:encode(Message))
     end.
 
-%% @doc The own address.
--spec own() -> lobby_sip_message:peer().
-own() ->
-    element(2, persistent_term:get(?MODULE)).
+%% @doc Answers a request from this address, with our tag.
+-spec answer(100..699, {Headers :: [{term(), term()}], Body :: binary()}, lobby_sip_message:message(),
+             lobby_sip_message:target()) -> lobby_sip_message:message().
+answer(Status, Content, Request, Source) ->
+    Response = lobby_sip_message:response(Status, Request, own_tag(Request), Content),
+    ok = send(lobby_sip_message:response_target(Request, Source), Response),
+    Response.
 
 %% @doc The transport, and the own address, where somebody reaches us who sends from there.
 -spec own(lobby_sip_message:target()) -> lobby_dialog:own().
 own(Source) ->
+    {_, Own, _, OwnTls} = persistent_term:get(?MODULE),
     case lobby_sip_message:transport(Source) of
-        <<"TLS">> -> {<<"TLS">>, element(4, persistent_term:get(?MODULE))};
-        Transport -> {Transport, own()}
+        <<"TLS">> -> {<<"TLS">>, OwnTls};
+        Transport -> {Transport, Own}
     end.
 
 %% @doc Our tag in the dialog with a caller: always the same for his INVITE, however often it comes.
@@ -67,10 +68,6 @@ tag_in(Key) ->
     <<Tag:8/binary, _/binary>> = crypto:mac(hmac, sha256, Secret, term_to_binary(Key)),
     string:lowercase(binary:encode_hex(Tag)).
 
--spec allow() -> {allow, [binary()]}.
-allow() ->
-    lobby_sip_message:allow().
-
 -spec init(config()) -> {ok, #state{}} | {stop, {cannot_bind, lobby_sip_message:peer(), inet:posix()}}.
 init(Config = #{sip := Own, digest := Algorithms, tls := Tls}) ->
     case lobby_socket:opened(fun() -> open(Own) end) of
@@ -79,7 +76,8 @@ init(Config = #{sip := Own, digest := Algorithms, tls := Tls}) ->
             ok = persistent_term:put(?MODULE, {Socket, Own, secret(), OwnTls}),
             State = #state{config = Config, socket = Socket, admission = lobby_admission:new(Config),
                            auth = lobby_auth:new(Algorithms)},
-            {ok, lists:foldl(fun({Pid, Source}, Acc) -> watch({Pid, address(Source)}, <<>>, Acc) end, State, lobby_call:sources())};
+            Watch = fun({Pid, Source}, Acc) -> watch(Pid, Source, <<>>, Acc) end,
+            {ok, lists:foldl(Watch, State, lobby_call:sources())};
         {error, Reason} ->
             {stop, {cannot_bind, Own, Reason}}
     end.
@@ -115,7 +113,7 @@ handle_info({udp_passive, Socket}, State = #state{socket = Socket}) ->
     ok = inet:setopts(Socket, [{active, 100}]),
     {noreply, State};
 handle_info({started, Pid, Source}, State) ->
-    {noreply, watch({Pid, address(Source)}, <<>>, State)};
+    {noreply, watch(Pid, Source, <<>>, State)};
 handle_info({'DOWN', _, process, Pid, _}, State = #state{admission = Admission}) ->
     {noreply, State#state{admission = lobby_admission:left(Pid, Admission)}};
 handle_info(_, State) ->
@@ -123,13 +121,10 @@ handle_info(_, State) ->
 
 %% Nothing is read of what isn't let in.
 let_in(Message, Source, State = #state{admission = Admission}) ->
-    case lobby_admission:message(address(Source), now_ms(), Admission) of
+    case lobby_admission:message(lobby_sip_message:address(Source), now_ms(), Admission) of
         {true, A} -> handle(lobby_sip_message:decode(Message, Source), Source, State#state{admission = A});
         {false, A} -> State#state{admission = A}
     end.
-
-address(Source) ->
-    element(1, lobby_sip_message:peer(Source)).
 
 now_ms() ->
     erlang:monotonic_time(millisecond).
@@ -137,7 +132,7 @@ now_ms() ->
 handle({ok, Request = #sip{type = request}}, Source, State) ->
     case lobby_sip_message:refusal(Request) of
         none -> request(Request, Source, State);
-        {Status, Headers} -> answer(Status, Headers, Request, Source, State)
+        {Status, Headers} -> reply(Status, Headers, Request, Source, State)
     end;
 %% In an answer to our request, the caller's tag is in To, and ours in From.
 handle({ok, Response}, Source, State) ->
@@ -149,7 +144,7 @@ handle({ok, Response}, Source, State) ->
 handle({refused, _, #sip{method = <<"ACK">>}}, _, State) ->
     State;
 handle({refused, Status, Request}, Source, State) ->
-    answer(Status, [], Request, Source, State);
+    reply(Status, [], Request, Source, State);
 handle({error, not_sip}, _, State) ->
     State.
 
@@ -162,18 +157,13 @@ request(Request = #sip{method = Method}, Source, State) ->
         {_, <<"ACK">>} -> State;
         {<<>>, _} when Method =:= <<"INVITE">>; Method =:= <<"CANCEL">> ->
             in_call(lobby_dialog:key(Request), Request, Source, State);
-        {<<>>, <<"OPTIONS">>} -> answer(200, [allow(), lobby_sip_message:accept()], Request, Source, State);
-        {_, _} -> answer(481, [], Request, Source, State)
+        {<<>>, <<"OPTIONS">>} ->
+            reply(200, [lobby_sip_message:allow(), lobby_sip_message:accept()], Request, Source, State);
+        {_, _} -> reply(481, [], Request, Source, State)
     end.
 
-in_call(Key, Message, Source, State) ->
-    case lobby_registry:whereis_name({call, Key}) of
-        undefined -> without_process(Key, Message, Source, State);
-        Pid -> forward(Pid, Message, Source), State
-    end.
-
-without_process(Key, Message = #sip{type = Type}, Source, State) ->
-    case {lobby_call:restore(Key), Type} of
+in_call(Key, Message = #sip{type = Type}, Source, State) ->
+    case {lobby_call:find(Key), Type} of
         {{ok, Pid}, _} -> forward(Pid, Message, Source), State;
         {error, request} -> unknown(Message, Source, State);
         {error, response} -> State
@@ -200,15 +190,15 @@ unknown(#sip{method = <<"ACK">>}, _, State) ->
 unknown(Request = #sip{method = Method}, Source, State) ->
     case {lobby_sip_message:tag(to, Request), Method} of
         {<<>>, <<"INVITE">>} -> invite(Request, Source, State);
-        {<<_, _/binary>>, <<"BYE">>} -> answer(200, [], Request, Source, State);
-        {_, _} -> answer(481, [], Request, Source, State)
+        {<<_, _/binary>>, <<"BYE">>} -> reply(200, [], Request, Source, State);
+        {_, _} -> reply(481, [], Request, Source, State)
     end.
 
 %% The cheapest test comes first.
 invite(Request = #sip{uri = #uri{user = Room}}, Source, State) ->
-    case lobby_rooms:is_name(Room) andalso identified(Request, address(Source), State) of
-        false -> answer(404, [], Request, Source, State);
-        {challenge, Headers} -> answer(401, Headers, Request, Source, State);
+    case lobby_rooms:is_name(Room) andalso identified(Request, lobby_sip_message:address(Source), State) of
+        false -> reply(404, [], Request, Source, State);
+        {challenge, Headers} -> reply(401, Headers, Request, Source, State);
         {ok, Name, State1} -> admitted(lobby_auth:asserted(Name, Request), Source, State1)
     end.
 
@@ -224,23 +214,22 @@ identified(Request, Address, State = #state{config = #{users := Users, proxies :
     end.
 
 admitted(Request = #sip{uri = #uri{user = Room}}, Source, State = #state{admission = Before}) ->
-    Address = address(Source),
+    Address = lobby_sip_message:address(Source),
     {Verdict, Admission} = lobby_admission:call(Address, {Room, not lobby_rooms:exists(Room)}, now_ms(), Before),
     State1 = State#state{admission = Admission},
     case Verdict of
         ok ->
             {ok, Pid} = lobby_call:start(Room, Request, Source),
             ok = used(Source, Pid),
-            watch({Pid, Address}, Room, State1);
-        too_many -> answer(486, [], Request, Source, State1);
-        _ -> answer(503, [{'retry-after', {10, []}}], Request, Source, State1)
+            watch(Pid, Source, Room, State1);
+        too_many -> reply(486, [], Request, Source, State1);
+        _ -> reply(503, [{'retry-after', {10, []}}], Request, Source, State1)
     end.
 
-watch({Pid, Address}, Room, State = #state{admission = Admission}) ->
+watch(Pid, Source, Room, State = #state{admission = Admission}) ->
     _ = monitor(process, Pid),
-    State#state{admission = lobby_admission:entered(Pid, Address, Room, Admission)}.
+    State#state{admission = lobby_admission:entered(Pid, lobby_sip_message:address(Source), Room, Admission)}.
 
-answer(Status, Headers, Request, Source, State) ->
-    Response = lobby_sip_message:response(Status, Request, own_tag(Request), {Headers, <<>>}),
-    ok = send(lobby_sip_message:response_target(Request, Source), Response),
+reply(Status, Headers, Request, Source, State) ->
+    _ = answer(Status, {Headers, <<>>}, Request, Source),
     State.

@@ -48,6 +48,8 @@
                agreed = none :: lobby_h248:media() | none,
                %% His request whose offer the gateway hasn't taken yet.
                changing = none :: lobby_sip_message:message() | none,
+               %% Whether it was logged that no packets come from him.
+               is_silent = false :: boolean(),
                %% What is wanted for him. The store keeps it apart.
                person = none :: lobby_person:person() | none,
                %% The state, and what gen_statem is to do after this event.
@@ -170,9 +172,9 @@ event(info, {lobby_room, Room, {admitted, Result}}, Call) ->
     person({admitted, Room, Result}, Call);
 event(info, {lobby_room, Room, {report, Report}}, Call) ->
     reported(Report, person({report, Room, Report}, Call));
-%% No packets come from him: is he still there?
+%% The gateway takes no packets of his: is he still there?
 event(info, {lobby_room, _, silent}, Call = #call{state = talking}) ->
-    invite(Call);
+    invite(silent(Call));
 event(info, {lobby_call, refused}, Call) ->
     bye(Call);
 event(info, {answer, From, Answer}, Call) ->
@@ -281,6 +283,15 @@ reported({refused, _, _, none}, Call) ->
     Call;
 reported(_, Call) ->
     Call.
+
+%% It doesn't say which packets it drops, so this is said once of each call.
+silent(Call = #call{is_silent = true}) ->
+    Call;
+silent(Call = #call{id = Id, dialog = Dialog, session = Session}) ->
+    {{Address, Port}, Format} = lobby_sdp:media(Session),
+    logger:warning("the gateway takes no packets of ~ts (~ts): ~ts:~b sends none, or others than 20 ms of ~ts",
+                   [Id, lobby_dialog:caller(Dialog), inet:ntoa(Address), Port, string:uppercase(atom_to_list(Format))]),
+    Call#call{is_silent = true}.
 
 %%% The first INVITE.
 

@@ -11,7 +11,7 @@ suite() -> [{timetrap, {seconds, 60}}].
 all() ->
     [a_call, callers_hear_each_other, a_repeated_invite_has_the_same_answer, the_answer_is_repeated_until_the_ack,
      without_an_ack_the_call_ends, hold_and_resume, hold_by_update, streams_are_declined, an_offer_that_comes_late, cancel_and_options,
-     session_timers, who_is_silent_is_asked, requests_that_are_refused, limits, addresses_that_may_call, passwords, a_lost_gateway_is_replaced, who_moves_after_a_loss_is_awaited, who_invites_during_a_loss_is_not_awaited,
+     session_timers, who_is_silent_is_asked, what_the_gateway_drops_is_logged, requests_that_are_refused, limits, addresses_that_may_call, passwords, a_lost_gateway_is_replaced, who_moves_after_a_loss_is_awaited, who_invites_during_a_loss_is_not_awaited,
      sixty_callers_hear_each_other_again, our_invite_is_repeated_and_acknowledged, both_invite_at_once,
      who_vanished_is_removed, who_refuses_our_invite_is_hung_up, hung_up_and_moved, addresses_of_ipv6, routes, a_call_that_starts_again_knows_its_place, a_call_that_fails_while_it_joins,
      a_call_that_fails_again_and_again_ends, a_call_outlives_a_slow_supervisor, an_answer_that_comes_after_a_failure, processes_fail, the_node_fails, garbage,
@@ -38,7 +38,7 @@ gateways(Case) ->
 env(addresses_that_may_call) -> [{callers, [{{192, 0, 2, 0}, 24}]}];
 env(passwords) -> [{users, #{<<"test">> => <<"secret">>}}];
 env(session_timers) -> [{min_se, 2}];
-env(who_is_silent_is_asked) -> [{silent_after, 1000}, {room_audit, 500}];
+env(Case) when Case =:= who_is_silent_is_asked; Case =:= what_the_gateway_drops_is_logged -> [{silent_after, 1000}, {room_audit, 500}];
 env(limits) -> [{max_calls_from, 3}, {max_calls, 4}];
 env(garbage) -> [{messages_from, 100000}];
 env(Case) when Case =:= without_an_ack_the_call_ends; Case =:= who_vanished_is_removed -> [{t1, 20}];
@@ -303,6 +303,34 @@ who_is_silent_is_asked(Config) ->
     ?assertEqual("ACK", phone:status(phone:recv(Silent))),
     ?assertEqual("INVITE", phone:status(phone:recv(Silent, 2500))),
     ?assert(phone:quiet(Loud, 100)).
+
+%% Packets of 10 ms: the caller is asked each time, but it's logged once.
+what_the_gateway_drops_is_logged(Config) ->
+    File = filename:join(proplists:get_value(priv_dir, Config), "log"),
+    ok = logger:add_handler(file, logger_std_h, #{config => #{file => File}}),
+    {Loud, R} = call(Config),
+    caller:talk(phone:media(Loud), local(R)),
+    {Odd, Response} = call(Config),
+    {Address, Port} = local(Response),
+    {ok, Socket} = gen_udp:open(0, [{ip, {127, 0, 0, 1}}]),
+    Talk = fun Talk(N) ->
+        ok = gen_udp:send(Socket, Address, Port, <<2:2, 0:14, N:16, (80 * N):32, 7:32, 0:640>>),
+        timer:sleep(10),
+        Talk(N + 1)
+    end,
+    Talking = spawn_link(fun() -> receive go -> Talk(0) end end),
+    ok = gen_udp:controlling_process(Socket, Talking),
+    Talking ! go,
+    [begin
+         Invite = phone:recv(Odd, 2500),
+         ?assertEqual("INVITE", phone:status(Invite)),
+         phone:answer(200, Invite, phone:sdp(Odd), Odd),
+         ?assertEqual("ACK", phone:status(phone:recv(Odd)))
+     end || _ <- [1, 2]],
+    ok = logger_std_h:filesync(file),
+    ok = logger:remove_handler(file),
+    {ok, Log} = file:read_file(File),
+    ?assertMatch({match, [_]}, re:run(Log, "the gateway takes no packets of [0-9a-f]{8} .*, or others than 20 ms of PCMU", [global])).
 
 addresses_that_may_call(Config) ->
     Phone = phone:start(sip(Config)),

@@ -34,6 +34,7 @@ class Wrong:
 
 SEARCH = "lobby_search_tests:"
 PROMISE = "lobby_promise_SUITE:"
+ANSWERS = "lobby_answers_SUITE:"
 CONFERENCE, CORE, GATEWAY = "lobby_conference", "lobby_room_core", "lobby_gateway_core"
 
 BODIES = [
@@ -147,6 +148,25 @@ BODIES = [
           [("    case lobby_lease:durable() of\n        ok ->",
             "    case lobby_lease:durable() of\n        _ when From =/= none ->")],
           "lobby_pair_SUITE:a_change_waits_for_the_standby"),
+    Wrong("no limit for the rooms of one address", "lobby_admission",
+          [("andalso map_size(Rooms) >= MaxRooms,", "andalso map_size(Rooms) >= MaxRooms + 1000,")],
+          ANSWERS + "one_address_shuts_out_nobody"),
+    Wrong("messages as fast as they come", "lobby_buckets",
+          [("when Missing =< 2000 * Rate ->", "when Missing =< 200000 * Rate ->")],
+          ANSWERS + "too_fast"),
+    Wrong("anybody asserts an identity", "lobby_sip",
+          [("case {lobby_auth:is_in(Address, Proxies) andalso lobby_auth:identity(Request), map_size(Users)} of",
+            "case {is_list(Proxies) andalso lobby_auth:identity(Request), map_size(Users)} of")],
+          ANSWERS + "a_proxy_is_trusted"),
+    Wrong("what can't be read is an error", "lobby_sip_decoder",
+          [("try {ok, Reader(Text)} catch error:_ -> error end.", "{ok, Reader(Text)}.")],
+          ANSWERS + "any_bytes"),
+    Wrong("a slow reader of events is kept", "lobby_event_stream",
+          [("{send_timeout, 2000}", "{send_timeout, infinity}")],
+          "lobby_http_SUITE:a_watcher_that_does_not_read"),
+    Wrong("whatever fails starts again at once", "lobby_keeper",
+          [("start_after((N - 1) * ?PAUSE,", "start_after((N - N) * ?PAUSE,")],
+          "lobby_calls_SUITE:a_call_outlives_a_slow_supervisor"),
     Wrong("a viewer may POST and DELETE", "lobby_http",
           [("{_, _, _} when Role =:= viewer ->", "{_, _, _} when Role =:= nobody ->")],
           "lobby_http_SUITE:tokens"),

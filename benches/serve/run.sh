@@ -1,13 +1,15 @@
 #!/bin/bash
-# Measures the gateway over loopback, and compares its processor time with that of plain receives and sends.
+# Measures the gateway over loopback: `live`, which waits for its ticks and messages itself, and `serve`, to which mg_pace
+# says when to poll and tick (mg_pace's own time isn't counted). Compares their processor time with that of plain
+# receives and sends in C.
 # usage: run.sh CALLERS A_CONFERENCE SECONDS [SLOTS]
-# With 0 CALLERS it measures an idle gateway.
-# It needs gcc, and the two programs that `rt run` leaves in crates/mg_bridge/out and crates/mg_pace/out.
+# With 0 CALLERS it measures an idle gateway. TURNS=N measures each N times, in turn.
+# It needs gcc, and mg_bridge and mg_pace in dist/, or in the folder PROGRAMS.
 set -eu
 callers=$1 members=$2 seconds=$3 slots=${4:-$1}
 here=$(CDPATH= cd -- "$(dirname -- "$0")" && pwd)
-bridge=$here/../../crates/mg_bridge/out/mg_bridge
-pace=$here/../../crates/mg_pace/out/mg_pace
+programs=${PROGRAMS:-$here/../../dist}
+bridge=$programs/mg_bridge pace=$programs/mg_pace
 work=$(mktemp -d)
 trap 'rm -rf "$work"; kill $(jobs -p) 2> /dev/null || true' EXIT
 for program in load bare; do
@@ -28,13 +30,26 @@ measure() {
     sed -n 's/^VmHWM:[ \t]*/  memory at most: /p' "/proc/$process/status"
     sed 's/^/  /' "$work/errors"
 }
-"$bridge" live --slots "$slots" > "$work/out" 2> "$work/errors" &
-measure gateway $!
-kill $!
-wait $! 2> /dev/null || true
-[ "$callers" -gt 0 ] || exit 0
-: > "$work/out"
-mkfifo "$work/lines"
-"$pace" --polls 1 > "$work/lines" 2> "$work/errors" &
-"$work/bare" "$callers" "$slots" < "$work/lines" > "$work/out" &
-measure 'bare calls' $!
+# What is driven by mg_pace.
+paced() {
+    name=$1
+    shift
+    rm -f "$work/lines"
+    mkfifo "$work/lines"
+    "$pace" --polls 1 > "$work/lines" 2> "$work/errors" &
+    paces=$!
+    "$@" < "$work/lines" > "$work/out" 2>> "$work/errors" &
+    measure "$name" $!
+    kill $! $paces
+    wait $! $paces 2> /dev/null || true
+    : > "$work/out"
+}
+for _ in $(seq "${TURNS:-1}"); do
+    "$bridge" live --slots "$slots" > "$work/out" 2> "$work/errors" &
+    measure live $!
+    kill $!
+    wait $! 2> /dev/null || true
+    : > "$work/out"
+    paced serve "$bridge" serve --slots "$slots"
+    [ "$callers" = 0 ] || paced 'bare calls' "$work/bare" "$callers" "$slots"
+done

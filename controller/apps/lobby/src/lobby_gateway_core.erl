@@ -329,10 +329,10 @@ answered(audit, _, Reply, Now, G = #gateway{state = State, config = #{audit := I
         {true, cleaning} -> G;
         {false, _} -> begun_anew(G)
     end;
-answered({clean, Place}, _, Reply, Now, G = #gateway{contexts = Contexts}) ->
+answered({clean, Place}, _, Reply, _, G = #gateway{contexts = Contexts}) ->
     case is_ended(Reply) of
         true -> cleaned(kept(gone_from(Place, G#gateway{contexts = lists:delete(Place, Contexts)})));
-        false when Now >= 0 -> act({timer, clean, 1000}, G)
+        false -> act({timer, clean, 1000}, G)
     end;
 answered({unknown, Sent}, _, Reply, Now, G = #gateway{unknown = Unknown}) ->
     Known = G#gateway{unknown = lists:delete(Sent, Unknown)},

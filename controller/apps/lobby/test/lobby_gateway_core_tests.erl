@@ -5,13 +5,16 @@
 
 %% It has a conference, and hasn't returned in time.
 lost(Settled) ->
+    lost(Settled, 0).
+
+lost(Settled, Now) ->
     G = lobby_gateway_core:new(#{
         config => #{name => <<"1">>, address => {{127, 0, 0, 1}, 2944}, here => {127, 0, 0, 1}, retry => 100, tries => 4, quiet => 5000,
                     audit => 250, returns => 1000, terminations => 256, contexts => 64},
         sender => {{127, 0, 0, 1}, 2945}, first => 1, settled => Settled, entries => [], requests => [],
         kept => #{generation => 1, sentinel => {1, 1, {{127, 0, 0, 1}, 9}}, contexts => [{2, all}], unknown => []}}),
-    {Started, _} = lobby_gateway_core:handle(start, 0, G),
-    lobby_gateway_core:handle({timer, back, 1000}, 1000, Started).
+    {Started, _} = lobby_gateway_core:handle(start, Now, G),
+    lobby_gateway_core:handle({timer, back, 1000}, Now + 1000, Started).
 
 subtracts(Actions) ->
     [Message || {send, Message} <- Actions, string:find(Message, "O-S=") =/= nomatch].
@@ -25,3 +28,13 @@ the_other_node_is_heard_of_first_test() ->
     {G, Actions} = lost(1000),
     {_, Later} = lobby_gateway_core:handle({timer, clean, 1000}, 9000, G),
     ?assertEqual([], subtracts(Actions ++ Later)).
+
+%% Monotonic time is negative.
+what_it_refuses_to_end_is_tried_again_test() ->
+    Now = -576460750000,
+    {G, Actions} = lost(0, Now),
+    [Subtract] = subtracts(Actions),
+    {match, [Number]} = re:run(Subtract, "T=([0-9]+)", [{capture, all_but_first, list}]),
+    Refused = {received, {reply, list_to_integer(Number), {error, 500}}},
+    {_, Later} = lobby_gateway_core:handle(Refused, Now + 1100, G),
+    ?assert(lists:member({timer, clean, 1000}, Later)).

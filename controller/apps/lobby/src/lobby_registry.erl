@@ -6,8 +6,8 @@
 -export([start_link/0, register_name/2, unregister_name/1, whereis_name/1, send/2, processes/1, names/1]).
 -export([init/1, handle_call/3, handle_cast/2, handle_info/2]).
 
-%% Names by process. The table has processes by name.
--type state() :: #{pid() => {reference(), [term()]}}.
+%% The table has processes by name.
+-type state() :: none.
 
 -spec start_link() -> gen_server:start_ret().
 start_link() ->
@@ -49,50 +49,31 @@ names(Kind) ->
 -spec init([]) -> {ok, state()}.
 init([]) ->
     ?MODULE = ets:new(?MODULE, [named_table, protected, {read_concurrency, true}]),
-    {ok, #{}}.
+    {ok, none}.
 
+%% One process may have several names, and another process may have got a name before the end of this one is reported.
 -spec handle_call({register, term(), pid()} | {unregister, term()}, gen_server:from(), state()) ->
           {reply, yes | no | ok, state()}.
 handle_call({register, Name, Pid}, _, State) ->
-    case ets:lookup(?MODULE, Name) of
-        [{_, Other}] when Other =/= Pid -> case is_process_alive(Other) of
-            true -> {reply, no, State};
-            %% Its end hasn't been reported yet.
-            false -> {reply, yes, enter(Name, Pid, leave(Other, State))}
-        end;
-        [{_, Pid}] -> {reply, yes, State};
-        [] -> {reply, yes, enter(Name, Pid, State)}
+    case whereis_name(Name) of
+        undefined ->
+            _ = monitor(process, Pid, [{tag, {ended, Name}}]),
+            true = ets:insert(?MODULE, {Name, Pid}),
+            {reply, yes, State};
+        Pid -> {reply, yes, State};
+        _ -> {reply, no, State}
     end;
 handle_call({unregister, Name}, _, State) ->
-    case ets:take(?MODULE, Name) of
-        [{_, Pid}] ->
-            #{Pid := {Monitor, Names}} = State,
-            {reply, ok, State#{Pid := {Monitor, lists:delete(Name, Names)}}};
-        [] ->
-            {reply, ok, State}
-    end.
+    true = ets:delete(?MODULE, Name),
+    {reply, ok, State}.
 
 -spec handle_cast(term(), state()) -> {noreply, state()}.
 handle_cast(_, State) ->
     {noreply, State}.
 
 -spec handle_info(term(), state()) -> {noreply, state()}.
-handle_info({'DOWN', _, process, Pid, _}, State) ->
-    {noreply, leave(Pid, State)};
+handle_info({{ended, Name}, _, process, Pid, _}, State) ->
+    true = ets:delete_object(?MODULE, {Name, Pid}),
+    {noreply, State};
 handle_info(_, State) ->
     {noreply, State}.
-
-enter(Name, Pid, State) ->
-    true = ets:insert(?MODULE, {Name, Pid}),
-    {Monitor, Names} = case State of #{Pid := Known} -> Known; #{} -> {monitor(process, Pid), []} end,
-    State#{Pid => {Monitor, [Name | Names]}}.
-
-leave(Pid, State) ->
-    case maps:take(Pid, State) of
-        {{Monitor, Names}, Rest} ->
-            true = demonitor(Monitor, [flush]),
-            lists:foreach(fun(Name) -> true = ets:delete(?MODULE, Name) end, Names),
-            Rest;
-        error ->
-            State
-    end.

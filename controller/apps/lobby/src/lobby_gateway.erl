@@ -1,7 +1,7 @@
 %%% @doc The process of a gateway: its socket, its timers, and what the store keeps of it. `lobby_gateway_core' decides.
 %%%
-%%% Rooms send requests, and are sent `{lobby_gateway, {answer, Reference, Answer}}' and the like by their names, so that
-%%% a room that was started again meanwhile hears of it, too.
+%%% Rooms send requests, and are sent `{lobby_gateway, {answer, Reference, Answer}}' and the like by their names, so
+%%% that a room that was started again meanwhile hears of it, too.
 -module(lobby_gateway).
 -behaviour(gen_server).
 
@@ -70,9 +70,9 @@ init(Config = #{name := Name, address := {Address, Port}, here := Here}) ->
     {ok, Socket} = gen_udp:open(0, [binary, {ip, Here}, {active, 100}, {recbuf, 262144}, {buffer, 65536}]),
     ok = gen_udp:connect(Socket, Address, Port),
     {ok, Own} = inet:sockname(Socket),
-    Kept = case lobby_store:get(lobby_gateways, Name) of {ok, Value} -> Value; error -> none end,
     Core = lobby_gateway_core:new(#{
-        config => Config, sender => Own, settled => lobby_lease:settled_after(), kept => Kept,
+        config => Config, sender => Own, settled => lobby_lease:settled_after(),
+        kept => lobby_store:get(lobby_gateways, Name, none),
         %% From the clock, so that the numbers are higher than those of an earlier run under the same name.
         first => 1 + erlang:system_time(100) band 16#7FFFFFFF,
         entries => [{T, Entry} || {{_, T}, Entry} <- lobby_store:group(lobby_terminations, Name)],
@@ -80,7 +80,8 @@ init(Config = #{name := Name, address := {Address, Port}, here := Here}) ->
     _ = erlang:send_after(?ORPHANS, self(), orphans),
     {ok, handled(start, #state{name = Name, socket = Socket, core = Core})}.
 
--spec handle_call({reserve, handle(), lobby_room:name(), [lobby_rules:id()]}, gen_server:from(), #state{}) -> {noreply, #state{}}.
+-spec handle_call({reserve, handle(), lobby_room:name(), [lobby_rules:id()]}, gen_server:from(), #state{}) ->
+          {noreply, #state{}}.
 handle_call({reserve, Handle, Room, Ids}, From, State) ->
     {noreply, handled({reserve, From, Handle, Room, Ids}, State)}.
 
@@ -125,55 +126,41 @@ rand(N) ->
     rand:uniform(N) - 1.
 
 handled(Event, State = #state{core = Core}) ->
-    {Changed, Actions} = lobby_gateway_core:handle(Event, now_ms(), Core),
+    {Changed, Actions} = lobby_gateway_core:handle(Event, erlang:monotonic_time(millisecond), Core),
     lists:foldl(fun act/2, State#state{core = Changed}, Actions).
 
-act({send, Message}, State = #state{socket = Socket}) ->
-    ok = lobby_lease:hold(),
-    %% What can't be sent is repeated, like what is lost on the way.
-    _ = gen_udp:send(Socket, Message),
-    State;
-act({keep, Kept}, State = #state{name = Name}) ->
-    ok = lobby_store:put(lobby_gateways, Name, Kept),
-    State;
-act({request, Number, none}, State = #state{name = Name}) ->
-    ok = lobby_store:delete(lobby_requests, {Name, Number}),
-    State;
-act({request, Number, Request}, State = #state{name = Name}) ->
-    ok = lobby_store:put(lobby_requests, {Name, Number}, Name, Request),
-    State;
-act({entry, {put, T, Entry}}, State = #state{name = Name}) ->
-    ok = lobby_store:put(lobby_terminations, {Name, T}, Name, Entry),
-    State;
-act({entry, {delete, T}}, State = #state{name = Name}) ->
-    ok = lobby_store:delete(lobby_terminations, {Name, T}),
-    State;
-act({tell, Room, Message}, State) ->
-    ok = lobby_rooms:notify(Room, {?MODULE, Message}),
-    State;
-act({reply, From, Reply}, State) ->
-    ok = gen_server:reply(From, Reply),
-    State;
 act({timer, Name, Time}, State) ->
     started(Name, Time, [], State);
 act({deadline, Time}, State) ->
     started(transactions, Time, [{abs, true}], State);
-act({load, none}, State = #state{name = Name}) ->
-    true = ets:delete(?MODULE, Name),
-    State;
-act({load, Load}, State = #state{name = Name, core = Core}) ->
-    true = ets:insert(?MODULE, {Name, lobby_gateway_core:handle_of(Core), Load}),
-    State;
-act({publish, Event}, State = #state{name = Name}) ->
-    _ = [self() ! look || Event =:= serving],
-    ok = lobby_events:publish({gateway, Name, Event}),
-    State;
-act({count, Counter}, State = #state{name = Name}) ->
-    ok = lobby_events:count(Counter, Name),
-    State;
-act({log, Level, Format, Values}, State) ->
-    ok = logger:log(Level, Format, Values),
+act(Action, State) ->
+    ok = do(Action, State),
     State.
+
+do({send, Message}, #state{socket = Socket}) ->
+    ok = lobby_lease:hold(),
+    %% What can't be sent is repeated, like what is lost on the way.
+    _ = gen_udp:send(Socket, Message),
+    ok;
+do({keep, Kept}, #state{name = Name}) -> lobby_store:put(lobby_gateways, Name, Kept);
+do({request, Number, none}, #state{name = Name}) -> lobby_store:delete(lobby_requests, {Name, Number});
+do({request, Number, Request}, #state{name = Name}) ->
+    lobby_store:put(lobby_requests, {Name, Number}, Name, Request);
+do({entry, {put, T, Entry}}, #state{name = Name}) -> lobby_store:put(lobby_terminations, {Name, T}, Name, Entry);
+do({entry, {delete, T}}, #state{name = Name}) -> lobby_store:delete(lobby_terminations, {Name, T});
+do({tell, Room, Message}, _) -> lobby_rooms:notify(Room, {?MODULE, Message});
+do({reply, From, Reply}, _) -> gen_server:reply(From, Reply);
+do({load, none}, #state{name = Name}) ->
+    true = ets:delete(?MODULE, Name),
+    ok;
+do({load, Load}, #state{name = Name, core = Core}) ->
+    true = ets:insert(?MODULE, {Name, lobby_gateway_core:handle_of(Core), Load}),
+    ok;
+do({publish, Event}, #state{name = Name}) ->
+    _ = [self() ! look || Event =:= serving],
+    lobby_events:publish({gateway, Name, Event});
+do({count, Counter}, #state{name = Name}) -> lobby_events:count(Counter, Name);
+do({log, Level, Format, Values}, _) -> logger:log(Level, Format, Values).
 
 started(Name, Time, Options, State = #state{timers = Timers}) ->
     _ = [erlang:cancel_timer(Timer) || #{Name := Timer} <- [Timers]],
@@ -181,6 +168,3 @@ started(Name, Time, Options, State = #state{timers = Timers}) ->
         infinity -> maps:remove(Name, Timers);
         _ -> Timers#{Name => erlang:start_timer(Time, self(), Name, Options)}
     end}.
-
-now_ms() ->
-    erlang:monotonic_time(millisecond).

@@ -1,9 +1,9 @@
-%%% @doc Starts rooms and calls again: those that the store has, when this process starts, and those whose processes fail.
-%%% One that fails again and again is set aside, so that the others go on.
+%%% @doc Starts rooms and calls again: those that the store has, when this process starts, and those whose processes
+%%% fail. One that fails again and again is set aside, so that the others go on.
 -module(lobby_keeper).
 -behaviour(gen_server).
 
--export([start_link/1, started/3]).
+-export([start_link/1, running/1, started/3]).
 -export([init/1, handle_continue/2, handle_call/3, handle_cast/2, handle_info/2]).
 -export_type([kind/0]).
 
@@ -22,6 +22,11 @@ start_link(Kind) ->
 
 name(room) -> lobby_room_keeper;
 name(call) -> lobby_call_keeper.
+
+%% @doc The process that runs, if somebody had the supervisor start it before it saw that it had to do so itself.
+-spec running(Started | {error, {already_started, pid()}}) -> Started | {ok, pid()}.
+running({error, {already_started, Pid}}) -> {ok, Pid};
+running(Started) -> Started.
 
 %% @doc Has a process that was just started watched.
 -spec started(kind(), Name :: term(), supervisor:startchild_ret()) -> {ok, pid()}.

@@ -134,14 +134,8 @@ event(Event, State = #state{core = Core}) ->
 
 seen(#state{peer = Peer, lease = Lease}) ->
     Open = lobby_store:is_open(),
-    #{open => Open, term => case Open of true -> last_term(); false -> 0 end, lease => has(Lease),
-      connected => lists:member(Peer, nodes()), copied => is_copied(Peer)}.
-
-last_term() ->
-    case lobby_store:get(lobby_settings, term) of
-        {ok, Term} -> Term;
-        error -> 0
-    end.
+    #{open => Open, term => case Open of true -> lobby_store:get(lobby_settings, term, 0); false -> 0 end,
+      lease => has(Lease), connected => lists:member(Peer, nodes()), copied => is_copied(Peer)}.
 
 has({address, Address}) ->
     {ok, Interfaces} = inet:getifaddrs(),

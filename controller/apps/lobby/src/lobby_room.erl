@@ -1,7 +1,7 @@
 %%% @doc The process of a room: its name, its timers, and what the store keeps of it. `lobby_room_core' decides.
 %%%
-%%% A member's process, which is registered as `{member, Id}', is sent `{lobby_room, Name, Event}': `{admitted, Result}',
-%%% `{report, Report}' or `silent'. It tells the room of him by `lobby_rooms:tell/2'.
+%%% A member's process, which is registered as `{member, Id}', is sent `{lobby_room, Name, Event}': `{admitted,
+%%% Result}', `{report, Report}' or `silent'. It tells the room of him by `lobby_rooms:tell/2'.
 -module(lobby_room).
 -behaviour(gen_server).
 
@@ -17,16 +17,13 @@
 
 -type name() :: binary().
 %% `agree': is answered once the gateway has what the rules say. `audit': once that was compared. `describe': at once.
--type request() :: {rules, add | set, [lobby_rules:rule()]} | {create, [lobby_rules:rule()], lobby_room_core:settings()} | {settings, lobby_room_core:settings()} | agree | audit | describe | agrees.
+-type request() :: {rules, add | set, [lobby_rules:rule()]} | {create, [lobby_rules:rule()], lobby_room_core:settings()}
+                 | {settings, lobby_room_core:settings()} | agree | audit | describe | agrees.
 -record(state, {name :: name(), core :: lobby_room_core:room(), retry = none :: {reference(), integer()} | none}).
 
 -spec start_link(name()) -> gen_server:start_ret().
 start_link(Name) ->
-    case gen_server:start_link(via(Name), ?MODULE, Name, [{hibernate_after, ?IDLE}]) of
-        %% Somebody had the supervisor start it before it saw that it had to do so itself.
-        {error, {already_started, Pid}} -> {ok, Pid};
-        Started -> Started
-    end.
+    lobby_keeper:running(gen_server:start_link(via(Name), ?MODULE, Name, [{hibernate_after, ?IDLE}])).
 
 via(Name) -> {via, lobby_registry, {room, Name}}.
 
@@ -37,22 +34,24 @@ call(Name, Request) ->
 
 -spec init(name()) -> {ok, #state{}, {continue, start}}.
 init(Name) ->
-    Core = lobby_room_core:new(#{name => Name, run => make_ref(), silent_after => application:get_env(lobby, silent_after, 30000)}),
+    SilentAfter = application:get_env(lobby, silent_after, 30000),
+    Core = lobby_room_core:new(#{name => Name, run => make_ref(), silent_after => SilentAfter}),
     _ = erlang:send_after(audit_interval(), self(), watch),
     {ok, #state{name = Name, core = Core}, {continue, start}}.
 
 %% The members' rows are what is wanted.
 -spec handle_continue(start, #state{}) -> {noreply, #state{}} | {stop, normal, #state{}}.
 handle_continue(start, State = #state{name = Name}) ->
-    Kept = case lobby_store:get(lobby_rooms, Name) of {ok, Value} -> Value; error -> none end,
-    handled({start, Kept, [Row || {_, Row} <- lobby_store:group(lobby_members, Name)]}, State).
+    Rows = [Row || {_, Row} <- lobby_store:group(lobby_members, Name)],
+    handled({start, lobby_store:get(lobby_rooms, Name, none), Rows}, State).
 
 -spec handle_call(request(), gen_server:from(), #state{}) ->
           {reply, term(), #state{}} | {noreply, #state{}} | {stop, normal, #state{}}.
 handle_call(describe, _, State = #state{core = Core}) -> {reply, lobby_room_core:describe(Core), State};
 handle_call(agrees, _, State = #state{core = Core}) -> {reply, lobby_room_core:agrees(Core), State};
 handle_call({rules, How, Rules}, From, State) -> handled({rules, From, How, Rules, #{}}, State);
-handle_call({create, Rules, Settings}, From, State) -> handled({rules, From, set, Rules, Settings#{kept => true}}, State);
+handle_call({create, Rules, Settings}, From, State) ->
+    handled({rules, From, set, Rules, Settings#{kept => true}}, State);
 handle_call({settings, Settings}, From, State) -> handled({settings, From, Settings}, State);
 handle_call(agree, From, State) -> handled({agree, From}, State);
 handle_call(audit, From, State) -> handled({audit, From}, State).
@@ -64,8 +63,6 @@ handle_cast(Event, State) ->
 -spec handle_info(term(), #state{}) -> {noreply, #state{}} | {stop, normal, #state{}}.
 handle_info({lobby_gateway, {holdings, Holdings}}, State) ->
     handled({holdings, Holdings, others(Holdings)}, State);
-handle_info({lobby_gateway, Event = {lost, _}}, State) ->
-    handled(Event, State);
 handle_info({lobby_gateway, Event}, State) ->
     handled(Event, State);
 handle_info({answer, From, Reply}, State) ->
@@ -124,54 +121,41 @@ followed(Event, Rest, State) ->
         Stop -> Stop
     end.
 
-act({save, Kept}, State = #state{name = Name}) ->
-    ok = lobby_store:put(lobby_rooms, Name, Kept),
-    State;
-act({request, Gateway, Reference, Action, Ids}, State = #state{name = Name}) ->
-    tell_gateway(Gateway, {request, Gateway, Name, Reference, Action, Ids}, State);
-act({holdings, Gateway}, State = #state{name = Name}) ->
-    tell_gateway(Gateway, {holdings, Gateway, Name}, State);
-act({seats, Gateway, Ids}, State = #state{name = Name}) ->
-    tell_gateway(Gateway, {seats, Gateway, Name, Ids}, State);
-act({release, Gateway, T, To}, State) ->
-    tell_gateway(Gateway, {release, Gateway, T, To}, State);
-act({'end', Gateway, Places}, State) ->
-    tell_gateway(Gateway, {'end', Gateway, Places}, State);
-%% A room that doesn't exist has nobody.
-act({ask, From, Row = #{id := Id, moved := Moved}, Gateway}, State) ->
-    case lobby_rooms:tell(From, {ask, Row, Gateway}) of
-        ok -> State;
-        {error, no_such_room} -> ok = gen_server:cast(self(), {left, Id, Moved, {none, none}}), State
-    end;
-act({left, To, Id, Moved, Given}, State) ->
-    _ = lobby_rooms:tell(To, {left, Id, Moved, Given}),
-    State;
-act({admitted, Id, Result}, State) -> tell(Id, {admitted, Result}, State);
-act({report, Id, Report}, State) -> tell(Id, {report, Report}, State);
-act({silent, Id}, State) -> tell(Id, silent, State);
-act({reply, From, Reply}, State) ->
-    ok = lobby_member:answer(From, Reply),
-    State;
-act({count, Counter}, State) ->
-    ok = lobby_events:count(Counter),
-    State;
 act({retry, soon}, State) -> retried(?SOON, State);
 act({retry, later}, State) -> retried(?LATER, State);
-act(published, State = #state{name = Name}) ->
-    ok = lobby_events:publish({room, Name}),
+act(Action, State = #state{name = Name}) ->
+    ok = do(Action, Name),
     State.
 
-tell_gateway(Gateway, Event, State) ->
-    ok = lobby_gateway:cast(Gateway, Event),
-    State.
+do({save, Kept}, Name) -> lobby_store:put(lobby_rooms, Name, Kept);
+do({request, Gateway, Reference, Action, Ids}, Name) ->
+    lobby_gateway:cast(Gateway, {request, Gateway, Name, Reference, Action, Ids});
+do({holdings, Gateway}, Name) -> lobby_gateway:cast(Gateway, {holdings, Gateway, Name});
+do({seats, Gateway, Ids}, Name) -> lobby_gateway:cast(Gateway, {seats, Gateway, Name, Ids});
+do(Event = {release, Gateway, _, _}, _) -> lobby_gateway:cast(Gateway, Event);
+do(Event = {'end', Gateway, _}, _) -> lobby_gateway:cast(Gateway, Event);
+%% A room that doesn't exist has nobody.
+do({ask, From, Row = #{id := Id, moved := Moved}, Gateway}, _) ->
+    case lobby_rooms:tell(From, {ask, Row, Gateway}) of
+        ok -> ok;
+        {error, no_such_room} -> gen_server:cast(self(), {left, Id, Moved, {none, none}})
+    end;
+do({left, To, Id, Moved, Given}, _) ->
+    _ = lobby_rooms:tell(To, {left, Id, Moved, Given}),
+    ok;
+do({admitted, Id, Result}, Name) -> tell(Id, {admitted, Result}, Name);
+do({report, Id, Report}, Name) -> tell(Id, {report, Report}, Name);
+do({silent, Id}, Name) -> tell(Id, silent, Name);
+do({reply, From, Reply}, _) -> lobby_member:answer(From, Reply);
+do({count, Counter}, _) -> lobby_events:count(Counter);
+do(published, Name) -> lobby_events:publish({room, Name}).
 
 %% If a member's process is restarting, it asks as soon as it can.
-tell(Id, Event, State = #state{name = Name}) ->
-    _ = case lobby_registry:whereis_name({member, Id}) of
+tell(Id, Event, Name) ->
+    case lobby_registry:whereis_name({member, Id}) of
         undefined -> ok;
-        Pid -> Pid ! {?MODULE, Name, Event}
-    end,
-    State.
+        Pid -> Pid ! {?MODULE, Name, Event}, ok
+    end.
 
 %% The sooner of two times counts.
 retried(In, State = #state{retry = Before}) ->

@@ -1,8 +1,9 @@
-%%% @doc Rooms by name: they are started when somebody is to be admitted or when they are created, and again from what was
-%%% kept.
+%%% @doc Rooms by name: they are started when somebody is to be admitted or when they are created, and again from what
+%%% was kept.
 -module(lobby_rooms).
 
--export([is_name/1, create/3, call/2, tell/2, notify/2, gateway/1, has_door/1, names/0, exists/1, start/1, set_aside/1]).
+-export([is_name/1, create/3, call/2, tell/2, notify/2, gateway/1, has_door/1, names/0, exists/1, start/1]).
+-export([set_aside/1]).
 -export_type([error/0]).
 
 -define(MAX_ROOMS, 10000).
@@ -37,8 +38,8 @@ call(Name, Kind, Request, Tries) ->
             call(Name, Kind, Request, Tries - 1)
     end.
 
-%% @doc Tells a room of what happened to a member. A room that ends or fails at this moment doesn't hear of it: whoever has
-%% no answer tells it again.
+%% @doc Tells a room of what happened to a member. A room that ends or fails at this moment doesn't hear of it: whoever
+%% has no answer tells it again.
 -spec tell(lobby_room:name(), lobby_room_core:event()) -> ok | {error, error()}.
 tell(Name, Event) ->
     case started(Name, case element(1, Event) of admit -> new; want -> new; _ -> old end) of
@@ -56,21 +57,13 @@ notify(Name, Message) ->
 
 %% @doc The gateway that a room uses, as far as the store knows.
 -spec gateway(lobby_room:name() | none) -> lobby_gateway:handle() | none.
-gateway(none) ->
-    none;
 gateway(Name) ->
-    case lobby_store:get(lobby_rooms, Name) of
-        {ok, #{gateway := Gateway}} -> Gateway;
-        _ -> none
-    end.
+    maps:get(gateway, lobby_store:get(lobby_rooms, Name, #{}), none).
 
 %% @doc Whether newcomers wait until somebody lets them in.
 -spec has_door(lobby_room:name()) -> boolean().
 has_door(Name) ->
-    case lobby_store:get(lobby_rooms, Name) of
-        {ok, #{settings := Settings}} -> maps:get(door, Settings, false);
-        _ -> false
-    end.
+    maps:get(door, maps:get(settings, lobby_store:get(lobby_rooms, Name, #{}), #{}), false).
 
 -spec names() -> [lobby_room:name()].
 names() ->
@@ -94,8 +87,8 @@ started(Name, Kind) ->
 start(Name) ->
     lobby_keeper:started(room, Name, supervisor:start_child(lobby_room_sup, [Name])).
 
-%% @doc A room whose process fails again and again is closed: what gateways have for it is ended, and its members are hung
-%% up. The others go on.
+%% @doc A room whose process fails again and again is closed: what gateways have for it is ended, and its members are
+%% hung up. The others go on.
 -spec set_aside(lobby_room:name()) -> ok.
 set_aside(Name) ->
     logger:error("room ~ts fails again and again. It is closed", [Name]),

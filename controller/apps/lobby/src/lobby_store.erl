@@ -7,7 +7,8 @@
 -module(lobby_store).
 -behaviour(gen_server).
 
--export([start_link/1, put/3, put/4, get/2, has/2, delete/2, all/1, group/2, group_keys/2, groups/1, keys/1, size/1, count/1, is_open/0, follow/1, admit/1]).
+-export([start_link/1, put/3, put/4, get/2, get/3, has/2, delete/2, all/1, group/2, group_keys/2, groups/1, keys/1]).
+-export([size/1, count/1, is_open/0, follow/1, admit/1]).
 -export([init/1, handle_continue/2, handle_call/3, handle_cast/2, handle_info/2]).
 -export_type([table/0, config/0]).
 
@@ -44,6 +45,13 @@ get(Table, Key) ->
     case mnesia:dirty_read(Table, Key) of
         [Row] -> {ok, unpack(Table, element(3, Row))};
         [] -> error
+    end.
+
+-spec get(table(), Key :: term(), Default :: term()) -> Value :: term().
+get(Table, Key, Default) ->
+    case get(Table, Key) of
+        {ok, Value} -> Value;
+        error -> Default
     end.
 
 -spec has(table(), Key :: term()) -> boolean().
@@ -159,8 +167,8 @@ upgrade() ->
 
 %% What an earlier release wrote.
 old(Table) ->
-    [{Key, Value} || {_, Key, Stored} <- mnesia:dirty_match_object({Table, '_', '_'}), not lobby_stored:is_current(Stored),
-                     {ok, Value} <- [lobby_stored:unpack(Table, Stored)]].
+    [{Key, Value} || {_, Key, Stored} <- mnesia:dirty_match_object({Table, '_', '_'}),
+                     not lobby_stored:is_current(Stored), {ok, Value} <- [lobby_stored:unpack(Table, Stored)]].
 
 %%% A node of a pair.
 

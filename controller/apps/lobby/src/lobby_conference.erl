@@ -2,8 +2,8 @@
 %%% together.
 %%%
 %%% What is wanted is the rows of the members (`lobby_person') and the room's rules. The room sends the action of
-%%% `next/1', and passes the reply to `done/3', until `next/1' returns `settled'. So a change, a failure and a new gateway
-%%% are all handled in the same way.
+%%% `next/1', and passes the reply to `done/3', until `next/1' returns `settled'. So a change, a failure and a new
+%%% gateway are all handled in the same way.
 %%%
 %%% A flow is open only if the rules open it and neither end is isolated; a muted talker's mode is SendOnly. A member is
 %%% never audible before that holds. Members leave first, and whoever is to say or hear less is silenced. Then flows are
@@ -15,9 +15,10 @@
 %%% request was run, nothing is assumed: `doubt/1' has the terminations, modes and flows audited first.
 -module(lobby_conference).
 
--export([new/0, want/2, leave/2, expel/2, cleared/4, set_rules/2, forget/1, resume/3, doubt/1, check/1, unblock/1]).
+-export([new/0, want/2, leave/2, expel/2, cleared/4, set_rules/2, forget/1, resume/3, check/1, unblock/1]).
 -export([next/1, done/3]).
--export([ids/1, persons/1, rules/1, context/1, asked/1, has/2, is_empty/1, missing/1, find/2, local/2, holding/2, flows/1, visible/1]).
+-export([ids/1, persons/1, rules/1, context/1, asked/1, has/2, is_empty/1, missing/1, find/2, local/2, holding/2,
+         flows/1, visible/1]).
 -export_type([conference/0, step/0, event/0, held/0, place/0, holding/0, owner/0]).
 
 -define(NO_FLOWS, sets:new([{version, 2}])).
@@ -45,7 +46,7 @@
 %% Whose a termination is, as far as the gateway's process knows.
 -type owner() :: #{lobby_h248:termination() => own | other}.
 %% A member who comes from another room: that is asked to let him go, or has done so, with what it gave.
--type arrival() :: {asked | cleared, Moved :: pos_integer()} | {given, lobby_h248:context(), #held{}}.
+-type arrival() :: {asked | cleared, Moved :: pos_integer()} | {given, holding()}.
 
 -record(conference, {members = [] :: [row()], rules = [] :: [lobby_rules:rule()],
                      context = new :: lobby_h248:context() | new, held = #{} :: #{id() => #held{}},
@@ -64,8 +65,8 @@
 -type step() :: {subtract, [place()]} | {modify, [{id(), lobby_h248:mode()}]}
                 | {connect, lobby_rules:flows()} | {add, [{row(), lobby_h248:mode()}], lobby_rules:flows()}
                 | {move, {id(), lobby_h248:mode()}, lobby_rules:flows()} | {settle, [row()]} | inventory | topology.
-%% `refused': the gateway doesn't take these media, and has the others, if any. `full': it doesn't take him now. `failed':
-%% an answer wasn't as expected. `counts': the packets that each termination received.
+%% `refused': the gateway doesn't take these media, and has the others, if any. `full': it doesn't take him now.
+%% `failed': an answer wasn't as expected. `counts': the packets that each termination received.
 -type event() :: {refused, id(), Code :: pos_integer(), lobby_h248:media() | none} | {full, id()} | repaired | strays
                | failed | {counts, #{lobby_h248:termination() => non_neg_integer()}}.
 
@@ -77,14 +78,13 @@ new() ->
 
 %% @doc A member's row: new, or changed. Somebody who comes from another room isn't added before `cleared/4'.
 -spec want(row(), conference()) -> conference().
-want(Row = #{id := Id, from := From, moved := Moved}, C = #conference{members = Members, held = Held, arriving = Arriving}) ->
-    Came = case {is_map_key(Id, Held) orelse From =:= none, Arriving} of
-        {true, _} -> Arriving;
-        {false, #{Id := {given, _, _}}} -> Arriving;
-        {false, #{Id := {_, Moved}}} -> Arriving;
-        {false, _} -> Arriving#{Id => {asked, Moved}}
+want(Row = #{id := Id, from := From, moved := Moved}, C = #conference{held = Held, arriving = Arriving}) ->
+    Came = case Arriving of
+        _ when is_map_key(Id, Held); From =:= none -> Arriving;
+        #{Id := {Is, Of}} when Is =:= given; Of =:= Moved -> Arriving;
+        #{} -> Arriving#{Id => {asked, Moved}}
     end,
-    With = C#conference{members = replaced(Row, Members), arriving = Came, blocked = lists:delete(Id, C#conference.blocked)},
+    With = (unblock(Id, C))#conference{members = replaced(Row, C#conference.members), arriving = Came},
     case maps:take(Id, C#conference.departing) of
         %% He comes back before he left. His flows here were no longer looked at.
         {_, Departing} -> doubt(With#conference{departing = Departing});
@@ -114,8 +114,9 @@ leave(Row = #{id := Id}, C = #conference{held = Held, departing = Departing}) ->
 
 %% He is no longer a member, and it doesn't matter any more what is open between him and others.
 without(Id, C = #conference{members = Members, open = Open, agreed = Agreed}) ->
-    Without = C#conference{members = [Row || Row = #{id := Other} <- Members, Other =/= Id], open = flows_without(Id, Open),
-                           refused = maps:remove(Id, C#conference.refused), blocked = lists:delete(Id, C#conference.blocked)},
+    Without = (unblock(Id, C))#conference{members = [Row || Row = #{id := Other} <- Members, Other =/= Id],
+                                          open = flows_without(Id, Open),
+                                          refused = maps:remove(Id, C#conference.refused)},
     %% Without him, there may be nothing left to change.
     agree(not Agreed, Without).
 
@@ -126,24 +127,23 @@ flows_without(Id, Flows) ->
 -spec expel(id(), conference()) -> conference().
 expel(Id, C0) ->
     C = #conference{held = Held, arriving = Arriving, departing = Departing} = without(Id, C0),
-    C#conference{held = maps:remove(Id, Held), arriving = maps:remove(Id, Arriving), departing = maps:remove(Id, Departing),
-                 leaving = places(Id, C) ++ C#conference.leaving}.
+    ending(places(Id, C), C#conference{held = maps:remove(Id, Held), arriving = maps:remove(Id, Arriving),
+                                       departing = maps:remove(Id, Departing)}).
+
+ending(Places, C = #conference{leaving = Leaving}) -> C#conference{leaving = Places ++ Leaving}.
 
 places(Id, #conference{context = Context, held = Held, arriving = Arriving}) ->
     [{Context, T} || #{Id := #held{termination = T}} <- [Held]] ++
-        [{From, T} || #{Id := {given, From, #held{termination = T}}} <- [Arriving]].
+        [{From, T} || #{Id := {given, #{context := From, termination := T}}} <- [Arriving]].
 
 %% @doc The room that a member comes from has let him go: with a termination on the same gateway, or with nothing.
 -spec cleared(id(), Moved :: pos_integer(), holding() | none, conference()) -> conference().
 cleared(Id, Moved, Given, C = #conference{arriving = Arriving}) ->
-    case {Arriving, Given} of
-        {#{Id := {asked, Moved}}, none} -> C#conference{arriving = Arriving#{Id := {cleared, Moved}}};
-        {#{Id := {asked, Moved}}, _} -> C#conference{arriving = Arriving#{Id := given(Given)}};
-        {_, _} -> C
+    case Arriving of
+        #{Id := {asked, Moved}} ->
+            C#conference{arriving = Arriving#{Id := case Given of none -> {cleared, Moved}; _ -> {given, Given} end}};
+        #{} -> C
     end.
-
-given(#{termination := T, context := Context, local := Local}) ->
-    {given, Context, #held{termination = T, local = Local, remote = unknown, mode = inactive}}.
 
 -spec set_rules([lobby_rules:rule()], conference()) -> conference().
 set_rules(Rules, C) ->
@@ -152,42 +152,41 @@ set_rules(Rules, C) ->
 %% @doc Forgets what the gateway has: it was lost, or another one is to have the conference. Who was leaving has left.
 -spec forget(conference()) -> conference().
 forget(C = #conference{arriving = Arriving}) ->
-    C#conference{context = new, held = #{}, open = ?NO_FLOWS, agreed = true, leaving = [], departing = #{}, blocked = [], doubts = [],
-                 arriving = maps:filtermap(fun(Id, Arrival) -> still_arriving(Arrival, row(Id, C)) end, Arriving)}.
+    Still = maps:filtermap(fun(Id, Arrival) -> still_arriving(Arrival, row(Id, C)) end, Arriving),
+    C#conference{context = new, held = #{}, open = ?NO_FLOWS, agreed = true, leaving = [], departing = #{},
+                 blocked = [], doubts = [], arriving = Still}.
 
-still_arriving({given, _, _}, #{moved := Moved}) -> {true, {cleared, Moved}};
-still_arriving({given, _, _}, none) -> false;
+still_arriving({given, _}, #{moved := Moved}) -> {true, {cleared, Moved}};
+still_arriving({given, _}, none) -> false;
 still_arriving(_, _) -> true.
 
-%% @doc Takes up what the gateway's process knows of this room, of which only rows are left. `Others' are the rows of those
-%% who aren't members here: they are silenced and let go, or ended if there is none.
+%% @doc Takes up what the gateway's process knows of this room, of which only rows are left. `Others' are the rows of
+%% those who aren't members here: they are silenced and let go, or ended if there is none.
 -spec resume([holding()], Others :: #{id() => row()}, conference()) -> conference().
 resume(Holdings, Others, C) ->
-    Own = [Context || #{context := Context, given := false} <- Holdings],
-    Context = lists:max([0 | Own]),
-    Resumed = lists:foldl(fun(Holding, Acc) -> resumed(Holding, Context, Others, Acc) end,
-                          (forget(C))#conference{context = case Context of 0 -> new; _ -> Context end}, Holdings),
+    Context = lists:last([new | lists:sort([In || #{context := In, given := false} <- Holdings])]),
+    Resumed = lists:foldl(fun(Holding, Acc) -> resumed(Holding, Others, Acc) end,
+                          (forget(C))#conference{context = Context}, Holdings),
     doubt(Resumed).
 
-resumed(#{termination := T, context := Context, member := Id, given := false, local := Local}, Context, Others, C) ->
-    #conference{held = Held, departing = Departing, arriving = Arriving} = C,
-    Has = C#conference{held = Held#{Id => #held{termination = T, local = Local, remote = unknown, mode = unknown}},
-                       arriving = maps:remove(Id, Arriving)},
+resumed(Holding = #{context := Context, member := Id, given := false}, Others,
+        C = #conference{context = Context, held = Held, departing = Departing, arriving = Arriving}) ->
+    Has = C#conference{held = Held#{Id => held(Holding, unknown)}, arriving = maps:remove(Id, Arriving)},
     case {row(Id, C), Others} of
         {#{}, _} -> Has;
         {none, #{Id := Row}} -> Has#conference{departing = Departing#{Id => Row}};
         {none, _} -> expel(Id, Has)
     end;
-resumed(Holding = #{termination := T, context := From, member := Id, given := true}, _, _, C = #conference{arriving = Arriving}) ->
-    case row(Id, C) of
-        none -> C#conference{leaving = [{From, T} | C#conference.leaving]};
-        _ -> C#conference{arriving = Arriving#{Id => given(Holding)}}
-    end;
-resumed(#{termination := T, context := Context}, _, _, C) ->
-    C#conference{leaving = [{Context, T} | C#conference.leaving]}.
+resumed(Holding = #{termination := T, context := In, member := Id, given := Given}, _, C) ->
+    case Given andalso row(Id, C) of
+        #{} -> C#conference{arriving = (C#conference.arriving)#{Id => {given, Holding}}};
+        _ -> ending([{In, T}], C)
+    end.
 
-%% @doc Has everything audited before the next change.
--spec doubt(conference()) -> conference().
+held(#{termination := T, local := Local}, Mode) ->
+    #held{termination = T, local = Local, remote = unknown, mode = Mode}.
+
+%% Has everything audited before the next change.
 doubt(C) ->
     C#conference{doubts = [inventory, topology]}.
 
@@ -200,6 +199,9 @@ check(C) -> doubt(C).
 -spec unblock(conference()) -> conference().
 unblock(C) ->
     C#conference{blocked = []}.
+
+unblock(Id, C = #conference{blocked = Blocked}) ->
+    C#conference{blocked = lists:delete(Id, Blocked)}.
 
 block(Id, C = #conference{blocked = Blocked}) ->
     C#conference{blocked = [Id | lists:delete(Id, Blocked)]}.
@@ -280,7 +282,8 @@ holding(Id, #conference{context = Context, held = Held}) ->
 flows(#conference{open = Open, held = Held}) ->
     sets:filter(fun({Talker, Listener}) -> case Held of
         #{Talker := #held{mode = Says}, Listener := #held{mode = Hears}} ->
-            lists:member(Says, [sendRecv, recvOnly, unknown]) andalso lists:member(Hears, [sendRecv, sendOnly, unknown]);
+            lists:member(Says, [sendRecv, recvOnly, unknown])
+                andalso lists:member(Hears, [sendRecv, sendOnly, unknown]);
         #{} -> true
     end end, Open).
 
@@ -292,7 +295,9 @@ flows(#conference{open = Open, held = Held}) ->
           {{request, lobby_h248:action(), step()} | {release, row(), lobby_h248:termination()} | settled, conference()}.
 next(C0) ->
     C = suspected(C0),
-    {next([fun audit/1, fun subtract/1, fun silence/1, fun connect/1, fun move/1, fun add/1, fun settle/1, fun release/1], C), C}.
+    Parts = [fun audit/1, fun subtract/1, fun silence/1, fun connect/1, fun move/1, fun add/1,
+             fun settle/1, fun release/1],
+    {next(Parts, C), C}.
 
 %% A single member has no topology, and that of a large conference doesn't fit into a reply: what is to be closed there
 %% is closed again.
@@ -305,21 +310,22 @@ suspected(C) ->
 
 next([], _) ->
     settled;
-next([Part | Parts], C) ->
+next([Part | Parts], C = #conference{context = Context}) ->
     case Part(C) of
         none -> next(Parts, C);
-        Request -> Request
+        {request, Action, Step} -> {request, maps:merge(#{context => Context}, Action), Step};
+        Release -> Release
     end.
 
 audit(#conference{doubts = []}) ->
     none;
-audit(#conference{doubts = [inventory | _], context = Context, held = Held}) ->
+audit(#conference{doubts = [inventory | _], held = Held}) ->
     Words = [statistics | [media || map_size(Held) =< ?MAX_AUDITED]],
-    {request, #{context => Context, commands => [{audit, all, Words}]}, inventory};
+    {request, #{commands => [{audit, all, Words}]}, inventory};
 %% With an audit of a termination, as for `connect'.
-audit(#conference{doubts = [topology], context = Context, held = Held}) ->
+audit(#conference{doubts = [topology], held = Held}) ->
     {_, #held{termination = T}, _} = maps:next(maps:iterator(Held)),
-    {request, #{context => Context, audit_topology => true, commands => [{audit, T, []}]}, topology}.
+    {request, #{audit_topology => true, commands => [{audit, T, []}]}, topology}.
 
 subtract(#conference{leaving = []}) ->
     none;
@@ -328,23 +334,25 @@ subtract(#conference{leaving = Leaving = [{Context, _} | _]}) ->
     {request, #{context => Context, commands => [{subtract_optional, T} || {_, T} <- Some]}, {subtract, Some}}.
 
 %% Takes away what people may no longer say or hear. Who departs may do neither.
-silence(C = #conference{context = Context, held = Held, departing = Departing}) ->
-    People = [{Id, mode(Row)} || Row = #{id := Id} <- held_members(C)] ++ [{Id, inactive} || Id <- maps:keys(Departing)],
-    Less = [{T, Id, common(Mode, Wanted)} || {Id, Wanted} <- People, #{Id := #held{termination = T, mode = Mode}} <- [Held],
+silence(C = #conference{held = Held, departing = Departing}) ->
+    People = [{Id, mode(Row)} || Row = #{id := Id} <- held_members(C)]
+        ++ [{Id, inactive} || Id <- maps:keys(Departing)],
+    Less = [{T, Id, common(Mode, Wanted)} || {Id, Wanted} <- People,
+                                             #{Id := #held{termination = T, mode = Mode}} <- [Held],
                                              common(Mode, Wanted) =/= Mode],
     case lists:sublist(Less, ?MAX_COMMANDS) of
         [] -> none;
-        Some -> {request, #{context => Context, commands => [{modify, T, #{mode => Mode}} || {T, _, Mode} <- Some]},
+        Some -> {request, #{commands => [{modify, T, #{mode => Mode}} || {T, _, Mode} <- Some]},
                  {modify, [{Id, Mode} || {_, Id, Mode} <- Some]}}
     end.
 
 %% The gateway answers an action that has only a Topology in a way that isn't Megaco's, so an empty audit goes with it.
 connect(#conference{agreed = true}) ->
     none;
-connect(C = #conference{context = Context, open = Open}) ->
+connect(C = #conference{open = Open}) ->
     Ids = [Id || #{id := Id} <- held_members(C)],
     [Batch | _] = lobby_topology:changes(Ids, Open, wanted(held_members(C), C)),
-    {request, #{context => Context, topology => by_termination(Batch, C), commands => [{audit, termination(hd(Ids), C), []}]},
+    {request, #{topology => by_termination(Batch, C), commands => [{audit, termination(hd(Ids), C), []}]},
      {connect, lobby_topology:after_batch(Ids, Open, Batch)}}.
 
 release(#conference{departing = Departing}) when map_size(Departing) =:= 0 -> none;
@@ -354,43 +362,42 @@ release(#conference{departing = Departing, held = Held}) ->
     {release, Row, T}.
 
 %% A member that enters a context is connected both ways with everyone there, so his Topology is in the same action.
-move(C = #conference{context = Context, arriving = Arriving}) ->
-    case [{Id, Has} || {Id, {given, _, Has}} <- maps:to_list(Arriving), not lists:member(Id, C#conference.blocked)] of
+move(C = #conference{arriving = Arriving, blocked = Blocked, held = Held}) ->
+    case [Holding || {Id, {given, Holding}} <- maps:to_list(Arriving), not lists:member(Id, Blocked)] of
         [] -> none;
-        [{Id, Has = #held{termination = T}} | _] ->
+        [Holding = #{member := Id, termination := T} | _] ->
             {Triples, After} = entering(row(Id, C), C),
-            With = C#conference{held = (C#conference.held)#{Id => Has}},
-            {request, #{context => Context, topology => by_termination(Triples, With), commands => [{move, T, #{mode => inactive}}]},
+            Topology = by_termination(Triples, C#conference{held = Held#{Id => held(Holding, inactive)}}),
+            {request, #{topology => Topology, commands => [{move, T, #{mode => inactive}}]},
              {move, {Id, inactive}, After}}
     end.
 
-add(C) ->
-    #conference{members = Members, blocked = Blocked, refused = Refused} = C,
-    Missing = missing(C),
-    case [Row || Row = #{id := Id, media := Media} <- Members, lists:member(Id, Missing), not lists:member(Id, Blocked),
+add(C = #conference{members = Members, blocked = Blocked, refused = Refused}) ->
+    Ids = missing(C) -- Blocked,
+    case [Row || Row = #{id := Id, media := Media} <- Members, lists:member(Id, Ids),
                  maps:get(Id, Refused, none) =/= Media] of
         [] -> none;
         [Row] -> add_one(Row, C);
         Rows -> add_some(lists:sublist(Rows, ?MAX_ADDS), C)
     end.
 
-add_one(Row = #{id := Id}, C = #conference{context = Context}) ->
+add_one(Row = #{id := Id}, C) ->
     {Triples, After} = entering(Row, C),
     First = first_mode(Triples, mode(Row)),
     Names = fun(Name) when Name =:= Id -> new; (Name) -> termination(Name, C) end,
-    {request, #{context => Context, topology => [{Names(A), Names(B), How} || {A, B, How} <- Triples],
-       commands => [{add_optional, settings(Row, First)}]}, {add, [{Row, First}], After}}.
+    {request, #{topology => [{Names(A), Names(B), How} || {A, B, How} <- Triples],
+                commands => [{add_optional, settings(Row, First)}]}, {add, [{Row, First}], After}}.
 
 %% The gateway runs commands before triples. If it refuses a triple, for example because somebody else has ended the
 %% other termination, the newcomer is there all the same, connected both ways with everyone.
 first_mode([], Mode) -> Mode;
 first_mode(_, _) -> inactive.
 
-add_some(Rows, C = #conference{context = Context, open = Open}) ->
+add_some(Rows, C = #conference{open = Open}) ->
     New = [Id || #{id := Id} <- Rows],
     Everyone = lobby_topology:everyone([Id || #{id := Id} <- held_members(C)] ++ New),
     Kept = sets:filter(fun({A, B}) -> lists:member(A, New) orelse lists:member(B, New) end, Everyone),
-    {request, #{context => Context, commands => [{add_optional, settings(Row, inactive)} || Row <- Rows]},
+    {request, #{commands => [{add_optional, settings(Row, inactive)} || Row <- Rows]},
      {add, [{Row, inactive} || Row <- Rows], sets:union(Open, Kept)}}.
 
 %% The triples between a newcomer and the others, and the open flows with him.
@@ -403,14 +410,14 @@ between(A = #{id := IdA}, B = #{id := IdB}, C) ->
     {lists:append(lobby_topology:changes([IdA, IdB], lobby_topology:everyone([IdA, IdB]), After)), After}.
 
 %% Everything else that differs: modes, addresses and formats.
-settle(C = #conference{context = Context, held = Held}) ->
+settle(C = #conference{held = Held}) ->
     Differing = [{T, Row} || Row = #{id := Id} <- held_members(C), #{Id := Has = #held{termination = T}} <- [Held],
                              differs(Row, Has, C)],
     case lists:sublist(Differing, ?MAX_ADDS) of
         [] -> none;
         Some ->
             Commands = [{modify, T, settings(Row, mode(Row))} || {T, Row} <- Some],
-            {request, #{context => Context, commands => Commands}, {settle, [Row || {_, Row} <- Some]}}
+            {request, #{commands => Commands}, {settle, [Row || {_, Row} <- Some]}}
     end.
 
 differs(Row = #{id := Id, media := Media}, #held{remote = Remote, mode = Mode}, #conference{refused = Refused}) ->
@@ -455,8 +462,8 @@ termination(Id, #conference{held = Held}) -> (maps:get(Id, Held))#held.terminati
 %%% Its answer.
 
 %% @doc A termination was let go: another room has it now.
--spec done(step() | {released, id()}, {ok, lobby_h248:reply(), owner()} | {error, pos_integer()} | done, conference()) ->
-          {[event()], conference()}.
+-spec done(step() | {released, id()}, {ok, lobby_h248:reply(), owner()} | {error, pos_integer() | busy} | done,
+           conference()) -> {[event()], conference()}.
 done({released, Id}, done, C = #conference{held = Held, departing = Departing}) ->
     {[], ended(C#conference{held = maps:remove(Id, Held), departing = maps:remove(Id, Departing)})};
 %% What the gateway answered to the action of a step.
@@ -532,26 +539,27 @@ opened(Flows, C) ->
     C#conference{open = sets:filter(fun({A, B}) -> is_map_key(A, Ids) andalso is_map_key(B, Ids) end, Flows)}.
 
 %% Who left while the request was under way is ended.
-added({{#{id := Id, media := Media}, Mode}, {add, T, #{local := Local}}}, C = #conference{held = Held, arriving = Arriving}) ->
+added({{#{id := Id, media := Media}, Mode}, {add, T, #{local := Local}}}, C = #conference{held = Held}) ->
     Has = #held{termination = T, local = Local, remote = Media, mode = Mode},
-    Added = C#conference{held = Held#{Id => Has}, arriving = maps:remove(Id, Arriving)},
+    Added = C#conference{held = Held#{Id => Has}, arriving = maps:remove(Id, C#conference.arriving)},
     {[], case row(Id, C) of none -> expel(Id, Added); _ -> Added end};
 added({{#{id := Id, media := Media}, _}, {add, _, {error, 515}}}, C = #conference{refused = Refused}) ->
     {[{refused, Id, 515, none}], C#conference{refused = Refused#{Id => Media}}};
 added({{#{id := Id}, _}, {add, _, {error, _}}}, C) ->
     {[{full, Id}], block(Id, C)}.
 
-moved({Id, Mode}, After, #{context := Context, results := [{move, _, Properties}]}, C = #conference{held = Held, arriving = Arriving}) ->
+moved({Id, Mode}, After, #{context := Context, results := [{move, _, Properties}]}, C) ->
+    #conference{held = Held, arriving = Arriving} = C,
     case {Properties, Arriving} of
-        {#{}, #{Id := {given, _, Has}}} ->
+        {#{}, #{Id := {given, Holding}}} ->
             {[], agree(true, opened(After, C#conference{context = Context, arriving = maps:remove(Id, Arriving),
-                                                        held = Held#{Id => Has#held{mode = Mode}}}))};
+                                                        held = Held#{Id => held(Holding, Mode)}}))};
         %% 434: the context is full, 412: there is no context left. He waits where he is.
         {{error, Code}, _} when Code =:= 434; Code =:= 412 -> {[{full, Id}], block(Id, C)};
         %% If he can't be moved, he is removed and added.
-        {_, #{Id := {given, From, #held{termination = T}}}} ->
+        {_, #{Id := {given, #{context := From, termination := T}}}} ->
             #{moved := Moved} = row(Id, C),
-            {[], C#conference{arriving = Arriving#{Id := {cleared, Moved}}, leaving = [{From, T} | C#conference.leaving]}};
+            {[], ending([{From, T}], C#conference{arriving = Arriving#{Id := {cleared, Moved}}})};
         {_, _} -> failed(C)
     end;
 moved(_, _, _, C) ->
@@ -560,20 +568,22 @@ moved(_, _, _, C) ->
 changed(Rows, Results, C) ->
     case [Code || {_, _, {error, Code}} <- Results, Code =/= 515] of
         [] ->
-            {Events, Changed} = lists:mapfoldl(fun changed/2, C, lists:zip(lists:sublist(Rows, length(Results)), Results)),
+            Answered = lists:zip(lists:sublist(Rows, length(Results)), Results),
+            {Events, Changed} = lists:mapfoldl(fun changed/2, C, Answered),
             {lists:append(Events), Changed};
         _ -> failed(C)
     end.
 
 %% Media that the gateway refuses aren't tried again.
-changed({Row = #{id := Id, media := Media}, {modify, _, Properties}}, C = #conference{held = Held, refused = Refused}) ->
+changed({Row = #{id := Id, media := Media}, {modify, _, Properties}}, C) ->
+    #conference{held = Held, refused = Refused} = C,
     case {Held, Properties} of
         {#{Id := #held{remote = Remote}}, {error, Code}} ->
             Had = case Remote of unknown -> none; _ -> Remote end,
             {[{refused, Id, Code, Had}], C#conference{refused = Refused#{Id => Media}}};
         {#{Id := Has = #held{local = Before}}, #{}} ->
-            {[], C#conference{held = Held#{Id := Has#held{local = maps:get(local, Properties, Before), remote = Media, mode = mode(Row)}},
-                              refused = maps:remove(Id, Refused)}};
+            Now = Has#held{local = maps:get(local, Properties, Before), remote = Media, mode = mode(Row)},
+            {[], C#conference{held = Held#{Id := Now}, refused = maps:remove(Id, Refused)}};
         {#{}, _} -> {[], C}
     end.
 
@@ -587,12 +597,13 @@ found(Results, Owners, C = #conference{context = Context, held = Held, leaving =
         {[], _} -> {[], gone(C)};
         {_, false} -> failed(C);
         {_, true} ->
-            Still = maps:filter(fun(_, #held{termination = T}) -> is_map_key(T, There) end, Held),
-            Known = [T || #held{termination = T} <- maps:values(Still)],
+            Audited = maps:from_list([{Id, audited(Has, Properties)}
+                                      || {Id, Has = #held{termination = T}} <- maps:to_list(Held),
+                                         #{T := Properties} <- [There]]),
+            Known = [T || #held{termination = T} <- maps:values(Audited)],
             Strays = [{Context, T} || T <- maps:keys(There) -- Known, maps:get(T, Owners, none) =/= other],
-            Audited = maps:map(fun(_, Has = #held{termination = T}) -> audited(Has, maps:get(T, There)) end, Still),
-            {[strays || Strays =/= []] ++ [{counts, counts(There)}],
-             ended(lost_from(Held, C#conference{held = Audited, leaving = lists:usort(Strays ++ Leaving), doubts = tl(Doubts)}))}
+            With = C#conference{held = Audited, leaving = lists:usort(Strays ++ Leaving), doubts = tl(Doubts)},
+            {[strays || Strays =/= []] ++ [{counts, counts(There)}], ended(lost_from(Held, With))}
     end.
 
 counts(There) ->
@@ -610,7 +621,8 @@ gone(C = #conference{held = Held, context = Context, leaving = Leaving}) ->
 %% Without those whose terminations have gone.
 lost_from(Before, C = #conference{held = Held, open = Open, departing = Departing}) ->
     Lost = maps:keys(maps:without(maps:keys(Held), Before)),
-    agree(true, C#conference{open = lists:foldl(fun flows_without/2, Open, Lost), departing = maps:without(Lost, Departing)}).
+    agree(true, C#conference{open = lists:foldl(fun flows_without/2, Open, Lost),
+                             departing = maps:without(Lost, Departing)}).
 
 compared(Triples, C = #conference{held = Held, open = Open}) ->
     Names = maps:from_list([{T, Id} || {Id, #held{termination = T}} <- maps:to_list(maps:with(ids(C), Held))]),

@@ -1,7 +1,7 @@
 %%% @doc A gateway as a value: whether it is alive, its requests and answers, and whose its terminations are.
 %%%
-%%% A gateway isn't told to report to a controller, and its answers don't reveal a restart. So an inactive termination is
-%%% added in a context of its own, with a Remote that only this controller can have chosen, and audited:
+%%% A gateway isn't told to report to a controller, and its answers don't reveal a restart. So an inactive termination
+%%% is added in a context of its own, with a Remote that only this controller can have chosen, and audited:
 %%%
 %%% - without an answer, the gateway is lost. It is lost sooner if its host says again and again that nobody has the
 %%%   port (ICMP);
@@ -10,16 +10,17 @@
 %%% - a gateway with a journal is awaited before it counts as lost. If it comes back and still has this termination, it
 %%%   has all others, too, and nothing was lost but time;
 %%% - if a lost gateway answers again and still has this termination, it was only out of reach, or hung. What it has of
-%%%   ours exists elsewhere by now, so it is ended first. The requests go out at once, so that a gateway that hangs reads
-%%%   them before it sends anything. A node of a pair waits until the gateway answers, and until the nodes agree again;
+%%%   ours exists elsewhere by now, so it is ended first. The requests go out at once, so that a gateway that hangs
+%%%   reads them before it sends anything. A node of a pair waits until the gateway answers, and until the nodes agree
+%%%   again;
 %%% - if this process or another node had it before, its conferences go on. Requests are kept before they are sent, and
-%%%   repeated under their numbers until they are answered. Before that, no room is told what it has: so no request of an
-%%%   earlier owner is run after that.
+%%%   repeated under their numbers until they are answered. Before that, no room is told what it has: so no request of
+%%%   an earlier owner is run after that.
 %%%
 %%% Each time that it was lost it has a new handle, so that nobody who missed its loss commands by its old names.
 -module(lobby_gateway_core).
 
--export([new/1, handle/3, handle_of/1, load/1, orphans/2]).
+-export([new/1, handle/3, handle_of/1, orphans/2]).
 -export_type([gateway/0, event/0, action/0, purpose/0, options/0, kept/0]).
 
 -type handle() :: lobby_gateway:handle().
@@ -35,8 +36,8 @@
 -type kept() :: #{generation := pos_integer(), sentinel := sentinel() | none, contexts := [place()],
                   unknown := [lobby_transactions:sent()]}.
 %% `settled': milliseconds after which the nodes of a pair agree about who serves.
--type options() :: #{config := lobby_gateway:config(), sender := lobby_h248:endpoint(), first := lobby_h248:transaction(),
-                     settled := non_neg_integer(), kept := kept() | none,
+-type options() :: #{config := lobby_gateway:config(), sender := lobby_h248:endpoint(),
+                     first := lobby_h248:transaction(), settled := non_neg_integer(), kept := kept() | none,
                      entries := [{lobby_h248:termination(), lobby_seats:entry()}],
                      requests := [{lobby_transactions:sent(), purpose()}]}.
 -type event() :: start | {request, handle(), room(), Reference :: term(), lobby_h248:action(), [id()]}
@@ -45,14 +46,16 @@
                | {'end', handle(), [place()]} | {received, lobby_h248:message()} | refused
                | {timer, timer(), Remote :: lobby_h248:endpoint()} | {orphans, [lobby_h248:termination()]}.
 -type timer() :: transactions | probe | audit | clean | back.
--type action() :: {send, binary()} | {keep, kept()} | {request, lobby_h248:transaction(), {lobby_transactions:sent(), purpose()} | none}
+-type action() :: {send, binary()} | {keep, kept()}
+                | {request, lobby_h248:transaction(), {lobby_transactions:sent(), purpose()} | none}
                 | {entry, lobby_seats:change()} | {tell, room(), term()} | {reply, From :: term(), term()}
-                | {timer, timer(), non_neg_integer() | infinity} | {deadline, integer() | infinity} | {load, lobby_placement:load() | none}
-                | {publish, serving | away | returned | lost} | {count, atom()} | {log, logger:level(), io:format(), [term()]}.
+                | {timer, timer(), non_neg_integer() | infinity} | {deadline, integer() | infinity}
+                | {load, lobby_placement:load() | none} | {publish, serving | away | returned | lost}
+                | {count, atom()} | {log, logger:level(), io:format(), [term()]}.
 
 -record(gateway, {config :: lobby_gateway:config(), settled :: non_neg_integer(), state = probing :: state(),
-                  generation = 1 :: pos_integer(), transactions :: lobby_transactions:transactions(), seats :: lobby_seats:seats(),
-                  sentinel = none :: sentinel() | none,
+                  generation = 1 :: pos_integer(), transactions :: lobby_transactions:transactions(),
+                  seats :: lobby_seats:seats(), sentinel = none :: sentinel() | none,
                   %% Since when its host only says that nobody has the port, and since when it is awaited.
                   refused = none :: integer() | none, away = none :: integer() | none,
                   contexts = [] :: [place()], unknown = [] :: [lobby_transactions:sent()],
@@ -62,40 +65,37 @@
 -opaque gateway() :: #gateway{}.
 
 -spec new(options()) -> gateway().
-new(#{config := Config, sender := Sender, first := First, settled := Settled, kept := Kept, entries := Entries, requests := Requests}) ->
+new(Options = #{config := Config, sender := Sender, first := First, settled := Settled}) ->
     #{terminations := MaxTerminations, contexts := MaxContexts} = Config,
+    #{kept := Kept, entries := Entries, requests := Requests} = Options,
     T = lobby_transactions:new(Sender, First, maps:with([retry, tries, quiet], Config)),
     G = #gateway{config = Config, settled = Settled, transactions = T,
                  seats = lobby_seats:kept(Entries, lobby_seats:new(MaxTerminations, MaxContexts))},
     case Kept of
         none -> G;
         #{generation := Generation, sentinel := Sentinel, contexts := Contexts, unknown := Unknown} ->
-            G#gateway{generation = Generation, sentinel = Sentinel, contexts = Contexts, unknown = Unknown, kept = Kept,
-                      transactions = lobby_transactions:kept(Requests, T),
+            G#gateway{generation = Generation, sentinel = Sentinel, contexts = Contexts, unknown = Unknown,
+                      kept = Kept, transactions = lobby_transactions:kept(Requests, T),
                       state = case Sentinel of none -> probing; _ -> away end}
     end.
 
 -spec handle_of(gateway()) -> handle().
 handle_of(#gateway{config = #{name := Name}, generation = Generation}) -> {Name, Generation}.
 
--spec load(gateway()) -> lobby_placement:load().
-load(#gateway{seats = Seats}) -> lobby_seats:load(Seats).
-
 %% @doc The terminations that belong to nobody, by the rows of those for whom they were made.
 -spec orphans(fun((id()) -> {ok, lobby_person:row()} | error), gateway()) -> [lobby_h248:termination()].
 orphans(Find, #gateway{seats = Seats}) ->
     Entries = lobby_seats:entries(Seats),
-    [T || {T, Entry = #{member := Id}} <- Entries, is_left_behind(Entry, Find(Id)) orelse is_superseded(Entry, Entries)].
+    [T || {T, Entry = #{member := Id}} <- Entries,
+          is_left_behind(Entry, Find(Id)) orelse is_superseded(Entry, Entries)].
 
 %% He is in no room that has it, and comes from none.
 is_left_behind(_, error) -> true;
 is_left_behind(#{room := Room}, {ok, #{room := In, from := From}}) -> In =/= Room andalso From =/= Room.
 
 %% A room that was let have it doesn't know of it, and has added its member.
-is_superseded(#{given := false}, _) ->
-    false;
-is_superseded(#{given := true, member := Id, room := Room}, Entries) ->
-    lists:any(fun({_, #{given := Given, member := Of, room := In}}) -> {Given, Of, In} =:= {false, Id, Room} end, Entries).
+is_superseded(#{given := Given, member := Id, room := Room}, Entries) ->
+    Given andalso [added || {_, #{given := false, member := Of, room := In}} <- Entries, Of =:= Id, In =:= Room] =/= [].
 
 %% @doc What happens at a time, in milliseconds, and what is to be done, in this order. What is kept before something is
 %% sent or told isn't forgotten.
@@ -108,43 +108,34 @@ handle(Event, Now, Gateway) ->
 act(Action, G = #gateway{out = Out}) -> G#gateway{out = [Action | Out]}.
 acts(Actions, G) -> lists:foldl(fun act/2, G, Actions).
 
-is_current({_, Generation}, #gateway{generation = Generation}) -> true;
-is_current(_, _) -> false.
-
+%% An event with the generation of another handle is of somebody who missed a loss.
 event(start, Now, G = #gateway{state = State}) ->
     entered(State, G#gateway{away = Now});
-event({request, Handle, Room, Reference, Action, Ids}, Now, G = #gateway{transactions = T, sentinel = Sentinel}) ->
+event({request, {_, N}, Room, Reference, Action, Ids}, Now, G = #gateway{generation = N, sentinel = {_, _, _}}) ->
     Is = fun({room, Of, Known, _}) -> Of =:= Room andalso Known =:= Reference; (_) -> false end,
-    case is_current(Handle, G) andalso Sentinel =/= none andalso not lobby_transactions:awaits(Is, T) of
-        %% It comes again if it was only lost on its way to a process that failed.
-        true -> submit({queued, {room, Room, Reference, Ids}}, Action, Now, G);
-        false -> told_lost(Handle, Room, G)
+    %% It comes again if it was only lost on its way to a process that failed.
+    case lobby_transactions:awaits(Is, G#gateway.transactions) of
+        true -> G;
+        false -> submit({queued, {room, Room, Reference, Ids}}, Action, Now, G)
     end;
-event({holdings, Handle, Room}, _, G = #gateway{asking = Asking}) ->
-    case is_current(Handle, G) of
-        true -> answer_asking(G#gateway{asking = lists:usort([Room | Asking])});
-        false -> told_lost(Handle, Room, G)
-    end;
-event({reserve, From, Handle, Room, Ids}, _, G = #gateway{state = State, seats = Seats}) ->
-    case is_current(Handle, G) andalso (State =:= serving orelse State =:= away) andalso lobby_seats:reserve(Room, Ids, Seats) of
-        false -> act({reply, From, false}, G);
-        {Result, Reserved} -> act({reply, From, Result}, G#gateway{seats = Reserved})
-    end;
-event({seats, Handle, Room, Ids}, _, G = #gateway{seats = Seats}) ->
-    case is_current(Handle, G) of
-        true -> G#gateway{seats = lobby_seats:keep(Room, Ids, Seats)};
-        false -> G
-    end;
-event({release, Handle, T, To}, _, G = #gateway{seats = Seats}) ->
-    case is_current(Handle, G) of
-        true -> changed(lobby_seats:let_go(T, To, Seats), G);
-        false -> G
-    end;
-event({'end', Handle, Places}, Now, G) ->
-    case is_current(Handle, G) of
-        true -> to_end(Places, Now, G);
-        false -> G
-    end;
+event({request, Handle, Room, _, _, _}, _, G) ->
+    told_lost(Handle, Room, G);
+event({holdings, {_, N}, Room}, _, G = #gateway{generation = N, asking = Asking}) ->
+    answer_asking(G#gateway{asking = lists:usort([Room | Asking])});
+event({holdings, Handle, Room}, _, G) ->
+    told_lost(Handle, Room, G);
+event({reserve, From, {_, N}, Room, Ids}, _, G = #gateway{generation = N, state = State, seats = Seats})
+  when State =:= serving; State =:= away ->
+    {Result, Reserved} = lobby_seats:reserve(Room, Ids, Seats),
+    act({reply, From, Result}, G#gateway{seats = Reserved});
+event({reserve, From, _, _, _}, _, G) ->
+    act({reply, From, false}, G);
+event({seats, {_, N}, Room, Ids}, _, G = #gateway{generation = N, seats = Seats}) ->
+    G#gateway{seats = lobby_seats:keep(Room, Ids, Seats)};
+event({release, {_, N}, T, To}, _, G = #gateway{generation = N, seats = Seats}) ->
+    changed(lobby_seats:let_go(T, To, Seats), G);
+event({'end', {_, N}, Places}, Now, G = #gateway{generation = N}) ->
+    to_end(Places, Now, G);
 event({orphans, Orphans}, Now, G = #gateway{seats = Seats}) ->
     Places = [{Context, T} || {T, #{context := Context}} <- lobby_seats:entries(Seats), lists:member(T, Orphans)],
     to_end(Places, Now, case Places of [] -> G; _ -> act({count, lobby_strays_total}, G) end);
@@ -155,7 +146,8 @@ event({received, {error, Code}}, _, G = #gateway{config = #{name := Name}}) ->
 event(refused, Now, G = #gateway{state = serving, refused = none}) ->
     G#gateway{refused = Now};
 %% Not at the first repetition: the gateway may be about to restart.
-event(refused, Now, G = #gateway{state = serving, refused = Since, config = #{retry := Retry}}) when Now - Since >= 2 * Retry ->
+event(refused, Now, G = #gateway{state = serving, refused = Since, config = #{retry := Retry}})
+  when Now - Since >= 2 * Retry ->
     gone(refused, Now, G);
 event({timer, transactions, _}, Now, G = #gateway{transactions = T}) ->
     effects(lobby_transactions:expired(Now, T), Now, G);
@@ -177,11 +169,8 @@ event({timer, clean, _}, Now, G) ->
 event(_, _, G) ->
     G.
 
-told_lost(Handle, Room, G) ->
-    case is_current(Handle, G) of
-        true -> G;
-        false -> act({tell, Room, {lost, Handle}}, G)
-    end.
+told_lost({_, N}, _, G = #gateway{generation = N}) -> G;
+told_lost(Handle, Room, G) -> act({tell, Room, {lost, Handle}}, G).
 
 changed({Changes, Seats}, G) ->
     acts([{entry, Change} || Change <- Changes], G#gateway{seats = Seats}).
@@ -197,7 +186,8 @@ entered(away, G = #gateway{config = #{returns := Returns, retry := Retry, tries 
 entered(cleaning, G = #gateway{settled = Settled}) ->
     act({timer, clean, Settled}, G);
 entered(serving, G = #gateway{config = #{name := Name, audit := Interval}}) ->
-    answer_asking(acts([{log, notice, "gateway ~p is in service", [Name]}, {publish, serving}, {timer, audit, Interval}], G)).
+    Serves = {log, notice, "gateway ~p is in service", [Name]},
+    answer_asking(acts([Serves, {publish, serving}, {timer, audit, Interval}], G)).
 
 sentinel_audit(#gateway{sentinel = {Context, Termination, _}}) ->
     #{context => Context, commands => [{audit, Termination, [media]}]}.
@@ -210,9 +200,9 @@ gone(Why, Now, G = #gateway{config = #{name := Name}, transactions = T}) ->
     enter(away, acts([{log, warning, "gateway ~p: ~p; waiting for it to return", [Name, Why]}, {publish, away}], Away)).
 
 returned(Now, G = #gateway{config = #{name := Name}, away = Since, seats = Seats, transactions = T}) ->
-    Told = acts([{tell, Room, {returned, handle_of(G)}} || Room <- lobby_seats:rooms(Seats)],
-                acts([{log, notice, "gateway ~p returned with its conferences after ~b ms", [Name, Now - Since]},
-                      {count, lobby_gateway_returns_total}, {publish, returned}], G)),
+    Told = acts([{log, notice, "gateway ~p returned with its conferences after ~b ms", [Name, Now - Since]},
+                 {count, lobby_gateway_returns_total}, {publish, returned}
+                 | [{tell, Room, {returned, handle_of(G)}} || Room <- lobby_seats:rooms(Seats)]], G),
     Resumed = effects(lobby_transactions:resume(Now, T), Now, Told#gateway{away = none, state = serving}),
     enter(serving, act({timer, clean, 0}, Resumed)).
 
@@ -224,15 +214,17 @@ lost(Why, Now, G) ->
         _ -> Probing
     end.
 
-forgotten(Why, G = #gateway{config = #{name := Name}, transactions = T, seats = Seats, contexts = Before, unknown = Unknown}) ->
-    {Abandoned, T1} = lobby_transactions:abandon(T),
+forgotten(Why, G = #gateway{config = #{name := Name}, generation = Generation, seats = Seats}) ->
+    {Abandoned, T} = lobby_transactions:abandon(G#gateway.transactions),
     {Contexts, Changes, Forgotten} = lobby_seats:forget(Seats),
+    Places = [{Context, all} || Context <- Contexts],
     Making = [Sent || Sent = {_, _, Action} <- Abandoned, is_making(Action)],
-    Lost = G#gateway{generation = G#gateway.generation + 1, transactions = T1, seats = Forgotten, refused = none, away = none, asking = [],
-                     contexts = lists:usort([{Context, all} || Context <- Contexts] ++ Before), unknown = lists:usort(Making ++ Unknown)},
-    Kept = acts([{request, Number, none} || {_, Number, _} <- Abandoned], acts([{entry, Change} || Change <- Changes], kept(Lost))),
-    acts([{tell, Room, {lost, handle_of(G)}} || Room <- lobby_seats:rooms(Seats)],
-         acts([{log, warning, "gateway ~p is lost: ~p", [Name, Why]}, {count, lobby_gateway_losses_total}, {publish, lost}], Kept)).
+    Lost = G#gateway{generation = Generation + 1, transactions = T, seats = Forgotten, refused = none, away = none,
+                     asking = [], contexts = lists:usort(Places ++ G#gateway.contexts),
+                     unknown = lists:usort(Making ++ G#gateway.unknown)},
+    acts([{entry, Change} || Change <- Changes] ++ [{request, Number, none} || {_, Number, _} <- Abandoned] ++
+         [{log, warning, "gateway ~p is lost: ~p", [Name, Why]}, {count, lobby_gateway_losses_total}, {publish, lost}
+          | [{tell, Room, {lost, handle_of(G)}} || Room <- lobby_seats:rooms(Seats)]], kept(Lost)).
 
 is_making(#{commands := Commands}) -> lists:any(fun(Command) -> element(1, Command) =:= add_optional end, Commands).
 
@@ -253,10 +245,9 @@ to_end(Places, Now, G = #gateway{contexts = Contexts}) ->
 
 %% Requests that may have made something are repeated, so that the gateway says what.
 clean(Now, G = #gateway{contexts = Contexts, unknown = Unknown}) ->
-    Repeated = lists:foldl(fun(Sent, Acc = #gateway{transactions = T}) -> case awaits({unknown, Sent}, Acc) of
-        true -> Acc;
-        false -> effects(lobby_transactions:resubmit(Sent, {unknown, Sent}, Now, T), Now, Acc)
-    end end, G, Unknown),
+    Repeated = lists:foldl(fun(Sent, Acc = #gateway{transactions = T}) ->
+        effects(lobby_transactions:resubmit(Sent, {unknown, Sent}, Now, T), Now, Acc)
+    end, G, [Sent || Sent <- Unknown, not awaits({unknown, Sent}, G)]),
     lists:foldl(fun(Place, Acc) -> end_place(Place, Now, Acc) end, Repeated, Contexts).
 
 end_place(_, _, G = #gateway{sentinel = none}) ->
@@ -264,7 +255,9 @@ end_place(_, _, G = #gateway{sentinel = none}) ->
 end_place(Place = {Context, Name}, Now, G) ->
     case awaits({clean, Place}, G) of
         true -> G;
-        false -> submit({patiently, {clean, Place}}, #{context => Context, commands => [{subtract_optional, Name}]}, Now, G)
+        false ->
+            Action = #{context => Context, commands => [{subtract_optional, Name}]},
+            submit({patiently, {clean, Place}}, Action, Now, G)
     end.
 
 awaits(Purpose, #gateway{transactions = T}) ->
@@ -317,7 +310,8 @@ answered({room, Room, Reference, Ids}, Number, Reply, _, G = #gateway{seats = Se
         {error, _} -> {G, Reply}
     end,
     answer_asking(acts([{tell, Room, {answer, Reference, Answer}}, {request, Number, none}], Noted));
-answered({probe, Remote}, _, {ok, #{context := Context, results := [{add, T, #{}}]}}, _, G = #gateway{state = probing}) ->
+answered({probe, Remote}, _, {ok, #{context := Context, results := [{add, T, #{}}]}}, _,
+         G = #gateway{state = probing}) ->
     enter(cleaning, kept(G#gateway{sentinel = {Context, T, Remote}}));
 answered({probe, _}, _, Reply, _, G = #gateway{state = probing, config = #{name := Name}}) ->
     acts([{log, warning, "gateway ~p rejected an Add: ~0p", [Name, Reply]}, {timer, probe, 1000}], G);
@@ -338,7 +332,8 @@ answered({unknown, Sent}, _, Reply, Now, G = #gateway{unknown = Unknown}) ->
     Known = G#gateway{unknown = lists:delete(Sent, Unknown)},
     case Reply of
         {ok, #{context := Context, results := Results}} when is_integer(Context) ->
-            cleaned(to_end([{Context, T} || {add, T, Properties} <- Results, is_integer(T), is_map(Properties)], Now, Known));
+            Made = [{Context, T} || {add, T, #{}} <- Results, is_integer(T)],
+            cleaned(to_end(Made, Now, Known));
         _ -> cleaned(kept(Known))
     end;
 answered(_, _, _, _, G) ->
@@ -366,17 +361,19 @@ answer_asking(G) ->
 
 %%% What outlives the process, and what others choose by.
 
-kept(G = #gateway{kept = Before, generation = Generation, sentinel = Sentinel, contexts = Contexts, unknown = Unknown}) ->
+kept(G = #gateway{kept = Before, generation = Generation, sentinel = Sentinel}) ->
+    #gateway{contexts = Contexts, unknown = Unknown} = G,
     case #{generation => Generation, sentinel => Sentinel, contexts => Contexts, unknown => Unknown} of
         Before -> G;
         Kept -> act({keep, Kept}, G#gateway{kept = Kept})
     end.
 
 %% Whoever hears that it no longer serves doesn't find it.
-shown(G = #gateway{shown = Before, state = State, seats = Seats, out = Out}) ->
-    case State =:= serving andalso lobby_seats:load(Seats) of
+shown(G = #gateway{shown = Before, out = Out}) ->
+    case load(G) of
         Before -> G;
-        false when Before =:= none -> G;
-        false -> G#gateway{shown = none, out = Out ++ [{load, none}]};
         Load -> G#gateway{shown = Load, out = Out ++ [{load, Load}]}
     end.
+
+load(#gateway{state = serving, seats = Seats}) -> lobby_seats:load(Seats);
+load(_) -> none.

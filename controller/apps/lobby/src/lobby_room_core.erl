@@ -5,7 +5,7 @@
 %%% repeated under its reference until it is answered, and a member's row is reported until he has it.
 -module(lobby_room_core).
 
--export([new/1, handle/3, describe/1, agrees/1, gateway/1, named/1]).
+-export([new/1, handle/3, describe/1, agrees/1, named/1]).
 -export_type([room/0, event/0, action/0, error/0, description/0, kept/0, settings/0]).
 
 %% Requests that fail one after the other until the room waits for a while.
@@ -27,22 +27,25 @@
 %% What the store has.
 -type kept() :: #{rules := [lobby_rules:rule()], settings := settings(), gateway := handle() | none, stale := stale()}.
 -type event() :: {start, kept() | none, [row()]} | {holdings, [lobby_conference:holding()] | lost, #{id() => row()}}
-               | {admit, id(), From :: name() | none, handle() | none} | {placed, handle() | none} | {reserved, boolean()}
-               | {want, row()} | {gone, id()} | {ask, row(), handle() | none}
-               | {left, id(), Moved :: pos_integer(), given()}
-               | {confirmed, id(), lobby_h248:media()}
-               | {rules, From :: term(), add | set, [lobby_rules:rule()], settings()} | {settings, From :: term(), settings()}
+               | {admit, id(), From :: name() | none, handle() | none} | {placed, handle() | none}
+               | {reserved, boolean()} | {want, row()} | {gone, id()} | {ask, row(), handle() | none}
+               | {left, id(), Moved :: pos_integer(), given()} | {confirmed, id(), lobby_h248:media()}
+               | {rules, From :: term(), add | set, [lobby_rules:rule()], settings()}
+               | {settings, From :: term(), settings()}
                | {audit, From :: term()} | {agree, From :: term()}
-               | {answer, reference_(), {ok, lobby_h248:reply(), lobby_conference:owner()} | {error, pos_integer() | busy}}
+               | {answer, reference_(), {ok, lobby_h248:reply(), lobby_conference:owner()}
+                                        | {error, pos_integer() | busy}}
                | {lost, handle()} | {returned, handle()} | retry | watch.
 -type action() :: {request, handle(), reference_(), lobby_h248:action(), [id()]} | {holdings, handle()}
-                | {place, [id()], Prefer :: handle() | none, Except :: handle() | none} | {reserve, handle(), [id()]} | {seats, handle(), [id()]}
+                | {place, [id()], Prefer :: handle() | none, Except :: handle() | none}
+                | {reserve, handle(), [id()]} | {seats, handle(), [id()]}
                 | {release, handle(), lobby_h248:termination(), To :: name()}
                 | {ask, From :: name(), row(), handle() | none}
                 | {left, To :: name(), id(), Moved :: pos_integer(), given()}
                 | {'end', handle(), [lobby_conference:place()]}
                 | {admitted, id(), ok | {error, error()}} | {report, id(), lobby_person:report()} | {silent, id()}
-                | {reply, From :: term(), term()} | {save, kept()} | {count, atom()} | {retry, soon | later} | published | stop.
+                | {reply, From :: term(), term()} | {save, kept()} | {count, atom()} | {retry, soon | later}
+                | published | stop.
 -type description() :: #{members := [{row(), lobby_h248:termination() | none}], rules := [lobby_rules:rule()],
                          flows := [lobby_rules:flow()], gateway := lobby_gateway:name() | none,
                          context := lobby_h248:context() | new, settings := settings()}.
@@ -65,16 +68,15 @@
                %% The packets that each termination received, and since when there are no more.
                packets = #{} :: #{lobby_h248:termination() => {non_neg_integer(), Since :: integer()}},
                silent_after = 30000 :: pos_integer(),
-               saved = none :: kept() | none, shown = none :: term(), seats = none :: [id()] | none, out = [] :: [action()]}).
+               saved = none :: kept() | none, shown = none :: term(), seats = none :: [id()] | none,
+               out = [] :: [action()]}).
 -opaque room() :: #room{}.
 
-%% @doc A room of which nothing is known yet. `Run' is new for each process, so that answers for an earlier one are known.
+%% @doc A room of which nothing is known yet. `Run' is new for each process, so that answers for an earlier one are
+%% known.
 -spec new(#{name := name(), run := term(), silent_after => pos_integer()}) -> room().
 new(Options = #{name := Name, run := Run}) ->
     #room{name = Name, run = Run, silent_after = maps:get(silent_after, Options, 30000)}.
-
--spec gateway(room()) -> handle() | none.
-gateway(#room{gateway = Gateway}) -> Gateway.
 
 %% @doc Who is a member or is named by a rule.
 -spec named(room()) -> [id()].
@@ -88,8 +90,8 @@ handle(Event, Now, Room) ->
     Done = #room{out = Out} = published(saved(seated(ended(Event, Worked)))),
     {Done#room{out = []}, lists:reverse(Out)}.
 
-act(Action, Room = #room{out = Out}) ->
-    Room#room{out = [Action | Out]}.
+act(Action, Room = #room{out = Out}) -> Room#room{out = [Action | Out]}.
+acts(Actions, Room) -> lists:foldl(fun act/2, Room, Actions).
 
 %%% What happens.
 
@@ -98,19 +100,20 @@ event({start, none, Rows}, _, Room) ->
 event({start, Kept, Rows}, _, Room) ->
     #{rules := Rules, settings := Settings, gateway := Gateway, stale := Stale} = Kept,
     C = lobby_conference:set_rules(Rules, lobby_conference:new()),
-    Started = lists:foldl(fun wanted/2, Room#room{conference = C, settings = Settings, stale = Stale, saved = Kept}, Rows),
+    Known = Room#room{conference = C, settings = Settings, stale = Stale, saved = Kept},
+    Started = lists:foldl(fun wanted/2, Known, Rows),
     case Gateway of
         none -> Started;
-        %% Its process may be starting again, too, and miss this.
-        _ -> act({retry, later}, act({holdings, Gateway}, Started#room{gateway = Gateway, busy = holdings}))
+        _ -> sent(Started#room{gateway = Gateway, busy = holdings})
     end;
 event({holdings, lost, _}, _, Room = #room{busy = holdings}) ->
     lost(Room);
 event({holdings, Holdings, Others}, _, Room = #room{busy = holdings, conference = C}) ->
     Room#room{busy = none, conference = lobby_conference:resume(Holdings, Others, C)};
-event({admit, Id, From, Prefer}, Now, Room = #room{settings = Settings, admitted = Admitted, conference = C, admits = Admits}) ->
+event({admit, Id, From, Prefer}, Now, Room = #room{settings = Settings, admitted = Admitted, admits = Admits}) ->
     Locked = From =:= none andalso maps:get(locked, Settings, false),
-    case {Locked, lists:member(Id, lobby_conference:ids(C)) orelse is_map_key(Id, Admitted), number(Room) >= ?MAX_MEMBERS} of
+    IsIn = lists:member(Id, lobby_conference:ids(Room#room.conference)) orelse is_map_key(Id, Admitted),
+    case {Locked, IsIn, number(Room) >= ?MAX_MEMBERS} of
         {_, true, _} -> act({admitted, Id, ok}, admitted(Id, Now, Room));
         {true, _, _} -> act({admitted, Id, {error, room_locked}}, Room);
         {_, _, true} -> act({admitted, Id, {error, room_full}}, Room);
@@ -119,14 +122,14 @@ event({admit, Id, From, Prefer}, Now, Room = #room{settings = Settings, admitted
 event({placed, none}, _, Room = #room{busy = place, gateway = Gateway}) when Gateway =/= none ->
     waits(Room#room{busy = none});
 event({placed, none}, _, Room = #room{busy = place, admits = Admits}) ->
-    waits(lists:foldl(fun({Id, _}, R) -> act({admitted, Id, {error, no_room}}, R) end, Room#room{busy = none, admits = []}, Admits));
+    waits(acts([{admitted, Id, {error, no_room}} || {Id, _} <- Admits], Room#room{busy = none, admits = []}));
 event({placed, Other}, Now, Room = #room{busy = place, gateway = Gateway, conference = C}) when Gateway =/= none ->
     Ended = [{'end', Gateway, [{Context, all}]} || Context <- [lobby_conference:context(C)], Context =/= new],
-    event({placed, Other}, Now, lists:foldl(fun act/2, (lost(Room))#room{busy = place}, Ended ++ [{seats, Gateway, []}]));
+    event({placed, Other}, Now, acts(Ended ++ [{seats, Gateway, []}], (lost(Room))#room{busy = place}));
 event({placed, Gateway}, Now, Room = #room{busy = place, admits = Admits, reported = Reported}) ->
-    Placed = Room#room{busy = none, gateway = Gateway, admits = []},
-    Counted = case map_size(Reported) of 0 -> Placed; _ -> act({count, lobby_conferences_made_again_total}, Placed) end,
-    lists:foldl(fun({Id, _}, R) -> act({admitted, Id, ok}, admitted(Id, Now, R)) end, Counted, Admits);
+    Again = [{count, lobby_conferences_made_again_total} || map_size(Reported) > 0],
+    Placed = acts(Again, Room#room{busy = none, gateway = Gateway, admits = []}),
+    lists:foldl(fun({Id, _}, R) -> act({admitted, Id, ok}, admitted(Id, Now, R)) end, Placed, Admits);
 event({reserved, true}, Now, Room = #room{busy = {seat, Id}}) ->
     act({admitted, Id, ok}, admitted(Id, Now, Room#room{busy = none}));
 event({reserved, false}, _, Room = #room{busy = {seat, Id}}) ->
@@ -135,7 +138,8 @@ event({want, Row}, _, Room) ->
     wanted(Row, Room);
 event({gone, Id}, _, Room = #room{conference = C}) ->
     forgotten(Id, Room#room{conference = lobby_conference:leave({ended, Id}, C)});
-event({ask, Row = #{id := Id, room := To, moved := Moved}, Handle}, _, Room = #room{conference = C, asks = Asks, stale = Stale}) ->
+event({ask, Row = #{id := Id, room := To, moved := Moved}, Handle}, _, Room) ->
+    #room{conference = C, asks = Asks, stale = Stale} = Room,
     case last_moved(Id, Room) of
         %% This was asked before he came back, or before he moved on.
         Later when Later > Moved -> act({left, To, Id, Moved, {none, none}}, Room);
@@ -145,12 +149,10 @@ event({ask, Row = #{id := Id, room := To, moved := Moved}, Handle}, _, Room = #r
     end;
 event({left, Id, Moved, {Given, Sends}}, _, Before) ->
     Room = #room{conference = C, gateway = Gateway} = may_send(Id, Moved, Sends, Before),
-    case Given of
-        none -> Room#room{conference = lobby_conference:cleared(Id, Moved, none, C)};
-        {Gateway, Holding} -> Room#room{conference = lobby_conference:cleared(Id, Moved, Holding, C)};
-        {Other, #{termination := T, context := Context}} ->
-            act({'end', Other, [{Context, T}]}, Room#room{conference = lobby_conference:cleared(Id, Moved, none, C)})
-    end;
+    Here = case Given of {Gateway, Holding} -> Holding; _ -> none end,
+    Elsewhere = [{'end', Other, [{Context, T}]} || {Other, #{termination := T, context := Context}} <- [Given],
+                                                   Other =/= Gateway],
+    acts(Elsewhere, Room#room{conference = lobby_conference:cleared(Id, Moved, Here, C)});
 event({confirmed, Id, Local}, _, Room = #room{stale = Stale, reported = Reported}) ->
     case Reported of
         #{Id := {holds, _, Local, _}} -> Room#room{stale = maps:remove(Id, Stale)};
@@ -160,7 +162,8 @@ event({rules, From, How, Rules, Settings}, _, Room = #room{conference = C, asked
     Before = case How of add -> lobby_conference:rules(C); set -> [] end,
     case lobby_rules:add(Rules, Before) of
         {ok, All} ->
-            Room#room{conference = lobby_conference:set_rules(All, C), asked = [From | Asked], settings = maps:merge(Had, Settings)};
+            Room#room{conference = lobby_conference:set_rules(All, C), asked = [From | Asked],
+                      settings = maps:merge(Had, Settings)};
         {error, Reason} -> act({reply, From, {error, Reason}}, Room)
     end;
 event({settings, From, Settings}, _, Room = #room{settings = Before}) ->
@@ -172,20 +175,15 @@ event({audit, From}, _, Room = #room{gateway = none}) ->
 event({audit, From}, _, Room = #room{conference = C, audits = Audits}) ->
     Room#room{conference = lobby_conference:check(C), audits = [From | Audits], compared = unknown};
 event({answer, Reference, Answer}, Now, Room = #room{busy = {Reference, _, _, Step}, conference = C}) ->
-    {Events, Done} = lobby_conference:done(Step, answer(Answer), C),
-    Answered = lists:foldl(fun(Event, R) -> answered(Event, Now, R) end,
-                           progress(Step, Events, Room#room{busy = none, conference = Done}), Events),
-    case {Step, lists:member(failed, Events), lists:member(repaired, Events)} of
-        {topology, false, true} -> Answered#room{compared = repaired};
-        {topology, false, false} -> Answered#room{compared = same};
-        {_, _, _} -> Answered
-    end;
+    {Events, Done} = lobby_conference:done(Step, Answer, C),
+    lists:foldl(fun(Event, R) -> answered(Event, Now, R) end,
+                progress(Step, Events, Room#room{busy = none, conference = Done}), Events);
 event({lost, Gateway}, _, Room = #room{gateway = Gateway}) ->
     lost(Room);
 event({returned, Gateway}, _, Room = #room{gateway = Gateway, conference = C}) ->
     act({count, lobby_conferences_kept_total}, Room#room{conference = lobby_conference:check(C), packets = #{}});
-event(retry, _, Room = #room{busy = Busy}) ->
-    repeated(Busy, Room#room{failures = 0, conference = lobby_conference:unblock(Room#room.conference)});
+event(retry, _, Room = #room{conference = C}) ->
+    sent(Room#room{failures = 0, conference = lobby_conference:unblock(C)});
 event(watch, Now, Room = #room{conference = C, admitted = Admitted}) ->
     %% Whoever was admitted and never came was a call whose process failed.
     Still = maps:filter(fun(_, Since) -> Now - Since < 30000 end, Admitted),
@@ -195,10 +193,8 @@ event(_, _, Room) ->
 
 %% The version of the last move that is known of somebody.
 last_moved(Id, #room{conference = C, asks = Asks}) ->
-    lists:max([0] ++ [Moved || {#{moved := Moved}, _} <- [lobby_conference:find(Id, C)]] ++ [Moved || #{Id := {_, Moved, _}} <- [Asks]]).
-
-answer({error, busy}) -> {error, 0};
-answer(Answer) -> Answer.
+    lists:max([0] ++ [Moved || {#{moved := Moved}, _} <- [lobby_conference:find(Id, C)]] ++
+              [Moved || #{Id := {_, Moved, _}} <- [Asks]]).
 
 admitted(Id, Now, Room = #room{admitted = Admitted, conference = C}) ->
     case lists:member(Id, lobby_conference:ids(C)) of
@@ -210,8 +206,8 @@ number(#room{conference = C, admitted = Admitted, admits = Admits}) ->
     length(lobby_conference:ids(C)) + map_size(Admitted) + length(Admits).
 
 %% Each row that the room is told of is reported, even if it was reported before: that report may have been lost.
-wanted(Row = #{id := Id, room := Name}, Room = #room{name = Name, conference = C, admitted = Admitted, reported = Reported, asks = Asks}) ->
-    Room#room{conference = lobby_conference:want(Row, C), admitted = maps:remove(Id, Admitted),
+wanted(Row = #{id := Id, room := Name}, Room = #room{name = Name, conference = C, reported = Reported, asks = Asks}) ->
+    Room#room{conference = lobby_conference:want(Row, C), admitted = maps:remove(Id, Room#room.admitted),
               reported = without_version(Id, Reported), asks = maps:remove(Id, Asks)};
 wanted(Row = #{id := Id}, Room = #room{conference = C}) ->
     forgotten(Id, Room#room{conference = lobby_conference:leave(Row, C)}).
@@ -223,8 +219,8 @@ without_version(Id, Reported) ->
     end.
 
 forgotten(Id, Room = #room{reported = Reported, stale = Stale, admitted = Admitted, admits = Admits}) ->
-    Room#room{reported = maps:remove(Id, Reported), stale = maps:remove(Id, Stale), admitted = maps:remove(Id, Admitted),
-              admits = lists:keydelete(Id, 1, Admits)}.
+    Room#room{reported = maps:remove(Id, Reported), stale = maps:remove(Id, Stale),
+              admitted = maps:remove(Id, Admitted), admits = lists:keydelete(Id, 1, Admits)}.
 
 %% If it is only out of reach, it may still mix for whoever still sends to it.
 lost(Room = #room{conference = C, stale = Stale, busy = Busy, asks = Asks}) ->
@@ -234,12 +230,13 @@ lost(Room = #room{conference = C, stale = Stale, busy = Busy, asks = Asks}) ->
     Room#room{gateway = none, busy = none, conference = lobby_conference:forget(C), stale = maps:merge(Stale, Left),
               failures = 0, full = false, packets = #{}, seats = none}.
 
-repeated({Reference, Action, Ids, _}, Room = #room{gateway = Gateway}) ->
-    act({retry, later}, act({request, Gateway, Reference, Action, Ids}, Room));
-repeated(holdings, Room = #room{gateway = Gateway}) ->
-    act({retry, later}, act({holdings, Gateway}, Room));
-repeated(_, Room) ->
-    lists:foldl(fun asks/2, Room, lobby_conference:asked(Room#room.conference)).
+%% Asks for what is awaited, perhaps again: whoever is asked may be starting, and miss it.
+sent(Room = #room{busy = {Reference, Action, Ids, _}, gateway = Gateway}) ->
+    acts([{request, Gateway, Reference, Action, Ids}, {retry, later}], Room);
+sent(Room = #room{busy = holdings, gateway = Gateway}) ->
+    acts([{holdings, Gateway}, {retry, later}], Room);
+sent(Room = #room{conference = C}) ->
+    lists:foldl(fun asks/2, Room, lobby_conference:asked(C)).
 
 asks(Row = #{from := From}, Room = #room{gateway = Gateway}) ->
     act({ask, From, Row, Gateway}, Room).
@@ -248,10 +245,12 @@ asks(Row = #{from := From}, Room = #room{gateway = Gateway}) ->
 
 %% An audit that succeeds is no progress.
 progress(Step, Events, Room = #room{failures = Failures}) ->
-    case lists:member(failed, Events) of
-        true -> Room#room{failures = Failures + 1};
-        false when Step =:= inventory; Step =:= topology -> Room;
-        false -> Room#room{failures = 0}
+    case {lists:member(failed, Events), Step} of
+        {true, _} -> Room#room{failures = Failures + 1};
+        {false, inventory} -> Room;
+        {false, topology} ->
+            Room#room{compared = case lists:member(repaired, Events) of true -> repaired; false -> same end};
+        {false, _} -> Room#room{failures = 0}
     end.
 
 answered({refused, Id, Code, Media}, _, Room = #room{conference = C}) ->
@@ -271,13 +270,10 @@ watched(Counts, Now, Room = #room{conference = C, packets = Before, silent_after
     Still = maps:map(fun(T, Count) -> still(Count, maps:get(T, Before, none), Now) end, Counts),
     Silent = [{Id, T} || {Id, T} <- Talkers, #{T := {_, Since}} <- [Still], Now - Since >= SilentAfter],
     %% A gateway that came back so soon that nobody missed it counts from 0 again.
-    Seen = case [T || {T, Count} <- maps:to_list(Counts), #{T := {More, _}} <- [Before], Count < More] of
-        [] -> Room;
-        _ -> act({count, lobby_conferences_kept_total}, Room)
-    end,
+    Again = [T || {T, Count} <- maps:to_list(Counts), #{T := {More, _}} <- [Before], Count < More],
     %% They aren't told again until as much time has passed.
-    lists:foldl(fun({Id, _}, R) -> act({silent, Id}, R) end,
-                Seen#room{packets = maps:without([T || {_, T} <- Silent], Still)}, Silent).
+    acts([{count, lobby_conferences_kept_total} || Again =/= []] ++ [{silent, Id} || {Id, _} <- Silent],
+         Room#room{packets = maps:without([T || {_, T} <- Silent], Still)}).
 
 still(Count, {Count, Since}, _) -> {Count, Since};
 still(Count, _, Now) -> {Count, Now}.
@@ -291,14 +287,16 @@ work(Room = #room{busy = Busy}) when Busy =/= none ->
     Room;
 work(Room = #room{waits = true}) ->
     Room;
-work(Room = #room{gateway = none}) ->
-    case {ids(Room), Room} of
-        {[], _} -> answer_asked(audited(left(Room)));
-        {Ids, #room{admits = [{_, Prefer} | _]}} -> act({place, Ids, Prefer, none}, left(Room#room{busy = place}));
-        {Ids, _} -> act({place, Ids, none, none}, left(Room#room{busy = place}))
+work(Room = #room{gateway = none, admits = Admits}) ->
+    case ids(Room) of
+        [] -> answer_asked(audited(left(Room)));
+        Ids ->
+            [{_, Prefer} | _] = Admits ++ [{none, none}],
+            act({place, Ids, Prefer, none}, left(Room#room{busy = place}))
     end;
 work(Room = #room{admits = [{Id, _} | Admits], gateway = Gateway}) ->
-    act({reserve, Gateway, lists:usort([Id | ids(Room#room{admits = []})])}, Room#room{admits = Admits, busy = {seat, Id}});
+    Ids = lists:usort([Id | ids(Room#room{admits = []})]),
+    act({reserve, Gateway, Ids}, Room#room{admits = Admits, busy = {seat, Id}});
 work(Room = #room{full = true, gateway = Gateway}) ->
     act({place, ids(Room), none, Gateway}, Room#room{busy = place, full = false});
 work(Room = #room{failures = ?PATIENCE}) ->
@@ -311,10 +309,8 @@ work(Room = #room{conference = C0}) ->
 ids(#room{conference = C, admitted = Admitted, admits = Admits}) ->
     lists:usort(lobby_conference:ids(C) ++ maps:keys(Admitted) ++ [Id || {Id, _} <- Admits]).
 
-next({request, Action, Step}, Room = #room{gateway = Gateway, run = Run, next = N}) ->
-    Reference = {Run, N},
-    Ids = added(Step),
-    act({retry, later}, act({request, Gateway, Reference, Action, Ids}, Room#room{busy = {Reference, Action, Ids, Step}, next = N + 1}));
+next({request, Action, Step}, Room = #room{run = Run, next = N}) ->
+    sent(Room#room{busy = {{Run, N}, Action, added(Step), Step}, next = N + 1});
 next({release, #{id := Id}, T}, Room = #room{asks = Asks, gateway = Gateway, conference = C}) ->
     case Asks of
         #{Id := {To, Moved, Gateway}} ->
@@ -360,20 +356,18 @@ reported(Id, Version, Local, Room = #room{reported = Reported, stale = Stale}) -
     end.
 
 answer_asked(Room = #room{asked = Asked, stale = Stale}) when map_size(Stale) =:= 0 ->
-    lists:foldl(fun(From, R) -> act({reply, From, ok}, R) end, Room#room{asked = []}, Asked);
+    acts([{reply, From, ok} || From <- Asked], Room#room{asked = []});
 answer_asked(Room) ->
     Room.
 
 %% There is nothing to audit without members, and the topology of a large conference doesn't fit into a reply.
 audited(Room = #room{audits = Audits, compared = Result}) ->
-    lists:foldl(fun(From, R) -> act({reply, From, Result}, R) end, Room#room{audits = []}, Audits).
+    acts([{reply, From, Result} || From <- Audits], Room#room{audits = []}).
 
 %% Whoever was asked for, and whom the gateway has nothing for here, has left.
 left(Room = #room{asks = Asks, conference = C}) ->
-    maps:fold(fun(Id, {To, Moved, _}, R) -> case lobby_conference:has(Id, C) of
-        true -> R;
-        false -> left(Id, To, Moved, none, R)
-    end end, Room, Asks).
+    Gone = maps:filter(fun(Id, _) -> not lobby_conference:has(Id, C) end, Asks),
+    maps:fold(fun(Id, {To, Moved, _}, R) -> left(Id, To, Moved, none, R) end, Room, Gone).
 
 left(Id, To, Moved, Given, Room = #room{asks = Asks, stale = Stale}) ->
     act({left, To, Id, Moved, {Given, maps:get(Id, Stale, none)}},
@@ -390,10 +384,10 @@ may_send(Id, Moved, Sends, Room = #room{conference = C, stale = Stale}) ->
 
 %% Until something changes, or for a while.
 waits(Room = #room{conference = C, asked = Asked}) ->
-    Later = lists:foldl(fun(#{id := Id, version := Version}, R) -> act({report, Id, {later, Version}}, R) end, Room,
-                        [Row || Row <- lobby_conference:persons(C), is_late(Row, Room)]),
-    Told = lists:foldl(fun(From, R) -> act({reply, From, {error, not_yet}}, R) end, Later, Asked),
-    act({retry, soon}, audited(Told#room{asked = [], waits = true})).
+    Late = [{report, Id, {later, Version}} || Row = #{id := Id, version := Version} <- lobby_conference:persons(C),
+                                              is_late(Row, Room)],
+    Told = acts(Late ++ [{reply, From, {error, not_yet}} || From <- Asked], Room#room{asked = [], waits = true}),
+    act({retry, soon}, audited(Told)).
 
 is_late(#{id := Id, version := Version}, #room{reported = Reported}) ->
     case Reported of
@@ -412,8 +406,7 @@ ended(_, Room = #room{busy = none, admitted = Admitted, admits = [], asks = Asks
         {true, false} -> act(stop, Room);
         {true, true} when Room#room.gateway =/= none ->
             act({seats, Room#room.gateway, []}, Room#room{gateway = none, conference = lobby_conference:forget(C)});
-        {true, true} -> Room;
-        {false, _} -> Room
+        {_, _} -> Room
     end;
 ended(_, Room) ->
     Room.
@@ -447,8 +440,8 @@ published(Room) ->
 
 %%% What it shows.
 
-%% @doc Whether a gateway has what the room wants. A lost gateway doesn't count: if it is only out of reach, it may still
-%% mix as before.
+%% @doc Whether a gateway has what the room wants. A lost gateway doesn't count: if it is only out of reach, it may
+%% still mix as before.
 -spec agrees(room()) -> boolean().
 agrees(#room{busy = none, stale = Stale, gateway = Gateway, conference = C}) when map_size(Stale) =:= 0 ->
     (Gateway =/= none orelse lobby_conference:is_empty(C)) andalso lobby_conference:missing(C) =:= []

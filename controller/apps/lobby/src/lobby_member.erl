@@ -50,10 +50,12 @@ find(Id) ->
 
 %% @doc The row of somebody who joins a room.
 -spec new(id(), #{room := lobby_room:name(), media := lobby_h248:media(), direction := lobby_sdp:direction(),
-                  identity := binary(), name => binary(), call => term(), role => lobby_rules:role(), isolated => boolean(), muted => boolean(), waiting => boolean(), acknowledged => boolean()}) -> lobby_person:row().
+                  identity := binary(), name => binary(), call => term(), role => lobby_rules:role(),
+                  isolated => boolean(), muted => boolean(), waiting => boolean(), acknowledged => boolean()}) ->
+          lobby_person:row().
 new(Id, Wanted) ->
-    maps:merge(#{id => Id, from => none, version => 1, moved => 1, role => <<"member">>, isolated => false, muted => false,
-                 waiting => false, acknowledged => true}, Wanted).
+    maps:merge(#{id => Id, from => none, version => 1, moved => 1, role => <<"member">>, isolated => false,
+                 muted => false, waiting => false, acknowledged => true}, Wanted).
 
 %% @doc Does what a person's process is to do, but for answers.
 -spec act(lobby_person:action()) -> ok | {admitted, lobby_room:name(), {error, error()}}.
@@ -73,8 +75,8 @@ act({gone, Room, Id}) ->
     _ = lobby_rooms:tell(Room, {gone, Id}),
     ok.
 
-%% @doc Answers a request. In a pair, what was changed is to be on both nodes first, or the other one can't take over any
-%% more without it. Until then, this process is sent `{answer, From, Answer}' again.
+%% @doc Answers a request. In a pair, what was changed is to be on both nodes first, or the other one can't take over
+%% any more without it. Until then, this process is sent `{answer, From, Answer}' again.
 -spec answer(gen_statem:from(), term()) -> ok.
 answer(From, Answer) ->
     case lobby_lease:durable() of

@@ -5,8 +5,8 @@
 %%% that process, and it goes with him to whichever room he is in. A room only brings the gateway to what the rows say,
 %%% and reports the version that the gateway has. Then whoever asked for the change is answered.
 %%%
-%%% A move has the next room admit him, and changes his row's `room'. Until the old room has silenced him and let him go,
-%%% the row says where he comes `from', and the next one doesn't add him. Moves follow one another.
+%%% A move has the next room admit him, and changes his row's `room'. Until the old room has silenced him and let him
+%%% go, the row says where he comes `from', and the next one doesn't add him. Moves follow one another.
 -module(lobby_person).
 
 -export([new/1, restored/1, handle/2, row/1, is_settled/1]).
@@ -18,13 +18,13 @@
 %% speech, and not somebody else for him. `call': where the store has his call.
 -type row() :: #{id := id(), room := lobby_room:name(), from := lobby_room:name() | none, moved := version(),
                  version := version(), role := lobby_rules:role(), isolated := boolean(), muted := boolean(),
-                 waiting := boolean(), acknowledged := boolean(), media := lobby_h248:media(), direction := lobby_sdp:direction(),
-                 identity := binary(), name => binary(), call => term()}.
+                 waiting := boolean(), acknowledged := boolean(), media := lobby_h248:media(),
+                 direction := lobby_sdp:direction(), identity := binary(), name => binary(), call => term()}.
 -type change() :: #{role => lobby_rules:role(), isolated => boolean(), muted => boolean(), waiting => boolean(),
                     acknowledged => boolean(), media => lobby_h248:media(), direction => lobby_sdp:direction()}.
 %% Whom an answer is for. Somebody who asked through the interface is answered only when no phone still sends to a
-%% gateway that is lost; `media' belongs to the caller's own offer, which can't wait for others. Who `joins' isn't told that
-%% it takes longer.
+%% gateway that is lost; `media' belongs to the caller's own offer, which can't wait for others. Who `joins' isn't told
+%% that it takes longer.
 -type tag() :: {asked, From :: term()} | {media, term()} | {joins, term()}.
 %% What a room says of a version. `later': it has no gateway that takes it yet. `refused': the gateway doesn't take his
 %% media, and has those that are given.
@@ -87,11 +87,12 @@ handle(again, P = #person{phase = joining, asking = Tag}) when Tag =/= none ->
     {P, [admit(P)]};
 handle(again, P = #person{phase = Phase, row = Row = #{room := Room}}) when Phase =/= joining ->
     {P, [{want, Room, Row} | [admit(P) || {moving, _} <- [Phase]]]};
-handle(leave, P = #person{row = #{id := Id, room := Room, from := From}, phase = Phase, moves = Moves}) ->
-    Waiting = [Tag || {_, Tag} <- P#person.pending] ++ [Tag || {Tag, _} <- Moves] ++ [Tag || Tag <- [P#person.asking], Tag =/= none],
-    Rooms = [R || R <- [Room, From | [To || {moving, To} <- [Phase]]], R =/= none],
+handle(leave, P = #person{row = #{id := Id, room := Room, from := From}, pending = Pending, moves = Moves}) ->
+    Waiting = [Tag || {_, Tag} <- Pending] ++ [Tag || {Tag, _} <- Moves] ++ [P#person.asking],
+    Rooms = [Room, From | [To || {moving, To} <- [P#person.phase]]],
     {P#person{pending = [], moves = [], asking = none},
-     [{delete, Id} | [{gone, R, Id} || R <- Rooms]] ++ [{answer, Tag, {error, no_member}} || Tag <- Waiting]};
+     [{delete, Id} | [{gone, R, Id} || R <- Rooms, R =/= none]]
+     ++ [{answer, Tag, {error, no_member}} || Tag <- Waiting, Tag =/= none]};
 handle(_, P) ->
     {P, []}.
 
@@ -101,10 +102,13 @@ admit(#person{phase = {moving, To}, row = #{id := Id, room := Room}}) -> {admit,
 %% What is wanted already is reported again.
 changed(Tag, Row, P = #person{row = Row = #{room := Room, version := Version}, pending = Pending}) ->
     {P#person{pending = Pending ++ [{Version, Tag}]}, [{want, Room, Row}]};
+changed(Tag, Row = #{version := Version}, P = #person{pending = Pending}) ->
+    stored(Row, P#person{pending = Pending ++ [{Version + 1, Tag}]}).
+
 %% The row is stored before anybody hears of it.
-changed(Tag, Row, P = #person{pending = Pending}) ->
-    #{room := Room, version := Version} = New = Row#{version := maps:get(version, Row) + 1},
-    {P#person{row = New, pending = Pending ++ [{Version, Tag}]}, [{store, New}, {want, Room, New}]}.
+stored(Row = #{room := Room, version := Version}, P) ->
+    New = Row#{version := Version + 1},
+    {P#person{row = New}, [{store, New}, {want, Room, New}]}.
 
 moved(To, Tag, P = #person{row = Row = #{room := Room, version := Version}}) ->
     %% An operator who moves somebody lets him in.
@@ -122,26 +126,27 @@ next_move(P, Actions) ->
     {P, Actions}.
 
 %% He is in his room now, so whoever moves him next needn't wait for the one before.
-reported({holds, Version, Local, Everywhere}, P = #person{row = Row = #{moved := Moved, from := From}, pending = Pending}) ->
-    {Done, Waiting} = lists:partition(fun({V, Tag}) -> V =< Version andalso may_answer(Tag, Everywhere) end, Pending),
-    Held = P#person{pending = Waiting, held = max(Version, P#person.held)},
-    Answers = [{answer, Tag, {ok, Local}} || {_, Tag} <- Done],
+reported({holds, Version, Local, Everywhere}, P0 = #person{row = Row = #{moved := Moved, from := From}, held = Held}) ->
+    {P, Answers} = answered(fun({V, Tag}) -> V =< Version andalso may_answer(Tag, Everywhere) end, {ok, Local},
+                            P0#person{held = max(Version, Held)}),
     case From =/= none andalso Version >= Moved of
         true ->
             Settled = Row#{from := none},
-            next_move(Held#person{row = Settled}, [{store, Settled} | Answers]);
+            next_move(P#person{row = Settled}, [{store, Settled} | Answers]);
         false ->
-            {Held, Answers}
+            {P, Answers}
     end;
 reported({later, Version}, P) ->
     answered(fun({V, Tag}) -> V =< Version andalso element(1, Tag) =/= joins end, {error, not_yet}, P);
 %% He keeps the media that the gateway has.
-reported({refused, Version, Code, none}, P) ->
-    answered(fun({V, _}) -> V =< Version end, {error, {refused, Code}}, P);
-reported({refused, Version, Code, Media}, P) ->
-    {P1 = #person{row = Row = #{version := Last}}, Answers} = answered(fun({V, _}) -> V =< Version end, {error, {refused, Code}}, P),
-    #{room := Room} = New = Row#{media := Media, version := Last + 1},
-    {P1#person{row = New}, [{store, New}, {want, Room, New} | Answers]}.
+reported({refused, Version, Code, Media}, P0) ->
+    {P = #person{row = Row}, Answers} = answered(fun({V, _}) -> V =< Version end, {error, {refused, Code}}, P0),
+    case Media of
+        none -> {P, Answers};
+        _ ->
+            {New, Actions} = stored(Row#{media := Media}, P),
+            {New, Actions ++ Answers}
+    end.
 
 may_answer({asked, _}, Everywhere) -> Everywhere;
 may_answer(_, _) -> true.

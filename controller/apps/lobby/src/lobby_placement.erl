@@ -1,5 +1,5 @@
-%%% @doc On which gateway a conference is made. One process chooses for all rooms, one after the other: if many looked at
-%%% the same time, all would choose the same gateway, and have no room there to grow.
+%%% @doc On which gateway a conference is made. One process chooses for all rooms, one after the other: if many looked
+%%% at the same time, all would choose the same gateway, and have no room there to grow.
 -module(lobby_placement).
 -behaviour(gen_server).
 
@@ -16,9 +16,10 @@
 start_link() ->
     gen_server:start_link({local, ?MODULE}, ?MODULE, [], []).
 
-%% @doc Reserves seats for all of a room's members, on the gateway that is preferred or on the one with the most that are
-%% free, but for one.
--spec place(lobby_room:name(), [lobby_rules:id()], Prefer :: handle() | none, Except :: handle() | none) -> handle() | none.
+%% @doc Reserves seats for all of a room's members, on the gateway that is preferred or on the one with the most that
+%% are free, but for one.
+-spec place(lobby_room:name(), [lobby_rules:id()], Prefer :: handle() | none, Except :: handle() | none) ->
+          handle() | none.
 place(Room, Ids, Prefer, Except) ->
     try
         gen_server:call(?MODULE, {place, Room, Ids, Prefer, Except})
@@ -30,31 +31,27 @@ place(Room, Ids, Prefer, Except) ->
 init([]) ->
     {ok, none}.
 
--spec handle_call({place, lobby_room:name(), [lobby_rules:id()], handle() | none, handle() | none}, gen_server:from(), none) ->
-          {reply, handle() | none, none}.
+%% A gateway has the last word on its seats.
+-spec handle_call({place, lobby_room:name(), [lobby_rules:id()], handle() | none, handle() | none},
+                  gen_server:from(), none) -> {reply, handle() | none, none}.
 handle_call({place, Room, Ids, Prefer, Except}, _, State) ->
-    {reply, placed(Room, Ids, Prefer, Except), State}.
+    Others = [{Handle, Load} || {Handle, Load} <- lobby_gateway:serving(), Handle =/= Except],
+    Accepts = fun(Handle) -> lobby_gateway:reserve(Handle, Room, Ids) end,
+    case lists:search(Accepts, ranked(length(Ids), Prefer, Others)) of
+        {value, Handle} -> {reply, Handle, State};
+        false -> {reply, none, State}
+    end.
 
 -spec handle_cast(term(), none) -> {noreply, none}.
 handle_cast(_, State) ->
     {noreply, State}.
 
-%% A gateway has the last word on its seats.
-placed(Room, Ids, Prefer, Except) ->
-    Others = [{Handle, Load} || {Handle, Load} <- lobby_gateway:serving(), Handle =/= Except],
-    first(fun(Handle) -> lobby_gateway:reserve(Handle, Room, Ids) end, ranked(length(Ids), Prefer, Others)).
-
-first(_, []) -> none;
-first(Accepts, [Handle | Rest]) ->
-    case Accepts(Handle) of
-        true -> Handle;
-        false -> first(Accepts, Rest)
-    end.
-
-%% @doc The gateways that may have seats for so many and a context, the best first. Who moves there may have his already.
+%% @doc The gateways that may have seats for so many and a context, the best first. Who moves there may have his
+%% already.
 -spec ranked(Members :: non_neg_integer(), Prefer :: handle() | none, [{handle(), load()}]) -> [handle()].
 ranked(Members, Prefer, Gateways) ->
-    Fitting = [{-free(Load), Handle} || {Handle, Load} <- Gateways, Handle =/= Prefer, free(Load) >= Members, has_context(Load)],
+    Fitting = [{-free(Load), Handle} || {Handle, Load} <- Gateways, Handle =/= Prefer, free(Load) >= Members,
+                                        has_context(Load)],
     [Handle || {Handle, _} <- Gateways, Handle =:= Prefer] ++ [Handle || {_, Handle} <- lists:sort(Fitting)].
 
 free(#{terminations := Used, max_terminations := Max}) -> Max - Used.

@@ -1,5 +1,5 @@
-%%% @doc What a gateway has for whom, and which seats are taken: a person's termination, or the place that a room reserved
-%%% for one.
+%%% @doc What a gateway has for whom, and which seats are taken: a person's termination, or the place that a room
+%%% reserved for one.
 %%%
 %%% A room reserves seats for all of its members before it adds any. A person who goes from one room to another on the
 %%% same gateway keeps his. What the gateway has is known from its answers, for rooms that start again, and because
@@ -49,13 +49,15 @@ keep(Room, Ids, S = #seats{reserved = Reserved}) -> S#seats{reserved = Reserved#
 %% @doc What an answer to a room's request says. The ids are those whom it was to add, in their order.
 -spec noted(room(), [id()], lobby_h248:reply(), seats()) -> {[change()], seats()}.
 noted(Room, Ids, #{context := Context, results := Results}, S) ->
-    {Changes, {_, Noted}} = lists:mapfoldl(fun(Result, Acc) -> note(Result, {Room, Context}, Acc) end, {Ids, S}, Results),
+    Note = fun(Result, Acc) -> note(Result, {Room, Context}, Acc) end,
+    {Changes, {_, Noted}} = lists:mapfoldl(Note, {Ids, S}, Results),
     {lists:append(Changes), Noted}.
 
 note({add, T, Properties}, {Room, Context}, {Ids, S}) ->
     case {Ids, Properties} of
         {[Id | Rest], #{local := Local}} ->
-            {Changes, S1} = put(T, #{context => Context, room => Room, member => Id, local => Local, given => false}, S),
+            Entry = #{context => Context, room => Room, member => Id, local => Local, given => false},
+            {Changes, S1} = put(T, Entry, S),
             {Changes, {Rest, S1}};
         {_, _} -> {[], {lists:nthtail(min(1, length(Ids)), Ids), S}}
     end;
@@ -122,10 +124,9 @@ entries(#seats{entries = Entries}) ->
 
 %% @doc How much is taken. The controller's own termination and its context count.
 -spec load(seats()) -> lobby_placement:load().
-load(#seats{entries = Entries, reserved = Reserved, max_terminations = Max, max_contexts = MaxContexts}) ->
+load(S = #seats{entries = Entries, reserved = Reserved, max_terminations = Max, max_contexts = MaxContexts}) ->
     With = lists:usort([Id || #{member := Id} <- maps:values(Entries)]),
     People = lists:usort(With ++ lists:append(maps:values(Reserved))),
     %% A person has two terminations for as long as one of them is being ended.
     Used = length(People) + map_size(Entries) - length(With) + 1,
-    Contexts = lists:usort(maps:keys(Reserved) ++ [Room || #{room := Room} <- maps:values(Entries)]),
-    #{terminations => Used, contexts => length(Contexts) + 1, max_terminations => Max, max_contexts => MaxContexts}.
+    #{terminations => Used, contexts => length(rooms(S)) + 1, max_terminations => Max, max_contexts => MaxContexts}.

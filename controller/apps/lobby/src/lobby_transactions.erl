@@ -6,7 +6,8 @@
 %%% reply was acknowledged. So an acknowledgement follows only after a quiet time, in which no copy can be under way.
 -module(lobby_transactions).
 
--export([new/3, kept/2, submit/4, resubmit/4, received/4, expired/2, deadline/1, hold/1, resume/2, abandon/1, awaits/2]).
+-export([new/3, kept/2, submit/4, resubmit/4, received/4, expired/2, deadline/1, hold/1, resume/2, abandon/1]).
+-export([awaits/2]).
 -export_type([transactions/0, options/0, effect/1, reply/0, sent/0]).
 
 %% Half of the 32 replies that a gateway keeps for all its controllers.
@@ -23,20 +24,24 @@
 %% `begin': a request is sent for the first time. Whoever has to know after a failure that it may have been run keeps it
 %% before.
 -type effect(From) :: {'begin', sent(), From} | {send, binary()}
-                    | {answer, lobby_h248:transaction(), From, lobby_h248:action(), reply()} | {refuse, From, busy} | no_answer.
+                    | {answer, lobby_h248:transaction(), From, lobby_h248:action(), reply()}
+                    | {refuse, From, busy} | no_answer.
 
 %% A request that was sent, and under which names: the gateway takes it for a repetition if both are the same.
 -type sent() :: {Sender :: lobby_h248:endpoint(), lobby_h248:transaction(), lobby_h248:action()}.
 
 -record(request, {from :: term(), sender :: lobby_h248:endpoint(), action :: lobby_h248:action(), message :: binary(),
-                  again :: milliseconds(), interval :: milliseconds(), left :: non_neg_integer() | forever | patiently}).
+                  again :: milliseconds(), interval :: milliseconds(), left :: left()}).
+%% How often it is sent again.
+-type left() :: non_neg_integer() | forever | patiently.
+-type waiting() :: queue:queue({term(), lobby_h248:action(), left()}).
 -record(transactions, {sender :: lobby_h248:endpoint(), options :: options(), next :: lobby_h248:transaction(),
                        open = #{} :: #{lobby_h248:transaction() => #request{}},
-                       waiting = queue:new() :: queue:queue({term(), lobby_h248:action(), pos_integer() | forever | patiently}),
+                       waiting = queue:new() :: waiting(),
                        %% Answered and not acknowledged, with the end of the quiet time, newest first.
                        answered = [] :: [{lobby_h248:transaction(), milliseconds()}],
                        %% Requests that are held back: those that were sent, and those that waited.
-                       held = none :: {#{lobby_h248:transaction() => #request{}}, queue:queue(term())} | none}).
+                       held = none :: {#{lobby_h248:transaction() => #request{}}, waiting()} | none}).
 -opaque transactions() :: #transactions{}.
 
 %% @doc Numbers ascend from the first one. It has to be higher than those that the gateway may have replies for.
@@ -57,20 +62,17 @@ kept(Kept, T = #transactions{next = First, options = #{retry := Retry, tries := 
 %% back, so are queued ones.
 -spec submit({queued | urgent | forever | patiently, From}, lobby_h248:action(), milliseconds(), transactions()) ->
           {[effect(From)], transactions()}.
-submit({queued, From}, Action, _, T = #transactions{held = {Open, Waiting}, options = #{tries := Tries}}) ->
-    case queue:len(Waiting) of
-        ?MAX_WAITING -> {[{refuse, From, busy}], T};
-        _ -> {[], T#transactions{held = {Open, queue:in({From, Action, Tries}, Waiting)}}}
+submit({queued, From}, Action, Now, T = #transactions{held = Held, waiting = Waiting, options = #{tries := Tries}}) ->
+    Queue = case Held of none -> Waiting; {_, Later} -> Later end,
+    More = queue:in({From, Action, Tries}, Queue),
+    case {queue:len(Queue), Held} of
+        {?MAX_WAITING, _} -> {[{refuse, From, busy}], T};
+        {_, none} -> flush(Now, T#transactions{waiting = More});
+        {_, {Open, _}} -> {[], T#transactions{held = {Open, More}}}
     end;
-submit({queued, From}, Action, Now, T = #transactions{waiting = Waiting, options = #{tries := Tries}}) ->
-    case queue:len(Waiting) of
-        ?MAX_WAITING -> {[{refuse, From, busy}], T};
-        _ -> flush(Now, T#transactions{waiting = queue:in({From, Action, Tries}, Waiting)})
-    end;
-submit({urgent, From}, Action, Now, T = #transactions{waiting = Waiting, options = #{tries := Tries}}) ->
-    flush(Now, T#transactions{waiting = queue:in_r({From, Action, Tries}, Waiting)});
-submit({Kind, From}, Action, Now, T = #transactions{waiting = Waiting}) ->
-    flush(Now, T#transactions{waiting = queue:in_r({From, Action, Kind}, Waiting)}).
+submit({Kind, From}, Action, Now, T = #transactions{waiting = Waiting, options = #{tries := Tries}}) ->
+    Left = case Kind of urgent -> Tries; _ -> Kind end,
+    flush(Now, T#transactions{waiting = queue:in_r({From, Action, Left}, Waiting)}).
 
 %% @doc Repeats an abandoned request under its names, so that it isn't run twice.
 -spec resubmit(sent(), From, milliseconds(), transactions()) -> {[effect(From)], transactions()}.
@@ -98,8 +100,8 @@ send(Sent = {_, Number, _}, From, Left, Now, T = #transactions{open = Open, opti
      T#transactions{open = Open#{Number => Request#request{again = Now + Retry, left = less(Left)}}}}.
 
 request({Sender, Number, Action}, From, Left, Retry) ->
-    #request{from = From, sender = Sender, action = Action, message = lobby_h248:request(Sender, Number, Action), again = 0,
-             interval = Retry, left = Left}.
+    #request{from = From, sender = Sender, action = Action, message = lobby_h248:request(Sender, Number, Action),
+             again = 0, interval = Retry, left = Left}.
 
 less(Left) when is_integer(Left) -> Left - 1;
 less(Kind) -> Kind.
@@ -133,7 +135,8 @@ expired(Now, T = #transactions{open = Open}) ->
 again(Number, Now, T = #transactions{open = Open}) ->
     #{Number := Request = #request{message = Message, left = Left, interval = Before}} = Open,
     Interval = case Left of patiently -> min(2 * Before, ?MAX_RETRY); _ -> Before end,
-    {{send, Message}, T#transactions{open = Open#{Number := Request#request{again = Now + Interval, interval = Interval, left = less(Left)}}}}.
+    Sent = Request#request{again = Now + Interval, interval = Interval, left = less(Left)},
+    {{send, Message}, T#transactions{open = Open#{Number := Sent}}}.
 
 acknowledge(Now, T = #transactions{answered = Answered, sender = Sender}) ->
     case lists:partition(fun({_, Quiet}) -> Quiet =< Now end, Answered) of
@@ -165,17 +168,18 @@ resume(Now, T = #transactions{held = {Held, Waiting}, options = #{tries := Tries
 
 %% @doc Gives up all requests. Returns those that were sent, which may have been run without our knowledge.
 -spec abandon(transactions()) -> {[sent()], transactions()}.
-abandon(T = #transactions{held = {Held, Later}, open = Open, waiting = Waiting}) ->
-    abandon(T#transactions{held = none, open = maps:merge(Held, Open), waiting = queue:join(Later, Waiting)});
 abandon(T = #transactions{open = Open}) ->
-    {sent(Open), T#transactions{open = #{}, waiting = queue:new()}}.
+    {Held, _} = held(T),
+    Sent = [{Sender, Number, Action}
+            || {Number, #request{sender = Sender, action = Action}} <- maps:to_list(maps:merge(Held, Open))],
+    {Sent, T#transactions{held = none, open = #{}, waiting = queue:new()}}.
+
+held(#transactions{held = none}) -> {#{}, queue:new()};
+held(#transactions{held = Held}) -> Held.
 
 %% @doc Whether an answer is awaited by somebody, for a request that was sent or waits.
 -spec awaits(fun((From :: term()) -> boolean()), transactions()) -> boolean().
-awaits(Is, #transactions{held = Held, open = Open, waiting = Waiting}) ->
-    {HeldOpen, HeldWaiting} = case Held of none -> {#{}, queue:new()}; _ -> Held end,
+awaits(Is, T = #transactions{open = Open, waiting = Waiting}) ->
+    {HeldOpen, HeldWaiting} = held(T),
     lists:any(fun(#request{from = From}) -> Is(From) end, maps:values(Open) ++ maps:values(HeldOpen))
         orelse queue:any(fun({From, _, _}) -> Is(From) end, queue:join(Waiting, HeldWaiting)).
-
-sent(Open) ->
-    [{Sender, Number, Action} || {Number, #request{sender = Sender, action = Action}} <- maps:to_list(Open)].

@@ -66,11 +66,7 @@ start(Room, Invite, Source) ->
 -spec start_link(lobby_room:name(), lobby_sip_message:message(), lobby_sip_message:target()) -> gen_statem:start_ret().
 start_link(Room, Invite, Source) ->
     Name = {via, lobby_registry, {call, lobby_dialog:key(Invite)}},
-    case gen_statem:start_link(Name, ?MODULE, {Room, Invite, Source}, [{hibernate_after, ?IDLE}]) of
-        %% Somebody had the supervisor start it before it saw that it had to do so itself.
-        {error, {already_started, Pid}} -> {ok, Pid};
-        Started -> Started
-    end.
+    lobby_keeper:running(gen_statem:start_link(Name, ?MODULE, {Room, Invite, Source}, [{hibernate_after, ?IDLE}])).
 
 %% @doc How members name themselves.
 -spec callers([lobby_person:row()]) -> #{binary() => binary()}.
@@ -129,16 +125,18 @@ init({Room, Invite, Source}) ->
     case lobby_store:get(lobby_calls, lobby_dialog:key(Invite)) of
         {ok, #{call := Call = #call{id = Id}}} ->
             yes = lobby_registry:register_name({member, Id}, self()),
-            Ask = {{timeout, ask}, rand:uniform(?SPREAD * lobby_store:size(lobby_calls)), again},
+            %% He is asked whether he is still there, and told where the gateway receives him now.
+            Ask = {{timeout, ask}, rand:uniform(?SPREAD * lobby_store:size(lobby_calls)), invite},
             case lobby_member:find(Id) of
                 {ok, Row} ->
                     {ok, talking, Call#call{person = lobby_person:restored(Row)}, [Ask, {next_event, internal, again}]};
-                error -> {ok, talking, Call, [{next_event, internal, lost}]}
+                error -> {ok, talking, Call, [{next_event, internal, bye}]}
             end;
-        {ok, #{id := Id}} ->
-            {ok, starting, new, [{next_event, internal, {start, Id, Room, Invite, Source}}]};
-        error ->
-            Id = string:lowercase(binary:encode_hex(crypto:strong_rand_bytes(4))),
+        Kept ->
+            Id = case Kept of
+                {ok, #{id := Known}} -> Known;
+                error -> string:lowercase(binary:encode_hex(crypto:strong_rand_bytes(4)))
+            end,
             {ok, starting, new, [{next_event, internal, {start, Id, Room, Invite, Source}}]}
     end.
 
@@ -152,16 +150,14 @@ handle_event(Type, Content, _, Call) ->
 %% Has gen_statem do something after this event. Of two times for a timeout, the later one counts.
 with(Actions, Call = #call{out = Out}) -> Call#call{out = Out ++ Actions}.
 
--spec event(gen_statem:event_type(), term(), #call{} | new) -> #call{} | stopped.
 event(internal, {start, Id, Room, Invite, Source}, new) ->
     start(Id, Room, Invite, Source);
-event(internal, again, Call) ->
+event(_, again, Call) ->
     person(again, Call);
-event(internal, lost, Call) ->
-    bye(Call);
-%% The caller is asked whether he is still there, and told where the gateway receives him now.
-event({timeout, ask}, again, Call) ->
+event(_, What, Call) when What =:= invite; What =:= refresh ->
     invite(Call);
+event(_, What, Call) when What =:= bye; What =:= expired ->
+    bye(Call);
 event(info, {sip, Request = #sip{type = request, method = Method}, Source}, Call) ->
     request(Method, Request, Source, Call);
 event(info, {sip, Response = #sip{type = response}, _}, Call) ->
@@ -175,8 +171,6 @@ event(info, {lobby_room, Room, {report, Report}}, Call) ->
 %% The gateway takes no packets of his: is he still there?
 event(info, {lobby_room, _, silent}, Call = #call{state = talking}) ->
     invite(silent(Call));
-event(info, {lobby_call, refused}, Call) ->
-    bye(Call);
 event(info, {answer, From, Answer}, Call) ->
     ok = lobby_member:answer(From, Answer),
     Call;
@@ -190,11 +184,9 @@ event({call, From}, {change, Change}, Call) ->
     person({change, {asked, From}, Change}, Call);
 event({call, From}, {move, To}, Call) ->
     person({move, {asked, From}, To}, Call);
-event({timeout, person}, again, Call) ->
-    person(again, Call);
 event({timeout, trying}, Request, Call = #call{source = Source}) ->
     reply(100, Request, Source, Call);
-event({timeout, let_in}, again, Call = #call{state = starting}) ->
+event({timeout, let_in}, join, Call = #call{state = starting}) ->
     person({join, {joins, invite}}, Call);
 %% No gateway has had a seat for so long, or he doesn't want to wait any longer.
 event({timeout, let_in_at_all}, over, Call = #call{state = starting, changing = Invite}) ->
@@ -209,12 +201,6 @@ event({timeout, repeat}, {Message, Target, Interval}, Call) ->
 event({timeout, give_up}, give_up, Call = #call{state = ending}) ->
     stop(Call);
 event({timeout, give_up}, give_up, Call) ->
-    bye(Call);
-event({timeout, invite}, again, Call) ->
-    invite(Call);
-event({timeout, session}, refresh, Call) ->
-    invite(Call);
-event({timeout, session}, expired, Call) ->
     bye(Call);
 event(_, _, Call) ->
     Call.
@@ -248,7 +234,7 @@ media(invite, {ok, Local}, Call = #call{state = starting, changing = Invite}) ->
     LetIn = [{{timeout, Name}, infinity, none} || Name <- [let_in, let_in_at_all]],
     accept(Invite, keep(with(LetIn, Call#call{local = Local, changing = none})));
 media(invite, {error, no_room}, Call = #call{state = starting}) ->
-    with([{{timeout, let_in}, ?RETRY, again}], Call);
+    with([{{timeout, let_in}, ?RETRY, join}], Call);
 media(invite, {error, Reason}, Call = #call{state = starting}) ->
     refuse(status(Reason), [], Call);
 media({change, Request}, Result, Call = #call{changing = Request, state = State}) ->
@@ -277,10 +263,9 @@ reported({holds, _, Local, false}, Call = #call{local = Local, agreed = Local}) 
 reported({holds, _, Local, _}, Call = #call{local = Local}) ->
     Call;
 reported({holds, _, Local, _}, Call) ->
-    with([{{timeout, invite}, 0, again}], keep(Call#call{local = Local}));
+    with([{{timeout, invite}, 0, invite}], keep(Call#call{local = Local}));
 reported({refused, _, _, none}, Call) ->
-    self() ! {lobby_call, refused},
-    Call;
+    with([{next_event, internal, bye}], Call);
 reported(_, Call) ->
     Call.
 
@@ -464,7 +449,7 @@ updated(Request, Call = #call{session = Session}) ->
     More = [lobby_dialog:contact(own(Call2)) | lobby_session_timer:answer(Timer)],
     Call3 = #call{local = Local, agreed = Agreed} = answer(200, {More ++ Headers, Body}, Request, Call2),
     %% No ACK confirms this answer, so a new address also goes out in an INVITE.
-    with([session_timeout(Call3) | [{{timeout, invite}, 0, again} || Local =/= Agreed]], Call3).
+    with([session_timeout(Call3) | [{{timeout, invite}, 0, invite} || Local =/= Agreed]], Call3).
 
 refreshed(Message, Call = #call{dialog = Dialog}) ->
     Call#call{dialog = lobby_dialog:refreshed(Message, Dialog)}.
@@ -593,7 +578,7 @@ refused(Status, Response, Call = #call{request = Invite = #sip{hdrs = Headers}})
     ok = to_caller(Ack, Call),
     case lobby_dialog:after_refusal(Status) of
         ended -> stop(Call);
-        again -> with(quiet() ++ [{{timeout, invite}, 10 * rand:uniform(200), again}], Call#call{state = talking});
+        again -> with(quiet() ++ [{{timeout, invite}, 10 * rand:uniform(200), invite}], Call#call{state = talking});
         %% He doesn't send to where the gateway receives him now.
         goes_on when Call#call.told =/= Call#call.agreed -> bye(Call#call{state = talking});
         goes_on -> talk(Call)

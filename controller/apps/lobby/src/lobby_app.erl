@@ -42,9 +42,9 @@ configured(File) ->
     case lobby_config:load(File) of
         {error, Text} -> stop(2, Text);
         {ok, #{pair := none}} -> none;
-        {ok, #{pair := Pair}} -> case lobby_pair:distribute(Pair) of
+        {ok, #{pair := Pair = #{self := Self}}} -> case lobby_pair:distribute(Pair) of
             ok -> Pair;
-            {error, Reason} -> stop(1, io_lib:format("can't start the node ~0p: ~0P", [maps:get(self, Pair), Reason, 30]))
+            {error, Reason} -> stop(1, io_lib:format("can't start the node ~0p: ~0P", [Self, Reason, 30]))
         end
     end.
 
@@ -68,15 +68,8 @@ start(_, _) ->
     case lobby_config:check(application:get_all_env(lobby)) of
         {ok, Config} ->
             logger:notice("calls to sip:ROOM@~s may come from ~s, ~s", allowed(Config)),
-            started(with_token(Config));
+            lobby_sup:start_link(with_token(Config));
         {error, Text} -> {error, {bad_configuration, Text}}
-    end.
-
-started(Config) ->
-    case lobby_sup:start_link(Config) of
-        {ok, Pid} -> {ok, Pid};
-        {error, Reason} -> {error, Reason};
-        ignore -> {error, ignore}
     end.
 
 %% What strangers may do.

@@ -33,7 +33,8 @@ is_in(Address, Networks) ->
 number({A, B, C, D}) -> (A bsl 24) bor (B bsl 16) bor (C bsl 8) bor D.
 
 %% @doc Who sends from an address. Without networks of callers, anybody may call.
--spec sender(inet:ip4_address(), #{callers := [network()], proxies := [network()], _ => _}) -> proxy | caller | stranger.
+-spec sender(inet:ip4_address(), #{callers := [network()], proxies := [network()], _ => _}) ->
+          proxy | caller | stranger.
 sender(Address, #{callers := Callers, proxies := Proxies}) ->
     case {is_in(Address, Proxies), Callers =:= [] orelse is_in(Address, Callers)} of
         {true, _} -> proxy;
@@ -115,7 +116,8 @@ forgotten(_, Auth) ->
 
 challenges(#sip{method = Method}, Address, Auth, Now, More) ->
     Nonce = nonce(Now, crypto:strong_rand_bytes(8), Method, Address, Auth),
-    Params = [{<<"realm">>, <<"\"lobby\"">>}, {<<"nonce">>, <<$", Nonce/binary, $">>}, {<<"qop">>, <<"\"auth\"">>} | More],
+    Params = [{<<"realm">>, <<"\"lobby\"">>}, {<<"nonce">>, <<$", Nonce/binary, $">>},
+              {<<"qop">>, <<"\"auth\"">>} | More],
     {challenge, [{'www-authenticate', {<<"Digest">>, [{<<"algorithm">>, written(Algorithm)} | Params]}}
                  || Algorithm <- Auth#auth.algorithms]}.
 

@@ -7,8 +7,8 @@
 %% Milliseconds without an event until a comment is sent, so that a browser that is gone is noticed.
 -define(QUIET, 10000).
 
-%% @doc Sends events to somebody who has subscribed. At the end, the process is left with the message by which httpd ends
-%% the connection.
+%% @doc Sends events to somebody who has subscribed. At the end, the process is left with the message by which httpd
+%% ends the connection.
 -spec run(lobby_socket:socket(), lobby_events:watcher()) -> ok.
 run(Socket, Watcher) ->
     %% A browser that doesn't read is disconnected: what waits for it stays small.

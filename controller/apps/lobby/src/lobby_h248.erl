@@ -44,11 +44,9 @@
 %% @doc A message with one request of one action, behind its guard.
 -spec request(Sender :: endpoint(), transaction(), action()) -> binary().
 request(Sender, Transaction, Action) ->
-    message(Sender, [{transactionRequest, #'TransactionRequest'{transactionId = Transaction,
-                                                                actions = guard(Action) ++ [action_request(Action)]}}]).
-
-guard(#{guard := {Context, Termination}}) -> [action_request(#{context => Context, commands => [{audit, Termination, []}]})];
-guard(#{}) -> [].
+    Guards = [#{context => Context, commands => [{audit, T, []}]} || #{guard := {Context, T}} <- [Action]],
+    Actions = [action_request(A) || A <- Guards ++ [Action]],
+    message(Sender, [{transactionRequest, #'TransactionRequest'{transactionId = Transaction, actions = Actions}}]).
 
 %% @doc A message that acknowledges the replies to these transactions.
 -spec acknowledgement(Sender :: endpoint(), [transaction(), ...]) -> binary().

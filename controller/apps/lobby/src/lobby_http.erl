@@ -30,9 +30,10 @@
 start_link(#{http := {Address, Port}, tokens := Tokens, tls := Tls}) ->
     ok = persistent_term:put(?MODULE, [{crypto:hash(sha256, Token), Role} || {Token, Role} <- Tokens]),
     Root = code:priv_dir(lobby),
-    Options = [{bind_address, Address}, {port, Port}, {server_name, "lobby"}, {server_root, Root}, {document_root, Root},
-               {modules, [?MODULE]}, {customize, ?MODULE}, {max_body_size, ?MAX_BODY}, {max_uri_size, 2048},
-               {max_clients, 1024}, {keep_alive_timeout, ?HEAD}, {server_tokens, none} | secured(Tls)],
+    Options = [{bind_address, Address}, {port, Port}, {server_name, "lobby"}, {server_root, Root},
+               {document_root, Root}, {modules, [?MODULE]}, {customize, ?MODULE}, {max_body_size, ?MAX_BODY},
+               {max_uri_size, 2048}, {max_clients, 1024}, {keep_alive_timeout, ?HEAD}, {server_tokens, none}
+               | secured(Tls)],
     lobby_socket:opened(fun() -> inets:start(httpd, Options, stand_alone) end).
 
 secured(#{http := true, certificate := Certificate, key := Key}) ->

@@ -13,8 +13,8 @@
 -type command() :: create | alone | leave.
 
 %% @doc Gives this node its name, and connects it with the other one, before mnesia starts. The other node is reached
-%% without epmd, if both run with `-erl_epmd_port'. Nobody connects it by sending something, because to connect with a node
-%% that hangs takes seconds.
+%% without epmd, if both run with `-erl_epmd_port'. Nobody connects it by sending something, because to connect with a
+%% node that hangs takes seconds.
 -spec distribute(config()) -> ok | {error, term()}.
 distribute(#{self := Self, peer := Peer, cookie := Cookie}) ->
     ok = application:set_env(kernel, dist_auto_connect, never),

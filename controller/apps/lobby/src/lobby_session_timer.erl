@@ -10,8 +10,8 @@
 %% Seconds (RFC 3261, section 13.3.1).
 -define(INVITATION, 180).
 
-%% @doc What a request asks for. `too_short': the answer is 422, with these headers. For who doesn't know the extension, a
-%% proxy may ask, which names no refresher: he isn't refused, and doesn't refresh (section 9).
+%% @doc What a request asks for. `too_short': the answer is 422, with these headers. For who doesn't know the extension,
+%% a proxy may ask, which names no refresher: he isn't refused, and doesn't refresh (section 9).
 -spec asked(lobby_sip_message:message(), Shortest :: pos_integer()) -> timer() | {too_short, [{atom(), term()}]}.
 asked(Request, Shortest) ->
     Knows = lists:member(<<"timer">>, lobby_sip_message:headers(supported, Request)),

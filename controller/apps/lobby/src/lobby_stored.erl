@@ -25,8 +25,8 @@ unpack(Table, {version, 1, Value}) -> upgraded(Table, Value);
 %% Release 0.2.0 wrote no version.
 unpack(Table, Value) -> upgraded(Table, Value).
 
-%% Until release 0.4.0, a room kept its conference, and isolation was a rule. What gateways have is ended and made again,
-%% and callers are asked for where it is then.
+%% Until release 0.4.0, a room kept its conference, and isolation was a rule. What gateways have is ended and made
+%% again, and callers are asked for where it is then.
 upgraded(lobby_rooms, {Conference, _, _, {Kept, Locked}}) ->
     conference(Conference, #{kept => Kept, locked => Locked});
 upgraded(lobby_gateways, Gateway = #{terminations := Terminations, contexts := Contexts}) ->

@@ -81,19 +81,23 @@ class Metrics(Commands):
                 second = self.page(first)
                 packets += waiting(caller)
                 self.recover(gateway, caller)
-        self.assertEqual({name: first[name] for name in COUNTS}, COUNTS)
-        self.assertEqual({name: second[name] for name in COUNTS}, {**COUNTS, "control_messages_unread_total": 3})
+        starved = {**COUNTS, "control_messages_unread_total": 3}
+        for page, counts in ((first, COUNTS), (second, starved)):
+            for name, count in counts.items():
+                with self.subTest(name):
+                    self.assertEqual(page[name], count)
         late, held = (first[f'datagrams_unsent_total{{cause="{cause}"}}'] for cause in ("late", "held"))
-        # One of the two terminations is held, and one packet more than the packets is sent: the answer.
-        self.assertEqual(held, first["datagrams_sent_total"] - 1 + 3)
         arrived = {int.from_bytes(it[2:4], "big") for it in packets}
         self.assertEqual(len(arrived), len(packets))
-        self.assertEqual(max(arrived) + 1 - len(arrived), late / 2 + 3)
-        self.assertGreater(late, 40)
-        # The slow packet was sent in the first five seconds.
-        self.assertTrue(second["step_seconds_max"] < 0.6 <= first["step_seconds_max"], second["step_seconds_max"])
-        # Whoever has opened the file reads one page.
-        self.assertNotEqual(first.inode, second.inode)
+        with self.subTest("one termination is held, and an answer was sent to the other, which was refused three packets"):
+            self.assertEqual(held, first["datagrams_sent_total"] - 1 + 3)
+        with self.subTest("both terminations' packets were late"):
+            self.assertGreater(late, 40)
+            self.assertEqual(late / 2, max(arrived) + 1 - len(arrived) - 3)
+        with self.subTest("the slow packet was sent in the first five seconds"):
+            self.assertTrue(second["step_seconds_max"] < 0.6 <= first["step_seconds_max"], second["step_seconds_max"])
+        with self.subTest("whoever has opened the file reads one page"):
+            self.assertNotEqual(first.inode, second.inode)
 
     def talk(self, caller, stranger):
         """A conference of the caller and somebody on hold, whom others disturb."""

@@ -15,7 +15,7 @@ all() ->
      release_overrides_no_rule, rules_do_not_release_anybody, a_role_comes_before_audio, a_door, who_calls_again_stays_isolated,
      a_newcomer_whose_topology_is_refused, a_gateway_that_begins_anew_runs_nothing, a_gateway_that_hung_sends_nothing,
      a_phone_still_sends_to_a_gateway_out_of_reach, rooms_of_a_lost_gateway_spread, who_is_refused_a_seat_waits,
-     the_last_one_in_a_context, a_stray_is_ended, a_lock_outlives_its_room, a_room_that_fails_is_set_aside, a_muted_caller_vanishes, a_large_room_is_closed_again].
+     the_last_one_in_a_context, a_stray_is_ended, a_lock_outlives_its_room, a_room_that_fails_is_set_aside, more_rooms_than_are_allowed_start_again, a_muted_caller_vanishes, a_large_room_is_closed_again].
 
 init_per_testcase(Case, Config) ->
     ok = application:load(lobby),
@@ -438,6 +438,30 @@ a_lock_outlives_its_room(_) ->
     ?assertEqual({error, room_locked}, people:join(<<"100">>, bob, <<"member">>)),
     ok = lobby_rooms:call(<<"100">>, {settings, #{locked => false}}),
     {ok, _} = people:join(<<"100">>, carol, <<"member">>).
+
+%% The first of them can't be read, and there are more than are let in: those that were there before stay.
+more_rooms_than_are_allowed_start_again(_) ->
+    G = gateway:start(),
+    run([{<<"a">>, G}]),
+    _ = talker(<<"100">>, alice, <<"member">>),
+    Bob = listener(<<"100">>, bob, <<"member">>),
+    ok = people:isolate(alice),
+    Kept = #{rules => [], settings => #{kept => true}, gateway => none, stale => #{}},
+    Names = [integer_to_binary(N) || N <- lists:seq(1000, 11000)],
+    [ok = lobby_store:put(lobby_rooms, Name, Kept) || Name <- Names],
+    ok = lobby_store:put(lobby_rooms, <<"0">>, nonsense),
+    exit(whereis(lobby_room_sup), kill),
+    lobby_case:until(fun() -> is_running(<<"100">>) andalso length(lobby_registry:names(room)) >= length(Names) end, 60000),
+    lobby_case:until(fun() -> not lobby_rooms:exists(<<"0">>) end),
+    ?assertEqual([], [Name || Name <- Names, not is_running(Name)]),
+    ?assertEqual({error, too_many_rooms}, people:create(<<"new">>, [])),
+    caller:reset(Bob),
+    timer:sleep(100),
+    ?assertEqual(0, caller:heard(Bob)),
+    ok = people:release(alice),
+    lobby_case:until(fun() -> caller:heard(Bob) > 0 end).
+
+is_running(Room) -> is_pid(lobby_registry:whereis_name({room, Room})).
 
 %% Its state can't be read. The others go on, and its members' calls end.
 a_room_that_fails_is_set_aside(_) ->

@@ -61,23 +61,22 @@ with_headers(Lines, Status, Message = #sip{type = Type, method = Method}) ->
     Read = [Header || Line <- Lines, Header <- header(Line)],
     Headers = lists:uniq(fun name/1, [Header || Header <- Read, Header =/= bad]),
     IsGood = length(Headers) =:= length(Read) andalso lists:all(fun({Name, _}) -> is_atom(Name) end, Headers),
-    case {Type, lists:keyfind(cseq, 1, Headers), IsGood, Status} of
-        {response, {cseq, {Number, OfMethod}}, true, ok} ->
-            {ok, Message#sip{method = OfMethod, hdrs = with_cseq(Number, Headers)}};
-        {request, {cseq, {Number, Method}}, true, _} -> {Status, Message#sip{hdrs = with_cseq(Number, Headers)}};
-        {response, _, _, _} -> {error, not_sip};
-        {request, {cseq, {Number, Other}}, _, _} ->
-            Text = {<<"cseq">>, <<(integer_to_binary(Number))/binary, " ", Other/binary>>},
-            {not_ok(Status), Message#sip{hdrs = lists:keyreplace(cseq, 1, Headers, Text)}};
-        {request, _, _, _} -> {not_ok(Status), Message#sip{hdrs = Headers}}
+    Cseq = fun(Header) -> lists:keyreplace(cseq, 1, Headers, Header) end,
+    case {lists:keyfind(cseq, 1, Headers), Type} of
+        {{cseq, {Number, Of}}, response} when IsGood -> {ok, Message#sip{method = Of, hdrs = Cseq({cseq, Number})}};
+        {_, response} -> {error, not_sip};
+        {{cseq, {Number, Method}}, request} -> {status(Status, IsGood), Message#sip{hdrs = Cseq({cseq, Number})}};
+        {{cseq, {Number, Other}}, request} ->
+            Text = <<(integer_to_binary(Number))/binary, " ", Other/binary>>,
+            {status(Status, false), Message#sip{hdrs = Cseq({<<"cseq">>, Text})}};
+        {_, request} -> {status(Status, false), Message#sip{hdrs = Headers}}
     end.
 
-not_ok(ok) -> 400;
-not_ok(Status) -> Status.
-
-with_cseq(Number, Headers) -> lists:keyreplace(cseq, 1, Headers, {cseq, Number}).
+status(ok, false) -> 400;
+status(Status, _) -> Status.
 
 %% Headers with the same name occur once in a message.
+name({role, {Name, _}}) -> Name;
 name({Key, _}) ->
     Name = case is_binary(Key) of true -> binary_to_atom(Key); false -> Key end,
     case lists:member(Name, ?LISTS) of true -> make_ref(); false -> Name end.
@@ -85,8 +84,9 @@ name({Key, _}) ->
 header(Line) ->
     case {binary:split(Line, <<":">>), binary:match(Line, [<<"\r">>, <<"\n">>])} of
         {[Name, Value], nomatch} -> case key(lower(trim(Name))) of
-            unused -> [{role, {Known, trim(Value)}} || {header, Known, _} <- application:get_env(lobby, roles, []),
-                                                       Known =:= lower(trim(Name))];
+            unused -> [{role, {Known, trim(Value)}}
+                       || Known <- lists:usort([K || {header, K, _} <- application:get_env(lobby, roles, [])]),
+                          Known =:= lower(trim(Name))];
             Key -> case read(fun(Text) -> value(Key, Text) end, trim(Value)) of
                 {ok, Read} -> [{Key, Read}];
                 error -> [{atom_to_binary(Key), trim(Value)}]

@@ -19,6 +19,17 @@ codec_test_() ->
       fun a_provisional_answer_makes_no_dialog/0, fun reading_takes_linear_time/0,
       ?property(prop_any_datagram_is_read_or_refused, 3000)]}.
 
+%% A header may be named by several roles, and a message may have several such headers, but none of them twice.
+headers_of_roles_test_() ->
+    Roles = [{header, Name, [{{10, 0, 0, 0}, 8}]} || Name <- [<<"x-a">>, <<"x-b">>, <<"x-a">>]],
+    {setup, fun() -> ok = application:set_env(lobby, roles, Roles) end,
+     fun(_) -> application:unset_env(lobby, roles) end,
+     fun() ->
+        {ok, Message} = decode(?INVITE ++ ["X-A: coach", "X-B: agent"]),
+        ?assertEqual([{<<"x-a">>, <<"coach">>}, {<<"x-b">>, <<"agent">>}], [Role || {role, Role} <- Message#sip.hdrs]),
+        ?assertMatch({refused, 400, _}, decode(?INVITE ++ ["X-A: coach", "x-a: agent"]))
+     end}.
+
 text(Lines, Body) -> iolist_to_binary([[[Line, "\r\n"] || Line <- Lines], "\r\n", Body]).
 
 decode(Lines) -> lobby_sip_message:decode(text(Lines, ""), ?SOURCE).

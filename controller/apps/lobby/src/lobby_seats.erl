@@ -50,57 +50,45 @@ keep(Room, Ids, S = #seats{reserved = Reserved}) -> S#seats{reserved = Reserved#
 -spec noted(room(), [id()], lobby_h248:reply(), seats()) -> {[change()], seats()}.
 noted(Room, Ids, #{context := Context, results := Results}, S) ->
     Note = fun(Result, Acc) -> note(Result, {Room, Context}, Acc) end,
-    {Changes, {_, Noted}} = lists:mapfoldl(Note, {Ids, S}, Results),
-    {lists:append(Changes), Noted}.
+    {_, Entries} = lists:foldl(Note, {Ids, S#seats.entries}, Results),
+    changed(Entries, S).
 
-note({add, T, Properties}, {Room, Context}, {Ids, S}) ->
-    case {Ids, Properties} of
-        {[Id | Rest], #{local := Local}} ->
-            Entry = #{context => Context, room => Room, member => Id, local => Local, given => false},
-            {Changes, S1} = put(T, Entry, S),
-            {Changes, {Rest, S1}};
-        {_, _} -> {[], {lists:nthtail(min(1, length(Ids)), Ids), S}}
-    end;
-note({move, T, #{}}, {Room, Context}, {Ids, S = #seats{entries = Entries}}) ->
-    case Entries of
-        #{T := Entry} ->
-            {Changes, S1} = put(T, Entry#{context := Context, room := Room, given := false}, S),
-            {Changes, {Ids, S1}};
-        #{} -> {[], {Ids, S}}
-    end;
-note({subtract, T, #{}}, _, {Ids, S}) ->
-    {Changes, S1} = ended(T, S),
-    {Changes, {Ids, S1}};
+note({add, T, #{local := Local}}, {Room, Context}, {[Id | Ids], Entries}) ->
+    {Ids, Entries#{T => #{context => Context, room => Room, member => Id, local => Local, given => false}}};
+note({add, _, _}, _, {[_ | Ids], Entries}) ->
+    {Ids, Entries};
+note({move, T, #{}}, {Room, Context}, {Ids, Entries}) when is_map_key(T, Entries) ->
+    #{T := Entry} = Entries,
+    {Ids, Entries#{T := Entry#{context := Context, room := Room, given := false}}};
+note({subtract, T, #{}}, _, {Ids, Entries}) ->
+    {Ids, maps:remove(T, Entries)};
 note(_, _, Acc) ->
-    {[], Acc}.
+    Acc.
 
-put(T, Entry, S = #seats{entries = Entries}) ->
-    {[{put, T, Entry}], S#seats{entries = Entries#{T => Entry}}}.
+changed(New, S = #seats{entries = Old}) ->
+    {[{put, T, Entry} || {T, Entry} <- maps:to_list(New), maps:get(T, Old, none) =/= Entry] ++
+         [{delete, T} || T <- maps:keys(Old), not is_map_key(T, New)], S#seats{entries = New}}.
 
 %% @doc A room lets a termination go to another one.
 -spec let_go(termination(), room(), seats()) -> {[change()], seats()}.
 let_go(T, To, S = #seats{entries = Entries}) ->
     case Entries of
-        #{T := Entry} -> put(T, Entry#{room := To, given := true}, S);
+        #{T := Entry} -> changed(Entries#{T := Entry#{room := To, given := true}}, S);
         #{} -> {[], S}
     end.
 
 %% @doc A termination, or all of a context, is no longer there.
 -spec ended(termination() | {all, lobby_h248:context()}, seats()) -> {[change()], seats()}.
 ended({all, Context}, S = #seats{entries = Entries}) ->
-    lists:foldl(fun(T, {Changes, Acc}) -> {More, Acc1} = ended(T, Acc), {More ++ Changes, Acc1} end, {[], S},
-                [T || {T, #{context := In}} <- maps:to_list(Entries), In =:= Context]);
+    changed(maps:filter(fun(_, #{context := In}) -> In =/= Context end, Entries), S);
 ended(T, S = #seats{entries = Entries}) ->
-    case Entries of
-        #{T := _} -> {[{delete, T}], S#seats{entries = maps:remove(T, Entries)}};
-        #{} -> {[], S}
-    end.
+    changed(maps:remove(T, Entries), S).
 
 %% @doc The gateway was lost. Returns the contexts that it may still have.
 -spec forget(seats()) -> {[lobby_h248:context()], [change()], seats()}.
 forget(S = #seats{entries = Entries}) ->
-    {lists:usort([Context || #{context := Context} <- maps:values(Entries)]), [{delete, T} || T <- maps:keys(Entries)],
-     S#seats{entries = #{}, reserved = #{}}}.
+    {Changes, Forgotten} = changed(#{}, S),
+    {lists:usort([Context || #{context := Context} <- maps:values(Entries)]), Changes, Forgotten#seats{reserved = #{}}}.
 
 %% @doc What a room has.
 -spec holdings(room(), seats()) -> [lobby_conference:holding()].

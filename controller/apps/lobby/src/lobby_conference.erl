@@ -520,17 +520,14 @@ set_mode({Id, Mode}, C = #conference{held = Held}) ->
 refused(New, After, Reply = #{results := [{add, _, {error, _}}]}, C) -> added(New, After, Reply, C);
 refused(_, _, _, C) -> failed(C).
 
-added(New, After, Reply = #{context := Context, results := Results}, C) ->
+added(New, After, #{context := Context, results := Results}, C) ->
     case [no_context || {add, _, {error, 411}} <- Results] of
         [] when length(Results) =:= length(New) ->
             {Events, Made} = lists:mapfoldl(fun added/2, C#conference{context = Context}, lists:zip(New, Results)),
             Gone = [Id || {{#{id := Id}, _}, {add, _, {error, _}}} <- lists:zip(New, Results)],
             {lists:append(Events), ended(agree(true, opened(lists:foldl(fun flows_without/2, After, Gone), Made)))};
-        _ ->
-            failed(case maps:get(context, Reply, new) of
-                Made when is_integer(Made), C#conference.context =:= new -> C#conference{context = Made};
-                _ -> C
-            end)
+        _ when is_integer(Context), C#conference.context =:= new -> failed(C#conference{context = Context});
+        _ -> failed(C)
     end.
 
 %% Only between members, of whom one may have left while the request was under way.

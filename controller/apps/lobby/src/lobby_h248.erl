@@ -99,8 +99,6 @@ optional(Command) -> Command#'CommandRequest'{optional = 'NULL'}.
 amm(Tag, Name, Settings) ->
     command({Tag, #'AmmRequest'{terminationID = [term_id(Name)], descriptors = media_descriptor(Settings)}}).
 
-media_descriptor(Settings) when map_size(Settings) =:= 0 ->
-    [];
 media_descriptor(Settings) ->
     Stream = #'StreamParms'{localControlDescriptor = local_control(Settings),
                             localDescriptor = local(Settings),

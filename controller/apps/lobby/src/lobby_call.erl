@@ -281,12 +281,11 @@ silent(Call = #call{id = Id, dialog = Dialog, session = Session}) ->
 %%% The first INVITE.
 
 start(Id, Room, Invite, Source) ->
-    Tag = lobby_sip:own_tag(Invite),
-    case {lobby_dialog:new(Invite, Tag), offer(Invite, Source), session_timer(Invite)} of
-        {{error, no_contact}, _, _} -> refuse(400, [], Invite, Source);
-        {_, {error, Reason}, _} -> refuse(488, lobby_sdp:warning(Reason), Invite, Source);
-        {_, _, {too_short, Headers}} -> refuse(422, Headers, Invite, Source);
-        {{ok, Dialog}, Offer, _} ->
+    case {offer(Invite, Source), session_timer(Invite)} of
+        {{error, Reason}, _} -> refuse(488, lobby_sdp:warning(Reason), Invite, Source);
+        {_, {too_short, Headers}} -> refuse(422, Headers, Invite, Source);
+        {Offer, _} ->
+            Dialog = lobby_dialog:new(Invite, lobby_sip:own_tag(Invite)),
             Call = heard(Offer, #call{id = Id, dialog = Dialog, source = Source, changing = Invite, state = starting}),
             Key = lobby_dialog:key(Dialog),
             %% Before he joins, so that a process that takes over doesn't have him join twice.

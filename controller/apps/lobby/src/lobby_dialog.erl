@@ -15,21 +15,16 @@
                  sequence :: non_neg_integer()}).
 -opaque dialog() :: #dialog{}.
 
-%% @doc The dialog that our 200 to an INVITE makes, with our tag.
--spec new(lobby_sip_message:message(), Tag :: binary()) -> {ok, dialog()} | {error, no_contact}.
+%% @doc The dialog that our 200 to an INVITE makes, with our tag. Without a contact, an INVITE was refused.
+-spec new(lobby_sip_message:message(), Tag :: binary()) -> dialog().
 new(Invite, Tag) ->
-    case lobby_sip_message:headers(contact, Invite) of
-        [{_, Target = #uri{}, _} | _] ->
-            {Name, Uri, Params} = lobby_sip_message:header(to, Invite),
-            {ok, #dialog{call_id = lobby_sip_message:header('call-id', Invite),
-                         local = {Name, Uri, lists:keystore(<<"tag">>, 1, Params, {<<"tag">>, Tag})},
-                         remote = lobby_sip_message:header(from, Invite),
-                         remote_tag = lobby_sip_message:tag(from, Invite),
-                         target = Target, routes = lobby_sip_message:headers('record-route', Invite),
-                         sequence = lobby_sip_message:sequence(Invite)}};
-        _ ->
-            {error, no_contact}
-    end.
+    [{_, Target = #uri{}, _} | _] = lobby_sip_message:headers(contact, Invite),
+    {Name, Uri, Params} = lobby_sip_message:header(to, Invite),
+    #dialog{call_id = lobby_sip_message:header('call-id', Invite),
+            local = {Name, Uri, lists:keystore(<<"tag">>, 1, Params, {<<"tag">>, Tag})},
+            remote = lobby_sip_message:header(from, Invite), remote_tag = lobby_sip_message:tag(from, Invite),
+            target = Target, routes = lobby_sip_message:headers('record-route', Invite),
+            sequence = lobby_sip_message:sequence(Invite)}.
 
 %% @doc A request in the dialog: new, one that came before, or older than the last one (section 12.2.2).
 -spec received(lobby_sip_message:message(), dialog()) -> {new, dialog()} | repeated | old.

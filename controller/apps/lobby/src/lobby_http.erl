@@ -232,7 +232,7 @@ rules(Object) ->
 close(Name) ->
     case lobby_rooms:call(Name, {settings, #{kept => false}}) of
         ok ->
-            lists:foreach(fun(Id) -> _ = lobby_member:hang_up(Id) end, lobby_store:group_keys(lobby_members, Name)),
+            ok = lobby_member:hang_up_all(Name),
             left(Name);
         Error -> Error
     end.

@@ -1,7 +1,7 @@
 %%% @doc Members by id: requests to their calls' processes, and what such a process does for `lobby_person'.
 -module(lobby_member).
 
--export([change/2, move/2, hang_up/1, find/1, new/2, act/1, answer/2]).
+-export([change/2, move/2, hang_up/1, hang_up_all/1, find/1, new/2, act/1, answer/2]).
 -export_type([error/0]).
 
 %% Milliseconds to wait for a process that is being started again, and between two looks for it.
@@ -24,6 +24,11 @@ move(Id, Room) ->
 -spec hang_up(id()) -> ok | {error, no_member}.
 hang_up(Id) ->
     call(Id, hang_up).
+
+%% @doc Hangs up whoever is in a room.
+-spec hang_up_all(lobby_room:name()) -> ok.
+hang_up_all(Room) ->
+    lists:foreach(fun({Id, _}) -> hang_up(Id) end, lobby_store:group(lobby_members, Room)).
 
 %% A process that was killed is started again, and has the member's row.
 call(Id, Request) ->

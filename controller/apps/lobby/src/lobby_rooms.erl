@@ -95,5 +95,5 @@ set_aside(Name) ->
     ok = lobby_events:count(lobby_set_aside_total),
     _ = [lobby_gateway:cast(Gateway, {seats, Gateway, Name, []}) || {Gateway, _} <- lobby_gateway:serving()],
     ok = lobby_store:delete(lobby_rooms, Name),
-    lists:foreach(fun(Id) -> _ = lobby_member:hang_up(Id) end, lobby_store:group_keys(lobby_members, Name)),
+    ok = lobby_member:hang_up_all(Name),
     lobby_events:publish({room, Name}).

@@ -95,11 +95,10 @@ secret() ->
             Secret
     end.
 
--spec handle_call(term(), gen_server:from(), #state{}) -> {reply, ok | {error, unknown_call}, #state{}}.
+-spec handle_call({received, binary(), lobby_sip_message:target()}, gen_server:from(), #state{}) ->
+          {reply, ok, #state{}}.
 handle_call({received, Message, Source}, _, State) ->
-    {reply, ok, let_in(Message, Source, State)};
-handle_call(_, _, State) ->
-    {reply, {error, unknown_call}, State}.
+    {reply, ok, let_in(Message, Source, State)}.
 
 -spec handle_cast(term(), #state{}) -> {noreply, #state{}}.
 handle_cast(_, State) ->

@@ -7,8 +7,8 @@
 -module(lobby_store).
 -behaviour(gen_server).
 
--export([start_link/1, put/3, put/4, get/2, get/3, has/2, delete/2, all/1, group/2, group_keys/2, groups/1, keys/1]).
--export([size/1, count/1, is_open/0, follow/1, admit/1]).
+-export([start_link/1, put/3, put/4, get/2, get/3, has/2, delete/2, all/1, group/2, groups/1, keys/1, size/1]).
+-export([count/1, is_open/0, follow/1, admit/1]).
 -export([init/1, handle_continue/2, handle_call/3, handle_cast/2, handle_info/2]).
 -export_type([table/0, config/0]).
 
@@ -74,10 +74,6 @@ all(Table) ->
 -spec group(grouped(), Group :: term()) -> [{Key :: term(), Value :: term()}].
 group(Table, Group) ->
     [{Key, unpack(Table, Stored)} || {_, Key, Stored, _} <- mnesia:dirty_index_read(Table, Group, group)].
-
--spec group_keys(grouped(), Group :: term()) -> [Key :: term()].
-group_keys(Table, Group) ->
-    [Key || {_, Key, _, _} <- mnesia:dirty_index_read(Table, Group, group)].
 
 unpack(Table, Stored) ->
     {ok, Value} = lobby_stored:unpack(Table, Stored),

@@ -20,8 +20,7 @@ invite(More) ->
     Message.
 
 dialog(More) ->
-    {ok, Dialog} = lobby_dialog:new(invite(["Contact: <sip:alice@10.0.0.5:5070>" | More]), <<"Ours">>),
-    Dialog.
+    lobby_dialog:new(invite(["Contact: <sip:alice@10.0.0.5:5070>" | More]), <<"Ours">>).
 
 lines(Message) -> binary:split(lobby_sip_message:encode(Message), <<"\r\n">>, [global]).
 
@@ -65,12 +64,12 @@ a_new_contact_is_the_target() ->
 
 requests_go_to_the_contact_or_back() ->
     ?assertEqual({{10, 0, 0, 5}, 5070}, lobby_dialog:target(dialog([]), ?SOURCE)),
-    {ok, Named} = lobby_dialog:new(invite(["Contact: <sip:alice@phone.example>"]), <<"Ours">>),
+    Named = lobby_dialog:new(invite(["Contact: <sip:alice@phone.example>"]), <<"Ours">>),
     ?assertEqual(?SOURCE, lobby_dialog:target(Named, ?SOURCE)).
 
 without_a_contact_there_is_no_dialog() ->
-    ?assertEqual({error, no_contact}, lobby_dialog:new(invite([]), <<"Ours">>)),
-    ?assertEqual({error, no_contact}, lobby_dialog:new(invite(["Contact: *"]), <<"Ours">>)).
+    [?assertMatch({400, _}, lobby_sip_message:refusal(invite(Lines))) || Lines <- [[], ["Contact: *"]]],
+    ?assertError({badmatch, []}, lobby_dialog:new(invite([]), <<"Ours">>)).
 
 the_caller_has_a_name() ->
     ?assertEqual(<<"Alice A">>, lobby_dialog:caller(dialog([]))).

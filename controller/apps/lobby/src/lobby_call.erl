@@ -519,9 +519,9 @@ bye(Call = #call{state = ending}) -> Call;
 bye(Call = #call{state = starting}) -> refuse(480, [], Call);
 bye(Call) -> send(<<"BYE">>, {[], <<>>}, ending, left(Call)).
 
-%% What is wanted for him ends before his call does.
+%% What is wanted for him ends before his call does, and is told no more.
 left(Call = #call{person = none}) -> Call;
-left(Call) -> person(leave, Call).
+left(Call) -> with([{{timeout, person}, infinity, none}], person(leave, Call)).
 
 %% The number of the request is kept before it goes out.
 send(Method, Content, Next, Call = #call{dialog = Dialog, source = Source}) ->

@@ -13,7 +13,7 @@ all() ->
      without_an_ack_the_call_ends, hold_and_resume, hold_by_update, streams_are_declined, an_offer_that_comes_late, cancel_and_options,
      session_timers, who_is_silent_is_asked, what_the_gateway_drops_is_logged, requests_that_are_refused, limits, addresses_that_may_call, passwords, a_lost_gateway_is_replaced, who_moves_after_a_loss_is_awaited, who_invites_during_a_loss_is_not_awaited,
      sixty_callers_hear_each_other_again, our_invite_is_repeated_and_acknowledged, both_invite_at_once,
-     who_vanished_is_removed, who_refuses_our_invite_is_hung_up, hung_up_and_moved, addresses_of_ipv6, routes, a_call_that_starts_again_knows_its_place, a_call_that_fails_while_it_joins,
+     who_vanished_is_removed, who_refuses_our_invite_is_hung_up, hung_up_and_moved, hung_up_during_a_change, who_is_hung_up_stays_away, addresses_of_ipv6, routes, a_call_that_starts_again_knows_its_place, a_call_that_fails_while_it_joins,
      a_call_that_fails_again_and_again_ends, a_call_outlives_a_slow_supervisor, an_answer_that_comes_after_a_failure, processes_fail, the_node_fails, garbage,
      over_tcp, connections_are_limited, answers_are_quick, sipp, baresips].
 
@@ -515,6 +515,32 @@ hung_up_and_moved(Config) ->
     phone:answer(200, Bye, Held),
     lobby_case:until(fun() -> length(members(<<"200">>)) =:= 1 end),
     lobby_case:until(fun() -> lobby_member:hang_up(Id) =:= {error, no_member} end).
+
+%% The room hangs, so neither change has been made yet.
+hung_up_during_a_change(Config) ->
+    {Phone, _} = call(Config),
+    [Id] = members(<<"100">>),
+    Room = lobby_registry:whereis_name({room, <<"100">>}),
+    ok = sys:suspend(Room),
+    Phone1 = phone:invite(phone:sdp(Phone, "sendonly"), Phone),
+    lobby_case:until(fun() -> {ok, #{direction := Direction}} = lobby_member:find(Id), Direction =:= sendonly end),
+    ?assertEqual(ok, lobby_member:hang_up(Id)),
+    ?assertEqual("BYE", phone:status(next([100, 200], Phone1))),
+    ok = sys:resume(Room).
+
+%% His phone doesn't answer the BYE, and what was wanted for him until then is told no more.
+who_is_hung_up_stays_away(Config) ->
+    {_, _} = call(Config),
+    [Id] = members(<<"100">>),
+    Room = lobby_registry:whereis_name({room, <<"100">>}),
+    ok = sys:suspend(Room),
+    _ = spawn(fun() -> lobby_member:change(Id, #{muted => true}) end),
+    lobby_case:until(fun() -> {ok, #{muted := Muted}} = lobby_member:find(Id), Muted end),
+    ?assertEqual(ok, lobby_member:hang_up(Id)),
+    timer:sleep(1500),
+    ok = sys:resume(Room),
+    timer:sleep(300),
+    ?assertEqual([], members(<<"100">>)).
 
 addresses_of_ipv6(Config) ->
     Phone = phone:start(sip(Config)),

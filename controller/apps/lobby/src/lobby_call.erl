@@ -222,10 +222,7 @@ act({answer, {asked, From}, Answer}, Call) ->
 act({answer, {_, Purpose}, Answer}, Call) ->
     media(Purpose, Answer, Call);
 act(Action, Call) ->
-    case lobby_member:act(Action) of
-        ok -> ok;
-        {admitted, Room, Error} -> self() ! {lobby_room, Room, {admitted, Error}}
-    end,
+    _ = [self() ! {lobby_room, Room, {admitted, Error}} || {admitted, Room, Error} <- [lobby_member:act(Action)]],
     Call.
 
 %% What the gateway has now, or doesn't take.

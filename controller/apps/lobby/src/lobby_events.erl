@@ -1,7 +1,7 @@
 %%% @doc What happens, for whoever watches: events as they happen, and counts of them.
 -module(lobby_events).
 
--export([subscribe/0, subscribe/1, unsubscribe/1, publish/1, count/1, count/2, counts/0]).
+-export([subscribe/1, unsubscribe/1, publish/1, count/1, count/2, counts/0]).
 -export_type([event/0, counter/0, watcher/0]).
 
 %% `room': it has changed, or ended. `away': a gateway with a journal is awaited. `returned': it has all that it had.
@@ -14,13 +14,8 @@
 %% With one token.
 -define(MAX_WATCHERS, 32).
 
-%% @doc From now on, this process is sent `{lobby_event, event()}'.
--spec subscribe() -> ok.
-subscribe() ->
-    pg:join(lobby, events, self()).
-
-%% @doc The same for somebody with a token. If too many watch with it, a viewer is refused, and for an operator the one
-%% who watches longest is sent `lobby_events_end'.
+%% @doc From now on, this process is sent `{lobby_event, event()}'. If too many watch with a token, a viewer is refused,
+%% and for an operator the one who watches longest is sent `lobby_events_end'.
 -spec subscribe(watcher()) -> ok | {error, too_many}.
 subscribe(Watcher = {_, Role}) ->
     Watching = pg:get_local_members(lobby, {events, Watcher}),
@@ -29,7 +24,7 @@ subscribe(Watcher = {_, Role}) ->
         {IsFree, _} ->
             _ = [lists:last(Watching) ! lobby_events_end || not IsFree],
             ok = pg:join(lobby, {events, Watcher}, self()),
-            subscribe()
+            pg:join(lobby, events, self())
     end.
 
 %% @doc From now on, this process is sent no more, and what was sent is forgotten.

@@ -41,7 +41,9 @@
                        %% Answered and not acknowledged, with the end of the quiet time, newest first.
                        answered = [] :: [{lobby_h248:transaction(), milliseconds()}],
                        %% Requests that are held back: those that were sent, and those that waited.
-                       held = none :: {#{lobby_h248:transaction() => #request{}}, waiting()} | none}).
+                       held = none :: {#{lobby_h248:transaction() => #request{}}, waiting()} | none,
+                       %% What is to be done, the last thing first.
+                       out = [] :: [effect(term())]}).
 -opaque transactions() :: #transactions{}.
 
 %% @doc Numbers ascend from the first one. It has to be higher than those that the gateway may have replies for.
@@ -67,28 +69,28 @@ submit({queued, From}, Action, Now, T = #transactions{held = Held, waiting = Wai
     More = queue:in({From, Action, Tries}, Queue),
     case {queue:len(Queue), Held} of
         {?MAX_WAITING, _} -> {[{refuse, From, busy}], T};
-        {_, none} -> flush(Now, T#transactions{waiting = More});
+        {_, none} -> done(flush(Now, T#transactions{waiting = More}));
         {_, {Open, _}} -> {[], T#transactions{held = {Open, More}}}
     end;
 submit({Kind, From}, Action, Now, T = #transactions{waiting = Waiting, options = #{tries := Tries}}) ->
     Left = case Kind of urgent -> Tries; _ -> Kind end,
-    flush(Now, T#transactions{waiting = queue:in_r({From, Action, Left}, Waiting)}).
+    done(flush(Now, T#transactions{waiting = queue:in_r({From, Action, Left}, Waiting)})).
+
+act(Effect, T = #transactions{out = Out}) -> T#transactions{out = [Effect | Out]}.
+done(T = #transactions{out = Out}) -> {lists:reverse(Out), T#transactions{out = []}}.
 
 %% @doc Repeats an abandoned request under its names, so that it isn't run twice.
 -spec resubmit(sent(), From, milliseconds(), transactions()) -> {[effect(From)], transactions()}.
 resubmit(Sent, From, Now, T) ->
-    {[_ | Effects], T1} = send(Sent, From, patiently, Now, T),
+    {[_ | Effects], T1} = done(send(Sent, From, patiently, Now, T)),
     {Effects, T1}.
 
 flush(Now, T = #transactions{sender = Sender, open = Open, waiting = Waiting, next = Number}) ->
     case {queue:out(Waiting), Number - lists:min([Number | maps:keys(Open)]) < ?WINDOW} of
         {{{value, {From, Action, Left}}, Rest}, true} ->
             Next = T#transactions{waiting = Rest, next = following(Number)},
-            {Sent, T1} = send({Sender, Number, Action}, From, Left, Now, Next),
-            {Effects, T2} = flush(Now, T1),
-            {Sent ++ Effects, T2};
-        _ ->
-            {[], T}
+            flush(Now, send({Sender, Number, Action}, From, Left, Now, Next));
+        _ -> T
     end.
 
 following(16#FFFFFFFF) -> 1;
@@ -96,8 +98,8 @@ following(Number) -> Number + 1.
 
 send(Sent = {_, Number, _}, From, Left, Now, T = #transactions{open = Open, options = #{retry := Retry}}) ->
     Request = #request{message = Message} = request(Sent, From, Left, Retry),
-    {[{'begin', Sent, From}, {send, Message}],
-     T#transactions{open = Open#{Number => Request#request{again = Now + Retry, left = less(Left)}}}}.
+    With = T#transactions{open = Open#{Number => Request#request{again = Now + Retry, left = less(Left)}}},
+    act({send, Message}, act({'begin', Sent, From}, With)).
 
 request({Sender, Number, Action}, From, Left, Retry) ->
     #request{from = From, sender = Sender, action = Action, message = lobby_h248:request(Sender, Number, Action),
@@ -112,38 +114,36 @@ received(Number, Reply, Now, T = #transactions{open = Open, answered = Answered,
     case maps:take(Number, Open) of
         {#request{from = From, action = Action}, Rest} ->
             Later = lists:sublist([{Number, Now + Quiet} | Answered], ?KEPT_REPLIES),
-            {Sent, T1} = flush(Now, T#transactions{open = Rest, answered = Later}),
-            {[{answer, Number, From, Action, Reply} | Sent], T1};
-        error ->
-            {[], T}
+            Answer = {answer, Number, From, Action, Reply},
+            done(flush(Now, act(Answer, T#transactions{open = Rest, answered = Later})));
+        error -> {[], T}
     end.
 
 %% @doc Repeats what has waited long enough, and acknowledges what is quiet. `no_answer': a request was sent often
 %% enough.
 -spec expired(milliseconds(), transactions()) -> {[effect(term())], transactions()}.
-expired(Now, T = #transactions{open = Open}) ->
+expired(Now, T) ->
+    done(repeated(Now, T)).
+
+repeated(Now, T = #transactions{open = Open}) ->
     Due = lists:sort([Number || {Number, #request{again = Again}} <- maps:to_list(Open), Again =< Now]),
     case [Number || Number <- Due, (maps:get(Number, Open))#request.left =:= 0] of
-        [] ->
-            {Sent, T1} = lists:mapfoldl(fun(Number, Acc) -> again(Number, Now, Acc) end, T, Due),
-            {Acknowledged, T2} = acknowledge(Now, T1),
-            {Sent ++ Acknowledged, T2};
-        _ ->
-            {[no_answer], T}
+        [] -> acknowledge(Now, lists:foldl(fun(Number, Acc) -> again(Number, Now, Acc) end, T, Due));
+        _ -> act(no_answer, T)
     end.
 
 again(Number, Now, T = #transactions{open = Open}) ->
     #{Number := Request = #request{message = Message, left = Left, interval = Before}} = Open,
     Interval = case Left of patiently -> min(2 * Before, ?MAX_RETRY); _ -> Before end,
     Sent = Request#request{again = Now + Interval, interval = Interval, left = less(Left)},
-    {{send, Message}, T#transactions{open = Open#{Number := Sent}}}.
+    act({send, Message}, T#transactions{open = Open#{Number := Sent}}).
 
 acknowledge(Now, T = #transactions{answered = Answered, sender = Sender}) ->
     case lists:partition(fun({_, Quiet}) -> Quiet =< Now end, Answered) of
-        {[], _} -> {[], T};
+        {[], _} -> T;
         {Quiet, Later} ->
             Message = lobby_h248:acknowledgement(Sender, lists:sort([Number || {Number, _} <- Quiet])),
-            {[{send, Message}], T#transactions{answered = Later}}
+            act({send, Message}, T#transactions{answered = Later})
     end.
 
 %% @doc When `expired/2' is to be called next.
@@ -162,9 +162,7 @@ hold(T = #transactions{open = Open, waiting = Waiting}) ->
 -spec resume(milliseconds(), transactions()) -> {[effect(term())], transactions()}.
 resume(Now, T = #transactions{held = {Held, Waiting}, options = #{tries := Tries}}) ->
     Again = maps:map(fun(_, Request) -> Request#request{again = Now, left = Tries} end, Held),
-    {Sent, T1} = expired(Now, T#transactions{held = none, open = Again, waiting = Waiting}),
-    {More, T2} = flush(Now, T1),
-    {Sent ++ More, T2}.
+    done(flush(Now, repeated(Now, T#transactions{held = none, open = Again, waiting = Waiting}))).
 
 %% @doc Gives up all requests. Returns those that were sent, which may have been run without our knowledge.
 -spec abandon(transactions()) -> {[sent()], transactions()}.

@@ -294,7 +294,7 @@ journaled(Returns, Others, Config) ->
     [join(<<"100">>, Id, <<"member">>) || Id <- [alice, bob, carol]],
     [ok = supervisor_starts(gateway:config(Name, Other)) || {Name, Other} <- Others],
     lobby_case:until(fun() -> length(lobby_gateway:serving()) =:= 1 + length(Others) end),
-    ok = lobby_events:subscribe(),
+    ok = lobby_events:subscribe({<<"token">>, viewer}),
     {G, Journal}.
 
 %% Later, so that the room is on the first one.

@@ -435,17 +435,21 @@ changes(Method, Request, Call = #call{source = Source}) ->
             change(Session, #{}, {change, Request}, with(Later, Call#call{changing = Request}))
     end.
 
-updated(Request, Call = #call{session = Session}) ->
-    {{Headers, Body}, Call1} = case lobby_sip_message:body(Request) of
+updated(Request, Call) ->
+    {Content, Described} = case lobby_sip_message:body(Request) of
         <<>> -> {{[], <<>>}, Call};
-        _ -> answer_to(Session, Call)
+        _ -> our_answer(Call)
     end,
-    Timer = session_timer(Request),
-    Call2 = refreshed(Request, Call1#call{session_timer = Timer}),
-    More = [lobby_dialog:contact(own(Call2)) | lobby_session_timer:answer(Timer)],
-    Call3 = #call{local = Local, agreed = Agreed} = answer(200, {More ++ Headers, Body}, Request, Call2),
+    {_, Updated = #call{local = Local, agreed = Agreed}} = ok(Request, Content, refreshed(Request, Described)),
     %% No ACK confirms this answer, so a new address also goes out in an INVITE.
-    with([session_timeout(Call3) | [{{timeout, invite}, 0, invite} || Local =/= Agreed]], Call3).
+    with([{{timeout, invite}, 0, invite} || Local =/= Agreed], keep(Updated)).
+
+%% A 200 to an INVITE or an UPDATE.
+ok(Request, {Headers, Body}, Call = #call{source = Source}) ->
+    Timer = session_timer(Request),
+    Content = {[lobby_dialog:contact(own(Call)) | lobby_session_timer:answer(Timer)] ++ Headers, Body},
+    Timed = Call#call{session_timer = Timer},
+    {lobby_sip:answer(200, Content, Request, Source), with([session_timeout(Timed)], Timed)}.
 
 refreshed(Message, Call = #call{dialog = Dialog}) ->
     Call#call{dialog = lobby_dialog:refreshed(Message, Dialog)}.
@@ -463,21 +467,15 @@ change(Session, More, Purpose, Call) ->
     person({change, {media, Purpose}, Change}, keep(Call#call{session = Session})).
 
 %% The 200 with our answer, or with our offer if he described nothing.
-accept(Request, Call = #call{session = Session, local = Local, source = Source}) ->
-    Timer = session_timer(Request),
+accept(Request, Call = #call{local = Local, source = Source}) ->
     Offered = lobby_sip_message:body(Request) =:= <<>>,
-    {{Headers, Body}, Call1} = case Offered of
-        true -> our_offer(Call);
-        false -> answer_to(Session, Call)
-    end,
-    Content = {[lobby_dialog:contact(own(Call)) | lobby_session_timer:answer(Timer)] ++ Headers, Body},
-    Response = lobby_sip:answer(200, Content, Request, Source),
+    {Content, Described} = case Offered of true -> our_offer(Call); false -> our_answer(Call) end,
+    {Response, Accepted} = ok(Request, Content, Described),
     Target = lobby_sip_message:response_target(Request, Source),
-    Call2 = Call1#call{response = Response, offered = Offered, session_timer = Timer, told = Local},
-    Timeouts = [repeat(Response, Target, t1()), give_up(), session_timeout(Call2), no_trying()],
-    with(Timeouts, keep(Call2#call{state = confirming})).
+    with([repeat(Response, Target, t1()), give_up(), no_trying()],
+         keep(Accepted#call{response = Response, offered = Offered, told = Local, state = confirming})).
 
-answer_to(Session, Call = #call{local = Local}) ->
+our_answer(Call = #call{session = Session, local = Local}) ->
     described(fun(Id, Version) -> lobby_sdp:answer(Session, Local, Id, Version) end, Call).
 
 our_offer(Call = #call{session = Session, local = Local}) ->

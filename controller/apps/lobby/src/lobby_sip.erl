@@ -140,8 +140,6 @@ handle({ok, Response}, Source, State) ->
         true -> in_call(Key, Response, Source, State);
         false -> State
     end;
-handle({refused, _, #sip{method = <<"ACK">>}}, _, State) ->
-    State;
 handle({refused, Status, Request}, Source, State) ->
     reply(Status, [], Request, Source, State);
 handle({error, not_sip}, _, State) ->
@@ -153,7 +151,6 @@ request(Request = #sip{method = Method}, Source, State) ->
     Own = own_tag(Request),
     case {lobby_sip_message:tag(to, Request), Method} of
         {Own, _} -> in_call(lobby_dialog:key(Request), Request, Source, State);
-        {_, <<"ACK">>} -> State;
         {<<>>, _} when Method =:= <<"INVITE">>; Method =:= <<"CANCEL">> ->
             in_call(lobby_dialog:key(Request), Request, Source, State);
         {<<>>, <<"OPTIONS">>} ->
@@ -184,8 +181,6 @@ used(Source, Call) ->
     end.
 
 %% A request of no call. With our tag it is of one that has ended: the answer to his BYE was lost (section 17.2.2).
-unknown(#sip{method = <<"ACK">>}, _, State) ->
-    State;
 unknown(Request = #sip{method = Method}, Source, State) ->
     case {lobby_sip_message:tag(to, Request), Method} of
         {<<>>, <<"INVITE">>} -> invite(Request, Source, State);
@@ -229,6 +224,9 @@ watch(Pid, Source, Room, State = #state{admission = Admission}) ->
     _ = monitor(process, Pid),
     State#state{admission = lobby_admission:entered(Pid, lobby_sip_message:address(Source), Room, Admission)}.
 
+%% Nothing answers an ACK (section 17).
+reply(_, _, #sip{method = <<"ACK">>}, _, State) ->
+    State;
 reply(Status, Headers, Request, Source, State) ->
     _ = answer(Status, {Headers, <<>>}, Request, Source),
     State.

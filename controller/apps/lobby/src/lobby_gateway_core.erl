@@ -304,9 +304,9 @@ effect({answer, Number, Purpose, Action, Reply}, Now, G) ->
 %% What the answer says is kept before the room hears of it. The request is kept until it has heard.
 answered({room, Room, Reference, Ids}, Number, Reply, _, G = #gateway{seats = Seats}) ->
     {Noted, Answer} = case Reply of
-        {ok, Result} ->
+        {ok, Result = #{context := Context}} ->
             {Changes, Seats1} = lobby_seats:noted(Room, Ids, Result, Seats),
-            {changed({Changes, Seats1}, G), {ok, Result, lobby_seats:owners(Room, Seats1)}};
+            {changed({Changes, Seats1}, G), {ok, Result, lobby_seats:owners(Room, Context, Seats1)}};
         {error, _} -> {G, Reply}
     end,
     answer_asking(acts([{tell, Room, {answer, Reference, Answer}}, {request, Number, none}], Noted));

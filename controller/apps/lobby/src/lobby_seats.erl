@@ -7,7 +7,7 @@
 -module(lobby_seats).
 
 -export([new/2, kept/2, reserve/3, keep/3, noted/4, let_go/3, ended/2, forget/1]).
--export([holdings/2, owners/2, rooms/1, entries/1, load/1]).
+-export([holdings/2, owners/3, rooms/1, entries/1, load/1]).
 -export_type([seats/0, entry/0, change/0]).
 
 -type id() :: lobby_rules:id().
@@ -96,10 +96,11 @@ holdings(Room, #seats{entries = Entries}) ->
     [(maps:with([context, member, local, given], Entry))#{termination => T}
      || {T, Entry = #{room := Of}} <- lists:sort(maps:to_list(Entries)), Of =:= Room].
 
-%% @doc Which terminations are a room's, and which are those of others.
--spec owners(room(), seats()) -> lobby_conference:owner().
-owners(Room, #seats{entries = Entries}) ->
-    maps:map(fun(_, #{room := Of}) -> case Of of Room -> own; _ -> other end end, Entries).
+%% @doc Which terminations are a room's, and which ones in this context are those of others. One that is said to be in
+%% another context was moved by a node of which this one has heard nothing more, so no other room knows that it is here.
+-spec owners(room(), lobby_h248:context(), seats()) -> lobby_conference:owner().
+owners(Room, Context, #seats{entries = Entries}) ->
+    maps:map(fun(_, #{room := Of, context := In}) when Of =/= Room, In =:= Context -> other; (_, _) -> own end, Entries).
 
 %% @doc The rooms that use the gateway.
 -spec rooms(seats()) -> [room()].

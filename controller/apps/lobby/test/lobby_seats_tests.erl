@@ -48,7 +48,9 @@ who_was_let_go_belongs_to_the_next_room_test() ->
     {[{put, 11, _}], S1} = lobby_seats:let_go(11, <<"2">>, S),
     ?assertMatch([#{termination := 12, given := false}], lobby_seats:holdings(<<"1">>, S1)),
     ?assertMatch([#{termination := 11, context := 7, member := a, given := true}], lobby_seats:holdings(<<"2">>, S1)),
-    ?assertEqual(#{11 => other, 12 => own}, lobby_seats:owners(<<"1">>, S1)),
+    ?assertEqual(#{11 => other, 12 => own}, lobby_seats:owners(<<"1">>, 7, S1)),
+    %% Nobody has said that it was moved into this context.
+    ?assertEqual(#{11 => own, 12 => own}, lobby_seats:owners(<<"3">>, 9, S1)),
     {_, S2} = lobby_seats:noted(<<"2">>, [], #{context => 8, results => [{move, 11, #{}}]}, S1),
     ?assertMatch([#{termination := 11, context := 8, given := false}], lobby_seats:holdings(<<"2">>, S2)).
 

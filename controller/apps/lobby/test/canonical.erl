@@ -1,7 +1,7 @@
 %% Values that stand for all states that differ only in names or in how many numbers were used up, for a search.
 -module(canonical).
 
--export([least/2, ranked/2]).
+-export([least/2, ranked/2, new/0, alike/3]).
 
 %% @doc The least term of those in which the names of each group are exchanged with each other. A name can be any term,
 %% and is exchanged wherever it occurs, except in binaries.
@@ -21,10 +21,36 @@ permutations(List) -> [[One | Rest] || One <- List, Rest <- permutations(List --
 %% Base + 1 and so on, those from 2 Base to 3 Base become 2 Base, 2 Base + 1, and so on for each multiple.
 -spec ranked(term(), Base :: pos_integer()) -> term().
 ranked(Term, Base) ->
-    Kinds = maps:groups_from_list(fun(Number) -> Number div Base end, lists:usort(numbers(Term, Base, []))),
-    Ranks = [{Number, Rank} || {Kind, Numbers} <- maps:to_list(Kinds),
-                               {Rank, Number} <- lists:enumerate(Kind * Base, Numbers)],
-    renamed(Term, maps:from_list(Ranks)).
+    renamed(Term, ranks(lists:usort(numbers(Term, Base, [])), Base)).
+
+ranks(Numbers, Base) ->
+    Kinds = maps:groups_from_list(fun(Number) -> Number div Base end, Numbers),
+    maps:from_list([{Number, Rank} || {Kind, Of} <- maps:to_list(Kinds), {Rank, Number} <- lists:enumerate(Kind * Base, Of)]).
+
+%% @doc What `alike/3' remembers of parts of terms.
+-spec new() -> ets:tid().
+new() -> ets:new(?MODULE, [public, {read_concurrency, true}, {write_concurrency, true}]).
+
+%% @doc Equal values for lists whose `ranked' forms are equal, and others for others. Of a state, most parts are those of
+%% the state before, so what was found out of a part is remembered.
+-spec alike([term()], Base :: pos_integer(), Known :: ets:tid()) -> [{Shape :: binary(), Ranks :: [pos_integer()]}].
+alike(Parts, Base, Known) ->
+    Shapes = [shape(term_to_binary(Part), Base, Known) || Part <- Parts],
+    Ranks = ranks(lists:usort(lists:append([Numbers || {_, Numbers} <- Shapes])), Base),
+    [{Shape, [map_get(Number, Ranks) || Number <- Numbers]} || {Shape, Numbers} <- Shapes].
+
+%% A part's ranked form, and its numbers in order.
+shape(Packed, Base, Known) ->
+    Key = erlang:md5(Packed),
+    case ets:lookup(Known, Key) of
+        [{_, Shape, Numbers}] -> {Shape, Numbers};
+        [] ->
+            Part = binary_to_term(Packed),
+            Numbers = lists:usort(numbers(Part, Base, [])),
+            Shape = erlang:md5(term_to_binary(renamed(Part, ranks(Numbers, Base)), [deterministic])),
+            true = ets:insert(Known, {Key, Shape, Numbers}),
+            {Shape, Numbers}
+    end.
 
 numbers(Number, Base, Found) when is_integer(Number), Number >= Base -> [Number | Found];
 numbers([Head | Tail], Base, Found) -> numbers(Tail, Base, numbers(Head, Base, Found));

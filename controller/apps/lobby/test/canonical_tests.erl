@@ -34,3 +34,12 @@ numbers_keep_their_order_test() ->
     ?assertEqual(Ranked([1001, 1005, 1001]), Ranked([1100, 1200, 1100])),
     ?assertNotEqual(Ranked([1001, 1005]), Ranked([1005, 1001])),
     ?assertNotEqual(Ranked([1001, 2001]), Ranked([1001, 1001])).
+
+%% What is remembered of a part doesn't depend on what it came with.
+lists_are_alike_test() ->
+    Known = canonical:new(),
+    Alike = fun(Parts) -> canonical:alike(Parts, 1000, Known) end,
+    Lists = [[{1001, a}, #{1005 => 7}], [{1100, a}, #{1200 => 7}], [{1200, a}, #{1100 => 7}], [{1001, a}, #{1001 => 7}],
+             [{1001, a}, #{1005 => 8}], [{1001, a}, #{2005 => 7}], [{1001, a}], [a, {1001, #{1005 => 7}}]],
+    ?assertEqual([canonical:ranked(A, 1000) =:= canonical:ranked(B, 1000) || A <- Lists, B <- Lists],
+                 [Alike(A) =:= Alike(B) || A <- Lists, B <- Lists]).

@@ -6,23 +6,30 @@
 
 -define(WORLD, #{people => #{ann => <<"coach">>, bob => <<"customer">>, cay => <<"agent">>},
                  rooms => [<<"1">>, <<"2">>], joined => [{ann, <<"1">>}, {cay, <<"1">>}, {bob, <<"2">>}],
-                 rules => lobby_rules:preset(coaching), seats => #{a => 5, b => 5}}).
--define(CHANGES, [join, leave, move, isolate, release, mute, unmute]).
+                 rules => lobby_rules:preset(coaching), rulesets => [[], lobby_rules:preset(coaching)],
+                 roles => [<<"customer">>, <<"agent">>], seats => #{a => 4, b => 4}, journal => true}).
+-define(CHANGES, [join, leave, move, isolate, release, mute, unmute, role, rules, oneway, let_in, watch]).
 -define(FAULTS, [kill_room, kill_person, kill_gateway, lose, double, late, lose_gateway, begin_anew]).
+-define(PAIR, [take_over, cut]).
 
 %% With seconds for each search, and the first seed.
 run([Seconds, Seed]) ->
     Time = 1000 * list_to_integer(Seconds),
-    Workers = erlang:system_info(schedulers_online),
-    Found = [breadth(World, #{time => Time, workers => Workers}) || World <- worlds()]
-        ++ [random(maps:merge(?WORLD, #{changes => {12, ?CHANGES}, faults => {4, ?FAULTS}, races => 4}),
-                   #{seed => list_to_integer(Seed), runs => 1 bsl 40, length => 2000, time => Time})],
+    Limits = #{time => Time, workers => erlang:system_info(schedulers_online)},
+    Walks = #{seed => list_to_integer(Seed), runs => 1 bsl 40, length => 2000, time => Time},
+    Found = [breadth(maps:merge(?WORLD, World), Limits) || World <- worlds()]
+        ++ [random(maps:merge(?WORLD, World), Walks) || World <- walked()],
     halt(case lists:append(Found) of [] -> 0; _ -> 1 end).
 
 worlds() ->
-    [maps:merge(?WORLD, World) || World <- [#{changes => {2, ?CHANGES}, faults => {1, ?FAULTS}},
-                                            #{changes => {2, ?CHANGES}, faults => {0, []}, races => 2},
-                                            #{changes => {1, ?CHANGES}, faults => {2, ?FAULTS}, races => 1}]].
+    [#{changes => {2, ?CHANGES}, faults => {1, ?FAULTS}},
+     #{changes => {2, ?CHANGES}, faults => {0, []}, races => 2},
+     #{changes => {1, ?CHANGES}, faults => {2, ?FAULTS}, races => 1},
+     #{changes => {2, ?CHANGES}, faults => {1, ?PAIR}, pair => true}].
+
+walked() ->
+    [#{changes => {12, ?CHANGES}, faults => {4, ?FAULTS}, races => 4, door => true},
+     #{changes => {12, ?CHANGES}, faults => {4, ?PAIR ++ ?FAULTS}, races => 4, pair => true}].
 
 breadth(World, Limits) ->
     io:format("~0p~n", [World]),

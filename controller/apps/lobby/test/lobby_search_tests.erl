@@ -73,11 +73,50 @@ a_race_and_a_failure_test_() ->
     searched(#{joined => ?APART, races => 1, changes => {1, [isolate, move]},
                faults => {1, [kill_room, kill_person]}}).
 
+%% Whoever calls again has a new id, though something may be left of his call before.
+calling_again_test_() ->
+    searched(#{rooms => [<<"1">>], changes => {3, [leave, join]}}).
+
+a_gateway_resumes_test_() ->
+    searched(#{journal => true, joined => ?APART, changes => {1, [move, isolate, leave]}, faults => {1, [lose_gateway]}}).
+
+%% With what the other node has, while datagrams may still come. After a cut, that is less and less.
+the_other_node_takes_over_test_() ->
+    searched(#{pair => true, joined => ?APART, changes => {1, [move, isolate, leave]}, faults => {1, [take_over, cut]}}).
+
+the_other_node_takes_over_a_newcomer_test_() ->
+    searched(#{pair => true, joined => [{bob, <<"1">>}], rooms => [<<"1">>], changes => {1, [join]},
+               faults => {1, [take_over, cut]}}).
+
+a_door_test_() ->
+    searched(#{people => #{ann => <<"coach">>, bob => <<"customer">>}, rooms => [<<"1">>], joined => [{bob, <<"1">>}],
+               door => true, rules => lobby_rules:preset(coaching), changes => {2, [join, let_in]},
+               faults => {1, [kill_room, kill_person, lose]}}).
+
+rules_change_test_() ->
+    searched(#{people => #{ann => <<"coach">>, bob => <<"customer">>}, rooms => [<<"1">>],
+               rulesets => [[], lobby_rules:preset(coaching)], changes => {2, [rules]}, faults => {1, [kill_room, lose]}}).
+
+rules_and_roles_change_test_() ->
+    searched(#{people => #{ann => <<"agent">>, bob => <<"customer">>}, rooms => [<<"1">>],
+               roles => [<<"coach">>, <<"agent">>], rulesets => [[], lobby_rules:preset(coaching)],
+               changes => {3, [rules, role]}, races => 1}).
+
+rules_about_members_test_() ->
+    searched(#{rooms => [<<"1">>], rulesets => [[]], changes => {3, [rules, oneway, leave]}}).
+
+%% Three in two rooms, and two gateways with a seat for each of two.
+few_seats_for_three_test_() ->
+    searched(#{people => #{ann => <<"coach">>, bob => <<"customer">>, cay => <<"agent">>},
+               joined => [{ann, <<"1">>}, {cay, <<"1">>}, {bob, <<"2">>}], rules => lobby_rules:preset(coaching),
+               seats => #{a => 3, b => 3}, changes => {1, [move, isolate, leave]}, faults => {1, [lose_gateway, begin_anew]}}).
+
 %% A walk found this: when a request for someone is repeated, he may have been given, and be back.
 who_comes_back_test() ->
-    Way = [{fault, {kill, {room, <<"1">>}}}, {fault, {anew, a}}, {change, {move, cay, <<"2">>}}, {change, {move, cay, <<"1">>}},
-           {change, {mute, bob}}, {change, {move, ann, <<"2">>}}, {change, {move, ann, <<"1">>}}, {change, {move, bob, <<"1">>}},
-           {race, {deliver, {person, bob}, {room, <<"2">>}}}],
+    Ann = {ann, 1}, Bob = {bob, 1}, Cay = {cay, 1},
+    Way = [{fault, {kill, {room, <<"1">>}}}, {fault, {anew, a}}, {change, {move, Cay, <<"2">>}}, {change, {move, Cay, <<"1">>}},
+           {change, {mute, Bob}}, {change, {move, Ann, <<"2">>}}, {change, {move, Ann, <<"1">>}}, {change, {move, Bob, <<"1">>}},
+           {race, {deliver, {person, Bob}, {room, <<"2">>}}}],
     World = #{people => #{ann => <<"coach">>, bob => <<"customer">>, cay => <<"agent">>}, rooms => [<<"1">>, <<"2">>],
               joined => [{ann, <<"1">>}, {cay, <<"1">>}, {bob, <<"2">>}], rules => lobby_rules:preset(coaching),
               seats => #{a => 5, b => 5}, changes => {length(Way), [move, mute]}, faults => {2, [kill_room, begin_anew]}, races => 1},

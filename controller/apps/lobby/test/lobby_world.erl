@@ -1,62 +1,96 @@
 %% A small world for searches: people, rooms, and gateways that are the proved program. What the controller decides is
 %% decided by its own modules; this one has what lies between them: the store, messages, datagrams, failures, and phones.
 %%
-%% Between any two events, somebody can ask for a change, a process can be killed, and a gateway can end or begin anew. A
-%% datagram can be lost, come twice or much later. Messages from one process to another come in their order, and others
-%% in one order, but for some that come first. Timers run out when nothing else can happen, so that nothing is waited for
-%% without a reason.
+%% Between any two events, somebody can ask for a change, a process can be killed, a gateway can end, begin anew or resume
+%% from its journal, and the other node of a pair can take over. A datagram can be lost, come twice or much later.
+%% Messages from one process to another come in their order, and others in one order, but for some that come first. Timers
+%% run out when nothing else can happen, so that nothing is waited for without a reason.
 -module(lobby_world).
 
 -export([start/1, model/1, format/1]).
 -export_type([world/0, options/0]).
 
-%% `people' with their roles, and the rooms where they may be, and where they have `joined' in the beginning. `seats': of each gateway, with its own termination. `changes' and
+%% Who calls for the first time, the second time, and so on: the controller gives no id twice.
+-type id() :: {Name :: atom(), Call :: pos_integer()}.
+%% `people' with their roles, and the rooms where they may be, and where they have `joined' in the beginning. With a `door',
+%% others wait until they are let in. `rules' are each room's in the beginning, and `rulesets' are those that it may be
+%% given. `roles' are those that somebody may be given. `seats': of each gateway, with its own termination. `changes' and
 %% `faults': which kinds there are, and how many may happen. `races': how many messages may come before their turn.
--type options() :: #{people := #{atom() => binary()}, rooms := [binary()], rules => [lobby_rules:rule()],
-                     joined => [{atom(), binary()}],
+%% `journal': gateways that end may come back. `pair': another node may take over.
+-type options() :: #{people := #{atom() => binary()}, rooms := [binary()], joined => [{atom(), binary()}], door => boolean(),
+                     rules => [lobby_rules:rule()], rulesets => [[lobby_rules:rule()]], roles => [binary()],
                      seats := #{atom() => pos_integer()}, changes := {non_neg_integer(), [atom()]},
-                     faults := {non_neg_integer(), [atom()]}, races => non_neg_integer(), journal => boolean()}.
+                     faults := {non_neg_integer(), [atom()]}, races => non_neg_integer(),
+                     journal => boolean(), pair => boolean()}.
 
 -record(world, {options :: options(), oracles :: #{atom() => oracle:oracle()}, now = 1000000 :: integer(), run = 1 :: pos_integer(),
                 %% Processes. A person without one hasn't called, or has hung up.
-                people = #{} :: #{atom() => lobby_person:person()}, rooms = #{} :: #{binary() => lobby_room_core:room()},
+                people = #{} :: #{id() => lobby_person:person()}, rooms = #{} :: #{binary() => lobby_room_core:room()},
                 gateways = #{} :: #{atom() => lobby_gateway_core:gateway()},
-                timers = #{} :: #{{room | gateway, term(), atom()} => integer()}, loads = #{} :: #{atom() => {term(), map()}},
+                timers = #{} :: #{{room | gateway | node, term(), atom()} => integer()}, loads = #{} :: #{atom() => {term(), map()}},
                 %% Tables: {Table, Key} => Value.
                 store = #{} :: #{{atom(), term()} => term()},
-                %% The proved gateways' worlds, or `ended'. Datagrams that may still come, until when.
-                worlds = #{} :: #{atom() => oracle:world() | ended}, late = [] :: [{atom(), binary(), integer()}],
+                %% What the other node of a pair has, and who had called by then. `none' can't take over.
+                standby = none :: none | copied | {behind, Store :: #{{atom(), term()} => term()}, [id()]},
+                %% The proved gateways' worlds, or `ended', and those of gateways that may resume. Datagrams that may still
+                %% come, until when.
+                worlds = #{} :: #{atom() => oracle:world() | ended}, journals = #{} :: #{atom() => oracle:world()},
+                late = [] :: [{atom(), binary(), integer()}],
                 %% Between processes (and `net'), in order.
                 queues = #{} :: #{{From :: term(), To :: term()} => [term()]},
-                %% Where each phone sends to.
-                phones = #{} :: #{atom() => {atom(), lobby_h248:endpoint()}},
+                %% How often each has called. Where the phones send to.
+                calls = #{} :: #{atom() => pos_integer()}, phones = #{} :: #{id() => {atom(), lobby_h248:endpoint()} | gone},
                 changes = 0 :: non_neg_integer(), faults = 0 :: non_neg_integer(), races = 0 :: non_neg_integer(),
-                %% What is asked for, with a number, and what of that was answered. It holds until the contrary is asked for.
-                asked = #{} :: #{promise() => non_neg_integer()}, promised = #{} :: #{promise() => true}}).
--type promise() :: {isolated | muted, atom()}.
+                %% What was asked for, and which answers wait until the other node can't take over without it.
+                promises = promises:new() :: promises:promises(), unanswered = [] :: [asked()]}).
+%% A setting, and the number of the change.
+-type asked() :: {Key :: term(), Number :: term()}.
 -opaque world() :: #world{}.
 
-%% Milliseconds within which a copy of a request can arrive.
+%% Milliseconds within which a copy of a request can arrive, and in which a node takes over without the other one.
 -define(QUIET, 5000).
+-define(ALONE, 3010).
 
 %%% The start: gateways that serve, and those who have joined.
 
 -spec start(options()) -> world().
-start(Options = #{seats := Seats, changes := {Changes, _}, faults := {Faults, _}}) ->
-    Oracles = maps:map(fun(G, _) -> oracle:start(#{slots => maps:get(G, Seats), lost => 2, arguments => ["--address", inet:ntoa(address(G))]}) end, Seats),
-    World = #world{options = Options, oracles = Oracles, changes = Changes, faults = Faults, races = maps:get(races, Options, 0),
+start(Options = #{seats := Seats, rooms := Rooms, changes := {Changes, _}, faults := {Faults, _}}) ->
+    Oracles = maps:map(fun(G, Slots) ->
+        oracle:start(#{slots => Slots, arguments => ["--address", inet:ntoa(address(G))]})
+    end, Seats),
+    Rules = lists:foldl(fun(R, P) -> promises:given({rules, R}, rules(Options), P) end, promises:new(), Rooms),
+    World = #world{options = Options#{door => false}, oracles = Oracles, changes = Changes, faults = Faults,
+                   races = maps:get(races, Options, 0), promises = Rules,
                    worlds = maps:map(fun(_, Oracle) -> oracle:new(Oracle) end, Oracles)},
-    Serving = settled(lists:foldl(fun(G, W) -> started({gateway, G}, W) end, World, maps:keys(Seats))),
-    lists:foldl(fun({Id, Room}, W) -> settled(change({join, Id, Room}, W)) end, Serving, maps:get(joined, Options, [])).
+    Serving = serving(lists:foldl(fun(G, W) -> started({gateway, G}, W) end, World, maps:keys(Seats))),
+    Joined = lists:foldl(fun({Name, Room}, W) -> settled(change({join, {Name, 1}, Room}, W)) end, Serving,
+                         maps:get(joined, Options, [])),
+    Joined#world{options = Options, standby = case is_pair(Options) of true -> copied; false -> none end}.
+
+rules(Options) -> maps:get(rules, Options, []).
+is_pair(Options) -> maps:get(pair, Options, false).
 
 address(G) -> {10, 0, 1, maps:get(G, #{a => 1, b => 2, c => 3})}.
-remote(Id) -> {{{10, 0, 0, maps:get(Id, #{ann => 1, bob => 2, cay => 3, dan => 4})}, 40000}, pcmu}.
 
-config(G, #{seats := Seats, journal := Journal}) ->
+%% Each call has a port of its own.
+remote({Name, Call}) -> {{{10, 0, 0, maps:get(Name, #{ann => 1, bob => 2, cay => 3, dan => 4})}, port(Call)}, pcmu}.
+
+port(Call) -> 40000 + 2 * Call.
+
+%% Whose such a remote is.
+person(Host, Port) -> {lists:nth(Host, [ann, bob, cay, dan]), (Port - 40000) div 2}.
+
+config(G, Options = #{seats := Seats}) ->
     #{name => G, address => {address(G), 2944}, here => {127, 0, 0, 1}, retry => 100, tries => 4, quiet => ?QUIET, audit => 250,
-      returns => case Journal of true -> 10000; false -> 0 end, terminations => maps:get(G, Seats), contexts => 64};
-config(G, Options) ->
-    config(G, Options#{journal => false}).
+      returns => case Options of #{journal := true} -> 10000; _ -> 0 end, terminations => maps:get(G, Seats), contexts => 64}.
+
+%% A node of a pair waits before its gateways serve.
+serving(World0) ->
+    World = #world{worlds = Worlds, loads = Loads} = settled(World0),
+    case map_size(Loads) =:= map_size(Worlds) of
+        true -> World;
+        false -> serving(step(hd(timeouts(World)), World))
+    end.
 
 %% Until nothing is under way. It is an error if that takes long.
 settled(World) -> settled(World, 500).
@@ -73,18 +107,22 @@ settled(World, Left) ->
 -spec model(options()) -> search:model().
 model(Options) ->
     World = start(Options),
+    Known = canonical:new(),
     #{start => World, events => fun events/1, step => fun step/2, broken => fun broken/1,
-      final => fun(W) -> at_rest(W, 2000) end,
-      canonical => fun canonical/1}.
+      final => fun(W) -> at_rest(W, 2000) end, canonical => fun(W) -> canonical(W, Known) end}.
 
 events(World) ->
     case deliveries(World) of
-        [] -> timeouts(World) ++ changes(World) ++ faults(World) ++ arrivals(World);
-        [First | Others] ->
-            [First | [{race, Other} || World#world.races > 0, Other <- Others]] ++ changes(World) ++ faults(World) ++ arrivals(World)
+        [] -> timeouts(World) ++ others(World);
+        [First | Others] -> [First | [{race, Other} || World#world.races > 0, Other <- Others]] ++ others(World)
     end.
 
+others(World) -> changes(World) ++ faults(World) ++ arrivals(World) ++ returns(World).
+
 arrivals(#world{late = Late}) -> [{arrive, N} || N <- lists:seq(1, length(Late))].
+
+returns(#world{journals = Journals, standby = Standby}) ->
+    [{resume, G} || G <- lists:sort(maps:keys(Journals))] ++ [take_over || {behind, _, _} <- [Standby]].
 
 deliveries(#world{queues = Queues}) -> [{deliver, From, To} || {From, To} <- lists:sort(maps:keys(Queues))].
 
@@ -98,7 +136,10 @@ timeouts(World = #world{timers = Timers, people = People}) ->
 orphans(G, #world{gateways = Gateways, store = Store}) ->
     lobby_gateway_core:orphans(fun(Id) -> maps:find({lobby_members, Id}, Store) end, maps:get(G, Gateways)).
 
-is_needed({gateway, _, transactions}, _) -> true;
+is_needed({node, _, _}, _) -> true;
+%% A gateway that is lost is asked for ever whether it is back.
+is_needed({gateway, G, transactions}, #world{worlds = Worlds, loads = Loads, timers = Timers}) ->
+    maps:get(G, Worlds) =/= ended orelse is_map_key(G, Loads) orelse is_map_key({gateway, G, back}, Timers);
 is_needed({gateway, _, probe}, _) -> true;
 is_needed({gateway, _, clean}, _) -> true;
 is_needed({gateway, G, back}, #world{worlds = Worlds}) -> maps:get(G, Worlds) =:= ended;
@@ -111,30 +152,40 @@ is_needed({gateway, G, audit}, #world{worlds = Worlds, oracles = Oracles}) ->
 is_needed({room, R, retry}, #world{rooms = Rooms}) -> is_map_key(R, Rooms) andalso not lobby_room_core:agrees(maps:get(R, Rooms)).
 
 changes(#world{changes = 0}) -> [];
-changes(W = #world{options = #{people := Roles, rooms := Names, changes := {_, Kinds}}, people = People}) ->
-    Ids = lists:sort(maps:keys(Roles)),
-    Here = [Id || Id <- Ids, is_map_key(Id, People)],
-    [{change, Change} || Kind <- Kinds, Change <- case Kind of
-        %% His next call would have another id and another port, so nothing may be left of the one before.
-        join -> [{join, Id, R} || Id <- Ids, not is_map_key(Id, People), not is_map_key({lobby_members, Id}, W#world.store),
-                                  not lists:member(Id, there(W)), R <- Names];
-        move -> [{move, Id, R} || Id <- Here, R <- Names];
-        _ -> [{Kind, Id} || Id <- Here]
-    end].
+changes(W = #world{options = #{changes := {_, Kinds}}}) ->
+    [{change, Change} || Kind <- Kinds, Change <- changes(Kind, W)].
+
+changes(join, #world{options = #{people := Roles, rooms := Rooms}, calls = Calls, people = People}) ->
+    [{join, {Name, Call + 1}, R} || Name <- lists:sort(maps:keys(Roles)), Call <- [maps:get(Name, Calls, 0)],
+                                    not is_map_key({Name, Call}, People), R <- Rooms];
+changes(move, W = #world{options = #{rooms := Rooms}}) -> [{move, Id, R} || Id <- callers(W), R <- Rooms];
+changes(role, W = #world{options = #{roles := Roles}}) -> [{role, Id, Role} || Id <- callers(W), Role <- Roles];
+changes(let_in, W) -> [{let_in, Id} || Id <- callers(W), promises:possible({waiting, Id}, W#world.promises) =/= [false]];
+changes(rules, #world{options = #{rooms := Rooms, rulesets := Sets}}) -> [{rules, R, Rules} || R <- Rooms, Rules <- Sets];
+changes(oneway, W) -> [{oneway, Talker, Listener} || Talker <- callers(W), Listener <- callers(W), Talker =/= Listener];
+changes(watch, #world{rooms = Rooms}) -> [{watch, R} || R <- lists:sort(maps:keys(Rooms))];
+changes(Kind, W) -> [{Kind, Id} || Id <- callers(W)].
+
+callers(#world{people = People}) -> lists:sort(maps:keys(People)).
 
 faults(#world{faults = 0}) -> [];
-faults(#world{options = #{faults := {_, Kinds}}, people = People, rooms = Rooms, gateways = Gateways, worlds = Worlds, queues = Queues, late = Late}) ->
-    Datagrams = [Key || Key = {From, To} <- lists:sort(maps:keys(Queues)), is_net(From) orelse is_net(To)],
-    [{fault, Fault} || Kind <- Kinds, Fault <- case Kind of
-        lose -> [{lose, Key} || Key <- Datagrams];
-        double -> [{double, Key} || Key = {_, {net, _}} <- Datagrams];
-        late -> [{late, Key} || Key = {_, {net, _}} <- Datagrams, Late =:= []];
-        kill_person -> [{kill, {person, Id}} || Id <- lists:sort(maps:keys(People))];
-        kill_room -> [{kill, {room, R}} || R <- lists:sort(maps:keys(Rooms))];
-        kill_gateway -> [{kill, {gateway, G}} || G <- lists:sort(maps:keys(Gateways))];
-        lose_gateway -> [{'end', G} || {G, W} <- lists:sort(maps:to_list(Worlds)), W =/= ended];
-        begin_anew -> [{anew, G} || {G, W} <- lists:sort(maps:to_list(Worlds)), W =/= ended]
-    end].
+faults(W = #world{options = #{faults := {_, Kinds}}}) ->
+    [{fault, Fault} || Kind <- Kinds, Fault <- faults(Kind, W)].
+
+faults(lose, W) -> [{lose, Key} || Key <- datagrams(W)];
+faults(double, W) -> [{double, Key} || Key = {_, {net, _}} <- datagrams(W)];
+faults(late, W = #world{late = Late}) -> [{late, Key} || Key = {_, {net, _}} <- datagrams(W), Late =:= []];
+faults(kill_person, W) -> [{kill, {person, Id}} || Id <- callers(W)];
+faults(kill_room, #world{rooms = Rooms}) -> [{kill, {room, R}} || R <- lists:sort(maps:keys(Rooms))];
+faults(kill_gateway, #world{gateways = Gateways}) -> [{kill, {gateway, G}} || G <- lists:sort(maps:keys(Gateways))];
+faults(lose_gateway, W) -> [{'end', G} || G <- running(W)];
+faults(begin_anew, W) -> [{anew, G} || G <- running(W)];
+faults(take_over, #world{standby = Standby}) -> [take_over || Standby =:= copied];
+faults(cut, #world{standby = Standby}) -> [cut || Standby =:= copied].
+
+running(#world{worlds = Worlds}) -> [G || {G, World} <- lists:sort(maps:to_list(Worlds)), World =/= ended].
+
+datagrams(#world{queues = Queues}) -> [Key || Key = {From, To} <- lists:sort(maps:keys(Queues)), is_net(From) orelse is_net(To)].
 
 is_net({net, _}) -> true;
 is_net(_) -> false.
@@ -145,42 +196,85 @@ step({deliver, From, To}, W = #world{queues = Queues}) ->
     received(To, From, Message, W#world{queues = Left});
 step({race, Delivery}, W = #world{races = N}) ->
     step(Delivery, W#world{races = N - 1});
-step({timer, Key = {Kind, Name, Timer}}, W = #world{timers = Timers, now = Now}) ->
+step({timer, Key}, W = #world{timers = Timers, now = Now, late = Late}) ->
     {Due, Rest} = maps:take(Key, Timers),
-    Later = W#world{timers = Rest, now = max(Now, Due), late = [Datagram || Datagram = {_, _, Until} <- W#world.late, Until > Due]},
-    case Kind of
-        gateway -> handled({gateway, Name}, {timer, Timer, {{127, 0, 0, 9}, 9}}, Later);
-        room -> handled({room, Name}, retry, Later)
-    end;
+    ran_out(Key, W#world{timers = Rest, now = max(Now, Due), late = [Datagram || Datagram = {_, _, Until} <- Late, Until > Due]});
 step({look, G}, W) -> handled({gateway, G}, {orphans, orphans(G, W)}, W);
 step({again, Id}, W) -> handled({person, Id}, again, W);
 step({change, Change}, W = #world{changes = N}) -> change(Change, W#world{changes = N - 1});
 step({arrive, N}, W = #world{late = Late}) ->
     {G, Datagram, _} = Arriving = lists:nth(N, Late),
     run(G, Datagram, W#world{late = Late -- [Arriving]});
+step({resume, G}, W = #world{worlds = Worlds, journals = Journals}) ->
+    {World, Others} = maps:take(G, Journals),
+    W#world{worlds = Worlds#{G := World}, journals = Others};
+step(take_over, W = #world{standby = {behind, Store, Known}}) -> taken_over(Store, Known, W);
 step({fault, Fault}, W = #world{faults = N}) -> fault(Fault, W#world{faults = N - 1}).
+
+ran_out({gateway, G, Timer}, W) -> handled({gateway, G}, {timer, Timer, {{127, 0, 0, 9}, 9}}, W);
+ran_out({room, R, retry}, W) -> handled({room, R}, retry, W);
+%% The other node can't take over any more.
+ran_out({node, pair, alone}, W = #world{unanswered = Unanswered}) ->
+    lists:foldl(fun answered/2, W#world{standby = none, unanswered = []}, Unanswered).
 
 %%% What people do.
 
-change({join, Id, Room}, W = #world{options = #{people := Roles}, people = People}) ->
-    #{Id := Role} = Roles,
-    Row = lobby_member:new(Id, #{room => Room, role => Role, media => remote(Id), direction => sendrecv, identity => atom_to_binary(Id)}),
-    handled({person, Id}, {join, {joins, Id}}, W#world{people = People#{Id => lobby_person:new(Row)}});
-change({move, Id, Room}, W) -> handled({person, Id}, {move, {asked, none}, Room}, W);
-change({isolate, Id}, W) -> closing({isolated, Id}, #{isolated => true}, W);
-change({release, Id}, W) -> handled({person, Id}, {change, {asked, none}, #{isolated => false}}, unpromised({isolated, Id}, W));
-change({mute, Id}, W) -> closing({muted, Id}, #{muted => true}, W);
-change({unmute, Id}, W) -> handled({person, Id}, {change, {asked, none}, #{muted => false}}, unpromised({muted, Id}, W));
-change({leave, Id}, W) ->
-    Left = #world{people = People, phones = Phones} = handled({person, Id}, leave, unpromised({isolated, Id}, unpromised({muted, Id}, W))),
-    Left#world{people = maps:remove(Id, People), phones = maps:remove(Id, Phones), queues = to_nobody({person, Id}, Left)}.
+change({join, Id = {Name, Call}, Room}, W = #world{options = Options = #{people := Roles}, people = People, calls = Calls, promises = P}) ->
+    Door = maps:get(door, Options, false),
+    Role = case Door of true -> <<"member">>; false -> maps:get(Name, Roles) end,
+    Row = lobby_member:new(Id, #{room => Room, role => Role, media => remote(Id), direction => sendrecv, waiting => Door,
+                                 identity => atom_to_binary(Name), acknowledged => false}),
+    Given = [{isolated, false}, {muted, false}, {waiting, Door}, {unasked, true}, {role, Role}, {room, Room}],
+    handled({person, Id}, {join, {joins, Id}},
+            W#world{people = People#{Id => lobby_person:new(Row)}, calls = Calls#{Name => Call},
+                    promises = lists:foldl(fun({Kind, Value}, Acc) -> promises:given({Kind, Id}, Value, Acc) end, P, Given)});
+%% Whoever moves somebody lets him in.
+change({move, Id, Room}, W) ->
+    {Tag, Asked} = asked([{{room, Id}, Room} || is_pair(W#world.options)], W),
+    {_, Let} = asked([{{waiting, Id}, false}], Asked),
+    handled({person, Id}, {move, {asked, Tag}, Room}, Let);
+change({isolate, Id}, W) -> changed(Id, #{isolated => true}, W);
+change({release, Id}, W) -> changed(Id, #{isolated => false}, W);
+change({mute, Id}, W) -> changed(Id, #{muted => true}, W);
+change({unmute, Id}, W) -> changed(Id, #{muted => false}, W);
+change({role, Id, Role}, W) -> changed(Id, #{role => Role}, W);
+change({let_in, Id = {Name, _}}, W = #world{options = #{people := Roles}}) ->
+    changed(Id, #{waiting => false, role => maps:get(Name, Roles)}, W);
+change({rules, R, Rules}, W) -> ruled(R, set, Rules, W);
+change({oneway, Talker, Listener}, W = #world{store = Store}) ->
+    case {Store, is_map_key({lobby_members, Listener}, Store)} of
+        {#{{lobby_members, Talker} := #{room := R}}, true} ->
+            ruled(R, add, lobby_rules:oneway({member, Talker}, {member, Listener}), W);
+        {_, _} -> W
+    end;
+change({watch, R}, W) -> handled({room, R}, watch, W);
+change({leave, Id}, W = #world{phones = Phones}) -> left(Id, W#world{phones = Phones#{Id => gone}}).
 
-closing(Promise = {_, Id}, Change, W = #world{asked = Asked, changes = Left}) ->
-    N = maps:get(Promise, Asked, Left),
-    handled({person, Id}, {change, {asked, {Promise, N}}, Change}, W#world{asked = Asked#{Promise => N}}).
+changed(Id, Change, W) ->
+    {Asked, Next} = asked([{{Kind, Id}, Value} || {Kind, Value} <- maps:to_list(Change)], W),
+    handled({person, Id}, {change, {asked, Asked}, Change}, Next).
 
-unpromised(Promise, W = #world{asked = Asked, promised = Promised}) ->
-    W#world{asked = maps:remove(Promise, Asked), promised = maps:remove(Promise, Promised)}.
+ruled(R, How, Rules, W = #world{changes = N, promises = P}) ->
+    Key = {rules, R},
+    Change = case How of
+        set -> fun(_) -> Rules end;
+        add -> fun(Before) -> {ok, All} = lobby_rules:add(Rules, Before), All end
+    end,
+    tell_room(R, {rules, [{Key, N}], How, Rules, #{}}, http, W#world{promises = promises:asked(Key, N, Change, P)}).
+
+asked(Values, W = #world{changes = N, promises = P}) ->
+    {[{Key, N} || {Key, _} <- Values],
+     W#world{promises = lists:foldl(fun({Key, Value}, Acc) -> promises:asked(Key, N, fun(_) -> Value end, Acc) end, P, Values)}}.
+
+answered({Key, Number}, W = #world{promises = P}) -> W#world{promises = promises:answered(Key, Number, P)}.
+
+%% In a pair, the other node has what is answered, or it can't take over any more.
+answered_to(Asked, W = #world{standby = {behind, _, _}, unanswered = Unanswered}) -> W#world{unanswered = Unanswered ++ Asked};
+answered_to(Asked, W) -> lists:foldl(fun answered/2, W, Asked).
+
+left(Id, W) ->
+    Left = #world{people = People} = handled({person, Id}, leave, W),
+    Left#world{people = maps:remove(Id, People), queues = to_nobody({person, Id}, Left)}.
 
 %%% What fails.
 
@@ -198,18 +292,37 @@ fault({late, Key = {_, {net, G}}}, W = #world{queues = Queues, late = Late, now 
     fault({lose, Key}, W#world{late = [{G, First, Now + ?QUIET} | Late]});
 fault({kill, Process}, W) ->
     started(Process, W#world{queues = to_nobody(Process, W)});
-fault({'end', G}, W = #world{worlds = Worlds}) ->
-    W#world{worlds = Worlds#{G := ended}, queues = maps:without([{{gateway, G}, {net, G}}, {{net, G}, {gateway, G}}], W#world.queues)};
+fault({'end', G}, W = #world{options = Options, worlds = Worlds, journals = Journals, queues = Queues}) ->
+    #{G := World} = Worlds,
+    W#world{worlds = Worlds#{G := ended}, queues = maps:without([{{gateway, G}, {net, G}}, {{net, G}, {gateway, G}}], Queues),
+            journals = case Options of #{journal := true} -> Journals#{G => World}; _ -> Journals end};
 fault({anew, G}, W = #world{worlds = Worlds, oracles = Oracles}) ->
-    W#world{worlds = Worlds#{G := oracle:new(maps:get(G, Oracles))}}.
+    W#world{worlds = Worlds#{G := oracle:new(maps:get(G, Oracles))}};
+fault(take_over, W = #world{store = Store}) ->
+    taken_over(Store, callers(W), W);
+%% From now on, nothing that is written is on the other node.
+fault(cut, W = #world{store = Store, timers = Timers, now = Now}) ->
+    W#world{standby = {behind, Store, callers(W)}, timers = Timers#{{node, pair, alone} => Now + ?ALONE}}.
 
 to_nobody(Process, #world{queues = Queues}) ->
     maps:filter(fun({_, To}, _) -> To =/= Process end, Queues).
 
+%% All processes of a node end, and the other node starts them with what it has. It doesn't know of who has called since.
+%% What was sent to gateways may still come.
+taken_over(Store, Known, W = #world{people = People, queues = Queues, late = Late, now = Now, gateways = Gateways}) ->
+    Sent = [{G, Datagram, Now + ?QUIET} || {{_, {net, G}}, Datagrams} <- maps:to_list(Queues), Datagram <- Datagrams],
+    Rows = maps:from_list([{Id, lobby_person:restored(Row)} || {{lobby_members, Id}, Row} <- maps:to_list(Store)]),
+    Ended = W#world{store = Store, queues = #{}, timers = #{}, loads = #{}, rooms = #{}, late = Late ++ Sent, unanswered = [],
+                    people = maps:merge(maps:with(Known, People), Rows), standby = copied},
+    lists:foldl(fun started/2, Ended, [{gateway, G} || G <- lists:sort(maps:keys(Gateways))]
+                ++ [{room, R} || {lobby_rooms, R} <- lists:sort(maps:keys(Store))]
+                ++ [{person, Id} || Id <- callers(Ended)]).
+
 %% A process is started with what the store has.
 started({person, Id}, W = #world{people = People, store = Store}) ->
     case Store of
-        #{{lobby_members, Id} := Row} -> handled({person, Id}, again, W#world{people = People#{Id := lobby_person:restored(Row)}});
+        #{{lobby_members, Id} := Row} ->
+            invited(Id, handled({person, Id}, again, W#world{people = People#{Id := lobby_person:restored(Row)}}));
         %% He wasn't in a room yet: he asks again.
         #{} -> handled({person, Id}, {join, {joins, Id}}, W#world{people = People#{Id := lobby_person:new(lobby_person:row(maps:get(Id, People)))}})
     end;
@@ -220,7 +333,8 @@ started({room, R}, W = #world{rooms = Rooms, store = Store, run = Run}) ->
             W#world{rooms = Rooms#{R => Core}, run = Run + 1, timers = maps:remove({room, R, retry}, W#world.timers)});
 started({gateway, G}, W = #world{gateways = Gateways, store = Store, options = Options, run = Run}) ->
     Core = lobby_gateway_core:new(#{
-        config => config(G, Options), sender => {{127, 0, 0, 1}, 2945}, first => 1000 * Run, settled => 0,
+        config => config(G, Options), sender => {{127, 0, 0, 1}, 2945}, first => 1000 * Run,
+        settled => case is_pair(Options) of true -> 1000; false -> 0 end,
         kept => maps:get({lobby_gateways, G}, Store, none),
         entries => [{T, Entry} || {{lobby_terminations, {In, T}}, Entry} <- lists:sort(maps:to_list(Store)), In =:= G],
         requests => [Request || {{lobby_requests, {In, _}}, Request} <- lists:sort(maps:to_list(Store)), In =:= G]}),
@@ -233,16 +347,12 @@ received({net, G}, _, Datagram, W) -> run(G, Datagram, W);
 received({gateway, G}, {net, G}, Datagram, W) ->
     {ok, Message} = lobby_h248:decode(Datagram),
     handled({gateway, G}, {received, Message}, W);
-received({phone, Id}, _, {Room, Local}, W = #world{phones = Phones}) ->
-    tell_room(Room, {confirmed, Id, Local}, {phone, Id}, W#world{phones = Phones#{Id => target(Local, W)}});
+received({phone, Id}, _, {Room, Local}, W) -> invited(Id, Room, Local, W);
 received({room, R}, _, {holdings, Holdings}, W = #world{store = Store}) ->
     Others = maps:from_list([{Id, Row} || #{member := Id} <- Holdings, {ok, Row} <- [maps:find({lobby_members, Id}, Store)]]),
     handled({room, R}, {holdings, Holdings, Others}, W);
+received({person, Id}, {phone, Id}, hung_up, W) -> left(Id, W);
 received(Process, _, Message, W) -> handled(Process, Message, W).
-
-target({Endpoint = {Address, _}, _}, #world{worlds = Worlds}) ->
-    [G] = [G || G <- maps:keys(Worlds), address(G) =:= Address],
-    {G, Endpoint}.
 
 run(G, Datagram, W = #world{worlds = Worlds, oracles = Oracles}) ->
     case Worlds of
@@ -254,6 +364,34 @@ run(G, Datagram, W = #world{worlds = Worlds, oracles = Oracles}) ->
 
 send(From, To, Message, W = #world{queues = Queues}) ->
     W#world{queues = Queues#{{From, To} => maps:get({From, To}, Queues, []) ++ [Message]}}.
+
+%%% Phones.
+
+%% Whoever is still there after a process of his call has started is told again where the gateway receives him.
+invited(Id, W = #world{store = Store}) ->
+    case Store of
+        #{{local, Id} := Local, {lobby_members, Id} := #{room := Room}} -> send({person, Id}, {phone, Id}, {Room, Local}, W);
+        #{} -> W
+    end.
+
+%% He sends there from now on, and asks for speech. One who has hung up says so.
+invited(Id, Room, Local, W = #world{phones = Phones, people = People}) ->
+    case {Phones, People} of
+        {#{Id := gone}, #{Id := _}} -> send({phone, Id}, {person, Id}, hung_up, W);
+        {#{Id := gone}, #{}} -> W;
+        {#{}, _} ->
+            Agreed = tell_room(Room, {confirmed, Id, Local}, {phone, Id}, W#world{phones = Phones#{Id => target(Local, W)}}),
+            lists:foldl(fun(Person, Acc) -> asks(lobby_person:row(Person), Acc) end, Agreed, maps:values(maps:with([Id], People)))
+    end.
+
+asks(#{acknowledged := true}, W) -> W;
+asks(#{id := Id}, W) ->
+    {_, Asked} = asked([{{unasked, Id}, false}], W),
+    send({phone, Id}, {person, Id}, {change, {media, ack}, #{acknowledged => true}}, Asked).
+
+target({Endpoint = {Address, _}, _}, #world{worlds = Worlds}) ->
+    [G] = [G || G <- maps:keys(Worlds), address(G) =:= Address],
+    {G, Endpoint}.
 
 %%% What processes do.
 
@@ -278,16 +416,15 @@ handled({gateway, G}, Event, W = #world{gateways = Gateways, now = Now}) ->
     lists:foldl(fun(Action, Acc) -> gateway_acts(G, Action, Acc) end, W#world{gateways = Gateways#{G := Changed}}, Actions).
 
 %% A call tells its phone when the gateway receives it somewhere else, and its room again that the phone sends there.
-told(Id, {report, Room, {holds, _, Local, Everywhere}}, Person, W) ->
-    case lobby_person:row(Person) of
-        #{room := Room} -> case maps:get({local, Id}, W#world.store, none) of
-            Local -> case {Everywhere, target(Local, W), W#world.phones} of
+told(Id, {report, Room, {holds, _, Local, Everywhere}}, Person, W = #world{store = Store, phones = Phones}) ->
+    case {lobby_person:row(Person), Store} of
+        {#{room := Room}, #{{local, Id} := Local}} ->
+            case {Everywhere, target(Local, W), Phones} of
                 {false, Target, #{Id := Target}} -> tell_room(Room, {confirmed, Id, Local}, {person, Id}, W);
                 _ -> W
             end;
-            _ -> send({person, Id}, {phone, Id}, {Room, Local}, put_in({local, Id}, Local, W))
-        end;
-        _ -> W
+        {#{room := Room}, _} -> send({person, Id}, {phone, Id}, {Room, Local}, put_in({local, Id}, Local, W));
+        {_, _} -> W
     end;
 told(_, _, _, W) -> W.
 
@@ -301,26 +438,19 @@ person_acts(Id, {admit, R, Id, From}, W = #world{store = Store}) ->
     tell_room(R, {admit, Id, From, Prefer}, {person, Id}, W);
 person_acts(Id, {want, R, Row}, W) -> tell_room(R, {want, Row}, {person, Id}, W);
 person_acts(Id, {gone, R, Id}, W) -> tell_room(R, {gone, Id}, {person, Id}, W);
-%% Somebody may have asked for the contrary meanwhile.
-person_acts(_, {answer, {asked, {Promise, N}}, {ok, _}}, W = #world{asked = Asked, promised = Promised}) ->
-    case Asked of
-        #{Promise := N} -> W#world{promised = Promised#{Promise => true}};
-        #{} -> W
-    end;
+person_acts(_, {answer, {asked, Asked}, {ok, _}}, W) -> answered_to(Asked, W);
 person_acts(Id, {answer, {joins, Id}, {error, _}}, W = #world{people = People}) ->
     W#world{people = maps:remove(Id, People)};
 person_acts(_, {answer, _, _}, W) -> W.
 
 %% As lobby_rooms does: a room is started for whoever comes, and for others if it is kept.
-tell_room(R, Event, From, W = #world{rooms = Rooms, store = Store}) ->
-    IsNew = lists:member(element(1, Event), [admit, want]),
+tell_room(R, Event, From, W = #world{rooms = Rooms, store = Store, options = Options}) ->
+    IsNew = lists:member(element(1, Event), [admit, want, rules]),
     case is_map_key(R, Rooms) orelse IsNew orelse is_map_key({lobby_rooms, R}, Store) of
         true when is_map_key(R, Rooms) -> send(From, {room, R}, Event, W);
         true when is_map_key({lobby_rooms, R}, Store) -> send(From, {room, R}, Event, started({room, R}, W));
-        %% All rooms have the same rules from the beginning.
-        true ->
-            #world{options = #{rules := Rules}} = W,
-            send(From, {room, R}, Event, handled({room, R}, {rules, none, set, Rules, #{kept => true}}, started({room, R}, W)));
+        %% A room has its first rules from the beginning.
+        true -> send(From, {room, R}, Event, handled({room, R}, {rules, [], set, rules(Options), #{kept => true}}, started({room, R}, W)));
         false -> W
     end.
 
@@ -363,6 +493,7 @@ room_act(R, {ask, From, Row = #{id := Id, moved := Moved}, Gateway}, W = #world{
 room_act(R, {left, To, Id, Moved, Given}, W) -> tell_room(To, {left, Id, Moved, Given}, {room, R}, W);
 room_act(R, {admitted, Id, Result}, W) -> tell_person(Id, {admitted, R, Result}, R, W);
 room_act(R, {report, Id, Report}, W) -> tell_person(Id, {report, R, Report}, R, W);
+room_act(_, {reply, Asked, ok}, W) -> answered_to(Asked, W);
 room_act(R, {retry, _}, W = #world{timers = Timers, now = Now}) -> W#world{timers = Timers#{{room, R, retry} => Now + 250}};
 room_act(_, _, W) -> W.
 
@@ -382,7 +513,7 @@ gateway_acts(G, {tell, R, Message}, W = #world{rooms = Rooms}) ->
     case is_map_key(R, Rooms) of true -> send({gateway, G}, {room, R}, Message, W); false -> W end;
 gateway_acts(_, {reply, reserve, Reply}, W) -> put_in(reply, Reply, W);
 gateway_acts(G, {timer, Timer, infinity}, W = #world{timers = Timers}) -> W#world{timers = maps:remove({gateway, G, Timer}, Timers)};
-gateway_acts(G, {timer, Timer, 0}, W) -> handled({gateway, G}, {timer, Timer, {{127, 0, 0, 9}, 9}}, W);
+gateway_acts(G, {timer, Timer, 0}, W) -> ran_out({gateway, G, Timer}, W);
 gateway_acts(G, {timer, Timer, Time}, W = #world{timers = Timers, now = Now}) -> W#world{timers = Timers#{{gateway, G, Timer} => Now + Time}};
 gateway_acts(G, {deadline, infinity}, W = #world{timers = Timers}) -> W#world{timers = maps:remove({gateway, G, transactions}, Timers)};
 gateway_acts(G, {deadline, Time}, W = #world{timers = Timers}) -> W#world{timers = Timers#{{gateway, G, transactions} => Time}};
@@ -397,39 +528,50 @@ gateway_acts(_, _, W) -> W.
 %% is sent to his phone, wherever it comes from.
 heard(#world{worlds = Worlds, oracles = Oracles, phones = Phones}) ->
     lists:usort([{Talker, Listener}
-                 || {G, World} <- maps:to_list(Worlds), World =/= ended,
-                    Content <- [oracle:content(maps:get(G, Oracles), World)], Of <- [persons(Content)],
-                    {From, To} <- oracle:flows(maps:get(G, Oracles), World),
-                    {ok, {Talker, Port}} <- [maps:find(From, Of)], {ok, {Listener, _}} <- [maps:find(To, Of)],
+                 || {G, World} <- maps:to_list(Worlds), World =/= ended, Oracle <- [maps:get(G, Oracles)],
+                    Flows <- [oracle:flows(Oracle, World)], Flows =/= [],
+                    Of <- [persons(Oracle, World)], Terminations <- [oracle:terminations(Oracle, World)],
+                    {From, To} <- Flows, #{From := Talker, To := Listener} <- [Of],
+                    #{From := #{port := Port}} <- [Terminations],
                     maps:get(Talker, Phones, none) =:= {G, {address(G), Port}}]).
 
 %% Whose a termination is, by its Remote.
-persons(#{audit := Audits, terminations := Terminations}) ->
-    maps:from_list([{T, {Id, maps:get(port, maps:get(T, Terminations))}}
-                    || Text <- maps:values(Audits),
-                       {match, Found} <- [re:run(Text, "AuditValue=RTP/(\\d+)\\{Media\\{Stream=1\\{(?:(?!AuditValue).)*?Remote\\{[^}]*?IN IP4 10\\.0\\.0\\.(\\d+)",
-                                                 [global, dotall, {capture, all_but_first, binary}])],
-                       [Number, Host] <- Found, T <- [binary_to_integer(Number)], is_map_key(T, Terminations),
-                       Id <- [lists:nth(binary_to_integer(Host), [ann, bob, cay, dan])]]).
+persons(Oracle, World) ->
+    maps:from_list([{T, person(binary_to_integer(Host), binary_to_integer(Port))}
+                    || {T, {<<"10.0.0.", Host/binary>>, Port}} <- maps:to_list(oracle:remotes(Oracle, World))]).
 
-broken(W = #world{promised = Promised, store = Store, options = Options}) ->
-    Rules = maps:get(rules, Options, []),
-    Heard = heard(W),
-    [{Promise, Flow} || Flow = {Talker, Listener} <- Heard,
-                        Promise <- [isolated || is_map_key({isolated, Talker}, Promised) orelse is_map_key({isolated, Listener}, Promised)]
-                                ++ [muted || is_map_key({muted, Talker}, Promised)]
-                                ++ [himself || Talker =:= Listener]
-                                ++ [rules || Talker =/= Listener, not allowed(Talker, Listener, Rules, Options)]
-                                ++ [apart || Talker =/= Listener, rooms(Talker, Store) -- (rooms(Talker, Store) -- rooms(Listener, Store)) =:= []]].
+%% Whatever happens: nobody is heard who was promised not to be. And when nothing is under way, everybody is where he
+%% belongs.
+broken(W) ->
+    case [{Promise, Flow} || Flow <- heard(W), Promise <- broken_by(Flow, W)] of
+        [] -> case deliveries(W) ++ timeouts(W) of [] -> resting(W); _ -> [] end;
+        Broken -> Broken
+    end.
 
-allowed(Talker, Listener, Rules, #{people := Roles}) ->
-    lobby_rules:hears({Listener, maps:get(Listener, Roles)}, {Talker, maps:get(Talker, Roles)}, Rules).
+broken_by({Id, Id}, _) -> [himself];
+broken_by({Talker, Listener}, W) ->
+    [isolated || is_promised({isolated, Talker}, true, W) orelse is_promised({isolated, Listener}, true, W)]
+        ++ [waiting || is_promised({waiting, Talker}, true, W) orelse is_promised({waiting, Listener}, true, W)]
+        ++ [muted || is_promised({muted, Talker}, true, W)]
+        ++ [unasked || is_promised({unasked, Listener}, true, W)]
+        ++ ruled_out(Talker, Listener, [R || R <- rooms(Talker, W), lists:member(R, rooms(Listener, W))], W).
 
-%% The rooms where somebody may be, or anywhere for one whose call has just ended.
-rooms(Id, Store) ->
-    case Store of
-        #{{lobby_members, Id} := #{room := Room, from := From}} -> [Room, From] -- [none];
-        #{} -> [<<"1">>, <<"2">>]
+is_promised(Key, Value, #world{promises = P}) -> promises:possible(Key, P) =:= [Value].
+
+%% With any rules and roles that they may have, in any room where both may be.
+ruled_out(_, _, [], _) -> [apart];
+ruled_out(Talker, Listener, Rooms, #world{promises = P}) ->
+    [rules || not lists:any(fun({TalkerRole, ListenerRole, Rules}) ->
+        lobby_rules:hears({Listener, ListenerRole}, {Talker, TalkerRole}, Rules)
+    end, [{A, B, Rules} || A <- promises:possible({role, Talker}, P), B <- promises:possible({role, Listener}, P),
+                           R <- Rooms, Rules <- promises:possible({rules, R}, P)])].
+
+%% The rooms where somebody may be, or all for one whose call has ended. A node that takes over may not know of his moves.
+rooms(Id, #world{store = Store, options = Options = #{rooms := All}, promises = P}) ->
+    case {Store, is_pair(Options)} of
+        {#{{lobby_members, Id} := #{room := Room, from := From}}, false} -> [Room, From] -- [none];
+        {#{{lobby_members, Id} := _}, true} -> promises:possible({room, Id}, P);
+        {#{}, _} -> All
     end.
 
 %% A walk ends while something is under way. If no gateway is left, that never ends.
@@ -437,37 +579,61 @@ at_rest(_, 0) -> [];
 at_rest(W, Left) ->
     case deliveries(W) ++ timeouts(W) of
         [Event | _] -> at_rest(step(Event, W), Left - 1);
-        [] -> final(W)
+        [] -> resting(W)
     end.
 
-%% When nothing happens any more: everybody is in his room, as the gateway says, and nobody else is anywhere.
-final(W = #world{store = Store, people = People, rooms = Rooms}) ->
+%% What is left over is ended at the next audit.
+resting(W = #world{rooms = Rooms}) ->
+    case left_over(W) of
+        [] -> [];
+        _ -> left_over(rested(lists:foldl(fun(R, Acc) -> handled({room, R}, watch, Acc) end, W, lists:sort(maps:keys(Rooms))), 2000))
+    end.
+
+rested(W, 0) -> W;
+rested(W, Left) ->
+    case deliveries(W) ++ timeouts(W) of
+        [Event | _] -> rested(step(Event, W), Left - 1);
+        [] -> W
+    end.
+
+%% Everybody is in his room, as the gateway says, and nobody else is anywhere. While no gateway has seats for a room, its
+%% members wait.
+left_over(W = #world{store = Store, people = People, rooms = Rooms}) ->
     Members = [Id || {{lobby_members, Id}, _} <- maps:to_list(Store)],
     There = there(W),
-    Serving = map_size(W#world.loads) > 0,
-    [{missing, Members -- There} || Serving, Members -- There =/= [], has_seats(W)] ++ [{stray, There -- Members} || There -- Members =/= []]
+    Missing = [Id || Id <- Members -- There, has_seats(room(Id, W), W)],
+    Waiting = (Members -- There) -- Missing,
+    [{missing, Missing} || Missing =/= []] ++ [{stray, There -- Members} || There -- Members =/= []]
         ++ [{forgotten, Members -- maps:keys(People)} || Members -- maps:keys(People) =/= []]
-        ++ [{disagrees, R} || Serving, {R, Core} <- maps:to_list(Rooms), not lobby_room_core:agrees(Core), has_seats(W)]
-        ++ [{unanswered, Id} || Serving, {Id, Person} <- maps:to_list(People), not lobby_person:is_settled(Person), has_seats(W)].
+        ++ [{disagrees, R} || Waiting =:= [], {R, Core} <- maps:to_list(Rooms), not lobby_room_core:agrees(Core)]
+        ++ [{unanswered, Id} || Waiting =:= [], {Id, Person} <- maps:to_list(People), not lobby_person:is_settled(Person)].
+
+room(Id, #world{store = Store}) ->
+    #{{lobby_members, Id} := #{room := R}} = Store,
+    R.
 
 %% Those for whom gateways have something.
-there(#world{worlds = Worlds, oracles = Oracles}) ->
-    [Id || {G, World} <- maps:to_list(Worlds), World =/= ended,
-           {Id, _} <- maps:values(persons(oracle:content(maps:get(G, Oracles), World)))].
+there(W = #world{worlds = Worlds}) -> lists:append([there(G, W) || {G, World} <- maps:to_list(Worlds), World =/= ended]).
 
-has_seats(#world{loads = Loads, store = Store}) ->
-    length([1 || {{lobby_members, _}, _} <- maps:to_list(Store)]) =< lists:max([0 | [Max - 1 || {_, #{max_terminations := Max}} <- maps:values(Loads)]]).
+there(G, #world{worlds = Worlds, oracles = Oracles}) -> maps:values(persons(maps:get(G, Oracles), maps:get(G, Worlds))).
+
+%% Whether a gateway in service has seats for all members of a room.
+has_seats(R, W = #world{loads = Loads, store = Store}) ->
+    Members = [Id || {{lobby_members, Id}, #{room := In}} <- maps:to_list(Store), In =:= R],
+    lists:any(fun({G, {_, #{max_terminations := Max}}}) -> length(there(G, W) -- Members) + length(Members) < Max end,
+              [Load || Load = {G, _} <- maps:to_list(Loads), lists:member(G, running(W))]).
 
 %%% States that are alike.
 
 %% Times and numbers that only grow don't matter but for their order.
-canonical(#world{people = People, rooms = Rooms, gateways = Gateways, timers = Timers, store = Store, worlds = Worlds, late = Late,
-                 queues = Queues, phones = Phones, changes = Changes, faults = Faults, races = Races, asked = Asked, promised = Promised,
-                 now = Now}) ->
-    canonical:ranked({Now, People, Rooms, Gateways, Timers, Store, Worlds, Late, Queues, Phones, Changes, Faults, Races, Asked, Promised},
-                     1000000).
+canonical(#world{people = People, rooms = Rooms, gateways = Gateways, timers = Timers, store = Store, standby = Standby,
+                 worlds = Worlds, journals = Journals, late = Late, queues = Queues, calls = Calls, phones = Phones, changes = Changes,
+                 faults = Faults, races = Races, promises = Promises, unanswered = Unanswered, now = Now}, Known) ->
+    canonical:alike([{Now, Timers, Late, Worlds, Journals, Calls, Phones, Changes, Faults, Races, Promises, Unanswered}, Queues,
+                     Store, Standby | lists:append([maps:to_list(Processes) || Processes <- [People, Rooms, Gateways]])],
+                    1000000, Known).
 
 -spec format(world()) -> iodata().
-format(W = #world{people = People, phones = Phones, queues = Queues, promised = Promised, timers = Timers}) ->
-    io_lib:format("heard ~p~nphones ~p~npromised ~p~nqueues ~p~ntimers ~p~npeople ~p~n",
-                  [heard(W), Phones, Promised, Queues, Timers, [lobby_person:row(P) || P <- maps:values(People)]]).
+format(W = #world{people = People, phones = Phones, queues = Queues, promises = Promises, timers = Timers}) ->
+    io_lib:format("heard ~p~nphones ~p~npromises ~p~nqueues ~p~ntimers ~p~npeople ~p~n",
+                  [heard(W), Phones, Promises, Queues, Timers, [lobby_person:row(P) || P <- maps:values(People)]]).

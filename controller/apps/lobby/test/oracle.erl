@@ -7,7 +7,7 @@
 -module(oracle).
 -behaviour(gen_server).
 
--export([start/1, stop/1, new/1, run/3, restart/1, resume/2, flows/2, terminations/2, content/2]).
+-export([start/1, stop/1, new/1, run/3, restart/1, resume/2, flows/2, terminations/2, remotes/2, content/2]).
 -export([recheck/2, statistics/1]).
 -export([init/1, handle_call/3, handle_cast/2, handle_info/2, terminate/2]).
 -export_type([oracle/0, world/0, options/0, content/0]).
@@ -28,6 +28,8 @@
                      kept := #{pos_integer() => [binary()]}, last := {non_neg_integer(), non_neg_integer()}}.
 -type flows() :: ordsets:ordset({Talker :: pos_integer(), Listener :: pos_integer()}).
 -type termination() :: #{context := pos_integer(), port := pos_integer(), mode := atom(), hears := [pos_integer()]}.
+%% Where a termination sends to: an address and a port.
+-type remotes() :: #{pos_integer() => {Address :: binary(), Port :: binary()}}.
 
 -define(DEFAULTS, #{slots => 256, arguments => [], controller => {{127, 0, 0, 1}, 2945}, lost => 0, servers => 1,
                     processes => 60}).
@@ -96,7 +98,11 @@ resume({_, [Id | Past]}, Lost) -> resume({Id, Past}, Lost - 1).
 flows(#oracle{table = Table}, {Id, _}) -> ets:lookup_element(Table, {world, Id}, 4).
 
 -spec terminations(oracle(), world()) -> #{pos_integer() => termination()}.
-terminations(Oracle, World) -> maps:get(terminations, content(Oracle, World)).
+terminations(#oracle{table = Table}, {Id, _}) -> ets:lookup_element(Table, {world, Id}, 5).
+
+%% @doc Where terminations send to, as far as they have a Remote.
+-spec remotes(oracle(), world()) -> remotes().
+remotes(#oracle{table = Table}, {Id, _}) -> ets:lookup_element(Table, {world, Id}, 6).
 
 %% @doc All that decides what the gateway does next.
 -spec content(oracle(), world()) -> content().
@@ -113,8 +119,8 @@ statistics(#oracle{table = Table}) ->
     Counts = maps:from_list([hd(ets:lookup(Table, Counter)) || Counter <- [answers, started, lines]]),
     Counts#{worlds => ets:select_count(Table, [{{{content, '_'}, '_'}, [], [true]}])}.
 
-%%% The processes that have the gateways. In their table: {{world, Id}, Origin, Content, Flows}, {{content, Content},
-%%% Id}, {{step, Id, Datagram}, {Replies, Next}}, and counters.
+%%% The processes that have the gateways. In their table: {{world, Id}, Origin, Content, Flows, Terminations, Remotes},
+%%% {{content, Content}, Id}, {{step, Id, Datagram}, {Replies, Next}}, and counters.
 
 -spec init(map()) -> {ok, state()}.
 init(Options = #{slots := Slots, arguments := Arguments, controller := {Address, Port}, processes := Processes}) ->
@@ -174,7 +180,8 @@ interned(Origin, Content, Table) ->
         [{_, Id}] -> Id;
         [] ->
             Id = ets:update_counter(Table, ids, 1) - 1,
-            true = ets:insert(Table, {{world, Id}, Origin, Content, flows_of(Content)}),
+            #{terminations := Terminations, audit := Audit} = Content,
+            true = ets:insert(Table, {{world, Id}, Origin, Content, flows_of(Terminations), Terminations, remotes_of(Audit)}),
             case ets:insert_new(Table, {{content, Content}, Id}) of
                 true -> Id;
                 %% Another server was faster.
@@ -182,8 +189,15 @@ interned(Origin, Content, Table) ->
             end
     end.
 
-flows_of(#{terminations := Terminations}) ->
+flows_of(Terminations) ->
     lists:sort([{Talker, Listener} || {Listener, #{hears := Hears}} <- maps:to_list(Terminations), Talker <- Hears]).
+
+remotes_of(Audit) ->
+    Remote = <<"AuditValue=RTP/(\\d+)\\{(?:(?!AuditValue).)*?Remote\\{[^}]*?c=IN IP4 ([0-9.]+)[^}]*?m=audio (\\d+)">>,
+    maps:from_list([{binary_to_integer(T), {Address, Port}}
+                    || Text <- maps:values(Audit),
+                       {match, Found} <- [re:run(Text, Remote, [global, dotall, {capture, all_but_first, binary}])],
+                       [T, Address, Port] <- Found]).
 
 %% One that is in this world, or a new one and the script that leads there.
 gateway_in(Id, State0 = #state{running = Running, processes = Processes, table = Table}) ->

@@ -60,6 +60,12 @@ terminations_have_places_test_() ->
          ?_assertEqual(#{}, Ended)]
     end).
 
+remotes_are_known_test_() ->
+    with(fun(Oracle) ->
+        [?_assertEqual(#{}, oracle:remotes(Oracle, world([request(1, add(2))], Oracle))),
+         ?_assertEqual(maps:from_keys([1, 2], {<<"127.0.0.1">>, <<"4000">>}), oracle:remotes(Oracle, world(talking(), Oracle)))]
+    end).
+
 %% The same request isn't run twice, until its reply is acknowledged.
 a_copy_changes_nothing_test_() ->
     with(fun(Oracle) ->

@@ -3,7 +3,8 @@ gateways themselves answer is compared with what the rooms' rules say and with w
 hears. The trial keeps its own record of rules, roles, mutes and isolations. Only after a change that wasn't answered by 200,
 it reads them from the controller.
 
-usage: anything.py [MINUTES]
+usage: anything.py [MINUTES [SEED]]
+With the same seed, the same is tried in the same order, but it may meet other moments.
 """
 import random
 import signal
@@ -221,6 +222,9 @@ class World:
 def main():
     end_on_signals()
     minutes = float(sys.argv[1]) if len(sys.argv) > 1 else 60
+    seed = int(sys.argv[2]) if len(sys.argv) > 2 else random.randrange(1 << 32)
+    random.seed(seed)
+    print(f"seed {seed}", flush=True)
     with Door(gateways=2, journal=True, returns=1000) as door:
         world = World(door)
         end, times, shown, unsure = time.monotonic() + 60 * minutes, [], time.monotonic(), 0

@@ -100,21 +100,15 @@ amm(Tag, Name, Settings) ->
     command({Tag, #'AmmRequest'{terminationID = [term_id(Name)], descriptors = media_descriptor(Settings)}}).
 
 media_descriptor(Settings) ->
-    Stream = #'StreamParms'{localControlDescriptor = local_control(Settings),
-                            localDescriptor = local(Settings),
-                            remoteDescriptor = remote(Settings)},
+    Given = maps:map(fun descriptor/2, Settings),
+    Stream = #'StreamParms'{localControlDescriptor = maps:get(mode, Given, ?NONE),
+                            localDescriptor = maps:get(local, Given, ?NONE),
+                            remoteDescriptor = maps:get(remote, Given, ?NONE)},
     [{mediaDescriptor, #'MediaDescriptor'{streams = {oneStream, Stream}}}].
 
-local_control(#{mode := Mode}) -> #'LocalControlDescriptor'{streamMode = Mode};
-local_control(#{}) -> ?NONE.
-
-local(#{local := Format}) -> description("$", "$", Format);
-local(#{}) -> ?NONE.
-
-remote(#{remote := {{Address, Port}, Format}}) ->
-    description(inet:ntoa(Address), integer_to_list(Port), Format);
-remote(#{}) ->
-    ?NONE.
+descriptor(mode, Mode) -> #'LocalControlDescriptor'{streamMode = Mode};
+descriptor(local, Format) -> description("$", "$", Format);
+descriptor(remote, {{Address, Port}, Format}) -> description(inet:ntoa(Address), integer_to_list(Port), Format).
 
 description(Address, Port, Format) ->
     Lines = [{"v", "0"}, {"c", "IN IP4 " ++ Address}, {"m", "audio " ++ Port ++ " RTP/AVP " ++ payload_type(Format)}],

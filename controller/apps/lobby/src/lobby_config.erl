@@ -21,14 +21,15 @@
                  http := boolean()}.
 
 %% The kinds of values, with the default, by name.
--define(TOP, #{gateways => {gateways, required},
+-define(TOP, #{gateways => {{list, "a gateway", ?GATEWAY}, required},
                sip => {address, {{127, 0, 0, 1}, 5060}}, t1 => {{10, 5000}, 500}, min_se => {{1, 3600}, 90},
                callers => {networks, []}, proxies => {networks, []}, media => {networks, []},
                users => {users, #{}}, digest => {digest, [md5]},
                max_calls => {{1, 100000}, 1024}, max_calls_from => {share, quarter}, max_rooms_from => {share, quarter},
                messages_from => {{1, 100000}, 200}, new_calls_from => {{1, 100000}, 50},
                silent_after => {{1000, 3600000}, 30000}, room_audit => {{500, 600000}, 5000},
-               store => {store, memory}, pair => {part, none}, tls => {part, none}, roles => {roles, []},
+               store => {store, memory}, pair => {{part, "the pair", ?PAIR}, none}, tls => {{part, "tls", ?TLS}, none},
+               roles => {roles, []},
                http => {address, {{127, 0, 0, 1}, 8080}}, tokens => {tokens, []}}).
 -define(GATEWAY, #{name => {text, required}, address => {address, required}, here => {ip, {127, 0, 0, 1}},
                    retry => {{10, 5000}, 100}, tries => {{1, 20}, 4}, quiet => {{100, 60000}, 5000},
@@ -51,21 +52,12 @@ caught(Check) ->
 
 checked(Env) ->
     Config = values("the configuration", ?TOP, maps:from_list(Env)),
-    #{gateways := Gateways, pair := Pair, store := Store, tls := Tls} = Config,
-    _ = [wrong("a pair needs {store,disc}", []) || Pair =/= none, Store =:= memory],
-    shares(Config#{pair := pair(part("the pair", ?PAIR, Pair)), tls := part("tls", ?TLS, Tls),
-                   gateways := gateways([values("a gateway", ?GATEWAY, Gateway) || Gateway <- Gateways])}).
-
-part(_, _, none) -> none;
-part(What, Kinds, Values) -> values(What, Kinds, Values).
-
-pair(#{self := Node, peer := Node}) -> wrong("self and peer are both ~0p", [Node]);
-pair(Pair) -> Pair.
-
-gateways(Gateways) ->
+    #{gateways := Gateways, pair := Pair, store := Store} = Config,
     Names = [Name || #{name := Name} <- Gateways],
+    _ = [wrong("a pair needs {store,disc}", []) || Pair =/= none, Store =:= memory],
+    _ = [wrong("self and peer are both ~0p", [Node]) || #{self := Node, peer := Node} <- [Pair]],
     _ = [wrong("two gateways have the name ~0p", [Name]) || Name <- Names -- lists:usort(Names)],
-    Gateways.
+    shares(Config).
 
 %% @doc Sets the applications' environment to what a file says, if the application's is right: a list as in
 %% `sys.config', such as `[{lobby, [{gateways, [..]}]}].'
@@ -108,6 +100,10 @@ values(What, _, Other) ->
 
 value(What, Key, _, required) ->
     wrong("~s must have the key ~0p", [What, Key]);
+value(_, _, {part, What, Kinds}, Value) when is_map(Value) ->
+    values(What, Kinds, Value);
+value(_, _, {list, What, Kinds}, Values = [_ | _]) ->
+    [values(What, Kinds, Value) || Value <- Values];
 value(_, Key, Kind, Value) ->
     case is(Kind, Value) of
         true -> Value;
@@ -125,7 +121,8 @@ holds(Is, Value) ->
     try Is(Value) catch error:_ -> false end.
 
 %% What a value must be, in words and as a test.
-kind(gateways) -> {"a list of at least one gateway", fun([_ | _]) -> true end};
+kind({list, _, _}) -> {"a list of at least one gateway", fun(_) -> false end};
+kind({part, _, _}) -> {"a map or none", fun(Value) -> Value =:= none end};
 kind(tokens) ->
     {"a list of tokens such as {<<\"sixteen bytes or more\">>,operator} (or viewer)", all(fun is_token/1)};
 kind(roles) ->
@@ -135,7 +132,6 @@ kind(networks) -> {"a list of networks such as {{192,0,2,0},24}", all(fun is_net
 kind(users) ->
     {"a map from names to passwords, all of them non-empty binaries",
      fun(Users) -> lists:all(fun is_text/1, maps:keys(Users) ++ maps:values(Users)) end};
-kind(part) -> {"a map or none", fun(Value) -> Value =:= none orelse is_map(Value) end};
 kind(node) ->
     {"a node's name such as 'lobby@10.0.0.20'",
      fun(Node) -> re:run(atom_to_list(Node), "^[^@]+@[^@]+$", [dollar_endonly]) =/= nomatch end};

@@ -180,10 +180,8 @@ event({call, From}, hang_up, Call) ->
     Ended;
 event({call, From}, _, Call = #call{state = ending}) ->
     with([{reply, From, {error, no_member}}], Call);
-event({call, From}, {change, Change}, Call) ->
-    person({change, {asked, From}, Change}, Call);
-event({call, From}, {move, To}, Call) ->
-    person({move, {asked, From}, To}, Call);
+event({call, From}, {What, Wanted}, Call) when What =:= change; What =:= move ->
+    person({What, {asked, From}, Wanted}, Call);
 event({timeout, trying}, Request, Call = #call{source = Source}) ->
     reply(100, Request, Source, Call);
 event({timeout, let_in}, join, Call = #call{state = starting}) ->
@@ -283,7 +281,8 @@ start(Id, Room, Invite, Source) ->
         {_, {too_short, Headers}} -> refuse(422, Headers, Invite, Source);
         {Offer, _} ->
             Dialog = lobby_dialog:new(Invite, lobby_sip:own_tag(Invite)),
-            Call = heard(Offer, #call{id = Id, dialog = Dialog, source = Source, changing = Invite, state = starting}),
+            Call = #call{id = Id, dialog = Dialog, source = Source, changing = Invite, state = starting,
+                         session = case Offer of {ok, Session} -> Session; none -> none end},
             Key = lobby_dialog:key(Dialog),
             %% Before he joins, so that a process that takes over doesn't have him join twice.
             ok = lobby_store:put(lobby_calls, Key, #{invite => Invite, id => Id, room => Room, source => Source}),
@@ -343,9 +342,6 @@ allowed({ok, Session}, Source) ->
 allowed(Error, _) ->
     Error.
 
-heard({ok, Session}, Call) -> Call#call{session = Session};
-heard(none, Call) -> Call.
-
 described(#call{session = none}) -> {?NOWHERE, inactive};
 described(#call{session = Session}) -> {lobby_sdp:media(Session), lobby_sdp:direction(Session)}.
 
@@ -377,10 +373,8 @@ request(Method, Request, Source, Call) ->
 
 in_dialog(<<"CANCEL">>, Request, Call = #call{response = Last}) ->
     %% It comes too late: the INVITE has its answer.
-    case Last =/= none andalso lobby_dialog:is_same_transaction(Request, Last) of
-        true -> answer(200, {[], <<>>}, Request, Call);
-        false -> answer(481, {[], <<>>}, Request, Call)
-    end;
+    IsKnown = Last =/= none andalso lobby_dialog:is_same_transaction(Request, Last),
+    answer(case IsKnown of true -> 200; false -> 481 end, {[], <<>>}, Request, Call);
 in_dialog(Method, Request, Call = #call{dialog = Dialog, state = State, changing = Changing}) ->
     case {lobby_dialog:received(Request, Dialog), Method, State} of
         {old, _, _} -> answer(500, {[], <<>>}, Request, Call);

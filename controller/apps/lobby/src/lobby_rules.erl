@@ -27,7 +27,6 @@ hears(Listener, Talker, Rules) ->
     Matching = [Verdict || {Verdict, From, To} <- Rules, is_party(Talker, From), is_party(Listener, To)],
     Matching =:= [] orelse lists:last(Matching) =:= allow.
 
--spec is_party(member(), party()) -> boolean().
 is_party(_, everyone) -> true;
 is_party({_, Role}, {role, Wanted}) -> Role =:= Wanted;
 is_party({Id, _}, {member, Wanted}) -> Id =:= Wanted.

@@ -434,12 +434,12 @@ updated(Request, Call) ->
         <<>> -> {{[], <<>>}, Call};
         _ -> our_answer(Call)
     end,
-    {_, Updated = #call{local = Local, agreed = Agreed}} = ok(Request, Content, refreshed(Request, Described)),
+    {_, Updated = #call{local = Local, agreed = Agreed}} = send_ok(Request, Content, refreshed(Request, Described)),
     %% No ACK confirms this answer, so a new address also goes out in an INVITE.
     with([{{timeout, invite}, 0, invite} || Local =/= Agreed], keep(Updated)).
 
 %% A 200 to an INVITE or an UPDATE.
-ok(Request, {Headers, Body}, Call = #call{source = Source}) ->
+send_ok(Request, {Headers, Body}, Call = #call{source = Source}) ->
     Timer = session_timer(Request),
     Content = {[lobby_dialog:contact(own(Call)) | lobby_session_timer:answer(Timer)] ++ Headers, Body},
     Timed = Call#call{session_timer = Timer},
@@ -464,7 +464,7 @@ change(Session, More, Purpose, Call) ->
 accept(Request, Call = #call{local = Local, source = Source}) ->
     Offered = lobby_sip_message:body(Request) =:= <<>>,
     {Content, Described} = case Offered of true -> our_offer(Call); false -> our_answer(Call) end,
-    {Response, Accepted} = ok(Request, Content, Described),
+    {Response, Accepted} = send_ok(Request, Content, Described),
     Target = lobby_sip_message:response_target(Request, Source),
     with([repeat(Response, Target, t1()), give_up(), no_trying()],
          keep(Accepted#call{response = Response, offered = Offered, told = Local, state = confirming})).

@@ -19,17 +19,17 @@ start_link(Config) ->
 %% @doc A supervisor below the top, which is registered by this name.
 -spec start_link(Name :: atom(), children()) -> supervisor:startlink_ret().
 start_link(Name, Children) ->
-    lists:foreach(fun ended/1, [Name | before(Children)]),
+    lists:foreach(fun await_end/1, [Name | left_over(Children)]),
     supervisor:start_link({local, Name}, ?MODULE, Children).
 
 %% If a supervisor was killed, what it started ends a little later than it does.
-before({serving, _}) -> ?SERVING;
-before({gateways, _}) -> lobby_registry:processes(gateway);
-before({many, lobby_room}) -> lobby_registry:processes(room);
-before({many, lobby_call}) -> lobby_registry:processes(call);
-before(_) -> [].
+left_over({serving, _}) -> ?SERVING;
+left_over({gateways, _}) -> lobby_registry:processes(gateway);
+left_over({many, lobby_room}) -> lobby_registry:processes(room);
+left_over({many, lobby_call}) -> lobby_registry:processes(call);
+left_over(_) -> [].
 
-ended(Name) ->
+await_end(Name) ->
     Monitor = monitor(process, Name),
     receive {'DOWN', Monitor, process, _, _} -> ok end.
 

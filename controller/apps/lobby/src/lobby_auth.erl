@@ -79,15 +79,13 @@ is_proved(#{<<"username">> := User, <<"realm">> := <<"lobby">>, <<"nonce">> := N
             <<"qop">> := <<"auth">>, <<"nc">> := Count, <<"cnonce">> := Chosen, <<"response">> := Response} = Digest,
           Request = #sip{method = Method}, Users, #auth{algorithms = Algorithms}) when is_map_key(User, Users) ->
     Named = maps:get(<<"algorithm">>, Digest, <<"MD5">>),
-    case [Algorithm || Algorithm <- Algorithms, written(Algorithm) =:= Named] of
-        [Algorithm] ->
-            A1 = hash(Algorithm, [User, ":lobby:", maps:get(User, Users)]),
-            A2 = hash(Algorithm, [Method, ":", Uri]),
-            Right = hash(Algorithm, [A1, ":", Nonce, ":", Count, ":", Chosen, ":auth:", A2]),
-            byte_size(Response) =:= byte_size(Right) andalso crypto:hash_equals(Response, Right)
-                andalso is_same(Uri, Request);
-        [] -> false
-    end;
+    lists:any(fun(Algorithm) ->
+        A1 = hash(Algorithm, [User, ":lobby:", maps:get(User, Users)]),
+        A2 = hash(Algorithm, [Method, ":", Uri]),
+        Right = hash(Algorithm, [A1, ":", Nonce, ":", Count, ":", Chosen, ":auth:", A2]),
+        byte_size(Response) =:= byte_size(Right) andalso crypto:hash_equals(Response, Right)
+            andalso is_same(Uri, Request)
+    end, [Algorithm || Algorithm <- Algorithms, written(Algorithm) =:= Named]);
 is_proved(_, _, _, _) ->
     false.
 

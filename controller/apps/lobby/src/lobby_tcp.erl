@@ -37,7 +37,7 @@ in_call(Connection, Call) ->
 frame(Bytes) ->
     Buffer = begun(Bytes),
     case binary:match(Buffer, <<"\r\n\r\n">>, [{scope, {0, min(byte_size(Buffer), ?MAX_HEAD + 4)}}]) of
-        {At, 4} -> body(At + 4, content_length(binary:part(Buffer, 0, At)), byte_size(Buffer) - At - 4, Buffer);
+        {At, 4} -> message(At + 4 + content_length(binary:part(Buffer, 0, At)), Buffer);
         nomatch when byte_size(Buffer) >= ?MAX_HEAD + 4 -> {error, too_long};
         nomatch -> more
     end.
@@ -45,13 +45,11 @@ frame(Bytes) ->
 begun(<<"\r\n", Rest/binary>>) -> begun(Rest);
 begun(Buffer) -> Buffer.
 
-body(Head, Length, _, _) when Head + Length > ?MAX_MESSAGE ->
-    {error, too_long};
-body(Head, Length, Available, Buffer) when Length =< Available ->
-    <<Message:(Head + Length)/binary, Rest/binary>> = Buffer,
-    {ok, Message, Rest};
-body(_, _, _, _) ->
-    more.
+message(Length, _) when Length > ?MAX_MESSAGE -> {error, too_long};
+message(Length, Buffer) when Length > byte_size(Buffer) -> more;
+message(Length, Buffer) ->
+    <<Message:Length/binary, Rest/binary>> = Buffer,
+    {ok, Message, Rest}.
 
 content_length(Head) ->
     case re:run(Head, "\r\n(?:Content-Length|l)[ \t]*:[ \t]*([0-9]{1,9})[ \t]*(?:\r\n|$)",

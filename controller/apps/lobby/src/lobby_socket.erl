@@ -43,11 +43,7 @@ accept(Listener) -> ssl:transport_accept(Listener, ?ACCEPT).
 %% @doc What remains to be done over a connection that was accepted and given to this process.
 -spec secured(socket()) -> {ok, socket()} | {error, term()}.
 secured(Socket) when is_port(Socket) -> {ok, Socket};
-secured(Socket) ->
-    case ssl:handshake(Socket, ?HANDSHAKE) of
-        {ok, Secured, _} -> {ok, Secured};
-        Result -> Result
-    end.
+secured(Socket) -> ssl:handshake(Socket, ?HANDSHAKE).
 
 -spec give(socket(), pid()) -> ok | {error, term()}.
 give(Socket, Pid) -> (module(Socket)):controlling_process(Socket, Pid).

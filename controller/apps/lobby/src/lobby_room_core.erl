@@ -237,11 +237,12 @@ sent(Room = #room{busy = {Reference, Action, Ids, _}, gateway = Gateway}) ->
     acts([{request, Gateway, Reference, Action, Ids}, {retry, later}], Room);
 sent(Room = #room{busy = holdings, gateway = Gateway}) ->
     acts([{holdings, Gateway}, {retry, later}], Room);
-sent(Room = #room{conference = C}) ->
-    lists:foldl(fun asks/2, Room, lobby_conference:asked(C)).
+sent(Room) ->
+    ask(Room).
 
-asks(Row = #{from := From}, Room = #room{gateway = Gateway}) ->
-    act({ask, From, Row, Gateway}, Room).
+%% Asks other rooms to let go those who are wanted here.
+ask(Room = #room{conference = C, gateway = Gateway}) ->
+    acts([{ask, From, Row, Gateway} || Row = #{from := From} <- lobby_conference:asked(C)], Room).
 
 %%% What the gateway's answers mean.
 
@@ -268,9 +269,9 @@ answered(failed, _, Room) -> Room.
 
 %% Tells members who should be sending, but whose packet counts no longer rise, that they are silent.
 watched(Counts, Now, Room = #room{conference = C, packets = Before, silent_after = SilentAfter}) ->
-    Talkers = [{Id, T} || {#{id := Id, direction := sendrecv}, T} <- found(C)],
     Still = maps:map(fun(T, Count) -> still(Count, maps:get(T, Before, none), Now) end, Counts),
-    Silent = [{Id, T} || {Id, T} <- Talkers, #{T := {_, Since}} <- [Still], Now - Since >= SilentAfter],
+    Silent = [{Id, T} || {#{id := Id, direction := sendrecv}, T} <- found(C), #{T := {_, Since}} <- [Still],
+                         Now - Since >= SilentAfter],
     %% A gateway that came back so soon that nobody missed it counts from 0 again.
     Again = [T || {T, Count} <- maps:to_list(Counts), #{T := {More, _}} <- [Before], Count < More],
     %% They aren't told again until as much time has passed.
@@ -285,9 +286,7 @@ found(C) ->
 
 %%% What is to be done next.
 
-work(Room = #room{busy = Busy}) when Busy =/= none ->
-    Room;
-work(Room = #room{waits = true}) ->
+work(Room = #room{busy = Busy, waits = Waits}) when Busy =/= none; Waits ->
     Room;
 work(Room = #room{gateway = none, admits = Admits}) ->
     case ids(Room) of
@@ -332,11 +331,11 @@ added(_) -> [].
 
 settled(Room0 = #room{conference = C}) ->
     Room = audited(left(settled_phones(Room0))),
-    Reported = answer_asked(lists:foldl(fun report/2, Room, lobby_conference:persons(C))),
+    Reported = answer_asked(report(Room)),
     case {lobby_conference:asked(C), lobby_conference:missing(C)} of
         {[], []} -> Reported;
         {[], _} -> waits(Reported);
-        {Asked, _} -> act({retry, soon}, lists:foldl(fun asks/2, Reported, Asked))
+        {_, _} -> act({retry, soon}, ask(Reported))
     end.
 
 %% A phone that is received where it was before has nothing to learn.
@@ -344,18 +343,13 @@ settled_phones(Room = #room{conference = C, stale = Stale}) ->
     Room#room{stale = maps:filter(fun(Id, Before) -> lobby_conference:local(Id, C) =/= {ok, Before} end, Stale)}.
 
 %% A member is told of the version that the gateway has, and where it receives him.
-report(#{id := Id, version := Version}, Room = #room{conference = C}) ->
-    case lobby_conference:local(Id, C) of
-        none -> Room;
-        {ok, Local} -> reported(Id, Version, Local, Room)
-    end.
-
-reported(Id, Version, Local, Room = #room{reported = Reported, stale = Stale}) ->
-    Report = {holds, Version, Local, map_size(Stale) =:= 0},
-    case Reported of
-        #{Id := Report} -> Room;
-        #{} -> act({report, Id, Report}, Room#room{reported = Reported#{Id => Report}})
-    end.
+report(Room = #room{conference = C, reported = Reported, stale = Stale}) ->
+    Reports = [{Id, {holds, Version, Local, map_size(Stale) =:= 0}}
+               || #{id := Id, version := Version} <- lobby_conference:persons(C),
+                  {ok, Local} <- [lobby_conference:local(Id, C)]],
+    New = [{Id, Report} || {Id, Report} <- Reports, maps:get(Id, Reported, none) =/= Report],
+    acts([{report, Id, Report} || {Id, Report} <- New],
+         Room#room{reported = maps:merge(Reported, maps:from_list(New))}).
 
 answer_asked(Room = #room{asked = Asked, stale = Stale}) when map_size(Stale) =:= 0 ->
     acts([{reply, From, ok} || From <- Asked], Room#room{asked = []});

@@ -497,8 +497,8 @@ one_that_began_anew_between_two_runs(_) ->
     ok = application:stop(lobby),
     New = gateway:restart(G, ["--first-context", "500"]),
     run([{<<"a">>, New}]),
-    lobby_case:until(fun() -> all_held(<<"100">>) end),
-    ?assertEqual([{alice, carol}, {carol, alice}], heard(<<"100">>, #{<<"a">> => New})).
+    %% They are added inactive before the topology holds.
+    lobby_case:until(fun() -> all_held(<<"100">>) andalso heard(<<"100">>, #{<<"a">> => New}) =:= [{alice, carol}, {carol, alice}] end).
 
 processes_fail(_) ->
     G = gateway:start(),

@@ -122,8 +122,8 @@ BODIES = [
             "C#conference{doubts")],
           PROMISE + "a_large_room_is_closed_again"),
     Wrong("a lock lost at a restart", CORE,
-          [("settings = Settings, stale = Stale, saved = Kept}",
-            "settings = maps:remove(locked, Settings), stale = Stale, saved = Kept}")],
+          [("settings = Settings, stale = maps:merge(Arriving, Stale), saved = Kept}",
+            "settings = maps:remove(locked, Settings), stale = maps:merge(Arriving, Stale), saved = Kept}")],
           PROMISE + "a_lock_outlives_its_room"),
     Wrong("the lease isn't looked at", "lobby_lease_core",
           [("looked(#{lease := false}, _, #state{permit = serves}) ->\n"

@@ -508,7 +508,7 @@ bye(Call = #call{state = ending}) -> Call;
 bye(Call = #call{state = starting}) -> refuse(480, [], Call);
 bye(Call) -> send(<<"BYE">>, {[], <<>>}, ending, left(Call)).
 
-%% What is wanted for him ends before his call does, and is told no more.
+%% He leaves his room before his call ends. From then on, no room is told of him.
 left(Call = #call{person = none}) -> Call;
 left(Call) -> with([{{timeout, person}, infinity, none}], person(leave, Call)).
 

@@ -14,8 +14,8 @@
 %%%   reads them before it sends anything. A node of a pair waits until the gateway answers, and until the nodes agree
 %%%   again;
 %%% - if this process or another node had it before, its conferences go on. Requests are kept before they are sent, and
-%%%   repeated under their numbers until they are answered. Before that, no room is told what it has: so no request of
-%%%   an earlier owner is run after that.
+%%%   repeated under their numbers until they are answered. Only then are the rooms told what they have, so the gateway
+%%%   runs no request of an earlier owner after that.
 %%%
 %%% Each time that it was lost it has a new handle, so that nobody who missed its loss commands by its old names.
 -module(lobby_gateway_core).
@@ -59,7 +59,7 @@
                   %% Since when its host only says that nobody has the port, and since when it is awaited.
                   refused = none :: integer() | none, away = none :: integer() | none,
                   contexts = [] :: [place()], unknown = [] :: [lobby_transactions:sent()],
-                  %% Rooms that are told what they have as soon as none of their requests is open.
+                  %% Rooms that have asked what they have. They are told once all their requests are answered.
                   asking = [] :: [room()],
                   kept = none :: kept() | none, shown = none :: lobby_placement:load() | none, out = [] :: [action()]}).
 -opaque gateway() :: #gateway{}.
@@ -271,7 +271,7 @@ cleaned(G) -> G.
 submit(Kind, Action, Now, G = #gateway{transactions = T}) ->
     effects(lobby_transactions:submit(Kind, guarded(Kind, Action, G), Now, T), Now, G).
 
-%% A gateway that has begun anew runs nothing that was meant for the one before.
+%% If the gateway has begun anew, it refuses requests that were meant for what it was before.
 guarded({_, {room, _, _, _}}, Action, #gateway{sentinel = {Context, T, _}}) -> Action#{guard => {Context, T}};
 guarded({_, {clean, _}}, Action, #gateway{sentinel = {Context, T, _}}) -> Action#{guard => {Context, T}};
 guarded(_, Action, _) -> Action.

@@ -169,7 +169,7 @@ value(_, #state{role = standby}) -> ?STANDBY;
 value(Now, #state{reached = Since}) when Now - Since > ?UNREACHED -> ?USELESS;
 value(_, #state{role = {serving, Term}}) -> ?SERVING + Term rem ?TERMS.
 
-%% If answers wait for the end of a node that isn't there.
+%% The other node is away, and changes are answered only once it can no longer take over.
 ask(Now, State = #state{role = {serving, _}, peer = Peer, connected = Connected}) ->
     Away = case Peer of #peer{lost = Lost} -> Lost; _ -> not Connected end,
     Limit = limit(State),

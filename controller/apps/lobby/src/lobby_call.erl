@@ -125,11 +125,8 @@ init({Room, Invite, Source}) ->
     case lobby_store:get(lobby_calls, lobby_dialog:key(Invite)) of
         {ok, #{call := Call = #call{id = Id}}} ->
             yes = lobby_registry:register_name({member, Id}, self()),
-            %% He is asked whether he is still there, and told where the gateway receives him now.
-            Ask = {{timeout, ask}, rand:uniform(?SPREAD * lobby_store:size(lobby_calls)), invite},
             case lobby_member:find(Id) of
-                {ok, Row} ->
-                    {ok, talking, Call#call{person = lobby_person:restored(Row)}, [Ask, {next_event, internal, again}]};
+                {ok, Row} -> {ok, talking, Call#call{person = lobby_person:restored(Row)}, resumption(Call)};
                 error -> {ok, talking, Call, [{next_event, internal, bye}]}
             end;
         Kept ->
@@ -139,6 +136,13 @@ init({Room, Invite, Source}) ->
             end,
             {ok, starting, new, [{next_event, internal, {start, Id, Room, Invite, Source}}]}
     end.
+
+%% He is asked whether he is still there, and told where the gateway receives him now. Whoever waits for an answer has
+%% it after his change has been made.
+resumption(#call{changing = none}) ->
+    [{{timeout, ask}, rand:uniform(?SPREAD * lobby_store:size(lobby_calls)), invite}, {next_event, internal, again}];
+resumption(#call{changing = Request}) ->
+    [{next_event, internal, {resume, Request}}].
 
 -spec handle_event(gen_statem:event_type(), term(), state(), #call{} | new) -> gen_statem:event_handler_result(state()).
 handle_event(Type, Content, _, Call) ->
@@ -152,6 +156,8 @@ with(Actions, Call = #call{out = Out}) -> Call#call{out = Out ++ Actions}.
 
 event(internal, {start, Id, Room, Invite, Source}, new) ->
     start(Id, Room, Invite, Source);
+event(internal, {resume, Request}, Call = #call{session = Session}) ->
+    change(Session, #{}, {change, Request}, Call);
 event(_, again, Call) ->
     person(again, Call);
 event(_, What, Call) when What =:= invite; What =:= refresh ->

@@ -14,7 +14,7 @@ all() ->
      session_timers, who_is_silent_is_asked, what_the_gateway_drops_is_logged, requests_that_are_refused, limits, addresses_that_may_call, passwords, a_lost_gateway_is_replaced, who_moves_after_a_loss_is_awaited, who_invites_during_a_loss_is_not_awaited,
      sixty_callers_hear_each_other_again, our_invite_is_repeated_and_acknowledged, both_invite_at_once,
      who_vanished_is_removed, who_refuses_our_invite_is_hung_up, hung_up_and_moved, hung_up_during_a_change, who_is_hung_up_stays_away, addresses_of_ipv6, routes, a_call_that_starts_again_knows_its_place, a_call_that_fails_while_it_joins,
-     a_call_that_fails_again_and_again_ends, a_call_outlives_a_slow_supervisor, an_answer_that_comes_after_a_failure, processes_fail, the_node_fails, garbage,
+     a_call_that_fails_again_and_again_ends, a_call_outlives_a_slow_supervisor, an_answer_that_comes_after_a_failure, a_call_that_fails_during_a_change, processes_fail, the_node_fails, garbage,
      over_tcp, connections_are_limited, answers_are_quick, sipp, baresips].
 
 init_per_testcase(Case, Config) ->
@@ -695,6 +695,25 @@ an_answer_that_comes_after_a_failure(Config) ->
     phone:answer(200, Again, phone:sdp(Phone), Phone),
     ?assertEqual("2 ACK", phone:header("CSeq", next(["INVITE"], Phone))),
     hang_up(Phone).
+
+%% The change is answered, and so is the next one.
+a_call_that_fails_during_a_change(Config) ->
+    {Phone, _} = call(Config),
+    [Id] = members(<<"100">>),
+    Room = lobby_registry:whereis_name({room, <<"100">>}),
+    ok = sys:suspend(Room),
+    Phone1 = phone:invite(phone:sdp(Phone, "sendonly"), Phone),
+    lobby_case:until(fun() -> {ok, #{direction := Direction}} = lobby_member:find(Id), Direction =:= sendonly end),
+    Call = lobby_registry:whereis_name({member, Id}),
+    exit(Call, kill),
+    lobby_case:until(fun() -> not lists:member(lobby_registry:whereis_name({member, Id}), [undefined, Call]) end),
+    ok = sys:resume(Room),
+    Response = next([100], Phone1),
+    ?assertEqual({200, "2 INVITE"}, {phone:status(Response), phone:header("CSeq", Response)}),
+    phone:ack(Phone1),
+    {Phone2, _} = reinvite("sendrecv", Phone1),
+    ?assertEqual(['SendReceive'], modes(<<"100">>, Config)),
+    hang_up(Phone2).
 
 next_number(Number, Phone) ->
     Text = phone:recv(Phone),

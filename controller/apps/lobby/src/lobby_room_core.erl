@@ -100,7 +100,8 @@ event({start, none, Rows}, _, Room) ->
 event({start, Kept, Rows}, _, Room) ->
     #{rules := Rules, settings := Settings, gateway := Gateway, stale := Stale} = Kept,
     C = lobby_conference:set_rules(Rules, lobby_conference:new()),
-    %% The room that somebody comes from may have said where his phone still sends, and said it to the process before this.
+    %% The room that somebody comes from may have said where his phone still sends, and said it to the process before
+    %% this.
     Arriving = maps:from_list([{Id, unknown} || #{id := Id, from := From} <- Rows, From =/= none]),
     Known = Room#room{conference = C, settings = Settings, stale = maps:merge(Arriving, Stale), saved = Kept},
     Started = lists:foldl(fun wanted/2, Known, Rows),

@@ -100,7 +100,9 @@ holdings(Room, #seats{entries = Entries}) ->
 %% another context was moved by a node of which this one has heard nothing more, so no other room knows that it is here.
 -spec owners(room(), lobby_h248:context(), seats()) -> lobby_conference:owner().
 owners(Room, Context, #seats{entries = Entries}) ->
-    maps:map(fun(_, #{room := Of, context := In}) when Of =/= Room, In =:= Context -> other; (_, _) -> own end, Entries).
+    maps:map(fun(_, #{room := Of, context := In}) when Of =/= Room, In =:= Context -> other;
+                (_, _) -> own
+             end, Entries).
 
 %% @doc The rooms that use the gateway.
 -spec rooms(seats()) -> [room()].

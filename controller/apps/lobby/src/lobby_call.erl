@@ -100,7 +100,6 @@ restored(error) ->
 -spec set_aside(Key :: {binary(), binary()}) -> ok.
 set_aside(Key) ->
     logger:error("the call ~0p fails again and again. It is ended", [Key]),
-    ok = lobby_events:count(lobby_set_aside_total),
     Kept = [Kept || {ok, Kept} <- [lobby_store:get(lobby_calls, Key)]],
     lists:foreach(fun(Call = #call{dialog = Dialog}) ->
         {Bye, _} = lobby_dialog:request(<<"BYE">>, {[], <<>>}, own(Call), Dialog),

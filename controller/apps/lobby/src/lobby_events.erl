@@ -1,7 +1,7 @@
 %%% @doc What happens, for whoever watches: events as they happen, and counts of them.
 -module(lobby_events).
 
--export([subscribe/1, unsubscribe/1, publish/1, count/1, count/2, counts/0]).
+-export([subscribe/1, unsubscribe/1, publish/1, count/2, counts/0]).
 -export_type([event/0, counter/0, watcher/0]).
 
 %% `room': it has changed, or ended. `away': a gateway with a journal is awaited. `returned': it has all that it had.
@@ -44,11 +44,7 @@ flush() ->
 publish(Event) ->
     lists:foreach(fun(Pid) -> Pid ! {lobby_event, Event} end, pg:get_local_members(lobby, events)).
 
--spec count(counter()) -> ok.
-count(Counter) ->
-    count(Counter, none).
-
-%% @doc Counts something that happened to one gateway.
+%% @doc Counts something that happened, perhaps to one gateway.
 -spec count(counter(), lobby_gateway:name() | none) -> ok.
 count(Counter, Gateway) ->
     lobby_store:count({Counter, Gateway}).

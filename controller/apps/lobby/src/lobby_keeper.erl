@@ -95,6 +95,7 @@ ended(Name, _, State = #state{kind = Kind, failures = Failures}) ->
     Recent = [Now | [Time || Time <- maps:get(Name, Failures, []), Now - Time < ?PERIOD]],
     case length(Recent) of
         ?FAILURES ->
+            ok = lobby_events:count(lobby_set_aside_total, none),
             _ = spawn(fun() -> set_aside(Kind, Name) end),
             State#state{failures = maps:remove(Name, Failures)};
         N ->

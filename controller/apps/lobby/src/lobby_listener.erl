@@ -8,17 +8,16 @@
 -define(MAX_FROM, 64).
 -define(NEW_FROM, 64).
 
--type own() :: lobby_socket:address().
 -type limits() :: #{callers := [lobby_auth:network()], proxies := [lobby_auth:network()], _ => _}.
 -record(known, {limits :: limits(), buckets = lobby_buckets:new() :: lobby_buckets:buckets(),
                 %% Connections by process, for their addresses.
                 connections = #{} :: #{pid() => inet:ip4_address()}}).
 
--spec start_link(own(), lobby_socket:tls() | none, limits()) -> {ok, pid()} | {error, term()}.
+-spec start_link(lobby_socket:address(), lobby_socket:tls() | none, limits()) -> {ok, pid()} | {error, term()}.
 start_link(Own, Tls, Limits) ->
     proc_lib:start_link(?MODULE, listen, [Own, Tls, Limits]).
 
--spec listen(own(), lobby_socket:tls() | none, limits()) -> no_return().
+-spec listen(lobby_socket:address(), lobby_socket:tls() | none, limits()) -> no_return().
 listen(Own, Tls, Limits) ->
     case lobby_socket:opened(fun() -> lobby_socket:listen(Own, Tls) end) of
         {ok, Socket} -> proc_lib:init_ack({ok, self()}), accept(Socket, #known{limits = Limits});

@@ -147,7 +147,7 @@ do({admitted, Id, Result}, Name) -> tell(Id, {admitted, Result}, Name);
 do({report, Id, Report}, Name) -> tell(Id, {report, Report}, Name);
 do({silent, Id}, Name) -> tell(Id, silent, Name);
 do({reply, From, Reply}, _) -> lobby_member:answer(From, Reply);
-do({count, Counter}, _) -> lobby_events:count(Counter);
+do({count, Counter}, _) -> lobby_events:count(Counter, none);
 do(published, Name) -> lobby_events:publish({room, Name}).
 
 %% If a member's process is restarting, it asks as soon as it can.

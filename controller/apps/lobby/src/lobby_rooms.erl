@@ -92,7 +92,6 @@ start(Name) ->
 -spec set_aside(lobby_room:name()) -> ok.
 set_aside(Name) ->
     logger:error("room ~ts fails again and again. It is closed", [Name]),
-    ok = lobby_events:count(lobby_set_aside_total),
     _ = [lobby_gateway:cast(Gateway, {seats, Gateway, Name, []}) || {Gateway, _} <- lobby_gateway:serving()],
     ok = lobby_store:delete(lobby_rooms, Name),
     ok = lobby_member:hang_up_all(Name),

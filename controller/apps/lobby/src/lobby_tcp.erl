@@ -13,13 +13,12 @@
 -define(IDLE, 300000).
 -define(IN_CALL, 7200000).
 
--type peer() :: lobby_socket:address().
--record(state, {socket :: lobby_socket:socket(), peer :: peer(), buffer = <<>> :: binary(),
+-record(state, {socket :: lobby_socket:socket(), peer :: lobby_socket:address(), buffer = <<>> :: binary(),
                 %% Runs while a message has to come.
                 due :: reference() | none, calls = #{} :: #{pid() => reference()}}).
 
 %% @doc The socket has to be given to this process, and it has to be told so by `ready'.
--spec start_link(lobby_socket:socket(), peer()) -> gen_server:start_ret().
+-spec start_link(lobby_socket:socket(), lobby_socket:address()) -> gen_server:start_ret().
 start_link(Socket, Peer) ->
     gen_server:start_link(?MODULE, {Socket, Peer}, []).
 
@@ -58,7 +57,7 @@ content_length(Head) ->
         nomatch -> 0
     end.
 
--spec init({lobby_socket:socket(), peer()}) -> {ok, #state{}}.
+-spec init({lobby_socket:socket(), lobby_socket:address()}) -> {ok, #state{}}.
 init({Socket, Peer}) ->
     {ok, #state{socket = Socket, peer = Peer, due = erlang:start_timer(?MESSAGE, self(), due)}}.
 

@@ -57,7 +57,13 @@ class Listener(Phone):
 
 
 class Counted(Phones):
-    """A loop that lets listeners count."""
+    """A loop that lets listeners count. Of the quiet ones it reads only SIP: their calls have to be refreshed."""
+
+    def __init__(self, phones):
+        super().__init__(phones)
+        for phone in self.phones:
+            if isinstance(phone, Quiet):
+                self.poll.unregister(phone.rtp)
 
     def read(self, phone, one):
         if one is phone.sip or not isinstance(phone, Listener):
@@ -156,7 +162,7 @@ class Watch:
 
     def once(self):
         phone = Phone(self.door, "probe", 3000)
-        Phones.__init__(self.loop, [*self.loop.phones, phone])
+        self.loop.__init__([*self.loop.phones, phone])
         phone.call()
         self.loop.run(2, lambda: phone.state != "new")
         if phone.state == "talking":
@@ -166,7 +172,7 @@ class Watch:
         phone.hang_up()
         self.loop.run(2, lambda: phone.state == "ended")
         self.failed += phone.state != "ended"
-        Phones.__init__(self.loop, self.loop.phones[:-1])
+        self.loop.__init__(self.loop.phones[:-1])
         for one in (phone.sip, phone.rtp):
             one.close()
 
@@ -187,12 +193,7 @@ def main():
         loop = Counted(quiet + listeners)
         # Not faster than one address may.
         loop.call(0.025)
-        for phone in quiet:
-            loop.poll.unregister(phone.rtp)
         talking = [phone for phone in loop.phones if phone.state == "talking"]
-        loop.phones = listeners
-        loop.poll.close()
-        loop = Counted(listeners)
         watch = Watch(door, loop)
         for _ in range(20):
             watch.once()

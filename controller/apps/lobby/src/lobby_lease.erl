@@ -13,6 +13,8 @@
 -module(lobby_lease).
 -behaviour(gen_server).
 
+-include_lib("kernel/include/file.hrl").
+
 -export([start_link/2, hold/0, durable/0, settled_after/0]).
 -export([init/1, handle_call/3, handle_cast/2, handle_info/2]).
 -export_type([lease/0]).
@@ -140,8 +142,9 @@ seen(#state{peer = Peer, lease = Lease}) ->
 has({address, Address}) ->
     {ok, Interfaces} = inet:getifaddrs(),
     lists:any(fun({_, Options}) -> lists:member({addr, Address}, Options) end, Interfaces);
+%% Without the process that others read files by: they may keep it busy.
 has({file, File}) ->
-    filelib:is_regular(File).
+    case file:read_file_info(File, [raw]) of {ok, #file_info{type = regular}} -> true; _ -> false end.
 
 acted(Actions, State) ->
     lists:foreach(fun(Action) -> ok = act(Action, State) end, Actions),

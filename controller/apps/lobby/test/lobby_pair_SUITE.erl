@@ -15,7 +15,7 @@ all() ->
      both_end_and_begin, a_node_leaves_and_joins, without_the_other_node, what_the_standby_lacks_is_not_durable,
      what_the_standby_lacks_was_not_answered, a_change_waits_for_the_standby,
      a_standby_that_ended_costs_nothing, a_standby_that_hangs, a_standby_whose_process_is_started_again,
-     nobody_takes_over].
+     a_busy_file_server, nobody_takes_over].
 
 init_per_testcase(Case, Config) ->
     Folder = string:trim(os:cmd("mktemp -d")),
@@ -374,6 +374,16 @@ a_standby_whose_process_is_started_again(Config0) ->
     signal("KILL", A, Config),
     lease(b, Config),
     ended(B).
+
+%% Whoever looks at the lease waits for nobody who waits for others.
+a_busy_file_server(Config) ->
+    [{a, A} | _] = with_pids_first(Config),
+    settle(),
+    ok = peer:call(A, sys, suspend, [file_server_2]),
+    timer:sleep(500),
+    ok = peer:call(A, sys, resume, [file_server_2]),
+    ?assert(is_open(A)),
+    ?assert(serves(A)).
 
 %% The standby lacks nothing, but can't know that. It waits for the node that served.
 nobody_takes_over(Config0) ->

@@ -44,6 +44,16 @@ two_failures_for_a_newcomer_test_() ->
     searched(#{joined => [{bob, <<"1">>}], rooms => [<<"1">>], changes => {1, [join]},
                faults => {2, [kill_room, kill_person, kill_gateway, lose, late]}}).
 
+%% Her new room has another gateway, where she is added as somebody who talks already.
+two_failures_for_who_moves_far_test_() ->
+    searched(far({2, [kill_room, late]})).
+
+a_gateways_process_is_killed_when_somebody_moves_far_test_() ->
+    searched(far({2, [kill_gateway, late]})).
+
+far(Faults) ->
+    #{joined => ?APART, seats => #{a => 10, b => 10}, changes => {1, [{move, {ann, 1}, <<"2">>}]}, faults => Faults}.
+
 two_failures_in_a_room_test_() ->
     searched(#{rooms => [<<"1">>], changes => {1, [isolate, leave]}, faults => {2, [kill_room, kill_gateway, lose]}}).
 
@@ -80,6 +90,13 @@ calling_again_test_() ->
 a_gateway_resumes_test_() ->
     searched(#{journal => true, joined => ?APART, changes => {1, [move, isolate, leave]}, faults => {1, [lose_gateway]}}).
 
+a_gateway_resumes_with_a_newcomer_test_() ->
+    searched(#{journal => true, joined => [{bob, <<"1">>}], rooms => [<<"1">>], changes => {1, [join]},
+               faults => {1, [lose_gateway]}}).
+
+a_gateway_begins_anew_test_() ->
+    searched(#{joined => [], rooms => [<<"1">>], changes => {2, [join]}, faults => {1, [begin_anew]}}).
+
 %% With what the other node has, while datagrams may still come. After a cut, that is less and less.
 the_other_node_takes_over_test_() ->
     searched(#{pair => true, joined => ?APART, changes => {1, [move, isolate, leave]}, faults => {1, [take_over, cut]}}).
@@ -95,7 +112,7 @@ a_door_test_() ->
 
 rules_change_test_() ->
     searched(#{people => #{ann => <<"coach">>, bob => <<"customer">>}, rooms => [<<"1">>],
-               rulesets => [[], lobby_rules:preset(coaching)], changes => {2, [rules]}, faults => {1, [kill_room, lose]}}).
+               rulesets => [[], lobby_rules:preset(coaching)], changes => {2, [rules, isolate, release]}, faults => {1, [kill_room, lose]}}).
 
 rules_and_roles_change_test_() ->
     searched(#{people => #{ann => <<"agent">>, bob => <<"customer">>}, rooms => [<<"1">>],

@@ -15,11 +15,11 @@
 %% `people' with their roles, and the rooms where they may be, and where they have `joined' in the beginning. With a `door',
 %% others wait until they are let in. `rules' are each room's in the beginning, and `rulesets' are those that it may be
 %% given. `roles' are those that somebody may be given. `seats': of each gateway, with its own termination. `changes' and
-%% `faults': which kinds there are, and how many may happen. `races': how many messages may come before their turn.
+%% `faults': which kinds there are, or which changes, and how many may happen. `races': how many messages may come before their turn.
 %% `journal': gateways that end may come back. `pair': another node may take over.
 -type options() :: #{people := #{atom() => binary()}, rooms := [binary()], joined => [{atom(), binary()}], door => boolean(),
                      rules => [lobby_rules:rule()], rulesets => [[lobby_rules:rule()]], roles => [binary()],
-                     seats := #{atom() => pos_integer()}, changes := {non_neg_integer(), [atom()]},
+                     seats := #{atom() => pos_integer()}, changes := {non_neg_integer(), [atom() | tuple()]},
                      faults := {non_neg_integer(), [atom()]}, races => non_neg_integer(),
                      journal => boolean(), pair => boolean()}.
 
@@ -143,11 +143,13 @@ is_needed({gateway, G, transactions}, #world{worlds = Worlds, loads = Loads, tim
 is_needed({gateway, _, probe}, _) -> true;
 is_needed({gateway, _, clean}, _) -> true;
 is_needed({gateway, G, back}, #world{worlds = Worlds}) -> maps:get(G, Worlds) =:= ended;
-%% A gateway that ended or has begun anew is noticed by an audit.
-is_needed({gateway, G, audit}, #world{worlds = Worlds, oracles = Oracles}) ->
-    case Worlds of
-        #{G := ended} -> true;
-        #{G := World} -> map_size(oracle:terminations(maps:get(G, Oracles), World)) =:= 0
+%% A gateway that ended or has begun anew is noticed by an audit of the controller's own termination.
+is_needed({gateway, G, audit}, #world{worlds = Worlds, oracles = Oracles, store = Store}) ->
+    case {Worlds, Store} of
+        {#{G := ended}, _} -> true;
+        {#{G := World}, #{{lobby_gateways, G} := #{sentinel := {_, T, _}}}} ->
+            maps:get(T, oracle:remotes(maps:get(G, Oracles), World), none) =/= {<<"127.0.0.9">>, <<"9">>};
+        {_, _} -> false
     end;
 is_needed({room, R, retry}, #world{rooms = Rooms}) -> is_map_key(R, Rooms) andalso not lobby_room_core:agrees(maps:get(R, Rooms)).
 
@@ -164,7 +166,8 @@ changes(let_in, W) -> [{let_in, Id} || Id <- callers(W), promises:possible({wait
 changes(rules, #world{options = #{rooms := Rooms, rulesets := Sets}}) -> [{rules, R, Rules} || R <- Rooms, Rules <- Sets];
 changes(oneway, W) -> [{oneway, Talker, Listener} || Talker <- callers(W), Listener <- callers(W), Talker =/= Listener];
 changes(watch, #world{rooms = Rooms}) -> [{watch, R} || R <- lists:sort(maps:keys(Rooms))];
-changes(Kind, W) -> [{Kind, Id} || Id <- callers(W)].
+changes(Kind, W) when is_atom(Kind) -> [{Kind, Id} || Id <- callers(W)];
+changes(Change, W) -> [Change || lists:member(element(2, Change), callers(W))].
 
 callers(#world{people = People}) -> lists:sort(maps:keys(People)).
 

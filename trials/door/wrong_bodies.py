@@ -1,7 +1,8 @@
 #!/usr/bin/env python3
 """Plants wrong bodies in a copy of the controller, one at a time, and runs the test that has to notice each. Before
 that, each of these tests has to pass on the unchanged controller. Some need a machine that isn't busy: each is run up
-to three times until it passes, and has to fail twice on a wrong body.
+to three times until it passes, and has to fail twice on a wrong body. Of a search, it prints how deep it went before it
+found a broken promise, and how many states it had seen.
 
 usage: wrong_bodies.py [NAME..]
 Without names, all wrong bodies are planted. It exits with status 1 if one isn't noticed.
@@ -191,11 +192,25 @@ def rebar(copy, arguments):
                           stdout=subprocess.PIPE, stderr=subprocess.STDOUT, text=True)
 
 
-def passes(copy, test):
+def run(copy, test):
+    """Whether the test passes, and what it printed."""
     result = rebar(copy, command(test))
     if not re.search(r"[1-9]\d* tests?\b", result.stdout):
         sys.exit(f"{test} wasn't run:\n{result.stdout}")
-    return result.returncode == 0
+    return result.returncode == 0, result.stdout
+
+
+def passes(copy, test):
+    return run(copy, test)[0]
+
+
+def searched(printed):
+    """What a search that ended with a broken promise says of itself."""
+    found = re.search(r"(\d+) events: (\d+) states, \d+ steps, (\d+) ms\s+Ended by: broken", printed)
+    if not found:
+        return ""
+    events, states, milliseconds = (int(number) for number in found.groups())
+    return f"{events} events, {states:,} states, {milliseconds / 1000:.1f} s"
 
 
 def compile_all(copy, name):
@@ -205,7 +220,7 @@ def compile_all(copy, name):
 
 
 def plant(wrong, copy):
-    """Whether the test notices the wrong body."""
+    """Whether the test notices the wrong body, and what a search says."""
     path = copy / "apps" / "lobby" / "src" / f"{wrong.module}.erl"
     right = body = path.read_text()
     for old, new in wrong.edits:
@@ -215,7 +230,10 @@ def plant(wrong, copy):
     try:
         path.write_text(body)
         compile_all(copy, wrong.name)
-        return not any(passes(copy, wrong.test) for _ in range(2))
+        passed, printed = run(copy, wrong.test)
+        #  A search finds the same each time.
+        noticed = not passed and (wrong.test.startswith(SEARCH) or not passes(copy, wrong.test))
+        return noticed, searched(printed)
     finally:
         path.write_text(right)
 
@@ -232,12 +250,12 @@ def main():
         for test in sorted({wrong.test for wrong in bodies}):
             if not any(passes(copy, test) for _ in range(3)):
                 sys.exit(f"without a wrong body, {test} fails")
-        print("| wrong body | noticed by |\n|---|---|", flush=True)
+        print("| wrong body | noticed by | |\n|---|---|---|", flush=True)
         missed = 0
         for wrong in bodies:
-            noticed = plant(wrong, copy)
+            noticed, found = plant(wrong, copy)
             missed += not noticed
-            print(f"| {wrong.name} | {'`' + wrong.test + '`' if noticed else 'NOBODY: ' + wrong.test} |", flush=True)
+            print(f"| {wrong.name} | {'`' + wrong.test + '`' if noticed else 'NOBODY: ' + wrong.test} | {found} |", flush=True)
     sys.exit(1 if missed else 0)
 
 

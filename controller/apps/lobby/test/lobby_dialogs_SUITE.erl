@@ -9,7 +9,8 @@
 
 all() ->
     [a_merged_request, a_cancel_of_another_branch, an_old_bye, a_refused_invite_ends_no_call, a_refusal_has_a_reason, a_foreign_address,
-     nothing_is_sent_before_the_ack, an_answer_at_once, timers_for_who_does_not_know_them].
+     nothing_is_sent_before_the_ack, an_answer_at_once, a_cancel_while_he_waits, an_invite_while_one_waits,
+     timers_for_who_does_not_know_them].
 
 init_per_testcase(Case, Config) -> 
     ok = application:load(lobby),
@@ -119,6 +120,35 @@ an_answer_at_once(Config) ->
     ?assertEqual(nomatch, re:run(phone:header("To", Answer), "tag=")),
     ok = sys:resume(lobby_registry:whereis_name({room, <<"100">>})),
     ?assertEqual(200, phone:status(phone:recv(Phone))).
+
+%% Section 9.2. His room doesn't answer, and has nobody more once it does.
+a_cancel_while_he_waits(Config) ->
+    _ = call(Config),
+    Room = lobby_registry:whereis_name({room, <<"100">>}),
+    ok = sys:suspend(Room),
+    Phone = phone:start(sip(Config)),
+    send("INVITE", "one", Phone),
+    ?assertEqual(100, phone:status(phone:received(Phone, 1000))),
+    send("CANCEL", "one", Phone),
+    ?assertEqual([200, 487], lists:sort([phone:status(phone:received(Phone, 1000)) || _ <- [answer, refusal]])),
+    ok = sys:resume(Room),
+    ?assertEqual(1, length(lobby_store:all(lobby_calls))),
+    lobby_case:until(fun() -> #{members := Members} = people:describe(<<"100">>), map_size(Members) =:= 1 end).
+
+%% Section 14.2. Nor does a BYE wait for the room.
+an_invite_while_one_waits(Config) ->
+    Phone = call(Config),
+    Room = lobby_registry:whereis_name({room, <<"100">>}),
+    ok = sys:suspend(Room),
+    P1 = phone:invite(phone:sdp(Phone, "inactive"), Phone),
+    ?assertEqual(100, phone:status(phone:received(P1, 1000))),
+    P2 = phone:invite(phone:sdp(P1), P1),
+    Refusal = phone:received(P2, 1000),
+    ?assertEqual({500, "1"}, {phone:status(Refusal), phone:header("Retry-After", Refusal)}),
+    _ = phone:request("BYE", "", P2),
+    ?assertEqual(200, phone:status(phone:received(P2, 1000))),
+    ok = sys:resume(Room),
+    lobby_case:until(fun() -> lobby_rooms:names() =:= [] end).
 
 %% RFC 4028, section 9: a proxy asked for it.
 timers_for_who_does_not_know_them(Config) ->

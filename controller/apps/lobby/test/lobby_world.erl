@@ -15,19 +15,21 @@
 %% `people' with their roles, and the rooms where they may be, and where they have `joined' in the beginning. With a `door',
 %% others wait until they are let in. `rules' are each room's in the beginning, and `rulesets' are those that it may be
 %% given. `roles' are those that somebody may be given. `seats': of each gateway, with its own termination. `changes' and
-%% `faults': which kinds there are, or which changes, and how many may happen. `races': how many messages may come before their turn.
-%% `journal': gateways that end may come back. `pair': another node may take over.
+%% `faults': which kinds there are, or which changes, and how many may happen. `races': how many messages may come before
+%% their turn. `journal': gateways that end may come back. `pair': another node may take over.
 -type options() :: #{people := #{atom() => binary()}, rooms := [binary()], joined => [{atom(), binary()}], door => boolean(),
                      rules => [lobby_rules:rule()], rulesets => [[lobby_rules:rule()]], roles => [binary()],
                      seats := #{atom() => pos_integer()}, changes := {non_neg_integer(), [atom() | tuple()]},
                      faults := {non_neg_integer(), [atom()]}, races => non_neg_integer(),
                      journal => boolean(), pair => boolean()}.
 
--record(world, {options :: options(), oracles :: #{atom() => oracle:oracle()}, now = 1000000 :: integer(), run = 1 :: pos_integer(),
+-record(world, {options :: options(), oracles :: #{atom() => oracle:oracle()},
+                now = 1000000 :: integer(), run = 1 :: pos_integer(),
                 %% Processes. A person without one hasn't called, or has hung up.
                 people = #{} :: #{id() => lobby_person:person()}, rooms = #{} :: #{binary() => lobby_room_core:room()},
                 gateways = #{} :: #{atom() => lobby_gateway_core:gateway()},
-                timers = #{} :: #{{room | gateway | node, term(), atom()} => integer()}, loads = #{} :: #{atom() => {term(), map()}},
+                timers = #{} :: #{{room | gateway | node, term(), atom()} => integer()},
+                loads = #{} :: #{atom() => {term(), map()}},
                 %% Tables: {Table, Key} => Value.
                 store = #{} :: #{{atom(), term()} => term()},
                 %% What the other node of a pair has, and who had called by then. `none' can't take over.
@@ -39,7 +41,8 @@
                 %% Between processes (and `net'), in order.
                 queues = #{} :: #{{From :: term(), To :: term()} => [term()]},
                 %% How often each has called. Where the phones send to.
-                calls = #{} :: #{atom() => pos_integer()}, phones = #{} :: #{id() => {atom(), lobby_h248:endpoint()} | gone},
+                calls = #{} :: #{atom() => pos_integer()},
+                phones = #{} :: #{id() => {atom(), lobby_h248:endpoint()} | gone},
                 changes = 0 :: non_neg_integer(), faults = 0 :: non_neg_integer(), races = 0 :: non_neg_integer(),
                 %% What was asked for, and which answers wait until the other node can't take over without it.
                 promises = promises:new() :: promises:promises(), unanswered = [] :: [asked()]}).
@@ -81,8 +84,9 @@ port(Call) -> 40000 + 2 * Call.
 person(Host, Port) -> {lists:nth(Host, [ann, bob, cay, dan]), (Port - 40000) div 2}.
 
 config(G, Options = #{seats := Seats}) ->
-    #{name => G, address => {address(G), 2944}, here => {127, 0, 0, 1}, retry => 100, tries => 4, quiet => ?QUIET, audit => 250,
-      returns => case Options of #{journal := true} -> 10000; _ -> 0 end, terminations => maps:get(G, Seats), contexts => 64}.
+    #{name => G, address => {address(G), 2944}, here => {127, 0, 0, 1}, retry => 100, tries => 4, quiet => ?QUIET,
+      audit => 250, returns => case Options of #{journal := true} -> 10000; _ -> 0 end,
+      terminations => maps:get(G, Seats), contexts => 64}.
 
 %% A node of a pair waits before its gateways serve.
 serving(World0) ->
@@ -128,7 +132,8 @@ deliveries(#world{queues = Queues}) -> [{deliver, From, To} || {From, To} <- lis
 
 %% Timers that run out next, but for those that begin again for ever.
 timeouts(World = #world{timers = Timers, people = People}) ->
-    Needed = [{timer, Key} || {_, Key} <- lists:sort([{Due, Key} || {Key, Due} <- maps:to_list(Timers)]), is_needed(Key, World)],
+    Sorted = lists:sort([{Due, Key} || {Key, Due} <- maps:to_list(Timers)]),
+    Needed = [{timer, Key} || {_, Key} <- Sorted, is_needed(Key, World)],
     Again = [{again, Id} || {Id, Person} <- lists:sort(maps:to_list(People)), not lobby_person:is_settled(Person)],
     Looks = [{look, G} || G <- lists:sort(maps:keys(World#world.gateways)), orphans(G, World) =/= []],
     lists:sublist(Needed ++ Again ++ Looks, 1).
@@ -151,7 +156,8 @@ is_needed({gateway, G, audit}, #world{worlds = Worlds, oracles = Oracles, store 
             maps:get(T, oracle:remotes(maps:get(G, Oracles), World), none) =/= {<<"127.0.0.9">>, <<"9">>};
         {_, _} -> false
     end;
-is_needed({room, R, retry}, #world{rooms = Rooms}) -> is_map_key(R, Rooms) andalso not lobby_room_core:agrees(maps:get(R, Rooms)).
+is_needed({room, R, retry}, #world{rooms = Rooms}) ->
+    is_map_key(R, Rooms) andalso not lobby_room_core:agrees(maps:get(R, Rooms)).
 
 changes(#world{changes = 0}) -> [];
 changes(W = #world{options = #{changes := {_, Kinds}}}) ->
@@ -188,7 +194,8 @@ faults(cut, #world{standby = Standby}) -> [cut || Standby =:= copied].
 
 running(#world{worlds = Worlds}) -> [G || {G, World} <- lists:sort(maps:to_list(Worlds)), World =/= ended].
 
-datagrams(#world{queues = Queues}) -> [Key || Key = {From, To} <- lists:sort(maps:keys(Queues)), is_net(From) orelse is_net(To)].
+datagrams(#world{queues = Queues}) ->
+    [Key || Key = {From, To} <- lists:sort(maps:keys(Queues)), is_net(From) orelse is_net(To)].
 
 is_net({net, _}) -> true;
 is_net(_) -> false.
@@ -201,7 +208,8 @@ step({race, Delivery}, W = #world{races = N}) ->
     step(Delivery, W#world{races = N - 1});
 step({timer, Key}, W = #world{timers = Timers, now = Now, late = Late}) ->
     {Due, Rest} = maps:take(Key, Timers),
-    ran_out(Key, W#world{timers = Rest, now = max(Now, Due), late = [Datagram || Datagram = {_, _, Until} <- Late, Until > Due]});
+    Still = [Datagram || Datagram = {_, _, Until} <- Late, Until > Due],
+    ran_out(Key, W#world{timers = Rest, now = max(Now, Due), late = Still});
 step({look, G}, W) -> handled({gateway, G}, {orphans, orphans(G, W)}, W);
 step({again, Id}, W) -> handled({person, Id}, again, W);
 step({change, Change}, W = #world{changes = N}) -> change(Change, W#world{changes = N - 1});
@@ -222,15 +230,14 @@ ran_out({node, pair, alone}, W = #world{unanswered = Unanswered}) ->
 
 %%% What people do.
 
-change({join, Id = {Name, Call}, Room}, W = #world{options = Options = #{people := Roles}, people = People, calls = Calls, promises = P}) ->
+change({join, Id = {Name, Call}, Room}, W = #world{options = Options = #{people := Roles}, people = People}) ->
     Door = maps:get(door, Options, false),
     Role = case Door of true -> <<"member">>; false -> maps:get(Name, Roles) end,
     Row = lobby_member:new(Id, #{room => Room, role => Role, media => remote(Id), direction => sendrecv, waiting => Door,
                                  identity => atom_to_binary(Name), acknowledged => false}),
     Given = [{isolated, false}, {muted, false}, {waiting, Door}, {unasked, true}, {role, Role}, {room, Room}],
     handled({person, Id}, {join, {joins, Id}},
-            W#world{people = People#{Id => lobby_person:new(Row)}, calls = Calls#{Name => Call},
-                    promises = lists:foldl(fun({Kind, Value}, Acc) -> promises:given({Kind, Id}, Value, Acc) end, P, Given)});
+            given(Given, Id, W#world{people = People#{Id => lobby_person:new(Row)}, calls = (W#world.calls)#{Name => Call}}));
 %% Whoever moves somebody lets him in.
 change({move, Id, Room}, W) ->
     {Tag, Asked} = asked([{{room, Id}, Room} || is_pair(W#world.options)], W),
@@ -266,13 +273,17 @@ ruled(R, How, Rules, W = #world{changes = N, promises = P}) ->
     tell_room(R, {rules, [{Key, N}], How, Rules, #{}}, http, W#world{promises = promises:asked(Key, N, Change, P)}).
 
 asked(Values, W = #world{changes = N, promises = P}) ->
-    {[{Key, N} || {Key, _} <- Values],
-     W#world{promises = lists:foldl(fun({Key, Value}, Acc) -> promises:asked(Key, N, fun(_) -> Value end, Acc) end, P, Values)}}.
+    Asked = fun({Key, Value}, Acc) -> promises:asked(Key, N, fun(_) -> Value end, Acc) end,
+    {[{Key, N} || {Key, _} <- Values], W#world{promises = lists:foldl(Asked, P, Values)}}.
+
+given(Values, Id, W = #world{promises = P}) ->
+    W#world{promises = lists:foldl(fun({Kind, Value}, Acc) -> promises:given({Kind, Id}, Value, Acc) end, P, Values)}.
 
 answered({Key, Number}, W = #world{promises = P}) -> W#world{promises = promises:answered(Key, Number, P)}.
 
 %% In a pair, the other node has what is answered, or it can't take over any more.
-answered_to(Asked, W = #world{standby = {behind, _, _}, unanswered = Unanswered}) -> W#world{unanswered = Unanswered ++ Asked};
+answered_to(Asked, W = #world{standby = {behind, _, _}, unanswered = Unanswered}) ->
+    W#world{unanswered = Unanswered ++ Asked};
 answered_to(Asked, W) -> lists:foldl(fun answered/2, W, Asked).
 
 left(Id, W) ->
@@ -297,7 +308,8 @@ fault({kill, Process}, W) ->
     started(Process, W#world{queues = to_nobody(Process, W)});
 fault({'end', G}, W = #world{options = Options, worlds = Worlds, journals = Journals, queues = Queues}) ->
     #{G := World} = Worlds,
-    W#world{worlds = Worlds#{G := ended}, queues = maps:without([{{gateway, G}, {net, G}}, {{net, G}, {gateway, G}}], Queues),
+    W#world{worlds = Worlds#{G := ended},
+            queues = maps:without([{{gateway, G}, {net, G}}, {{net, G}, {gateway, G}}], Queues),
             journals = case Options of #{journal := true} -> Journals#{G => World}; _ -> Journals end};
 fault({anew, G}, W = #world{worlds = Worlds, oracles = Oracles}) ->
     W#world{worlds = Worlds#{G := oracle:new(maps:get(G, Oracles))}};
@@ -327,7 +339,9 @@ started({person, Id}, W = #world{people = People, store = Store}) ->
         #{{lobby_members, Id} := Row} ->
             invited(Id, handled({person, Id}, again, W#world{people = People#{Id := lobby_person:restored(Row)}}));
         %% He wasn't in a room yet: he asks again.
-        #{} -> handled({person, Id}, {join, {joins, Id}}, W#world{people = People#{Id := lobby_person:new(lobby_person:row(maps:get(Id, People)))}})
+        #{} ->
+            #{Id := Person} = People,
+            handled({person, Id}, {join, {joins, Id}}, W#world{people = People#{Id := lobby_person:new(lobby_person:row(Person))}})
     end;
 started({room, R}, W = #world{rooms = Rooms, store = Store, run = Run}) ->
     Core = lobby_room_core:new(#{name => R, run => Run}),
@@ -342,7 +356,8 @@ started({gateway, G}, W = #world{gateways = Gateways, store = Store, options = O
         entries => [{T, Entry} || {{lobby_terminations, {In, T}}, Entry} <- lists:sort(maps:to_list(Store)), In =:= G],
         requests => [Request || {{lobby_requests, {In, _}}, Request} <- lists:sort(maps:to_list(Store)), In =:= G]}),
     Timers = maps:filter(fun({Kind, Name, _}, _) -> {Kind, Name} =/= {gateway, G} end, W#world.timers),
-    handled({gateway, G}, start, W#world{gateways = Gateways#{G => Core}, run = Run + 1, timers = Timers, loads = maps:remove(G, W#world.loads)}).
+    handled({gateway, G}, start, W#world{gateways = Gateways#{G => Core}, run = Run + 1, timers = Timers,
+                                         loads = maps:remove(G, W#world.loads)}).
 
 %%% What processes receive.
 
@@ -362,7 +377,8 @@ run(G, Datagram, W = #world{worlds = Worlds, oracles = Oracles}) ->
         #{G := ended} -> W;
         #{G := World} ->
             {Replies, Next} = oracle:run(maps:get(G, Oracles), World, Datagram),
-            lists:foldl(fun(Reply, Acc) -> send({net, G}, {gateway, G}, Reply, Acc) end, W#world{worlds = Worlds#{G := Next}}, Replies)
+            lists:foldl(fun(Reply, Acc) -> send({net, G}, {gateway, G}, Reply, Acc) end,
+                        W#world{worlds = Worlds#{G := Next}}, Replies)
     end.
 
 send(From, To, Message, W = #world{queues = Queues}) ->
@@ -383,8 +399,9 @@ invited(Id, Room, Local, W = #world{phones = Phones, people = People}) ->
         {#{Id := gone}, #{Id := _}} -> send({phone, Id}, {person, Id}, hung_up, W);
         {#{Id := gone}, #{}} -> W;
         {#{}, _} ->
-            Agreed = tell_room(Room, {confirmed, Id, Local}, {phone, Id}, W#world{phones = Phones#{Id => target(Local, W)}}),
-            lists:foldl(fun(Person, Acc) -> asks(lobby_person:row(Person), Acc) end, Agreed, maps:values(maps:with([Id], People)))
+            Told = W#world{phones = Phones#{Id => target(Local, W)}},
+            lists:foldl(fun(Person, Acc) -> asks(lobby_person:row(Person), Acc) end,
+                        tell_room(Room, {confirmed, Id, Local}, {phone, Id}, Told), maps:values(maps:with([Id], People)))
     end.
 
 asks(#{acknowledged := true}, W) -> W;
@@ -453,14 +470,17 @@ tell_room(R, Event, From, W = #world{rooms = Rooms, store = Store, options = Opt
         true when is_map_key(R, Rooms) -> send(From, {room, R}, Event, W);
         true when is_map_key({lobby_rooms, R}, Store) -> send(From, {room, R}, Event, started({room, R}, W));
         %% A room has its first rules from the beginning.
-        true -> send(From, {room, R}, Event, handled({room, R}, {rules, [], set, rules(Options), #{kept => true}}, started({room, R}, W)));
+        true ->
+            Rules = {rules, [], set, rules(Options), #{kept => true}},
+            send(From, {room, R}, Event, handled({room, R}, Rules, started({room, R}, W)));
         false -> W
     end.
 
 room_acts(_, [], W) -> W;
 room_acts(R, [stop | Rest], W) ->
     Stopped = #world{rooms = Rooms, timers = Timers} = room_acts(R, Rest, delete({lobby_rooms, R}, W)),
-    Stopped#world{rooms = maps:remove(R, Rooms), timers = maps:remove({room, R, retry}, Timers), queues = to_nobody({room, R}, Stopped)};
+    Stopped#world{rooms = maps:remove(R, Rooms), timers = maps:remove({room, R, retry}, Timers),
+                  queues = to_nobody({room, R}, Stopped)};
 room_acts(R, [{place, Ids, Prefer, Except} | Rest], W = #world{loads = Loads}) ->
     Others = [{Handle, Load} || {Handle, Load} <- lists:sort(maps:values(Loads)), Handle =/= Except],
     {Handle, Placed} = first(R, Ids, lobby_placement:ranked(length(Ids), Prefer, Others), W),
@@ -483,7 +503,8 @@ reserve(Handle = {G, _}, R, Ids, W) ->
     {maps:get(reply, Store), delete(reply, Reserved)}.
 
 room_act(R, {save, Kept}, W) -> put_in({lobby_rooms, R}, Kept, W);
-room_act(R, {request, H = {G, _}, Reference, Action, Ids}, W) -> send({room, R}, {gateway, G}, {request, H, R, Reference, Action, Ids}, W);
+room_act(R, {request, H = {G, _}, Reference, Action, Ids}, W) ->
+    send({room, R}, {gateway, G}, {request, H, R, Reference, Action, Ids}, W);
 room_act(R, {holdings, H = {G, _}}, W) -> send({room, R}, {gateway, G}, {holdings, H, R}, W);
 room_act(R, {seats, H = {G, _}, Ids}, W) -> send({room, R}, {gateway, G}, {seats, H, R, Ids}, W);
 room_act(R, {release, H = {G, _}, T, To}, W) -> send({room, R}, {gateway, G}, {release, H, T, To}, W);
@@ -497,7 +518,7 @@ room_act(R, {left, To, Id, Moved, Given}, W) -> tell_room(To, {left, Id, Moved, 
 room_act(R, {admitted, Id, Result}, W) -> tell_person(Id, {admitted, R, Result}, R, W);
 room_act(R, {report, Id, Report}, W) -> tell_person(Id, {report, R, Report}, R, W);
 room_act(_, {reply, Asked, ok}, W) -> answered_to(Asked, W);
-room_act(R, {retry, _}, W = #world{timers = Timers, now = Now}) -> W#world{timers = Timers#{{room, R, retry} => Now + 250}};
+room_act(R, {retry, _}, W = #world{now = Now}) -> timed({room, R, retry}, Now + 250, W);
 room_act(_, _, W) -> W.
 
 tell_person(Id, Event, R, W = #world{people = People}) ->
@@ -515,15 +536,17 @@ gateway_acts(G, {entry, {delete, T}}, W) -> delete({lobby_terminations, {G, T}},
 gateway_acts(G, {tell, R, Message}, W = #world{rooms = Rooms}) ->
     case is_map_key(R, Rooms) of true -> send({gateway, G}, {room, R}, Message, W); false -> W end;
 gateway_acts(_, {reply, reserve, Reply}, W) -> put_in(reply, Reply, W);
-gateway_acts(G, {timer, Timer, infinity}, W = #world{timers = Timers}) -> W#world{timers = maps:remove({gateway, G, Timer}, Timers)};
+gateway_acts(G, {timer, Timer, infinity}, W) -> timed({gateway, G, Timer}, infinity, W);
 gateway_acts(G, {timer, Timer, 0}, W) -> ran_out({gateway, G, Timer}, W);
-gateway_acts(G, {timer, Timer, Time}, W = #world{timers = Timers, now = Now}) -> W#world{timers = Timers#{{gateway, G, Timer} => Now + Time}};
-gateway_acts(G, {deadline, infinity}, W = #world{timers = Timers}) -> W#world{timers = maps:remove({gateway, G, transactions}, Timers)};
-gateway_acts(G, {deadline, Time}, W = #world{timers = Timers}) -> W#world{timers = Timers#{{gateway, G, transactions} => Time}};
+gateway_acts(G, {timer, Timer, Time}, W = #world{now = Now}) -> timed({gateway, G, Timer}, Now + Time, W);
+gateway_acts(G, {deadline, Time}, W) -> timed({gateway, G, transactions}, Time, W);
 gateway_acts(G, {load, none}, W = #world{loads = Loads}) -> W#world{loads = maps:remove(G, Loads)};
 gateway_acts(G, {load, Load}, W = #world{loads = Loads, gateways = Gateways}) ->
     W#world{loads = Loads#{G => {lobby_gateway_core:handle_of(maps:get(G, Gateways)), Load}}};
 gateway_acts(_, _, W) -> W.
+
+timed(Key, infinity, W = #world{timers = Timers}) -> W#world{timers = maps:remove(Key, Timers)};
+timed(Key, Due, W = #world{timers = Timers}) -> W#world{timers = Timers#{Key => Due}}.
 
 %%% What is promised.
 
@@ -589,7 +612,9 @@ at_rest(W, Left) ->
 resting(W = #world{rooms = Rooms}) ->
     case left_over(W) of
         [] -> [];
-        _ -> left_over(rested(lists:foldl(fun(R, Acc) -> handled({room, R}, watch, Acc) end, W, lists:sort(maps:keys(Rooms))), 2000))
+        _ ->
+            Watch = fun(R, Acc) -> handled({room, R}, watch, Acc) end,
+            left_over(rested(lists:foldl(Watch, W, lists:sort(maps:keys(Rooms))), 2000))
     end.
 
 rested(W, 0) -> W;
@@ -616,7 +641,7 @@ room(Id, #world{store = Store}) ->
     R.
 
 %% Those for whom gateways have something.
-there(W = #world{worlds = Worlds}) -> lists:append([there(G, W) || {G, World} <- maps:to_list(Worlds), World =/= ended]).
+there(W) -> lists:append([there(G, W) || G <- running(W)]).
 
 there(G, #world{worlds = Worlds, oracles = Oracles}) -> maps:values(persons(maps:get(G, Oracles), maps:get(G, Worlds))).
 
@@ -630,10 +655,11 @@ has_seats(R, W = #world{loads = Loads, store = Store}) ->
 
 %% Times and numbers that only grow don't matter but for their order.
 canonical(#world{people = People, rooms = Rooms, gateways = Gateways, timers = Timers, store = Store, standby = Standby,
-                 worlds = Worlds, journals = Journals, late = Late, queues = Queues, calls = Calls, phones = Phones, changes = Changes,
-                 faults = Faults, races = Races, promises = Promises, unanswered = Unanswered, now = Now}, Known) ->
-    canonical:alike([{Now, Timers, Late, Worlds, Journals, Calls, Phones, Changes, Faults, Races, Promises, Unanswered}, Queues,
-                     Store, Standby | lists:append([maps:to_list(Processes) || Processes <- [People, Rooms, Gateways]])],
+                 worlds = Worlds, journals = Journals, late = Late, queues = Queues, calls = Calls, phones = Phones,
+                 changes = Changes, faults = Faults, races = Races, promises = Promises, unanswered = Unanswered, now = Now}, Known) ->
+    Rest = {Now, Timers, Late, Worlds, Journals, Calls, Phones, Changes, Faults, Races, Promises, Unanswered},
+    Processes = lists:append([maps:to_list(Of) || Of <- [People, Rooms, Gateways]]),
+    canonical:alike([Rest, Queues, Store, Standby | Processes],
                     1000000, Known).
 
 -spec format(world()) -> iodata().

@@ -13,7 +13,7 @@ main(Arguments) ->
     _ = os:cmd("mkdir " ++ Folder ++ "/a " ++ Folder ++ "/b"),
     Simulated = [simulated_gateway:start(integer_to_binary(N), 1000 * N) || N <- lists:seq(1, Gateways)],
     Common = [{gateways, [(simulated_gateway:config(G))#{terminations => 256, contexts => 64, tries => 10} || G <- Simulated]},
-              {sip, gateway:free_address()}, {http, gateway:free_address()}, {max_calls, 100000}, {proxies, [{{127, 0, 0, 1}, 32}]}, {store, disc},
+              {sip, gateway:free_address()}, {http, gateway:free_address()}, {max_calls, 100000}, {silent_after, 3600000}, {proxies, [{{127, 0, 0, 1}, 32}]}, {store, disc},
               {tokens, [{<<"a-token-for-trials">>, operator}]}],
     {_, Port} = gateway:free_address(),
     A = node_of(a, Folder, Port, Common),
@@ -78,15 +78,9 @@ pair(Name, Folder) ->
     {Self, Peer} = case Name of a -> {'lobby@127.0.1.1', 'lobby@127.0.1.2'}; b -> {'lobby@127.0.1.2', 'lobby@127.0.1.1'} end,
     #{self => Self, peer => Peer, cookie => <<"0123456789abcdef">>, gap => 250, lease => {file, Own ++ "/lease"}, ready => none}.
 
-%% As if each node had a host of its own: phones and gateways take no time of it, if that may be asked for.
 node_of(Name, Folder, Port, Common) ->
     Own = Folder ++ "/" ++ atom_to_list(Name),
-    Erl = os:find_executable("erl"),
-    Exec = case os:cmd("chrt -f 10 true 2>&1") of
-        "" -> {os:find_executable("chrt"), ["-f", "10", Erl]};
-        _ -> Erl
-    end,
-    {ok, Peer, _} = peer:start(#{connection => standard_io, wait_boot => 60000, exec => Exec,
+    {ok, Peer, _} = peer:start(#{connection => standard_io, wait_boot => 60000,
                                  args => ["+sbwt", "none", "-start_epmd", "false", "-erl_epmd_port", integer_to_list(Port), "-mnesia", "dir", "\"" ++ Own ++ "/db\"",
                                           "-mnesia", "dump_log_write_threshold", "50000", "-pa" | code:get_path()]}),
     ok = peer:call(Peer, application, load, [lobby]),

@@ -208,7 +208,7 @@ BODIES = [
           SEARCH + "rules_change_test_"),
     Wrong("rules are answered at once", CORE,
           [("Room#room{conference = lobby_conference:set_rules(All, C), asked = [From | Asked],",
-            "act({reply, From, ok}, Room)#room{conference = lobby_conference:set_rules(All, C), asked = Asked,")],
+            "(act({reply, From, ok}, Room))#room{conference = lobby_conference:set_rules(All, C), asked = Asked,")],
           SEARCH + "rules_about_members_test_"),
     Wrong("a new role changes nothing", CONFERENCE,
           [("layers(#{role := Role, isolated := Isolated, waiting := Waiting}) -> {Role, Isolated, Waiting};",

@@ -14,8 +14,7 @@ POLLS, SYNCS = ["epoll_wait", "epoll_pwait"], ["fsync", "fdatasync"]
 
 def processor_seconds(gateway):
     """The processor time that a gateway has taken."""
-    fields = Path(f"/proc/{gateway.process.pid}/stat").read_text().rpartition(")")[2].split()
-    return (int(fields[11]) + int(fields[12])) / 100
+    return int(Path(f"/proc/{gateway.process.pid}/schedstat").read_text().split()[0]) / 1e9
 
 
 class Failures(Commands):
@@ -80,4 +79,5 @@ class Failures(Commands):
             caller.recv(2000)
             before = processor_seconds(gateway)
             time.sleep(2)
-            self.assertLess(processor_seconds(gateway) - before, 0.3)
+            # It wakes up a few times in each tick. One that doesn't wait at all takes twice as long as this, or more.
+            self.assertLess(processor_seconds(gateway) - before, 0.06)

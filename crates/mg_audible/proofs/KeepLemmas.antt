@@ -18,25 +18,19 @@ use Rattle.mg_heard.specs.declared.moment.Moment.{Moment}
 use Rattle.mg_heard.specs.declared.open_flow.OpenFlow.{OpenFlow}
 use Rattle.mg_heard.specs.declared.open_interval.OpenInterval.{OpenInterval}
 use Rattle.mg_heard.specs.Intervals.{Interval, ended, ending, intervals}
-use Rattle.mg_heard.specs.Told.{intervals_in, without_dates}
+use Rattle.mg_heard.specs.Told.{audible_in, intervals_in}
 use Rattle.mg_heard.specs.aids.Opening.{AreLasting, ended_at, still_open}
-use Rattle.mg_heard.proofs.KeepingLemmas.{events_in_both, intervals_in_both}
+use Rattle.mg_heard.proofs.KeepingLemmas.{audible_in_both, events_in_both, intervals_in_both}
 use Rattle.mg_heard.proofs.MomentLemmas.{OneOutcome}
 use Rattle.mg_audible.specs.Audible.{AreAudible, RunsWithout, audible_flows}
 use Rattle.mg_audible.specs.Laws.{DifferencesAreSpeech}
-use Rattle.mg_audible.specs.Told.{TellsAudible, audible_in}
+use Rattle.mg_audible.specs.Told.{TellsAudible}
 use Rattle.mg_audible.specs.aids.Keeping.{KeepsAudible, LeadsBoth, StandForBoth, TellsPast, entry_until}
 use Rattle.mg_audible.proofs.LawLemmas.{tells_differences, tells_speech}
 use Rattle.mg_audible.proofs.RunLemmas.{if_tick, run_more}
 use Rattle.mg_audible.proofs.StepLemmas.{both_tick}
 
 -- ## Entries
-
-audible_in_both : (a b : List Entry) → audible_in (a ++ b) ≡ audible_in a ++ audible_in b
-audible_in_both [] b = refl
-audible_in_both (entries.Interval x ∷ a) b = audible_in_both a b
-audible_in_both (entries.Gap gap ∷ a) b = audible_in_both a b
-audible_in_both (entries.Audible x ∷ a) b = ap (λ (l : List Interval). without_dates x ∷ l) (audible_in_both a b)
 
 no_others : (end : Option Moment) (xs : List OpenInterval) → intervals_in (map (entry_until end) xs) ≡ []
 no_others end [] = refl

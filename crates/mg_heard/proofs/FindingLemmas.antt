@@ -115,6 +115,7 @@ answers_found config input rest state query time start now extent verdict is e h
       follows = record {
         xs = h.follows.xs;
         are = h.follows.are;
+        no_others = h.follows.no_others;
         flow = h.follows.flow;
         told = e ∙ (λ i. verdict_of (is_within extent (found.time i)) (found.gap i) (found.heard i));
       };

@@ -23,7 +23,7 @@ use Rattle.mg_heard.specs.Intervals.{Interval, ended, ending, intervals, lasting
 use Rattle.mg_heard.specs.Laws.{AreIntervals, EqualMomentsTellNothing, IntervalsTellTheFlow, OnlyControlChangesFlows}
 use Rattle.mg_heard.specs.Moments.{AreMoments}
 use Rattle.mg_heard.specs.OpenFlows.{open_flows}
-use Rattle.mg_heard.specs.Told.{TellsAll, TellsTheFlow, intervals_in}
+use Rattle.mg_heard.specs.Told.{TellsAll, TellsTheFlow, audible_in, intervals_in, without_dates}
 use Rattle.mg_heard.specs.aids.Keeping.{KeepsOpen, TellsPast, entry_until}
 use Rattle.mg_heard.specs.aids.Opening.{AreLasting, ended_at, still_open}
 use Rattle.mg_heard.proofs.MomentLemmas.{OneOutcome, if_tick}
@@ -104,6 +104,19 @@ intervals_in_both (entries.Interval x ∷ a) b = λ i. record {
 intervals_in_both (entries.Gap gap ∷ a) b = intervals_in_both a b
 intervals_in_both (entries.Audible x ∷ a) b = intervals_in_both a b
 
+pub audible_in_both : (a b : List Entry) → audible_in (a ++ b) ≡ audible_in a ++ audible_in b
+audible_in_both [] b = refl
+audible_in_both (entries.Interval x ∷ a) b = audible_in_both a b
+audible_in_both (entries.Gap gap ∷ a) b = audible_in_both a b
+audible_in_both (entries.Audible x ∷ a) b = ap (λ (l : List Interval). without_dates x ∷ l) (audible_in_both a b)
+
+none_audible : (end : Option Moment) (xs : List OpenInterval) → audible_in (map (entry_until end) xs) ≡ []
+none_audible end [] = refl
+none_audible end (x ∷ xs) = none_audible end xs
+
+still_none : (before more : List Entry) → audible_in before ≡ [] → audible_in more ≡ [] → audible_in (before ++ more) ≡ []
+still_none before more h k = audible_in_both before more ∙ ap (λ (l : List Interval). l ++ audible_in more) h ∙ k
+
 told_until : (end : Moment) (xs : List OpenInterval) →
     intervals_in (map (entry_until (Some end)) xs) ≡ map (ended_at end.tick) xs
 told_until end [] = refl
@@ -133,6 +146,7 @@ tells_same equal past flows stored Told e h =
     record {
       lasts = (h.lasts.0, h.lasts.1 ∙ sym same.1);
       xs = h.xs;
+      no_others = h.no_others;
       ended_are = h.ended_are ∙ sym same.0;
       told = h.told;
     }
@@ -147,6 +161,7 @@ unfolding ended
 tells_ended past flows now stored new over Told ToldNext lasts ends tells h = record {
   lasts = lasts;
   xs = h.xs ++ map (entry_until (Some now)) over;
+  no_others = still_none h.xs (map (entry_until (Some now)) over) h.no_others (none_audible (Some now) over);
   ended_are = intervals_in_both h.xs (map (entry_until (Some now)) over)
       ∙ ap (λ (l : List Interval). l ++ intervals_in (map (entry_until (Some now)) over)) h.ended_are
       ∙ ap (λ (l : List Interval). ended past ++ l) (told_until now over ∙ ends);
@@ -194,6 +209,7 @@ keeps_start config tick is_changed stored Told none changed empty told = record 
     lasts = subst (λ (l : List OpenInterval). AreLasting [] l) (sym empty)
         (λ i j d less below. absurd (omega arith), refl);
     xs = [];
+    no_others = refl;
     ended_are = refl;
     told = told;
   };
@@ -226,6 +242,7 @@ keeps_gap config notes gap tick is_changed stored Told ToldNext tells h = record
   tells = record {
     lasts = h.tells.lasts;
     xs = h.tells.xs ++ entries.Gap gap ∷ [];
+    no_others = still_none h.tells.xs (entries.Gap gap ∷ []) h.tells.no_others refl;
     ended_are = intervals_in_both h.tells.xs (entries.Gap gap ∷ []) ∙ append-nil (intervals_in h.tells.xs)
         ∙ h.tells.ended_are;
     told = tells h.tells.xs h.tells.told;
@@ -380,6 +397,7 @@ keeps_ticks one only equal config notes tick next n is_changed will_change store
       tells = record {
         lasts = (tells.lasts.0, tells.lasts.1 ∙ sym same.1 ∙ ap lasting (sym back));
         xs = tells.xs;
+        no_others = tells.no_others;
         ended_are = tells.ended_are ∙ sym same.0 ∙ ap ended (sym back);
         told = tells.told;
       };
@@ -438,6 +456,7 @@ tells_all one law config notes tick is_changed stored new Told ToldNow ToldNext 
     ) in
     record {
       xs = xs;
+      no_others = still_none tells.xs (map (entry_until None) new) tells.no_others (none_audible None new);
       are = are;
       flow = tells_the_flow law config (events_in notes) (intervals_in xs) are;
       told = last tells.xs tells.told;

@@ -54,6 +54,7 @@ reported_all config input rest P Q more (state, h) = (
     follows = record {
       xs = h.follows.xs;
       are = h.follows.are;
+      no_others = h.follows.no_others;
       flow = h.follows.flow;
       told = more h.follows.xs h.follows.told;
     };

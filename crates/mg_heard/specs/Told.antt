@@ -28,6 +28,13 @@ intervals_in (entries.Interval x ∷ xs) = without_dates x ∷ intervals_in xs
 intervals_in (entries.Gap gap ∷ xs) = intervals_in xs
 intervals_in (entries.Audible x ∷ xs) = intervals_in xs
 
+-- the intervals among the entries in which a talker was audible, in order, without their dates
+abbrev pub audible_in : List Entry → List Interval
+audible_in [] = []
+audible_in (entries.Interval x ∷ xs) = audible_in xs
+audible_in (entries.Gap gap ∷ xs) = audible_in xs
+audible_in (entries.Audible x ∷ xs) = without_dates x ∷ audible_in xs
+
 -- Before each tick, and before the tick that comes next after all events, a talker's speech flows
 -- to a listener if and only if one of the intervals contains this tick for this pair. This is the
 -- flow of the headline theorem.
@@ -38,10 +45,11 @@ TellsTheFlow config events ys =
     → (flow w.gateway talker listener ≡ true)
     ↔ IsToldAt (count_by is_tick past) talker listener ys
 
--- After a whole script, all its intervals have been reported, in order, each once.
+-- After a whole script, all its intervals have been reported, in order, each once, and no others.
 pub record TellsAll (config : Config) (notes : List Note) (Told : List Entry → Type 0)
     : Type 0 where
   pub xs : List Entry
+  pub no_others : audible_in xs ≡ []
   pub are : AreIntervals config (events_in notes) (intervals_in xs)
   pub flow : TellsTheFlow config (events_in notes) (intervals_in xs)
   pub told : Told xs

@@ -108,6 +108,7 @@ prints_more config input rest state P Q more h = record {
   follows = record {
     xs = h.follows.xs;
     are = h.follows.are;
+    no_others = h.follows.no_others;
     flow = h.follows.flow;
     told = more h.follows.xs h.follows.told;
   };

@@ -11,10 +11,9 @@ use Rattle.mg_heard.specs.declared.moment.Moment.{Moment}
 use Rattle.mg_heard.specs.declared.open_flow.OpenFlow.{OpenFlow}
 use Rattle.mg_heard.specs.declared.open_interval.OpenInterval.{OpenInterval}
 use Rattle.mg_heard.specs.Intervals.{ended}
-use Rattle.mg_heard.specs.Told.{intervals_in}
+use Rattle.mg_heard.specs.Told.{audible_in, intervals_in}
 use Rattle.mg_heard.specs.aids.Opening.{AreLasting}
 use Rattle.mg_audible.specs.Audible.{RunsWithout}
-use Rattle.mg_audible.specs.Told.{audible_in}
 use Rattle.mg_audible.specs.Without.{StepWithout}
 
 -- Two cores represent these worlds.

@@ -1,5 +1,5 @@
 -- What a follower keeps while a script is run, and what it has reported by then.
-use Rattle.std.specs.Prelude.{◌≡◌, ℕ, Bool, false, List, ◌∷◌, length, reverse, Option}
+use Rattle.std.specs.Prelude.{◌≡◌, ℕ, Bool, false, List, [], ◌∷◌, length, reverse, Option}
 use Rattle.mg_engine.specs.declared.config.Config.{Config}
 use Rattle.mg_core.specs.Note.{Note, events_in}
 use Rattle.mg_core.specs.World.{start_of}
@@ -10,7 +10,7 @@ use Rattle.mg_heard.specs.declared.open_flow.OpenFlow.{OpenFlow}
 use Rattle.mg_heard.specs.declared.open_interval.OpenInterval.{OpenInterval}
 use Rattle.mg_heard.specs.Intervals.{ended, newest}
 use Rattle.mg_heard.specs.Moments.{AreMoments}
-use Rattle.mg_heard.specs.Told.{intervals_in}
+use Rattle.mg_heard.specs.Told.{audible_in, intervals_in}
 use Rattle.mg_heard.specs.aids.Opening.{AreLasting}
 
 -- what is reported about a stored interval
@@ -23,6 +23,7 @@ pub record TellsPast (past : List (List OpenFlow)) (stored : List OpenInterval)
     (Told : List Entry → Type 0) : Type 0 where
   pub lasts : AreLasting past stored
   pub xs : List Entry
+  pub no_others : audible_in xs ≡ []
   pub ended_are : intervals_in xs ≡ ended past
   pub told : Told xs
 

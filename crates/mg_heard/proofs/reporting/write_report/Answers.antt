@@ -45,6 +45,7 @@ returns g c =
           follows = record {
             xs = h.follows.xs;
             are = h.follows.are;
+            no_others = h.follows.no_others;
             flow = h.follows.flow;
             told = (text, are, search rules);
           };

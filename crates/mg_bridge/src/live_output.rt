@@ -1,17 +1,17 @@
-use mg_outlet::{Outlet, Ready};
+use mg_outlet::{Outlet, Pipe};
 use std::io::{self, Write};
 
 /// A gateway's output, which never waits for its reader. If the output ends because its reader is too slow, the
 /// operator is notified once.
 #[derive(Drop)]
-pub struct LiveOutput<W, R, E> {
-    outlet: Outlet<W, R>,
+pub struct LiveOutput<P, E> {
+    outlet: Outlet<P>,
     errors: E,
     has_reported: bool,
 }
 
-impl<W: Write, R: Ready, E: Write> LiveOutput<W, R, E> {
-    pub fn new(outlet: Outlet<W, R>, errors: E) -> Self {
+impl<P: Pipe, E: Write> LiveOutput<P, E> {
+    pub fn new(outlet: Outlet<P>, errors: E) -> Self {
         LiveOutput {
             outlet,
             errors,
@@ -35,7 +35,7 @@ impl<W: Write, R: Ready, E: Write> LiveOutput<W, R, E> {
     }
 }
 
-impl<W: Write, R: Ready, E: Write> Write for LiveOutput<W, R, E> {
+impl<P: Pipe, E: Write> Write for LiveOutput<P, E> {
     fn write(&mut self, text: &[u8]) -> io::Result<usize> {
         let count = self.outlet.write(text)?;
         self.report_end();

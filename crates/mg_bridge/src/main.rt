@@ -22,7 +22,7 @@ use crate::live_output::LiveOutput;
 use crate::system_host::SystemHost;
 use mg_core::RunFault;
 use mg_options::{Status, program_arguments};
-use mg_outlet::{Outlet, OutletFault, Overflow, SystemReady};
+use mg_outlet::{Outlet, OutletFault, Overflow, SystemPipe};
 use mg_program::{System, program};
 use std::io::{self, ErrorKind, Stderr, Write};
 use std::process::ExitCode;
@@ -44,7 +44,7 @@ fn system_of(rt: &HostRuntime) -> System<'_, HostRuntime, HostRuntime, HostRunti
 }
 
 /// Creates an outlet for lines on standard error.
-fn error_outlet(rt: &HostRuntime) -> Result<Outlet<Stderr, SystemReady>, OutletFault> {
+fn error_outlet(rt: &HostRuntime) -> Result<Outlet<SystemPipe<Stderr>>, OutletFault> {
     Outlet::watching(rt, rt.alloc(), rt.stderr(), ERRORS_LIMIT, Overflow::Skip)
 }
 

@@ -1,109 +1,155 @@
--- Bytes that move from a queue to a writer in several steps.
-use Rattle.std.proofs.Common.{◌≡◌, ℕ, ◌+◌, ◌-◌, ◌≤◌, List, [], ◌∷◌, ◌++◌, length, take, drop, sum, Option, refl, sym, ap, ◌∙◌, append_assoc, arith, subst, take-append-drop, length-take}
-use Rattle.std.proofs.lemmas.List.{length-append, take-append-le}
-use Rattle.std.proofs.Transfers.{starts_with_length}
-use Rattle.std.proofs.lemmas.List.Sums.{sum_by-append}
-use Rattle.std.specs.Io.{StartsWith}
-use Rattle.std.specs.Io.KnownBytes.{Keeps, Appends}
-use Rattle.std.proofs.KnownBytes.{Appends-nil, Appends-trans, Appends-kept, Keeps-refl, starts_with_rest}
-use Rattle.mg_outlet.specs.Passing.{Moves, PassesOn, Known, known}
+-- Bytes that move from a queue to a pipe in several steps.
+use Rattle.std.proofs.Common.{◌≡◌, ◌≢◌, ◌⊎◌, inl, inr, ℕ, ◌-◌, ◌<◌, true, false, List, [], ◌∷◌, ◌++◌, length, take, drop, Option, Some, None, refl, sym, ap, subst, ◌∙◌, append_assoc, append-nil, take-append-drop}
+use Rattle.std.proofs.lemmas.List.{take-append-le}
+use Rattle.std.proofs.KnownBytes.{starts_with_rest}
+use Rattle.mg_outlet.specs.Passing.{AreOldest, Asked, Called, Passes, PipeCall, TookNone, TookSome, Wrote, taken_in}
 
-pub moves_none : (most : ℕ) (queue : List ℕ) (a b : Option (List ℕ)) → Keeps a b → Moves most queue queue a b
-moves_none most queue a b kept = record {
-  front = [];
-  parts = refl;
-  small = omega arith;
-  written = Appends-kept a a b [] (Appends-nil a) kept;
+-- ## Calls
+
+pub called_none : (a : Option (List PipeCall)) → Called a a []
+called_none None = tt
+called_none (Some a) = sym (append-nil a)
+
+pub called_both : (a b c : Option (List PipeCall)) (p q : List PipeCall) → Called a b p → Called b c q → Called a c (p ++ q)
+called_both a b None p q h k = tt
+called_both a None (Some c) p q h k = absurd k
+called_both None (Some b) (Some c) p q h k = absurd h
+called_both (Some a) (Some b) (Some c) p q h k = k ∙ ap (λ (l : List PipeCall). l ++ q) h ∙ append_assoc a p q
+
+pub taken_both : (p q : List PipeCall) → taken_in (p ++ q) ≡ taken_in p ++ taken_in q
+taken_both [] q = refl
+taken_both (Asked ready ∷ p) q = taken_both p q
+taken_both (Wrote offered None ∷ p) q = taken_both p q
+taken_both (Wrote offered (Some n) ∷ p) q =
+    ap (λ (l : List ℕ). take n offered ++ l) (taken_both p q) ∙ sym (append_assoc (take n offered) (taken_in p) (taken_in q))
+
+-- ## Chunks
+
+none_taken : (offered : List ℕ) (taken : Option ℕ) → TookNone taken → taken_in (Wrote offered taken ∷ []) ≡ []
+none_taken offered None is = refl
+none_taken offered (Some n) (inl is) = absurd (cc is)
+none_taken offered (Some n) (inr is) = let zero : n ≡ 0 = cc is in rw zero refl
+
+some_taken : (queue rest offered : List ℕ) (taken : Option ℕ) → AreOldest queue offered
+    → TookSome queue rest offered taken → queue ≡ taken_in (Wrote offered taken ∷ []) ++ rest
+some_taken queue rest offered taken (starts, small, some) (n, is, more, fits, left) =
+    let whole : queue ≡ offered ++ drop (length offered) queue = starts_with_rest queue offered starts in
+    let front : take n queue ≡ take n offered =
+    ap (take n) whole ∙ take-append-le n offered (drop (length offered) queue) fits in
+    let split : queue ≡ take n offered ++ drop n queue =
+    sym (take-append-drop n queue) ∙ ap (λ (l : List ℕ). l ++ drop n queue) front in
+    rw (is, left, append-nil (take n offered)) split
+
+-- ## Everything
+
+-- what was called so far passed on all but this
+abbrev pub Drained : (old rest : List ℕ) → (a b : Option (List PipeCall)) → Type 0
+Drained old rest a b = (calls : List PipeCall) × Called a b calls × (old ≡ taken_in calls ++ rest)
+
+drained_by : (old queue rest offered : List ℕ) (taken : Option ℕ) (a b c : Option (List PipeCall)) → Drained old queue a b
+    → Called b c (Wrote offered taken ∷ []) → queue ≡ taken_in (Wrote offered taken ∷ []) ++ rest → Drained old rest a c
+drained_by old queue rest offered taken a b c (calls, called, all) wrote split =
+    let one : List PipeCall = Wrote offered taken ∷ [] in (
+      calls ++ one,
+      called_both a b c calls one called wrote,
+      all ∙ ap (λ (l : List ℕ). taken_in calls ++ l) split ∙ sym (append_assoc (taken_in calls) (taken_in one) rest)
+          ∙ ap (λ (l : List ℕ). l ++ rest) (sym (taken_both calls one)),
+    )
+
+pub drained_more : (old queue rest offered : List ℕ) (taken : Option ℕ) (a b c : Option (List PipeCall)) → Drained old queue a b
+    → Called b c (Wrote offered taken ∷ []) → AreOldest queue offered → TookSome queue rest offered taken → Drained old rest a c
+drained_more old queue rest offered taken a b c drained wrote oldest took =
+    drained_by old queue rest offered taken a b c drained wrote (some_taken queue rest offered taken oldest took)
+
+pub drained_refused : (old queue rest offered : List ℕ) (taken : Option ℕ) (a b c : Option (List PipeCall))
+    → Drained old queue a b → Called b c (Wrote offered taken ∷ []) → TookNone taken → rest ≡ queue → Drained old rest a c
+drained_refused old queue rest offered taken a b c drained wrote none same =
+    drained_by old queue rest offered taken a b c drained wrote
+    (sym same ∙ ap (λ (l : List ℕ). l ++ rest) (sym (none_taken offered taken none)))
+
+-- ## Turns
+
+-- what was called so far leads from one queue to another: whoever passes on the second passes on the first
+abbrev pub Leads : (most left : ℕ) → (old queue : List ℕ) → List PipeCall → Type 0
+Leads most left old queue made =
+    (rest : List ℕ) (more : List PipeCall) → Passes left queue rest more → Passes most old rest (made ++ more)
+
+-- the calls so far, and the calls that are left
+pub record Led (most left : ℕ) (old queue : List ℕ) (a b : Option (List PipeCall)) : Type 0 where
+  pub made : List PipeCall
+  pub called : Called a b made
+  pub leads : Leads most left old queue made
+
+pub led_none : (most left : ℕ) (queue : List ℕ) (a : Option (List PipeCall)) → left ≡ most → Led most left queue queue a a
+led_none most left queue a is = record {
+  made = [];
+  called = called_none a;
+  leads = λ rest more passes. subst (λ (n : ℕ). Passes n queue rest more) is passes;
 }
 
-pub moves_then : (m n : ℕ) (queue mid rest : List ℕ) (a b c : Option (List ℕ)) → Moves m queue mid a b
-    → Moves n mid rest b c → Moves (m + n) queue rest a c
-moves_then m n queue mid rest a b c first second = record {
-  front = first.front ++ second.front;
-  parts = first.parts ∙ ap (λ l. first.front ++ l) second.parts ∙ sym (append_assoc first.front second.front rest);
-  small = omega (arith, length-append first.front second.front, first.small, second.small);
-  written = Appends-trans a b c first.front second.front first.written second.written;
-}
-
--- what moves is a part of the queue
-pub moves_within : (most : ℕ) (queue rest : List ℕ) (a b : Option (List ℕ)) → Moves most queue rest a b
-    → Moves (length queue) queue rest a b
-moves_within most queue rest a b moves = record {
-  front = moves.front;
-  parts = moves.parts;
-  small = omega (arith, ap length moves.parts, length-append moves.front rest);
-  written = moves.written;
-}
-
-pub all_then : (n : ℕ) (queue mid rest : List ℕ) (a b c : Option (List ℕ)) → Moves (length queue) queue mid a b
-    → Moves n mid rest b c → Moves (length queue) queue rest a c
-all_then n queue mid rest a b c first second =
-    moves_within _ queue rest a c (moves_then _ n queue mid rest a b c first second)
-
--- A writer wrote n bytes of a chunk, and the queue kept its last bytes.
-pub moves_front : (queue chunk : List ℕ) (n : ℕ) (a b : Option (List ℕ)) → StartsWith queue chunk
-    → length chunk ≤ 4096 → n ≤ length chunk → Appends a b (take n chunk)
-    → Moves 4096 queue (drop (length queue - (length queue - n)) queue) a b
-moves_front queue chunk n a b starts small le written =
-    let whole : queue ≡ chunk ++ drop (length chunk) queue = starts_with_rest queue chunk starts in
-    let front : take n queue ≡ take n chunk =
-    ap (take n) whole ∙ take-append-le n chunk (drop (length chunk) queue) le in
-    let fits : n ≤ length queue = omega (arith, le, starts_with_length queue chunk starts) in
-    let rest : length queue - (length queue - n) ≡ n = omega (arith, fits) in
+-- one chunk more
+pub led_more : (most left next : ℕ) (old queue mid offered : List ℕ) (taken : Option ℕ) (a b c d : Option (List PipeCall))
+    → Led most left old queue a b → 0 < left → next ≡ left - 1 → queue ≢ [] → Called b c (Asked true ∷ [])
+    → Called c d (Wrote offered taken ∷ []) → AreOldest queue offered → TookSome queue mid offered taken
+    → Led most next old mid a d
+led_more most left next old queue mid offered taken a b c d led some is more asked wrote oldest took =
+    let two : List PipeCall = Asked true ∷ Wrote offered taken ∷ [] in
     record {
-      front = take n chunk;
-      parts = rw (rest, ← front) (sym (take-append-drop n queue));
-      small = omega (arith, length-take n chunk, small);
-      written = written;
+      made = led.made ++ two;
+      called = called_both a b d led.made two led.called
+          (called_both b c d (Asked true ∷ []) (Wrote offered taken ∷ []) asked wrote);
+      leads = λ rest calls passes. subst (λ (l : List PipeCall). Passes most old rest l) (sym (append_assoc led.made two calls))
+          (led.leads rest (Asked true ∷ Wrote offered taken ∷ calls) (
+            some,
+            more,
+            oldest,
+            inr (mid, took, subst (λ (n : ℕ). Passes n mid rest calls) is passes),
+          ));
     }
 
--- A writer wrote no byte.
-pub moves_zero : (most : ℕ) (queue chunk : List ℕ) (n : ℕ) (a b : Option (List ℕ)) → n ≡ 0 → Appends a b (take n chunk)
-    → Moves most queue queue a b
-moves_zero most queue chunk n a b zero written = record {
-  front = [];
-  parts = refl;
-  small = omega arith;
-  written = subst (λ k. Appends a b (take k chunk)) zero written;
-}
+abbrev pub Passed : (most : ℕ) → (old rest : List ℕ) → (a b : Option (List PipeCall)) → Type 0
+Passed most old rest a b = (calls : List PipeCall) × Called a b calls × Passes most old rest calls
 
-sum_end : (xs : List ℕ) (x : ℕ) → sum (xs ++ x ∷ []) ≡ sum xs + x
-sum_end xs x =
-    let one : sum (x ∷ []) ≡ x = omega arith in
-    omega (arith, sum_by-append (λ y. y) xs (x ∷ []), one)
+led_end : (most left : ℕ) (old queue rest : List ℕ) (a b c : Option (List PipeCall)) (more : List PipeCall)
+    → Led most left old queue a b → Called b c more → Passes left queue rest more → Passed most old rest a c
+led_end most left old queue rest a b c more led called passes =
+    (led.made ++ more, called_both a b c led.made more led.called called, led.leads rest more passes)
 
--- a bound that grows
-moves_up : (m n : ℕ) (queue rest : List ℕ) (a b : Option (List ℕ)) → m ≤ n → Moves m queue rest a b
-    → Moves n queue rest a b
-moves_up m n queue rest a b le moves = record {
-  front = moves.front;
-  parts = moves.parts;
-  small = omega (arith, moves.small, le);
-  written = moves.written;
-}
+-- nothing is queued any more, or the chunks are used up
+pub led_over : (most left : ℕ) (old queue : List ℕ) (a b : Option (List PipeCall)) → Led most left old queue a b
+    → (queue ≡ []) ⊎ (left ≡ 0) → Passed most old queue a b
+led_over most left old queue a b led over = led_end most left old queue queue a b b [] led (called_none b) (refl, over)
 
-pub passes_none : (queue : List ℕ) (a : Known) → PassesOn queue queue a a
-passes_none queue a = record {
-  answers = [];
-  asked = Appends-nil a.answers;
-  moves = moves_none _ queue a.written a.written (Keeps-refl a.written);
-}
+-- the pipe isn't ready
+pub led_unready : (most left : ℕ) (old queue : List ℕ) (a b c : Option (List PipeCall)) → Led most left old queue a b
+    → 0 < left → queue ≢ [] → Called b c (Asked false ∷ []) → Passed most old queue a c
+led_unready most left old queue a b c led some more asked =
+    led_end most left old queue queue a b c (Asked false ∷ []) led asked (some, more, refl)
 
--- The readiness test answered no, or it wasn't used.
-pub passes_asked : (queue rest : List ℕ) (a : Known) (w x y : Option (List ℕ)) (answer : ℕ)
-    → PassesOn queue rest a (known w x) → Appends x y (answer ∷ []) → PassesOn queue rest a (known w y)
-passes_asked queue rest a w x y answer before asked = record {
-  answers = before.answers ++ answer ∷ [];
-  asked = Appends-trans a.answers x y before.answers (answer ∷ []) before.asked asked;
-  moves = moves_up _ _ queue rest a.written w (omega (arith, sum_end before.answers answer)) before.moves;
-}
+-- the pipe took nothing
+pub led_refused : (most left : ℕ) (old queue rest offered : List ℕ) (taken : Option ℕ) (a b c d : Option (List PipeCall))
+    → Led most left old queue a b → 0 < left → queue ≢ [] → Called b c (Asked true ∷ [])
+    → Called c d (Wrote offered taken ∷ []) → AreOldest queue offered → TookNone taken → rest ≡ queue
+    → Passed most old rest a d
+led_refused most left old queue rest offered taken a b c d led some more asked wrote oldest none same =
+    led_end most left old queue rest a b d (Asked true ∷ Wrote offered taken ∷ []) led
+    (called_both b c d (Asked true ∷ []) (Wrote offered taken ∷ []) asked wrote)
+    (some, more, oldest, inl (none, refl, same))
 
--- The readiness test answered yes, and then a chunk was written.
-pub passes_chunk : (queue mid rest : List ℕ) (a : Known) (w v x y : Option (List ℕ)) → PassesOn queue mid a (known w x)
-    → Appends x y (1 ∷ []) → Moves 4096 mid rest w v → PassesOn queue rest a (known v y)
-passes_chunk queue mid rest a w v x y before asked chunk = record {
-  answers = before.answers ++ 1 ∷ [];
-  asked = Appends-trans a.answers x y before.answers (1 ∷ []) before.asked asked;
-  moves = moves_up _ _ queue rest a.written v (omega (arith, sum_end before.answers 1))
-      (moves_then _ _ queue mid rest a.written w v before.moves chunk);
-}
+-- what the calls of a turn took
+pub passes_taken : (left : ℕ) (queue rest : List ℕ) (calls : List PipeCall) → Passes left queue rest calls
+    → queue ≡ taken_in calls ++ rest
+passes_taken left queue rest [] (same, over) = sym same
+passes_taken left queue rest (Wrote offered taken ∷ calls) passes = absurd passes
+passes_taken left queue rest (Asked false ∷ []) (some, more, same) = sym same
+passes_taken left queue rest (Asked false ∷ call ∷ calls) passes = absurd passes
+passes_taken left queue rest (Asked true ∷ []) passes = absurd passes
+passes_taken left queue rest (Asked true ∷ Asked ready ∷ calls) passes = absurd passes
+passes_taken left queue rest (Asked true ∷ Wrote offered taken ∷ calls) (some, more, oldest, inl (none, over, same)) =
+    sym same ∙ ap (λ (l : List ℕ). l ++ rest) (sym (none_taken offered taken none))
+    ∙ ap (λ (l : List PipeCall). taken_in (Wrote offered taken ∷ l) ++ rest) (sym over)
+passes_taken left queue rest (Asked true ∷ Wrote offered taken ∷ calls) (some, more, oldest, inr (mid, took, passes)) =
+    some_taken queue mid offered taken oldest took
+    ∙ ap (λ (l : List ℕ). taken_in (Wrote offered taken ∷ []) ++ l) (passes_taken (left - 1) mid rest calls passes)
+    ∙ sym (append_assoc (taken_in (Wrote offered taken ∷ [])) (taken_in calls) rest)
+    ∙ ap (λ (l : List ℕ). l ++ rest) (sym (taken_both (Wrote offered taken ∷ []) calls))

@@ -1,52 +1,57 @@
 -- What an outlet does with written text.
 use Rattle.std.specs.Prelude.{◌≡◌, ℕ, ◌+◌, ◌-◌, ◌^◌, min, Bool, true, false, ◌&&◌, ◌||◌, nat_lt}
-use Rattle.std.specs.Prelude.{List, [], ◌++◌, length, Option, Some, None, if◌then◌else◌}
+use Rattle.std.specs.Prelude.{List, [], ◌++◌, length, Option, Some, None, IfSome, if◌then◌else◌}
 use Rattle.std.specs.declared.io.Error.{Error}
-use Rattle.std.specs.Io.KnownBytes.{append_known}
+use Rattle.std.specs.Option.{option_map, option_map_or}
 use Rattle.circular_buffer.specs.Buffer.{buffer}
-use Rattle.mg_outlet.specs.Passing.{Known, known, PassesOn}
+use Rattle.mg_outlet.specs.Passing.{Called, Passes, PipeCall, taken_in}
 use Rattle.mg_outlet.specs.declared.outlet.Outlet.{Outlet}
 use Rattle.mg_outlet.specs.declared.overflow.Overflow.{Overflow}
 use Rattle.mg_outlet.specs.declared.overflow.Overflow.TheVariants.{End, Skip}
+
+-- known bytes grew by these, if they are still known
+abbrev pub Continues : Option (List ℕ) → Option (List ℕ) → List ℕ → Type 0
+Continues old None bytes = Unit {0}
+Continues None (Some all) bytes = ⊥
+Continues (Some before) (Some all) bytes = all ≡ before ++ bytes
 
 -- whether all later text is dropped once a text didn't fit
 abbrev pub ends : Overflow → Bool
 ends End = true
 ends Skip = false
 
-module _ {W R : Type 0} where
+-- how many writes to the pipe a flush makes at most
+abbrev pub flush_limit : ℕ
+flush_limit = 256
+
+module _ {P : Type 0} where
   -- the queued bytes, oldest first
-  abbrev pub queued : Outlet W R → List ℕ
+  abbrev pub queued : Outlet P → List ℕ
   queued o = o.queue.items
 
   -- the maximum number of queued bytes
-  abbrev pub limit : Outlet W R → ℕ
+  abbrev pub limit : Outlet P → ℕ
   limit o = o.queue.capacity
 
   -- what is dropped when a text doesn't fit in the queue
-  abbrev pub overflow : Outlet W R → Overflow
+  abbrev pub overflow : Outlet P → Overflow
   overflow o = o.overflow
 
   -- how many writes were dropped
-  abbrev pub dropped : Outlet W R → ℕ
+  abbrev pub dropped : Outlet P → ℕ
   dropped o = o.dropped
 
-  -- the error of the other writer, after which nothing more is written
-  abbrev pub failure : Outlet W R → Option Error
+  -- the error of the pipe, after which nothing more is written
+  abbrev pub failure : Outlet P → Option Error
   failure o = o.failure
 
-  -- the other writer and its readiness test
-  abbrev pub writer : Outlet W R → W
-  writer o = o.writer
-
-  abbrev pub readiness : Outlet W R → R
-  readiness o = o.ready
+  abbrev pub pipe : Outlet P → P
+  pipe o = o.pipe
 
   -- an outlet to which nothing has been written yet
-  abbrev pub new_outlet : W → R → (limit : ℕ) → Overflow → Outlet W R
-  new_outlet writer ready limit overflow = record {
-    writer = writer;
-    ready = ready;
+  abbrev pub new_outlet : P → (limit : ℕ) → Overflow → Outlet P
+  new_outlet pipe limit overflow = record {
+    pipe = pipe;
     queue = buffer [] limit;
     overflow = overflow;
     dropped = 0;
@@ -54,43 +59,47 @@ module _ {W R : Type 0} where
   }
 
   -- whether all text is dropped from now on
-  abbrev pub has_ended : Outlet W R → Bool
+  abbrev pub has_ended : Outlet P → Bool
   has_ended o = ends (overflow o) && nat_lt 0 (dropped o)
 
   -- Whether a text is dropped when these bytes are queued: it doesn't fit, or the outlet has ended.
-  abbrev pub drops : Outlet W R → (queue text : List ℕ) → Bool
+  abbrev pub drops : Outlet P → (queue text : List ℕ) → Bool
   drops o queue text = nat_lt (limit o) (length queue + length text) || has_ended o
 
-  -- what the other writer holds, if it is known, and then the queue
-  abbrev pub stream : (W → Option (List ℕ)) → Outlet W R → Option (List ℕ)
-  stream contents o = append_known (contents (writer o)) (queued o)
+  -- how many writes to the pipe a write makes at most: one if at least 4,096 bytes are queued
+  abbrev pub write_limit : Outlet P → ℕ
+  write_limit o = if nat_lt (length (queued o)) 4096 then 0 else 1
 
-  -- The stream is a prefix of everything that was written, and all of it until the outlet ends.
-  pub record BeginsWithStream (contents : W → Option (List ℕ)) (all : List ℕ) (o : Outlet W R) : Type 0
-    where
-      pub passed : List ℕ
+  module _ (calls : P → Option (List PipeCall)) where
+    -- what the pipe took, if that is known, and then the queue
+    abbrev pub stream : Outlet P → Option (List ℕ)
+    stream o = option_map (λ made. taken_in made ++ queued o) (calls (pipe o))
+
+    -- The stream is a prefix of everything that was written, and all of it until the outlet ends.
+    pub record BeginsWithStream (all : List ℕ) (o : Outlet P) : Type 0 where
       pub missing : List ℕ
-      pub known : stream contents o ≡ Some passed
-      pub parts : all ≡ passed ++ missing
+      pub parts : IfSome (stream o) (λ passed. all ≡ passed ++ missing)
       pub whole : has_ended o ≡ false → missing ≡ []
 
-  module _ (contents : W → Option (List ℕ)) (answers : R → Option (List ℕ)) where
-    -- what is known about the other writer and its readiness test
-    abbrev pub behind : Outlet W R → Known
-    behind o = known (contents (writer o)) (answers (readiness o))
+    -- The queue was passed on, by at most this many writes, which left `rest`. An outlet that has
+    -- failed passes on nothing.
+    pub record PassesOn (most : ℕ) (rest : List ℕ) (old new : Outlet P) : Type 0 where
+      pub made : List PipeCall
+      pub called : Called (calls (pipe old)) (calls (pipe new)) made
+      pub passes : Passes (option_map_or (λ error. 0) (failure old) most) (queued old) rest made
 
-    -- some of the queue was passed on, and nothing else changed
-    pub record IsFlushed (old new : Outlet W R) : Type 0 where
-      pub passed : PassesOn (queued old) (queued new) (behind old) (behind new)
+    -- the queue was passed on, by at most this many writes, and nothing else changed
+    pub record IsFlushed (most : ℕ) (old new : Outlet P) : Type 0 where
+      pub passed : PassesOn most (queued new) old new
       pub count : dropped new ≡ dropped old
       pub same_limit : limit new ≡ limit old
       pub same_overflow : overflow new ≡ overflow old
 
-    -- Some of the queue was passed on, which left `rest`. Then a text joined the queue, or the
-    -- whole text was dropped and counted.
-    pub record IsWritten (text : List ℕ) (old new : Outlet W R) : Type 0 where
+    -- If many bytes were queued, some were passed on, which left `rest`. Then a text joined the
+    -- queue, or the whole text was dropped and counted.
+    pub record IsWritten (text : List ℕ) (old new : Outlet P) : Type 0 where
       pub rest : List ℕ
-      pub passed : PassesOn (queued old) rest (behind old) (behind new)
+      pub passed : PassesOn (write_limit old) rest old new
       pub queue : queued new ≡ (if drops old rest text then rest else rest ++ text)
       pub count : dropped new ≡
           (if drops old rest text then min (dropped old + 1) (2 ^ 64 - 1) else dropped old)

@@ -1,25 +1,52 @@
--- How bytes move from a queue to a writer.
-use Rattle.std.specs.Prelude.{◌≡◌, ℕ, ◌*◌, ◌≤◌, List, ◌++◌, length, sum, Option}
-use Rattle.std.specs.Io.KnownBytes.{Appends}
+-- How bytes move from a queue to a pipe.
+use Rattle.std.specs.Prelude.{◌≡◌, ◌≢◌, ◌⊎◌, ℕ, ◌-◌, ◌<◌, ◌≤◌, Bool, true, false, List, [], ◌∷◌, ◌++◌}
+use Rattle.std.specs.Prelude.{length, take, drop, Option, Some, None, Result, Ok, Err}
+use Rattle.std.specs.Io.{StartsWith}
 
--- At most this many bytes moved from the front of a queue to the end of what a writer holds. `rest`
--- is the queue after that.
-pub record Moves (most : ℕ) (queue rest : List ℕ) (old new : Option (List ℕ)) : Type 0 where
-  pub front : List ℕ
-  pub parts : queue ≡ front ++ rest
-  pub small : length front ≤ most
-  pub written : Appends old new front
+-- A call on a pipe: whether it was ready, or which bytes were offered to it, and how many of them it
+-- took, unless the write failed.
+pub data PipeCall : Type 0 where
+  Asked : (ready : Bool) → PipeCall
+  Wrote : (offered : List ℕ) (taken : Option ℕ) → PipeCall
 
--- what is known about a writer, and about the answers of its readiness test
-pub record Known : Type 0 where
-  pub written : Option (List ℕ)
-  pub answers : Option (List ℕ)
+-- The log grows by these calls. A pipe may lose its log; if it still has one at the end, it had it
+-- all along.
+abbrev pub Called : Option (List PipeCall) → Option (List PipeCall) → List PipeCall → Type 0
+Called old None calls = Unit {0}
+Called None (Some all) calls = ⊥
+Called (Some before) (Some all) calls = all ≡ before ++ calls
 
-abbrev pub known : Option (List ℕ) → Option (List ℕ) → Known
-known written answers = record { written = written; answers = answers }
+-- how many bytes a write took
+abbrev pub taken_by : {E : Type 0} → Result ℕ E → Option ℕ
+taken_by (Ok n) = Some n
+taken_by (Err error) = None
 
--- Bytes moved, at most 4,096 for each time that the writer was ready.
-pub record PassesOn (queue rest : List ℕ) (old new : Known) : Type 0 where
-  pub answers : List ℕ
-  pub asked : Appends old.answers new.answers answers
-  pub moves : Moves (4096 * sum answers) queue rest old.written new.written
+-- all bytes that a pipe took
+abbrev pub taken_in : List PipeCall → List ℕ
+taken_in [] = []
+taken_in (Wrote offered (Some n) ∷ calls) = take n offered ++ taken_in calls
+taken_in (_ ∷ calls) = taken_in calls
+
+-- the oldest bytes of a queue: at most 4,096, and at least one unless the queue is empty
+abbrev pub AreOldest : (queue offered : List ℕ) → Type 0
+AreOldest queue offered =
+    StartsWith queue offered × (length offered ≤ 4096) × (length offered ≡ 0 → queue ≡ [])
+
+abbrev pub TookNone : (taken : Option ℕ) → Type 0
+TookNone taken = (taken ≡ None) ⊎ (taken ≡ Some 0)
+
+-- A pipe took the first bytes of those that it was offered. `rest` is the queue after that.
+abbrev pub TookSome : (queue rest offered : List ℕ) → (taken : Option ℕ) → Type 0
+TookSome queue rest offered taken =
+    (n : ℕ) × (taken ≡ Some n) × (0 < n) × (n ≤ length offered) × (rest ≡ drop n queue)
+
+-- Calls that pass on a queue, by at most `left` writes. Before each write, the pipe is asked whether it
+-- is ready. They end when the queue is empty, or when the pipe isn't ready or takes nothing.
+abbrev pub Passes : (left : ℕ) → (queue rest : List ℕ) → List PipeCall → Type 0
+Passes left queue rest [] = (rest ≡ queue) × ((queue ≡ []) ⊎ (left ≡ 0))
+Passes left queue rest (Asked false ∷ []) = (0 < left) × (queue ≢ []) × (rest ≡ queue)
+Passes left queue rest (Asked true ∷ Wrote offered taken ∷ calls) =
+    (0 < left) × (queue ≢ []) × AreOldest queue offered
+    × ((TookNone taken × (calls ≡ []) × (rest ≡ queue))
+    ⊎ ((mid : List ℕ) × TookSome queue mid offered taken × Passes (left - 1) mid rest calls))
+Passes left queue rest calls = ⊥

@@ -1,7 +1,7 @@
 //! A writer that never waits for its reader.
 //!
-//! An [`Outlet`] keeps written text in a queue, and passes it on to another writer only while that writer is [`Ready`].
-//! So a slow reader of standard output can't delay the gateway's ticks:
+//! An [`Outlet`] keeps written text in a queue, and passes it on to a [`Pipe`] only while the pipe is ready. So a slow
+//! reader of standard output can't delay the gateway's ticks:
 //!
 //! ```rust
 //! let mut output = Outlet::watching(&rt, rt.alloc(), rt.stdout(), 64 << 20, Overflow::End)?;
@@ -13,20 +13,21 @@
 //! example after each tick, and call [`Outlet::finish`] at the end.
 //!
 //! `specs/Outlet.antt` defines what an outlet does: written text joins the queue, unless it is dropped, and bytes move
-//! from the front of the queue to the end of what the writer holds. [`theorems`] states the consequences.
+//! from the front of the queue to the pipe, as long as it is ready. [`theorems`] states the consequences.
 #![tactic(auto)]
 
 mod outlet;
 mod outlet_fault;
 mod overflow;
 mod passing;
-mod ready;
-mod system_ready;
+mod pipe;
+mod readiness;
+mod system_pipe;
 pub mod theorems;
 
 pub use crate::outlet::Outlet;
 pub use crate::outlet_fault::OutletFault;
 pub use crate::overflow::Overflow;
 pub use crate::passing::CHUNK;
-pub use crate::ready::Ready;
-pub use crate::system_ready::SystemReady;
+pub use crate::pipe::Pipe;
+pub use crate::system_pipe::SystemPipe;

@@ -1,14 +1,15 @@
-ghost use Rattle.std.specs.Prelude.{◌≡◌, [], length, Some, None, Err, IfErr, IfOk, IfSome, OnErr, OnOk};
+ghost use Rattle.std.specs.Prelude.{◌≡◌, ◌++◌, [], length, List, Some, None, Err, IfErr, IfOk, IfSome, OnErr, OnOk};
 ghost use Rattle.std.specs.Io.{WritesAtMost};
 ghost use Rattle.std.specs.Io.KnownBytes.{Keeps, WriteAppends};
-ghost use Rattle.mg_outlet.specs.Passing.{Moves};
-ghost use Rattle.mg_outlet.specs.Outlet.{queued, dropped, failure, writer, readiness, has_ended, new_outlet, drops, IsFlushed, IsWritten};
+ghost use Rattle.mg_outlet.specs.Passing.{Called, PipeCall, taken_in};
+ghost use Rattle.mg_outlet.specs.Outlet.{queued, dropped, failure, pipe, has_ended, new_outlet, drops, flush_limit, write_limit};
+ghost use Rattle.mg_outlet.specs.Outlet.{IsFlushed, IsWritten};
 
 use crate::outlet_fault::OutletFault;
 use crate::overflow::Overflow;
 use crate::passing::{CHUNK, pass_all, pass_on};
-use crate::ready::Ready;
-use crate::system_ready::SystemReady;
+use crate::pipe::Pipe;
+use crate::system_pipe::SystemPipe;
 use circular_buffer::HeapCircularBuffer;
 use std::alloc::{AllocError, Global};
 use std::io::{self, Write};
@@ -25,12 +26,11 @@ const FLUSH_CHUNKS: u16 = 256;
 /// passes on at most 1 MiB and a write at most 4,096 bytes, so even a reader that catches up doesn't delay the caller
 /// for long.
 ///
-/// If the other writer fails, each later call returns its error, and nothing more is written. If that writer was
-/// interrupted or would have waited, the outlet tries again later.
+/// If the pipe fails, each later call returns its error, and nothing more is written. If a write was interrupted or
+/// would have waited, the outlet tries again later.
 #[derive(Drop)]
-pub struct Outlet<W, R> {
-    writer: W,
-    ready: R,
+pub struct Outlet<P> {
+    pipe: P,
     queue: HeapCircularBuffer<u8>,
     overflow: Overflow,
     /// How many writes were dropped.
@@ -38,12 +38,9 @@ pub struct Outlet<W, R> {
     failure: Option<io::Error>,
 }
 
-impl<W: Write + AsRawFd + Drop> Outlet<W, SystemReady> {
+impl<W: Write + AsRawFd + Drop> Outlet<SystemPipe<W>> {
     /// Creates an outlet for a descriptor, such as standard output. The outlet asks the system whether a write would
     /// wait.
-    ///
-    /// A regular file or `/dev/null` is always ready: a write to it goes to the page cache. A terminal may report that
-    /// it is ready with less than 4,096 bytes free, so a write to it can wait.
     pub fn watching<N: Net>(
         net: &N,
         alloc: Global,
@@ -51,38 +48,30 @@ impl<W: Write + AsRawFd + Drop> Outlet<W, SystemReady> {
         limit: usize,
         overflow: Overflow,
     ) -> Result<Self, OutletFault>
-        ensures value { IfOk result (λ outlet. outlet ≡ new_outlet writer (readiness outlet) limit overflow) }
+        ensures value { IfOk result (λ outlet. outlet ≡ new_outlet (pipe outlet) limit overflow) }
     {
         let descriptor = writer.as_raw_fd();
-        let ready = match SystemReady::new(net, alloc, descriptor) {
-            Ok(ready) => ready,
+        let pipe = match SystemPipe::new(net, alloc, writer) {
+            Ok(pipe) => pipe,
             Err(error) => return Err(OutletFault::Watch { descriptor, error }),
         };
-        match Outlet::new(alloc, writer, ready, limit, overflow) {
+        match Outlet::new(alloc, pipe, limit, overflow) {
             Ok(outlet) => Ok(outlet),
             Err(_) => Err(OutletFault::Memory { limit }),
         }
     }
 }
 
-impl<W: Write, R: Ready> Outlet<W, R> {
+impl<P: Pipe> Outlet<P> {
     /// Creates an outlet with an empty queue of at most `limit` bytes, which are allocated now.
-    pub fn new(
-        alloc: Global,
-        writer: W,
-        ready: R,
-        limit: usize,
-        overflow: Overflow,
-    ) -> Result<Self, AllocError>
+    pub fn new(alloc: Global, pipe: P, limit: usize, overflow: Overflow) -> Result<Self, AllocError>
     where
-        W: Drop,
-        R: Drop,
-        ensures value { IfOk result (λ outlet. outlet ≡ new_outlet writer ready limit overflow) }
+        P: Drop,
+        ensures value { IfOk result (λ outlet. outlet ≡ new_outlet pipe limit overflow) }
     {
         let queue = HeapCircularBuffer::with_capacity(alloc, limit)?;
         Ok(Outlet {
-            writer,
-            ready,
+            pipe,
             queue,
             overflow,
             dropped: 0,
@@ -90,11 +79,11 @@ impl<W: Write, R: Ready> Outlet<W, R> {
         })
     }
 
-    /// Returns the other writer.
-    pub fn get_ref(&self) -> &W
-        ensures value { result.now ≡ writer self.now }
+    /// Returns the pipe.
+    pub fn get_ref(&self) -> &P
+        ensures value { result.now ≡ pipe self.now }
     {
-        &self.writer
+        &self.pipe
     }
 
     /// Returns how many bytes are queued.
@@ -121,8 +110,8 @@ impl<W: Write, R: Ready> Outlet<W, R> {
     /// Passes on everything in the queue. Unlike the other calls, this one waits for the reader, so use it at the end
     /// of the program.
     pub fn finish(&mut self) -> io::Result<()>
-        ensures passed { Moves (length (queued self.old)) (queued self.old) (queued self.new)
-            (W.contents (writer self.old)) (W.contents (writer self.new)) }
+        ensures passed { (calls : List PipeCall) × Called (P.calls (pipe self.old)) (P.calls (pipe self.new)) calls
+            × (queued self.old ≡ taken_in calls ++ queued self.new) }
         ensures empty { OnOk result (queued self.new ≡ []) }
         ensures count { dropped self.new ≡ dropped self.old }
         ensures fails { IfErr result (λ e. failure self.new ≡ Some e) }
@@ -130,23 +119,23 @@ impl<W: Write, R: Ready> Outlet<W, R> {
         ensures sticks { IfSome (failure self.old) (λ e. (result ≡ Err e) × (self.new ≡ self.old)) }
     {
         self.check()?;
-        let outcome = pass_all(&mut self.queue, &mut self.writer);
+        let outcome = pass_all(&mut self.queue, &mut self.pipe);
         self.keep(outcome)
     }
 
     /// Passes on at most this many chunks of the queue.
     fn pass(&mut self, chunks: u16) -> io::Result<()>
-        ensures flushed { IsFlushed W.contents R.answers self.old self.new }
+        ensures flushed { IsFlushed P.calls chunks self.old self.new }
         ensures fails { IfErr result (λ e. failure self.new ≡ Some e) }
         ensures works { OnOk result (failure self.new ≡ None) }
         ensures sticks { IfSome (failure self.old) (λ e. (result ≡ Err e) × (self.new ≡ self.old)) }
     {
         self.check()?;
-        let outcome = pass_on(&mut self.queue, &mut self.writer, &mut self.ready, chunks);
+        let outcome = pass_on(&mut self.queue, &mut self.pipe, chunks);
         self.keep(outcome)
     }
 
-    /// Returns the error of an earlier write to the other writer, if there was one.
+    /// Returns the error of an earlier write to the pipe, if there was one.
     fn check(&self) -> io::Result<()>
         ensures fails { IfErr result (λ e. failure self.now ≡ Some e) }
         ensures works { OnOk result (failure self.now ≡ None) }
@@ -169,6 +158,13 @@ impl<W: Write, R: Ready> Outlet<W, R> {
         outcome
     }
 
+    /// Returns how many chunks a write passes on: one if a whole one is queued.
+    fn write_chunks(&self) -> u16
+        ensures value { result ≡ write_limit self.now }
+    {
+        if self.queue.len() < CHUNK { 0 } else { 1 }
+    }
+
     /// Returns whether a text would be dropped now.
     fn drops(&self, text: &[u8]) -> bool
         ensures value { result ≡ drops self.now (queued self.now) text.now }
@@ -177,20 +173,19 @@ impl<W: Write, R: Ready> Outlet<W, R> {
     }
 }
 
-impl<W: Write, R: Ready> Write for Outlet<W, R> {
+impl<P: Pipe> Write for Outlet<P> {
     /// Accepts or drops a whole text, and returns its length in either case.
     fn write(&mut self, text: &[u8]) -> io::Result<usize>
         ensures bound { WritesAtMost result text.now }
         ensures bytes { WriteAppends None None result text.now }
         ensures length { IfOk result (λ n. n ≡ length text.now) }
-        ensures written { OnOk result (IsWritten W.contents R.answers text.now self.old self.new) }
-        ensures unwritten { OnErr result (IsFlushed W.contents R.answers self.old self.new) }
+        ensures written { OnOk result (IsWritten P.calls text.now self.old self.new) }
+        ensures unwritten { OnErr result (IsFlushed P.calls (write_limit self.old) self.old self.new) }
         ensures fails { IfErr result (λ e. failure self.new ≡ Some e) }
         ensures works { OnOk result (failure self.new ≡ None) }
         ensures sticks { IfSome (failure self.old) (λ e. (result ≡ Err e) × (self.new ≡ self.old)) }
     {
-        let chunks = if self.queue.len() < CHUNK { 0 } else { 1 };
-        self.pass(chunks)?;
+        self.pass(self.write_chunks())?;
         if self.drops(text) {
             self.dropped = self.dropped.saturating_add(1);
         } else {
@@ -199,10 +194,10 @@ impl<W: Write, R: Ready> Write for Outlet<W, R> {
         Ok(text.len())
     }
 
-    /// Passes on queued bytes, at most 1 MiB, as long as the other writer is ready.
+    /// Passes on queued bytes, at most 1 MiB, as long as the pipe is ready.
     fn flush(&mut self) -> io::Result<()>
         ensures bytes { Keeps None None }
-        ensures flushed { IsFlushed W.contents R.answers self.old self.new }
+        ensures flushed { IsFlushed P.calls flush_limit self.old self.new }
         ensures fails { IfErr result (λ e. failure self.new ≡ Some e) }
         ensures works { OnOk result (failure self.new ≡ None) }
         ensures sticks { IfSome (failure self.old) (λ e. (result ≡ Err e) × (self.new ≡ self.old)) }

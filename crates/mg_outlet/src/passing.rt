@@ -1,34 +1,31 @@
-ghost use Rattle.std.specs.Prelude.{◌≡◌, ◌≤◌, [], length, OnOk};
-ghost use Rattle.std.specs.Io.{StartsWith};
-ghost use Rattle.mg_outlet.specs.Passing.{Moves, PassesOn, known};
+ghost use Rattle.std.specs.Prelude.{◌≡◌, [], ◌∷◌, ◌++◌, ℕ, List, Option, MatchResult, OnOk};
+ghost use Rattle.mg_outlet.specs.Passing.{AreOldest, Called, PipeCall, Passes, TookNone, TookSome, Wrote, taken_in};
 
-use crate::ready::Ready;
+use crate::pipe::Pipe;
 use circular_buffer::HeapCircularBuffer;
-use std::io::{self, ErrorKind, Write};
+use std::io::{self, ErrorKind};
 
 /// The maximum number of bytes that an outlet writes at once.
 pub const CHUNK: usize = 4096;
 
-/// Passes on at most this many chunks of a queue, as long as the writer is ready and the queue isn't empty.
-pub(crate) fn pass_on<W: Write, R: Ready>(
+/// Passes on at most this many chunks of a queue, as long as the pipe is ready and the queue isn't empty.
+pub(crate) fn pass_on<P: Pipe>(
     queue: &mut HeapCircularBuffer<u8>,
-    writer: &mut W,
-    ready: &mut R,
+    pipe: &mut P,
     chunks: u16,
 ) -> io::Result<()>
-    ensures passes { PassesOn queue.old.items queue.new.items
-        (known (W.contents writer.old) (R.answers ready.old))
-        (known (W.contents writer.new) (R.answers ready.new)) }
+    ensures passes { (calls : List PipeCall) × Called (P.calls pipe.old) (P.calls pipe.new) calls
+        × Passes chunks queue.old.items queue.new.items calls }
     ensures limit { queue.new.capacity ≡ queue.old.capacity }
 {
-    for _ in 0..chunks {
+    for _passed in 0..chunks {
         if queue.is_empty() {
             return Ok(());
         }
-        if !ready.is_ready() {
+        if !pipe.is_ready() {
             return Ok(());
         }
-        match pass_chunk(queue, writer) {
+        match pass_chunk(queue, pipe) {
             Ok(()) => {}
             Err(e) if is_later(&e) => return Ok(()),
             Err(e) => return Err(e),
@@ -42,12 +39,10 @@ fn is_later(error: &io::Error) -> bool {
     matches!(error.kind(), ErrorKind::Interrupted | ErrorKind::WouldBlock)
 }
 
-/// Passes on a whole queue. Waits for the writer if necessary.
-pub(crate) fn pass_all<W: Write>(
-    queue: &mut HeapCircularBuffer<u8>,
-    writer: &mut W,
-) -> io::Result<()>
-    ensures moves { Moves (length queue.old.items) queue.old.items queue.new.items (W.contents writer.old) (W.contents writer.new) }
+/// Passes on a whole queue. Waits for the reader if necessary.
+pub(crate) fn pass_all<P: Pipe>(queue: &mut HeapCircularBuffer<u8>, pipe: &mut P) -> io::Result<()>
+    ensures passes { (calls : List PipeCall) × Called (P.calls pipe.old) (P.calls pipe.new) calls
+        × (queue.old.items ≡ taken_in calls ++ queue.new.items) }
     ensures empty { OnOk result (queue.new.items ≡ []) }
     ensures limit { queue.new.capacity ≡ queue.old.capacity }
 {
@@ -55,7 +50,7 @@ pub(crate) fn pass_all<W: Write>(
         if queue.is_empty() {
             return Ok(());
         }
-        match pass_chunk(queue, writer) {
+        match pass_chunk(queue, pipe) {
             Ok(()) => {}
             Err(e) if e.kind() == ErrorKind::Interrupted => {}
             Err(e) => return Err(e),
@@ -64,12 +59,16 @@ pub(crate) fn pass_all<W: Write>(
     Err(io::Error::from(ErrorKind::TimedOut))
 }
 
-/// Passes on the first 1 to 4,096 bytes of a queue. A writer that writes zero bytes counts as failed.
-fn pass_chunk<W: Write>(queue: &mut HeapCircularBuffer<u8>, writer: &mut W) -> io::Result<()>
-    ensures moves { Moves 4096 queue.old.items queue.new.items (W.contents writer.old) (W.contents writer.new) }
+/// Offers the oldest bytes of a queue to a pipe, and removes those that it took. A pipe that takes no bytes counts as
+/// failed.
+fn pass_chunk<P: Pipe>(queue: &mut HeapCircularBuffer<u8>, pipe: &mut P) -> io::Result<()>
+    ensures wrote { (offered : List ℕ) × (taken : Option ℕ)
+        × Called (P.calls pipe.old) (P.calls pipe.new) (Wrote offered taken ∷ []) × AreOldest queue.old.items offered
+        × MatchResult result (λ _. TookSome queue.old.items queue.new.items offered taken)
+        (λ _. TookNone taken × (queue.new.items ≡ queue.old.items)) }
     ensures limit { queue.new.capacity ≡ queue.old.capacity }
 {
-    let count = writer.write(oldest(queue))?;
+    let count = pipe.write(oldest(queue))?;
     if count == 0 {
         return Err(io::Error::from(ErrorKind::WriteZero));
     }
@@ -79,9 +78,7 @@ fn pass_chunk<W: Write>(queue: &mut HeapCircularBuffer<u8>, writer: &mut W) -> i
 
 /// Returns the oldest bytes of a queue: at most 4,096, and at least one unless the queue is empty.
 fn oldest(queue: &HeapCircularBuffer<u8>) -> &[u8]
-    ensures front { StartsWith queue.now.items result.now }
-    ensures small { length result.now ≤ 4096 }
-    ensures some { length result.now ≡ 0 → queue.now.items ≡ [] }
+    ensures oldest { AreOldest queue.now.items result.now }
 {
     let (first, second) = queue.as_slices();
     let front = if first.is_empty() { second } else { first };

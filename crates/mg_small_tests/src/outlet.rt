@@ -2,7 +2,7 @@
 
 use crate::equality::assert_right;
 use crate::failure::kind;
-use mg_outlet::{CHUNK, Outlet, Overflow, Ready};
+use mg_outlet::{CHUNK, Outlet, Overflow, Pipe};
 use std::alloc::{AllocError, Global};
 use std::io::{self, Error, ErrorKind, Write};
 use std::test::Fail;
@@ -17,15 +17,25 @@ enum Step {
     Fail(ErrorKind),
 }
 
-/// A writer that executes the steps, one per call, and then takes everything. It records the size of each call.
+/// A pipe that executes the steps, one per write, and then takes everything. It is ready as the answers say, and then
+/// always. It records the size of each write.
 #[derive(Drop)]
 struct Script<'a> {
     steps: &'a [Step],
+    answers: &'a [bool],
     sizes: Vec<usize>,
     written: Vec<u8>,
 }
 
-impl<'a> Write for Script<'a> {
+impl<'a> Pipe for Script<'a> {
+    fn is_ready(&mut self) -> bool {
+        let [answer, rest @ ..] = self.answers else {
+            return true;
+        };
+        self.answers = rest;
+        *answer
+    }
+
     fn write(&mut self, buf: &[u8]) -> io::Result<usize> {
         self.sizes.push(buf.len())?;
         let step = match self.steps {
@@ -44,27 +54,9 @@ impl<'a> Write for Script<'a> {
             Step::Fail(kind) => Err(Error::from(kind)),
         }
     }
-
-    fn flush(&mut self) -> io::Result<()> {
-        Ok(())
-    }
 }
 
-/// A readiness test that returns these answers, and then always `true`.
-#[derive(Drop)]
-struct Answers<'a>(&'a [bool]);
-
-impl<'a> Ready for Answers<'a> {
-    fn is_ready(&mut self) -> bool {
-        let [answer, rest @ ..] = self.0 else {
-            return true;
-        };
-        self.0 = rest;
-        *answer
-    }
-}
-
-type Scripted<'a> = Outlet<Script<'a>, Answers<'a>>;
+type Scripted<'a> = Outlet<Script<'a>>;
 
 /// A call of an outlet and its outcome, or what is found after the calls before.
 #[derive(Clone, Copy)]
@@ -91,7 +83,7 @@ enum Action<'a> {
     Dropped(u64, bool),
 }
 
-/// What an outlet does in front of a writer that executes the steps and is ready as the answers say.
+/// What an outlet does in front of a pipe that executes the steps and is ready as the answers say.
 struct Case<'a> {
     name: &'a str,
     steps: &'a [Step],
@@ -335,11 +327,11 @@ fn does(outlet: &mut Scripted<'_>, action: &Action<'_>, long: &[u8]) -> bool {
 fn first_wrong(alloc: Global, case: &Case<'_>, long: &[u8]) -> Result<Option<usize>, AllocError> {
     let script = Script {
         steps: case.steps,
+        answers: case.answers,
         sizes: Vec::new(alloc),
         written: Vec::new(alloc),
     };
-    let answers = Answers(case.answers);
-    let mut outlet = Outlet::new(alloc, script, answers, case.limit, case.overflow)?;
+    let mut outlet = Outlet::new(alloc, script, case.limit, case.overflow)?;
     for at in 0..case.actions.len() {
         if !does(&mut outlet, &case.actions[at], long) {
             return Ok(Some(at));

@@ -1,4 +1,3 @@
-use crate::ready::Ready;
 use mio::unix::SourceFd;
 use mio::{Events, Interest, Poll, Token};
 use std::alloc::Global;
@@ -13,7 +12,7 @@ use std::time::Duration;
 /// its buffer is free. A write of at most 4,096 bytes then returns without waiting, even if the descriptor is blocking.
 /// This holds only if nobody else writes to the same pipe or socket.
 #[derive(Drop)]
-pub struct SystemReady {
+pub(crate) struct Readiness {
     watched: Option<Watched>,
 }
 
@@ -25,30 +24,29 @@ struct Watched {
     events: Events,
 }
 
-impl SystemReady {
+impl Readiness {
     /// Watches a descriptor. A regular file or `/dev/null` can't be watched; it counts as always ready.
-    pub fn new<N: Net>(net: &N, alloc: Global, descriptor: RawFd) -> io::Result<Self> {
+    pub(crate) fn new<N: Net>(net: &N, alloc: Global, descriptor: RawFd) -> io::Result<Self> {
         let poll = Poll::new(net)?;
         let events = Events::with_capacity(alloc, 1)?;
         let registered = poll
             .registry()
             .register(&mut SourceFd(&descriptor), Token(0), Interest::WRITABLE);
         match registered {
-            Ok(()) => Ok(SystemReady {
+            Ok(()) => Ok(Readiness {
                 watched: Some(Watched {
                     descriptor,
                     poll,
                     events,
                 }),
             }),
-            Err(e) if e.kind() == ErrorKind::PermissionDenied => Ok(SystemReady { watched: None }),
+            Err(e) if e.kind() == ErrorKind::PermissionDenied => Ok(Readiness { watched: None }),
             Err(e) => Err(e),
         }
     }
-}
 
-impl Ready for SystemReady {
-    fn is_ready(&mut self) -> bool {
+    /// Returns whether the descriptor is writable now.
+    pub(crate) fn is_writable(&mut self) -> bool {
         match &mut self.watched {
             Some(watched) => watched.is_writable(),
             None => true,

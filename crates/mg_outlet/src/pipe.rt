@@ -1,0 +1,19 @@
+ghost use Rattle.std.specs.Prelude.{◌≤◌, [], ◌∷◌, length, List, Option, None, IfOk};
+ghost use Rattle.mg_outlet.specs.Passing.{Asked, Called, PipeCall, Wrote, taken_by};
+
+use std::io;
+
+/// A writer that says whether it would wait for its reader.
+pub trait Pipe {
+    /// All calls so far, in order, if they are known.
+    ghost calls: { Self → Option (List PipeCall) } = { λ _. None };
+
+    /// Returns whether 4,096 bytes can be written now without waiting.
+    fn is_ready(&mut self) -> bool
+        ensures asked { Called (calls self.old) (calls self.new) (Asked result ∷ []) };
+
+    /// Writes the first of these bytes, and returns how many were written.
+    fn write(&mut self, bytes: &[u8]) -> io::Result<usize>
+        ensures within { IfOk result (λ n. n ≤ length bytes.now) }
+        ensures wrote { Called (calls self.old) (calls self.new) (Wrote bytes.now (taken_by result) ∷ []) };
+}

@@ -513,7 +513,7 @@ bye(Call = #call{state = ending}) -> Call;
 bye(Call = #call{state = starting}) -> refuse(480, [], Call);
 bye(Call) -> send(<<"BYE">>, {[], <<>>}, ending, left(Call)).
 
-%% He leaves his room before his call ends. From then on, no room is told of him.
+%% His room lets him go before his call ends, and no room hears of him after that.
 left(Call = #call{person = none}) -> Call;
 left(Call) -> with([{{timeout, person}, infinity, none}], person(leave, Call)).
 

@@ -59,7 +59,7 @@
                   %% Since when its host only says that nobody has the port, and since when it is awaited.
                   refused = none :: integer() | none, away = none :: integer() | none,
                   contexts = [] :: [place()], unknown = [] :: [lobby_transactions:sent()],
-                  %% Rooms that have asked what they have. They are told once all their requests are answered.
+                  %% Rooms that wait for their holdings until all their requests are answered.
                   asking = [] :: [room()],
                   kept = none :: kept() | none, shown = none :: lobby_placement:load() | none, out = [] :: [action()]}).
 -opaque gateway() :: #gateway{}.
@@ -271,7 +271,7 @@ cleaned(G) -> G.
 submit(Kind, Action, Now, G = #gateway{transactions = T}) ->
     effects(lobby_transactions:submit(Kind, guarded(Kind, Action, G), Now, T), Now, G).
 
-%% If the gateway has begun anew, it refuses requests that were meant for what it was before.
+%% A gateway that has begun anew refuses requests from before.
 guarded({_, {room, _, _, _}}, Action, #gateway{sentinel = {Context, T, _}}) -> Action#{guard => {Context, T}};
 guarded({_, {clean, _}}, Action, #gateway{sentinel = {Context, T, _}}) -> Action#{guard => {Context, T}};
 guarded(_, Action, _) -> Action.

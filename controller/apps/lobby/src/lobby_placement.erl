@@ -16,8 +16,8 @@
 start_link() ->
     gen_server:start_link({local, ?MODULE}, ?MODULE, [], []).
 
-%% @doc Reserves seats for all of a room's members, on the gateway that is preferred or on the one with the most that
-%% are free, but for one.
+%% @doc Reserves seats for all of a room's members on the preferred gateway, or on the one with the most free seats. One
+%% gateway may be left out.
 -spec place(lobby_room:name(), [lobby_rules:id()], Prefer :: handle() | none, Except :: handle() | none) ->
           handle() | none.
 place(Room, Ids, Prefer, Except) ->

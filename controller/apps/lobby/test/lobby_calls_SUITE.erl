@@ -528,7 +528,7 @@ hung_up_during_a_change(Config) ->
     ?assertEqual("BYE", phone:status(next([100, 200], Phone1))),
     ok = sys:resume(Room).
 
-%% His phone doesn't answer the BYE, and what was wanted for him until then is told no more.
+%% His phone doesn't answer the BYE. No room hears of him any more.
 who_is_hung_up_stays_away(Config) ->
     {_, _} = call(Config),
     [Id] = members(<<"100">>),

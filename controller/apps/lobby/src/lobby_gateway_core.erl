@@ -271,7 +271,7 @@ cleaned(G) -> G.
 submit(Kind, Action, Now, G = #gateway{transactions = T}) ->
     effects(lobby_transactions:submit(Kind, guarded(Kind, Action, G), Now, T), Now, G).
 
-%% A gateway that has begun anew refuses requests from before.
+%% After a restart without a journal, a gateway refuses these requests.
 guarded({_, {room, _, _, _}}, Action, #gateway{sentinel = {Context, T, _}}) -> Action#{guard => {Context, T}};
 guarded({_, {clean, _}}, Action, #gateway{sentinel = {Context, T, _}}) -> Action#{guard => {Context, T}};
 guarded(_, Action, _) -> Action.

@@ -1,10 +1,10 @@
 %% A small world for searches: people, rooms, and gateways that are the proved program. What the controller decides is
 %% decided by its own modules; this one has what lies between them: the store, messages, datagrams, failures, and phones.
 %%
-%% Between any two events, somebody can ask for a change, a process can be killed, a gateway can end, begin anew or resume
-%% from its journal, and the other node of a pair can take over. A datagram can be lost, come twice or much later.
-%% Messages from one process to another come in their order, and others in one order, but for some that come first. Timers
-%% run out when nothing else can happen, so that nothing is waited for without a reason.
+%% Between any two events, somebody can ask for a change, and a process can be killed. A gateway can end, and start again
+%% empty or from its journal. The other node of a pair can take over. A datagram can be lost, or come twice or much later.
+%% Messages arrive in the order in which they were sent, except for a few that overtake others. Timers run out only when
+%% nothing else can happen, so nothing waits without a reason.
 -module(lobby_world).
 
 -export([start/1, model/1, format/1]).
@@ -142,7 +142,7 @@ orphans(G, #world{gateways = Gateways, store = Store}) ->
     lobby_gateway_core:orphans(fun(Id) -> maps:find({lobby_members, Id}, Store) end, maps:get(G, Gateways)).
 
 is_needed({node, _, _}, _) -> true;
-%% A gateway that is lost is asked for ever whether it is back.
+%% The controller never stops asking a lost gateway whether it is back.
 is_needed({gateway, G, transactions}, #world{worlds = Worlds, loads = Loads, timers = Timers}) ->
     maps:get(G, Worlds) =/= ended orelse is_map_key(G, Loads) orelse is_map_key({gateway, G, back}, Timers);
 is_needed({gateway, _, probe}, _) -> true;

@@ -148,7 +148,7 @@ is_needed({gateway, G, transactions}, #world{worlds = Worlds, loads = Loads, tim
 is_needed({gateway, _, probe}, _) -> true;
 is_needed({gateway, _, clean}, _) -> true;
 is_needed({gateway, G, back}, #world{worlds = Worlds}) -> maps:get(G, Worlds) =:= ended;
-%% A gateway that ended or has begun anew is noticed by an audit of the controller's own termination.
+%% An audit of the controller's own termination shows that a gateway has ended or was restarted empty.
 is_needed({gateway, G, audit}, #world{worlds = Worlds, oracles = Oracles, store = Store}) ->
     case {Worlds, Store} of
         {#{G := ended}, _} -> true;
@@ -386,7 +386,7 @@ send(From, To, Message, W = #world{queues = Queues}) ->
 
 %%% Phones.
 
-%% Whoever is still there after a process of his call has started is told again where the gateway receives him.
+%% When a call's process is started again, it tells its caller where the gateway receives him.
 invited(Id, W = #world{store = Store}) ->
     case Store of
         #{{local, Id} := Local, {lobby_members, Id} := #{room := Room}} -> send({person, Id}, {phone, Id}, {Room, Local}, W);

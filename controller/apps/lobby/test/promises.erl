@@ -1,5 +1,5 @@
-%% What was asked for and answered, as a value, for a search: which values a setting may have. What was asked for may hold
-%% from then on, and holds from its answer on, until something else is asked for.
+%% Which values each setting may have at a moment of a search. A value that somebody asks for may hold at once. Once he is
+%% answered, it must hold until something else is asked for.
 -module(promises).
 
 -export([new/0, given/3, asked/4, answered/3, possible/2]).

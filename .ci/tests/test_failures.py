@@ -6,9 +6,10 @@ import time
 from pathlib import Path
 
 from kernel import Kernel
+from media import add, conference, spoken
 from programs import FIRST, HEARTBEAT, LIMIT, Commands, Gateway, ports, udp
 
-CONTROL = ("127.0.0.1", FIRST)
+CONTROL, MEDIA = ("127.0.0.1", FIRST), ("127.0.0.1", FIRST + 2)
 POLLS, SYNCS = ["epoll_wait", "epoll_pwait"], ["fsync", "fdatasync"]
 
 
@@ -30,6 +31,13 @@ class Failures(Commands):
         with contextlib.suppress(TimeoutError):
             return caller.recv(2000).decode().partition("\n")[2]
         return None
+
+    def has_received(self, gateway, words, control, media):
+        """Whether a gateway that records has received this many datagrams, or does so soon."""
+        if words == ["serve"]:
+            return gateway.received(control, media).startswith(f"control={control} media={media} ")
+        kind = "rtp " if media else "control "
+        return any(line.startswith(kind) for line in iter(gateway.process.stdout.readline, ""))
 
     def test_a_message_is_answered_once_it_is_on_the_disk(self):
         failing = []
@@ -59,19 +67,22 @@ class Failures(Commands):
         self.assertIn("\ncontrol 127.0.0.1:", self.journal.read_text())
 
     def test_polls_fail(self):
-        """Then every socket is asked."""
+        """Then every socket is asked: the one for messages, and those for media."""
         for words in (["serve"], ["live"]):
             failing = []
-            with self.subTest(words), udp() as caller, Kernel(POLLS, lambda call: errno.EBADF if failing else None) as kernel:
-                with Gateway(*words, *ports(0, 4), kernel=kernel) as gateway:
+
+            def decide(call):
+                _, _, most, wait, *_ = call.arguments
+                # A poll of an output asks for one report, and doesn't wait.
+                return errno.EBADF if failing and (most, wait) != (1, 0) else None
+
+            with self.subTest(words), udp() as caller, Kernel(POLLS, decide) as kernel:
+                with Gateway(*words, "--record", *ports(0, 4), kernel=kernel) as gateway:
                     failing.append(True)
-                    for number in (1, 2):
-                        made = sum(kernel.made.values())
-                        caller.sendto(HEARTBEAT.encode(), CONTROL)
-                        if words == ["serve"]:
-                            gateway.tell("poll")
-                        self.assertTrue(caller.recv(2000).startswith(b"MEGACO/1 "))
-                        self.assertGreater(sum(kernel.made.values()), made)
+                    caller.sendto(conference(add(caller.getsockname()[1])), CONTROL)
+                    self.assertTrue(self.has_received(gateway, words, control=1, media=0))
+                    caller.sendto(spoken(1, b"\x21" * 160), MEDIA)
+                    self.assertTrue(self.has_received(gateway, words, control=1, media=1))
 
     def test_an_idle_gateway_hardly_works(self):
         with udp() as caller, Gateway("live", *ports(0, 4)) as gateway:

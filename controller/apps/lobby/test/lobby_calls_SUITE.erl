@@ -608,7 +608,7 @@ the_node_fails(Config) ->
     %% Our own context, and the room's.
     ?assertEqual(2, length(gateway:contexts(lists:seq(1, 60), Gateway))),
     hang_up(Phone),
-    ?assertEqual(1, map_size(maps:get(members, peer:call(Second, people, describe, [<<"100">>])))),
+    lobby_case:until(fun() -> map_size(maps:get(members, peer:call(Second, people, describe, [<<"100">>]))) =:= 1 end),
     peer:stop(Second),
     ok = file:del_dir_r(Folder).
 

@@ -6,7 +6,7 @@
 -export([start_link/0, register_name/2, unregister_name/1, whereis_name/1, send/2, processes/1, names/1]).
 -export([init/1, handle_call/3, handle_cast/2, handle_info/2]).
 
-%% The table has processes by name.
+%% The table has processes by name. Whoever registers a process writes there, so that nobody waits for this process.
 -type state() :: none.
 
 -spec start_link() -> gen_server:start_ret().
@@ -15,11 +15,31 @@ start_link() ->
 
 -spec register_name(term(), pid()) -> yes | no.
 register_name(Name, Pid) ->
-    gen_server:call(?MODULE, {register, Name, Pid}).
+    %% First, so that the name is removed however soon the process ends.
+    ok = gen_server:cast(?MODULE, {watch, Name, Pid}),
+    registered(Name, Pid).
+
+registered(Name, Pid) ->
+    case ets:insert_new(?MODULE, {Name, Pid}) orelse ets:lookup(?MODULE, Name) of
+        true -> yes;
+        [{_, Pid}] -> yes;
+        [Other] -> replaced(Other, Pid);
+        [] -> registered(Name, Pid)
+    end.
+
+%% Another process may have got the name before the end of its last one is reported.
+replaced(Other = {Name, Owner}, Pid) ->
+    case is_process_alive(Owner) of
+        true -> no;
+        false ->
+            true = ets:delete_object(?MODULE, Other),
+            registered(Name, Pid)
+    end.
 
 -spec unregister_name(term()) -> ok.
 unregister_name(Name) ->
-    gen_server:call(?MODULE, {unregister, Name}).
+    true = ets:delete(?MODULE, Name),
+    ok.
 
 %% A process that ended may still be in the table.
 -spec whereis_name(term()) -> pid() | undefined.
@@ -48,27 +68,17 @@ names(Kind) ->
 
 -spec init([]) -> {ok, state()}.
 init([]) ->
-    ?MODULE = ets:new(?MODULE, [named_table, protected, {read_concurrency, true}]),
+    ?MODULE = ets:new(?MODULE, [named_table, public, {read_concurrency, true}]),
     {ok, none}.
 
-%% One process may have several names, and another process may have got a name before the end of this one is reported.
--spec handle_call({register, term(), pid()} | {unregister, term()}, gen_server:from(), state()) ->
-          {reply, yes | no | ok, state()}.
-handle_call({register, Name, Pid}, _, State) ->
-    case whereis_name(Name) of
-        undefined ->
-            _ = monitor(process, Pid, [{tag, {ended, Name}}]),
-            true = ets:insert(?MODULE, {Name, Pid}),
-            {reply, yes, State};
-        Pid -> {reply, yes, State};
-        _ -> {reply, no, State}
-    end;
-handle_call({unregister, Name}, _, State) ->
-    true = ets:delete(?MODULE, Name),
-    {reply, ok, State}.
+-spec handle_call(term(), gen_server:from(), state()) -> {reply, {error, unknown_call}, state()}.
+handle_call(_, _, State) ->
+    {reply, {error, unknown_call}, State}.
 
--spec handle_cast(term(), state()) -> {noreply, state()}.
-handle_cast(_, State) ->
+%% One process may have several names.
+-spec handle_cast({watch, term(), pid()}, state()) -> {noreply, state()}.
+handle_cast({watch, Name, Pid}, State) ->
+    _ = monitor(process, Pid, [{tag, {ended, Name}}]),
     {noreply, State}.
 
 -spec handle_info(term(), state()) -> {noreply, state()}.

@@ -4,7 +4,8 @@
 
 registry_test_() ->
     {setup, fun() -> {ok, Pid} = lobby_registry:start_link(), Pid end, fun gen_server:stop/1,
-     [fun a_name_is_one_processes/0, fun names_end_with_their_process/0, fun a_name_is_given_up/0, fun processes_of_a_kind/0]}.
+     [fun a_name_is_one_processes/0, fun names_end_with_their_process/0, fun names_of_short_lives_end/0, fun a_name_is_given_up/0,
+      fun processes_of_a_kind/0]}.
 
 process() -> spawn(fun() -> receive stop -> ok end end).
 
@@ -26,6 +27,17 @@ names_end_with_their_process() ->
     ?assertEqual(undefined, lobby_registry:whereis_name(x)),
     ?assertEqual(yes, lobby_registry:register_name(y, self())),
     ?assertEqual(self(), lobby_registry:whereis_name(y)).
+
+%% However soon after it the process is killed.
+names_of_short_lives_end() ->
+    [killed_soon({short, N}) || N <- lists:seq(1, 100)],
+    lobby_case:until(fun() -> lobby_registry:names(short) =:= [] end).
+
+killed_soon(Name) ->
+    Pid = spawn(fun() -> yes = lobby_registry:register_name(Name, self()), receive stop -> ok end end),
+    Wait = fun Wait() -> lobby_registry:whereis_name(Name) =:= Pid orelse Wait() end,
+    true = Wait(),
+    exit(Pid, kill).
 
 a_name_is_given_up() ->
     A = process(),

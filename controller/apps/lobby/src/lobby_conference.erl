@@ -366,10 +366,10 @@ move(C = #conference{arriving = Arriving, blocked = Blocked, held = Held}) ->
     case [Holding || {Id, {given, Holding}} <- maps:to_list(Arriving), not lists:member(Id, Blocked)] of
         [] -> none;
         [Holding = #{member := Id, termination := T} | _] ->
-            {Triples, After} = entering(row(Id, C), C),
+            {Triples, Flows} = entering(row(Id, C), C),
             Topology = by_termination(Triples, C#conference{held = Held#{Id => held(Holding, inactive)}}),
             {request, #{topology => Topology, commands => [{move, T, #{mode => inactive}}]},
-             {move, {Id, inactive}, After}}
+             {move, {Id, inactive}, Flows}}
     end.
 
 add(C = #conference{members = Members, blocked = Blocked, refused = Refused}) ->
@@ -382,32 +382,29 @@ add(C = #conference{members = Members, blocked = Blocked, refused = Refused}) ->
     end.
 
 add_one(Row = #{id := Id}, C) ->
-    {Triples, After} = entering(Row, C),
+    {Triples, Flows} = entering(Row, C),
     First = first_mode(Triples, mode(Row)),
     Names = fun(Name) when Name =:= Id -> new; (Name) -> termination(Name, C) end,
     {request, #{topology => [{Names(A), Names(B), How} || {A, B, How} <- Triples],
-                commands => [{add_optional, settings(Row, First)}]}, {add, [{Row, First}], After}}.
+                commands => [{add_optional, settings(Row, First)}]}, {add, [{Row, First}], Flows}}.
 
 %% The gateway runs commands before triples. If it refuses a triple, for example because somebody else has ended the
 %% other termination, the newcomer is there all the same, connected both ways with everyone.
 first_mode([], Mode) -> Mode;
 first_mode(_, _) -> inactive.
 
-add_some(Rows, C = #conference{open = Open}) ->
+add_some(Rows, C) ->
     New = [Id || #{id := Id} <- Rows],
     Everyone = lobby_topology:everyone([Id || #{id := Id} <- held_members(C)] ++ New),
-    Kept = sets:filter(fun({A, B}) -> lists:member(A, New) orelse lists:member(B, New) end, Everyone),
+    Flows = sets:filter(fun({A, B}) -> lists:member(A, New) orelse lists:member(B, New) end, Everyone),
     {request, #{commands => [{add_optional, settings(Row, inactive)} || Row <- Rows]},
-     {add, [{Row, inactive} || Row <- Rows], sets:union(Open, Kept)}}.
+     {add, [{Row, inactive} || Row <- Rows], Flows}}.
 
 %% The triples between a newcomer and the others, and the open flows with him.
-entering(Row, C = #conference{open = Open}) ->
-    {Triples, Flows} = lists:unzip([between(Row, Other, C) || Other <- held_members(C)]),
-    {lists:append(Triples), sets:union([Open | Flows])}.
-
-between(A = #{id := IdA}, B = #{id := IdB}, C) ->
-    After = wanted([A, B], C),
-    {lists:append(lobby_topology:changes([IdA, IdB], lobby_topology:everyone([IdA, IdB]), After)), After}.
+entering(Row = #{id := Id}, C) ->
+    Others = held_members(C),
+    Flows = wanted([Row], Others, C),
+    {lobby_topology:entry(Id, [Other || #{id := Other} <- Others], Flows), Flows}.
 
 %% Everything else that differs: modes, addresses and formats.
 settle(C = #conference{held = Held}) ->
@@ -447,7 +444,15 @@ held_members(#conference{members = Members, held = Held}) ->
     [Row || Row = #{id := Id} <- Members, is_map_key(Id, Held)].
 
 wanted(Rows, #conference{rules = Rules}) ->
-    lobby_rules:flows([{Id, Role} || #{id := Id, role := Role, isolated := false, waiting := false} <- Rows], Rules).
+    lobby_rules:flows(heard(Rows), Rules).
+
+%% Between some and others.
+wanted(Some, Others, #conference{rules = Rules}) ->
+    {As, Bs} = {heard(Some), heard(Others)},
+    sets:union(lobby_rules:flows(As, Bs, Rules), lobby_rules:flows(Bs, As, Rules)).
+
+heard(Rows) ->
+    [{Id, Role} || #{id := Id, role := Role, isolated := false, waiting := false} <- Rows].
 
 %% Finds out whether the open flows are the wanted ones, if that may have changed.
 agree(false, C) -> C;
@@ -472,15 +477,17 @@ done(_, {error, _}, C) ->
 done(Step, {ok, Reply = #{results := Results}, Owners}, C) ->
     case {maps:get(error, Reply, none), Step} of
         {_, {subtract, Some}} -> subtracted(Some, Reply, C);
-        {none, {move, Moved, After}} -> moved(Moved, After, Reply, C);
-        {none, {add, New, After}} -> added(New, After, Reply, C);
+        {none, {move, Moved, Flows}} -> moved(Moved, Flows, Reply, C);
+        {none, {add, New, Flows}} -> added(New, Flows, Reply, C);
         {none, {settle, Rows}} -> changed(Rows, Results, C);
         {none, {modify, Modes}} -> kept(Results, C, fun() -> {[], lists:foldl(fun set_mode/2, C, Modes)} end);
-        {none, {connect, After}} -> kept(Results, C, fun() -> {[], agree(true, opened(After, C))} end);
+        {none, {connect, After}} -> kept(Results, C, fun() ->
+            {[], agree(true, C#conference{open = flows_between(C#conference.members, After)})}
+        end);
         {none, topology} -> kept(Results, C, fun() -> compared(maps:get(topology, Reply, []), C) end);
         {none, inventory} -> found(Results, Owners, C);
         {Code, inventory} when ?IS_GONE(Code) -> {[], gone(C)};
-        {410, {add, New, After}} -> refused(New, After, Reply, C);
+        {410, {add, New, Flows}} -> refused(New, Flows, Reply, C);
         {_, _} -> failed(C)
     end.
 
@@ -517,23 +524,29 @@ set_mode({Id, Mode}, C = #conference{held = Held}) ->
     end.
 
 %% A refused newcomer's triples are refused, too, because they name what his Add would have created.
-refused(New, After, Reply = #{results := [{add, _, {error, _}}]}, C) -> added(New, After, Reply, C);
+refused(New, Flows, Reply = #{results := [{add, _, {error, _}}]}, C) -> added(New, Flows, Reply, C);
 refused(_, _, _, C) -> failed(C).
 
-added(New, After, #{context := Context, results := Results}, C) ->
+added(New, Flows, #{context := Context, results := Results}, C) ->
     case [no_context || {add, _, {error, 411}} <- Results] of
         [] when length(Results) =:= length(New) ->
             {Events, Made} = lists:mapfoldl(fun added/2, C#conference{context = Context}, lists:zip(New, Results)),
-            Gone = [Id || {{#{id := Id}, _}, {add, _, {error, _}}} <- lists:zip(New, Results)],
-            {lists:append(Events), ended(agree(true, opened(lists:foldl(fun flows_without/2, After, Gone), Made)))};
+            {lists:append(Events), ended(entered([Id || {#{id := Id}, _} <- New], Flows, Made))};
         _ when is_integer(Context), C#conference.context =:= new -> failed(C#conference{context = Context});
         _ -> failed(C)
     end.
 
-%% Only between members, of whom one may have left while the request was under way.
-opened(Flows, C) ->
-    Ids = maps:from_keys(ids(C), in),
-    C#conference{open = sets:filter(fun({A, B}) -> is_map_key(A, Ids) andalso is_map_key(B, Ids) end, Flows)}.
+%% Opens the flows with newcomers. Between the others, nothing has changed.
+entered(New, Flows, C = #conference{open = Open, agreed = Agreed}) ->
+    Here = held_members(C),
+    Opened = flows_between(Here, Flows),
+    Wanted = wanted([Row || Row = #{id := Id} <- Here, lists:member(Id, New)], Here, C),
+    C#conference{open = sets:union(Open, Opened), agreed = Agreed andalso Opened =:= Wanted}.
+
+%% One of them may have left while the request was under way.
+flows_between(Rows, Flows) ->
+    Ids = maps:from_keys([Id || #{id := Id} <- Rows], in),
+    sets:filter(fun({A, B}) -> is_map_key(A, Ids) andalso is_map_key(B, Ids) end, Flows).
 
 %% Who left while the request was under way is ended.
 added({{#{id := Id, media := Media}, Mode}, {add, T, #{local := Local}}}, C = #conference{held = Held}) ->
@@ -545,12 +558,12 @@ added({{#{id := Id, media := Media}, _}, {add, _, {error, 515}}}, C = #conferenc
 added({{#{id := Id}, _}, {add, _, {error, _}}}, C) ->
     {[{full, Id}], block(Id, C)}.
 
-moved({Id, Mode}, After, #{context := Context, results := [{move, _, Properties}]}, C) ->
+moved({Id, Mode}, Flows, #{context := Context, results := [{move, _, Properties}]}, C) ->
     #conference{held = Held, arriving = Arriving} = C,
     case {Properties, Arriving} of
         {#{}, #{Id := {given, Holding}}} ->
-            {[], agree(true, opened(After, C#conference{context = Context, arriving = maps:remove(Id, Arriving),
-                                                        held = Held#{Id => held(Holding, Mode)}}))};
+            {[], entered([Id], Flows, C#conference{context = Context, arriving = maps:remove(Id, Arriving),
+                                                   held = Held#{Id => held(Holding, Mode)}})};
         %% 434: the context is full, 412: there is no context left. He waits where he is.
         {{error, Code}, _} when Code =:= 434; Code =:= 412 -> {[{full, Id}], block(Id, C)};
         %% If he can't be moved, he is removed and added.

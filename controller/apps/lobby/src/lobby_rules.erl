@@ -4,7 +4,7 @@
 %%% without one the listener hears the talker. Rules name members, never terminations, so they hold on any gateway.
 -module(lobby_rules).
 
--export([hears/3, flows/2, add/2, forget/2, named/1, preset/1, oneway/2]).
+-export([hears/3, flows/2, flows/3, add/2, forget/2, named/1, preset/1, oneway/2]).
 -export_type([id/0, role/0, party/0, rule/0, member/0, flow/0, flows/0]).
 
 -define(MAX_RULES, 256).
@@ -34,7 +34,12 @@ is_party({Id, _}, {member, Wanted}) -> Id =:= Wanted.
 %% @doc The flows that the rules leave open between these members.
 -spec flows([member()], [rule()]) -> flows().
 flows(Members, Rules) ->
-    sets:from_list([{From, To} || Talker = {From, _} <- Members, Listener = {To, _} <- Members,
+    flows(Members, Members, Rules).
+
+%% @doc The flows that they leave open from these talkers to these listeners.
+-spec flows(Talkers :: [member()], Listeners :: [member()], [rule()]) -> flows().
+flows(Talkers, Listeners, Rules) ->
+    sets:from_list([{From, To} || Talker = {From, _} <- Talkers, Listener = {To, _} <- Listeners,
                                   hears(Listener, Talker, Rules)], [{version, 2}]).
 
 %% @doc Appends rules. A new rule replaces an earlier one about the same two parties, which it would override.

@@ -4,7 +4,7 @@
 %%% closes flows first, so that between two requests no flow is open that is open neither before nor after the change.
 -module(lobby_topology).
 
--export([changes/3, changes/4, after_batch/3, from_triples/1, everyone/1]).
+-export([changes/3, changes/4, entry/3, after_batch/3, from_triples/1, everyone/1]).
 -export_type([direction/0, triple/1]).
 
 %% A triple has at most 34 bytes, with ten-digit numbers, and the gateway reads messages of up to 8,192 bytes.
@@ -35,6 +35,11 @@ changes(Ids, Before, After, Max) ->
         {ok, Whole} -> [Whole];
         none -> batches(Triples, Max)
     end.
+
+%% @doc The triples for somebody who enters a context, where he is connected both ways with everyone.
+-spec entry(Id, Others :: [Id], After :: sets:set({Id, Id})) -> [triple(Id)].
+entry(Id, Others, After) ->
+    [State || Other <- Others, State = {_, _, How} <- [state(Id, Other, After)], How =/= bothway].
 
 %% Triples that set all flows again: first for all pairs what most of them have, then the exceptions. They must fit into
 %% one request; split over several, they would briefly open flows that must stay closed.

@@ -73,6 +73,11 @@ one_pair_takes_one_triple_test() ->
     ?assertEqual([[{2, 1, oneway}]],
                  lobby_topology:changes([1, 2, 3], Before, sets:del_element({1, 2}, Before))).
 
+%% Whoever enters is connected both ways with everyone, and nothing else changes.
+an_entry_closes_flows_test() ->
+    After = sets:from_list([{1, 2}, {2, 1}, {3, 2}, {2, 4}, {3, 4}], [{version, 2}]),
+    ?assertEqual([{3, 2, oneway}, {2, 4, oneway}, {2, 5, isolate}], lobby_topology:entry(2, [1, 3, 4, 5], After)).
+
 %% A lecture of 64: one request, with a wildcard.
 a_lecture_takes_one_request_test() ->
     Ids = lists:seq(1, 64),

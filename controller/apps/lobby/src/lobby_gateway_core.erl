@@ -101,7 +101,7 @@ is_superseded(#{given := Given, member := Id, room := Room}, Entries) ->
 %% sent or told isn't forgotten.
 -spec handle(event(), Now :: integer(), gateway()) -> {gateway(), [action()]}.
 handle(Event, Now, Gateway) ->
-    Done = shown(kept(event(Event, Now, Gateway#gateway{out = []}))),
+    Done = shown(Gateway, kept(event(Event, Now, Gateway#gateway{out = []}))),
     {Done#gateway{out = []},
      lists:reverse(Done#gateway.out) ++ [{deadline, lobby_transactions:deadline(Done#gateway.transactions)}]}.
 
@@ -369,7 +369,9 @@ kept(G = #gateway{kept = Before, generation = Generation, sentinel = Sentinel}) 
     end.
 
 %% Whoever hears that it no longer serves doesn't find it.
-shown(G = #gateway{shown = Before, out = Out}) ->
+shown(#gateway{state = State, seats = Seats}, G = #gateway{state = State, seats = Seats}) ->
+    G;
+shown(_, G = #gateway{shown = Before, out = Out}) ->
     case load(G) of
         Before -> G;
         Load -> G#gateway{shown = Load, out = Out ++ [{load, Load}]}

@@ -297,8 +297,9 @@ work(Room = #room{gateway = none, admits = Admits}) ->
             act({place, Ids, Prefer, none}, left(Room#room{busy = place}))
     end;
 work(Room = #room{admits = [{Id, _} | Admits], gateway = Gateway}) ->
-    Ids = lists:usort([Id | ids(Room#room{admits = []})]),
-    act({reserve, Gateway, Ids}, Room#room{admits = Admits, busy = {seat, Id}});
+    Seating = Room#room{admits = Admits, busy = {seat, Id}},
+    Ids = seated_ids(Seating),
+    act({reserve, Gateway, Ids}, Seating#room{seats = Ids});
 work(Room = #room{full = true, gateway = Gateway}) ->
     act({place, ids(Room), none, Gateway}, Room#room{busy = place, full = false});
 work(Room = #room{failures = ?PATIENCE}) ->
@@ -308,8 +309,12 @@ work(Room = #room{conference = C0}) ->
     next(Next, Room#room{conference = C}).
 
 %% Whoever has or is to have a seat.
-ids(#room{conference = C, admitted = Admitted, admits = Admits}) ->
-    lists:usort(lobby_conference:ids(C) ++ maps:keys(Admitted) ++ [Id || {Id, _} <- Admits]).
+ids(Room = #room{admits = Admits}) ->
+    lists:usort([Id || {Id, _} <- Admits] ++ seated_ids(Room)).
+
+%% Whoever has a seat, or for whom one is being reserved.
+seated_ids(#room{conference = C, admitted = Admitted, busy = Busy}) ->
+    lists:usort([Id || {seat, Id} <- [Busy]] ++ lobby_conference:ids(C) ++ maps:keys(Admitted)).
 
 next({request, Action, Step}, Room = #room{run = Run, next = N}) ->
     sent(Room#room{busy = {{Run, N}, Action, added(Step), Step}, next = N + 1});
@@ -414,7 +419,7 @@ seated(Room = #room{gateway = none}) ->
 seated(Room = #room{busy = holdings}) ->
     Room;
 seated(Room = #room{gateway = Gateway, seats = Before}) ->
-    case ids(Room) of
+    case seated_ids(Room) of
         Before -> Room;
         Ids -> act({seats, Gateway, Ids}, Room#room{seats = Ids})
     end.

@@ -14,3 +14,16 @@ who_arrives_at_a_restart_is_awaited_test() ->
                                              lobby_room_core:new(#{name => <<"2">>, run => 1})),
     ?assertEqual([#{a => unknown, b => unknown}], [Stale || {save, #{stale := Stale}} <- Actions]),
     ?assertNot(lobby_room_core:agrees(Room)).
+
+%% Seats are reserved by one request, which isn't undone meanwhile.
+seats_are_reserved_once_test() ->
+    Seats = fun(Actions) -> [Action || Action <- Actions, lists:member(element(1, Action), [reserve, seats])] end,
+    Room0 = lobby_room_core:new(#{name => <<"2">>, run => 1}),
+    {Room1, _} = lobby_room_core:handle({admit, a, none, none}, 0, Room0),
+    {Room2, _} = lobby_room_core:handle({placed, {gateway, 1}}, 0, Room1),
+    {Room3, Actions} = lobby_room_core:handle({admit, b, none, none}, 0, Room2),
+    ?assertEqual([{reserve, {gateway, 1}, [a, b]}], Seats(Actions)),
+    {_, Admitted} = lobby_room_core:handle({reserved, true}, 0, Room3),
+    ?assertEqual([], Seats(Admitted)),
+    {_, Refused} = lobby_room_core:handle({reserved, false}, 0, Room3),
+    ?assertEqual([{seats, {gateway, 1}, [a]}], Seats(Refused)).

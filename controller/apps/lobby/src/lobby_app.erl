@@ -67,10 +67,16 @@ stop(Status, Text) ->
 start(_, _) ->
     case lobby_config:check(application:get_all_env(lobby)) of
         {ok, Config} ->
+            ok = loaded(),
             logger:notice("calls to sip:ROOM@~s may come from ~s, ~s", allowed(Config)),
             lobby_sup:start_link(with_token(Config));
         {error, Text} -> {error, {bad_configuration, Text}}
     end.
+
+%% So that the first caller doesn't wait while what his call needs is loaded.
+loaded() ->
+    {ok, Modules} = application:get_key(lobby, modules),
+    code:ensure_modules_loaded([esip, esip_codec, gen_statem, re, sets | Modules]).
 
 %% What strangers may do.
 allowed(#{sip := {Address, Port}, callers := Callers, users := Users}) ->

@@ -18,13 +18,18 @@
 -define(GIVE_UP, 64 * t1()).
 %% Milliseconds for each call, over which restored calls are spread when they are asked whether they are still there.
 -define(SPREAD, 2).
-%% Milliseconds after which an idle call takes less memory.
+%% Words in which an INVITE is answered without a garbage collection, and milliseconds after which an idle call takes
+%% less memory.
+-define(HEAP, 4096).
 -define(IDLE, 1000).
 %% Milliseconds in which a new caller is let in, and until it is tried again if no gateway has a seat. Milliseconds
 %% until a row is sent again to a room that hasn't reported it.
 -define(LET_IN, 5000).
 -define(RETRY, 250).
 -define(AGAIN, 1000).
+%% Milliseconds of a packet of speech. Whoever has acknowledged his 200 is sent speech after that time at the latest,
+%% with all others of that time: a gateway answers a thousand times a second, and newcomers wait for its answers.
+-define(PACKET, 20).
 %% A caller who offers nothing yet: he is added inactive, and the gateway sends nothing to this address.
 -define(NOWHERE, {{{0, 0, 0, 0}, 9}, pcmu}).
 
@@ -66,7 +71,8 @@ start(Room, Invite, Source) ->
 -spec start_link(lobby_room:name(), lobby_sip_message:message(), lobby_sip_message:target()) -> gen_statem:start_ret().
 start_link(Room, Invite, Source) ->
     Name = {via, lobby_registry, {call, lobby_dialog:key(Invite)}},
-    lobby_keeper:running(gen_statem:start_link(Name, ?MODULE, {Room, Invite, Source}, [{hibernate_after, ?IDLE}])).
+    Options = [{hibernate_after, ?IDLE}, {spawn_opt, [{min_heap_size, ?HEAP}]}],
+    lobby_keeper:running(gen_statem:start_link(Name, ?MODULE, {Room, Invite, Source}, Options)).
 
 %% @doc How members name themselves.
 -spec callers([lobby_person:row()]) -> #{binary() => binary()}.
@@ -189,6 +195,8 @@ event({call, From}, {What, Wanted}, Call) when What =:= change; What =:= move ->
     person({What, {asked, From}, Wanted}, Call);
 event({timeout, trying}, Request, Call = #call{source = Source}) ->
     reply(100, Request, Source, Call);
+event({timeout, acknowledged}, true, Call = #call{state = State}) when State =/= ending ->
+    person({change, {media, none}, #{acknowledged => true}}, Call);
 event({timeout, let_in}, join, Call = #call{state = starting}) ->
     person({join, {joins, invite}}, Call);
 %% No gateway has had a seat for so long, or he doesn't want to wait any longer.
@@ -367,7 +375,7 @@ request(<<"ACK">>, Ack, Source, Call = #call{state = confirming, response = Resp
     case {IsOurs, Offered andalso offer(Ack, Source)} of
         {false, _} -> Call;
         {true, false} ->
-            talk(person({change, {media, none}, #{acknowledged => true}}, agreed(Call#call{source = Source})));
+            talk(with([acknowledged_soon()], agreed(Call#call{source = Source})));
         {true, {ok, Session}} -> answered(Session, agreed(Call#call{source = Source}));
         {true, _} -> bye(Call#call{source = Source})
     end;
@@ -375,6 +383,9 @@ request(<<"ACK">>, _, _, Call) ->
     Call;
 request(Method, Request, Source, Call) ->
     in_dialog(Method, Request, Call#call{source = Source}).
+
+acknowledged_soon() ->
+    {{timeout, acknowledged}, ?PACKET * (erlang:monotonic_time(millisecond) div ?PACKET + 1), true, [{abs, true}]}.
 
 in_dialog(<<"CANCEL">>, Request, Call = #call{response = Last}) ->
     %% It comes too late: the INVITE has its answer.

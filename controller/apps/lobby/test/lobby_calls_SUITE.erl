@@ -251,7 +251,7 @@ requests_that_are_refused(Config) ->
     ?assertEqual(488, phone:status(phone:recv(P2))),
     _ = phone:request("UPDATE", phone:sdp(P1, "inactive"), phone:number(0, P2)),
     ?assertEqual(500, phone:status(phone:recv(P2))),
-    ?assertEqual(['SendReceive'], modes(<<"100">>, Config)),
+    lobby_case:until(fun() -> modes(<<"100">>, Config) =:= ['SendReceive'] end),
     hang_up(P2).
 
 limits(Config) ->
@@ -714,7 +714,7 @@ a_call_that_fails_during_a_change(Config) ->
     ?assertEqual({200, "2 INVITE"}, {phone:status(Response), phone:header("CSeq", Response)}),
     phone:ack(Phone1),
     {Phone2, _} = reinvite("sendrecv", Phone1),
-    ?assertEqual(['SendReceive'], modes(<<"100">>, Config)),
+    lobby_case:until(fun() -> modes(<<"100">>, Config) =:= ['SendReceive'] end),
     hang_up(Phone2).
 
 next_number(Number, Phone) ->

@@ -79,6 +79,11 @@ call(Room, Config) ->
     phone:ack(Talking),
     Talking.
 
+%% Two who hear each other: whoever has acknowledged is sent speech a little later.
+two_talk(Config) ->
+    [call("100", Config) || _ <- [1, 2]],
+    lobby_case:until(fun() -> length(maps:get(flows, people:describe(<<"100">>))) =:= 2 end).
+
 members(Room, Config) ->
     {200, #{<<"members">> := Members}} = ask(get, "/rooms/" ++ Room, Config),
     [Id || #{<<"id">> := Id} <- Members].
@@ -205,7 +210,7 @@ errors(Config) ->
 
 %% The page shows what the gateway has, also when somebody else changed it behind the room's back.
 what_the_gateway_says(Config) ->
-    [call("100", Config) || _ <- [1, 2]],
+    two_talk(Config),
     {200, #{<<"context">> := Context, <<"audited">> := true, <<"flows">> := Flows}} = ask(get, "/rooms/100", Config),
     ?assertEqual(2, length(Flows)),
     gateway:ask(io_lib:format("Context=~b{Topology{*,*,Isolate}}", [Context]), proplists:get_value(gateway, Config)),
@@ -217,7 +222,7 @@ what_the_gateway_says(Config) ->
 %% The page shows what the gateway has, and not what it was asked for: somebody who is still heard isn't shown as isolated,
 %% and nobody is told that he is.
 what_the_gateway_refuses(Config) ->
-    [call("100", Config) || _ <- [1, 2]],
+    two_talk(Config),
     [A, _] = members("100", Config),
     {200, #{<<"flows">> := Flows}} = ask(get, "/rooms/100", Config),
     ok = relay:refuse(proplists:get_value(relay, Config), <<"TP{">>),

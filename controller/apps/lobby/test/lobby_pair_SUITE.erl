@@ -138,6 +138,7 @@ the_other_node_takes_over(Config0) ->
     Config = [{a, A}, {b, B} | _] = with_pids_first(Config0),
     {Alice, RA} = call(Config),
     {Bob, RB} = call(Config),
+    lobby_case:until(fun() -> lists:all(fun(#{acknowledged := Is}) -> Is end, maps:values(maps:get(members, room(A)))) end),
     [Id | _] = maps:keys(maps:get(members, room(A))),
     ok = peer:call(A, people, add_rules, [<<"100">>, people:isolation(Id)]),
     ?assertEqual(0, flows(A, Config)),

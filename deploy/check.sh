@@ -1,11 +1,23 @@
 #!/bin/sh
 # Checks the units, what they do at a stop, the firewall rules, the alert rules and the Debian package. Prints one line
 # for each check.
-# usage: check.sh
-# It needs python3 and dpkg-deb. It skips a check whose program is missing: systemd-analyze, erl, nft (needs root),
-# promtool, lintian, man, or bash.
+# usage: check.sh [--missing]
+# It needs python3 and dpkg-deb. It skips a check whose program is missing: systemd-analyze, erl, nft, promtool, lintian,
+# man, or bash. With --missing, it only prints the Debian packages that have those programs and aren't installed.
 set -eu
 here=$(CDPATH='' cd -- "$(dirname -- "$0")" && pwd)
+
+missing() {
+    for program in systemd-analyze:systemd erl:erlang-base nft:nftables promtool:prometheus lintian:lintian man:man-db; do
+        command -v "${program%:*}" > /dev/null || printf '%s ' "${program#*:}"
+    done
+}
+
+case "$# ${1:-}" in
+    '0 ') ;;
+    '1 --missing') missing; exit ;;
+    *) echo 'usage: check.sh [--missing]' >&2; exit 2 ;;
+esac
 work=$(mktemp -d)
 trap 'rm -rf "$work"' EXIT
 
@@ -46,8 +58,13 @@ if has systemd-analyze "the controller's unit" && has erl "the controller's unit
     echo "lobbysorrel-controller.service: valid, $(echo "$security" | sed -n 's/.*\(exposure level\).*: \([0-9.]*\) .*/\1 \2/p')"
 fi
 if has nft 'the firewall rules'; then
-    nft -c -f "$here/gateway.nft"
-    echo 'gateway.nft: valid'
+    if nft -c -f "$here/gateway.nft" > "$work/said" 2>&1; then
+        echo 'gateway.nft: valid'
+    elif grep -q 'Operation not permitted' "$work/said"; then
+        echo "skipped, as nft isn't permitted here: the firewall rules"
+    else
+        fail "gateway.nft: $(cat "$work/said")"
+    fi
     if has systemd-analyze 'the unit that loads them'; then
         cp "$here/lobbysorrel-firewall.service" "$work"
         verify lobbysorrel-firewall.service

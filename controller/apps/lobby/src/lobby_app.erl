@@ -5,14 +5,14 @@
 -export([run/1, create/1, alone/1, leave/1, start/2, stop/1]).
 
 %% @doc Starts the application on a node of its own, with a file of configuration: `erl -run lobby_app run FILE'. Ends
-%% the node with 2 if the configuration is wrong or the store is a later release's, and with 1 if something else is.
+%% the node with 2 if the configuration is wrong or the store is another release's, and with 1 if something else is.
 -spec run([file:filename()]) -> ok.
 run([File]) ->
     _ = configured(File),
     case application:ensure_all_started(lobby) of
         {ok, _} -> _ = spawn(fun watch/0), ok;
         {error, {lobby, {{shutdown, {failed_to_start_child, lobby_store, {unknown_version, Table}}}, _}}} ->
-            stop(2, io_lib:format("~s was written by a later release. Nothing was changed", [Table]));
+            stop(2, io_lib:format("~s was written by another release. Nothing was changed", [Table]));
         {error, Reason} -> stop(1, io_lib:format("~0P", [Reason, 30]))
     end.
 

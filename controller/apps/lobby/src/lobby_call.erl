@@ -10,7 +10,7 @@
 
 -include_lib("p1_sip/include/esip.hrl").
 
--export([start/3, start_link/3, callers/1, sources/0, find/1, set_aside/1, upgraded/1, upgraded_row/3]).
+-export([start/3, start_link/3, callers/1, sources/0, find/1, set_aside/1]).
 -export([callback_mode/0, init/1, handle_event/4]).
 
 %% RFC 3261, section 17: T2 is 8 times T1, and after 64 times T1 nobody waits any longer.
@@ -594,23 +594,6 @@ t1() -> application:get_env(lobby, t1, 500).
 quiet() -> [{{timeout, repeat}, infinity, none}, {{timeout, give_up}, infinity, none}].
 
 %%% What outlives this process.
-
-%% @doc What release 0.4.0 kept of a call.
--spec upgraded(map()) -> map().
-upgraded(Kept = #{call := Call}) ->
-    {call, Id, _, Dialog, Source, Session, Local, Description, Response, Offered, Timer, Request, Again} = Call,
-    Kept#{call := #call{id = Id, dialog = Dialog, source = Source, session = Session, local = Local,
-                        description = Description, response = Response, offered = Offered, session_timer = Timer,
-                        request = Request, again = Again}};
-upgraded(Kept) ->
-    Kept.
-
-%% @doc What is wanted for its caller. The room kept his role and whether he is muted.
--spec upgraded_row(Key :: term(), map(), #{role => lobby_rules:role(), muted => boolean()}) -> lobby_person:row().
-upgraded_row(Key, #{id := Id, room := Room, invite := Invite, source := Source, call := Call}, Known) ->
-    {Media, Direction} = described(Call),
-    lobby_member:new(Id, maps:merge(lobby_identity:known(Invite, Source),
-                                    Known#{room => Room, media => Media, direction => Direction, call => Key})).
 
 %% A process that is started again takes him to be talking.
 keep(Call = #call{dialog = Dialog, source = Source}) ->

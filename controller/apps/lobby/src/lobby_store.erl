@@ -125,7 +125,7 @@ init(#{store := Store, pair := none}) ->
     ok = create(case Store of memory -> ram_copies; disc -> disc_copies end),
     ok = mnesia:wait_for_tables(?TABLES, ?WAIT),
     case unreadable() of
-        [] -> ok = upgrade(), {ok, none};
+        [] -> {ok, none};
         [Reason | _] -> {stop, Reason}
     end;
 init(#{pair := Pair}) ->
@@ -149,22 +149,10 @@ create(Copies) ->
 columns(true) -> [{attributes, [key, value, group]}, {index, [group]}];
 columns(false) -> [{attributes, [key, value]}].
 
-%% What a later release wrote isn't touched.
+%% What another release wrote isn't touched.
 unreadable() ->
     [Reason || Table <- ?TABLES, Row <- mnesia:dirty_match_object(mnesia:table_info(Table, wild_pattern)),
                {error, Reason} <- [lobby_stored:unpack(Table, element(3, Row))]].
-
-%% Until release 0.4.0, there were no rows of members.
-upgrade() ->
-    Known = lists:foldl(fun maps:merge/2, #{}, [Members || {_, #{members := Members}} <- old(lobby_rooms)]),
-    lists:foreach(fun({Key, Call = #{id := Id, room := Room}}) ->
-        ok = put(lobby_members, Id, Room, lobby_call:upgraded_row(Key, Call, maps:get(Id, Known, #{})))
-    end, [Call || Call = {_, #{call := _, id := Id}} <- old(lobby_calls), not has(lobby_members, Id)]).
-
-%% What an earlier release wrote.
-old(Table) ->
-    [{Key, Value} || {_, Key, Stored} <- mnesia:dirty_match_object({Table, '_', '_'}),
-                     not lobby_stored:is_current(Stored), {ok, Value} <- [lobby_stored:unpack(Table, Stored)]].
 
 %%% A node of a pair.
 
@@ -177,7 +165,6 @@ handle_continue(open, Pair = #{peer := Peer}) ->
     end,
     case {Has, Has andalso unreadable()} of
         {true, []} ->
-            ok = upgrade(),
             ok = persistent_term:put({?MODULE, open}, true),
             {noreply, Pair};
         {true, [Reason | _]} -> {stop, Reason, Pair};

@@ -1,5 +1,5 @@
-%%% @doc Who may send SIP messages, and how much one address gets, so that it shuts out nobody else. Trusted proxies
-%%% speak for many, and get all that there is.
+%%% @doc Who may send SIP messages or connect, and how much one address gets, so that it shuts out nobody else. Trusted
+%%% proxies speak for many, and get all that there is.
 -module(lobby_admission).
 
 -export([new/1, message/3, call/4, entered/4, left/2]).
@@ -32,19 +32,20 @@ take(Kind, Address, Rate, Now, A = #admission{buckets = Buckets}) ->
     {Taken, A#admission{buckets = Buckets1}}.
 
 %% @doc Returns whether a new call is taken. `full': all calls are too many. `too_many': those of this address are, or
-%% it would have too many rooms to itself. `too_fast': they come too fast.
+%% it would have too many rooms to itself. `too_fast': they come too fast. Strangers take no place of others.
 -spec call(inet:ip4_address(), {lobby_room:name(), IsNew :: boolean()}, Now :: integer(), admission()) ->
-          {ok | full | too_many | too_fast, admission()}.
+          {ok | stranger | full | too_many | too_fast, admission()}.
 call(Address, {Room, IsNew}, Now, A = #admission{limits = Limits, calls = Calls, rooms = ByAddress}) ->
     #{max_calls := Max, max_calls_from := MaxFrom, max_rooms_from := MaxRooms, new_calls_from := Rate} = Limits,
     Rooms = maps:get(Address, ByAddress, #{}),
     TooMany = lists:sum(maps:values(Rooms)) >= MaxFrom
         orelse IsNew andalso not is_map_key(Room, Rooms) andalso map_size(Rooms) >= MaxRooms,
-    case {map_size(Calls) >= Max, lobby_auth:sender(Address, Limits) =:= proxy, TooMany} of
+    case {map_size(Calls) >= Max, lobby_auth:sender(Address, Limits), TooMany} of
+        {_, stranger, _} -> {stranger, A};
         {true, _, _} -> {full, A};
-        {false, true, _} -> {ok, A};
-        {false, false, true} -> {too_many, A};
-        {false, false, false} ->
+        {false, proxy, _} -> {ok, A};
+        {false, caller, true} -> {too_many, A};
+        {false, caller, false} ->
             {Taken, A1} = take(call, Address, Rate, Now, A),
             {case Taken of true -> ok; false -> too_fast end, A1}
     end.

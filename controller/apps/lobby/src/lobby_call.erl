@@ -97,7 +97,7 @@ find(Key) ->
 
 restored({ok, #{invite := Invite, room := Room, source := Source}}) ->
     {ok, Pid} = start(Room, Invite, Source),
-    _ = [Sip ! {started, Pid, Source} || Sip <- [whereis(lobby_sip)], is_pid(Sip)],
+    ok = gen_server:cast(lobby_sip, {started, Pid, Source}),
     {ok, Pid};
 restored(error) ->
     error.

@@ -2,23 +2,10 @@
 -module(lobby_config).
 
 -export([check/1, load/1]).
--export_type([config/0, tls/0]).
+-export_type([config/0]).
 
--type config() :: #{gateways := [lobby_gateway:config()],
-                    sip := lobby_sip_message:peer(), t1 := pos_integer(), min_se := pos_integer(),
-                    callers := [lobby_auth:network()], proxies := [lobby_auth:network()],
-                    media := [lobby_auth:network()],
-                    users := lobby_auth:users(), digest := [lobby_auth:algorithm()],
-                    max_calls := pos_integer(), max_calls_from := pos_integer(), max_rooms_from := pos_integer(),
-                    messages_from := pos_integer(), new_calls_from := pos_integer(),
-                    silent_after := pos_integer(), room_audit := pos_integer(),
-                    store := memory | disc, pair := lobby_pair:config() | none, tls := tls() | none,
-                    roles := [lobby_identity:rule()],
-                    http := lobby_sip_message:peer(), tokens := [{binary(), operator | viewer}]}.
-
-%% Where SIP over TLS is served, and whether HTTP is.
--type tls() :: #{certificate := file:filename(), key := file:filename(), sip := lobby_sip_message:peer() | none,
-                 http := boolean()}.
+%% All keys of ?TOP, which has their kinds.
+-type config() :: #{gateways := [lobby_gateway:config()], pair := lobby_pair:config() | none, _ => _}.
 
 %% The kinds of values, with the default, by name.
 -define(TOP, #{gateways => {{list, "a gateway", ?GATEWAY}, required},
@@ -37,7 +24,7 @@
                    terminations => {{1, 256}, 256}, contexts => {{1, 64}, 64}}).
 
 -define(TLS, #{certificate => {path, required}, key => {path, required},
-               sip => {port, none}, http => {boolean, false}}).
+               sip => {address, none}, http => {boolean, false}}).
 
 -define(PAIR, #{self => {node, required}, peer => {node, required}, cookie => {secret, required},
                 lease => {lease, address}, ready => {file, none}, gap => {{100, 250}, 250}}).
@@ -94,17 +81,15 @@ shares(Config = #{gateways := Gateways, max_calls_from := Calls, max_rooms_from 
 
 values(What, Kinds, Values) when is_map(Values) ->
     _ = [wrong("~s has the unknown key ~0p", [What, Unknown]) || Unknown <- maps:keys(Values) -- maps:keys(Kinds)],
-    maps:map(fun(Key, {Kind, Default}) -> value(What, Key, Kind, maps:get(Key, Values, Default)) end, Kinds);
+    maps:map(fun(Key, Known = {_, Default}) -> value(What, Key, Known, maps:get(Key, Values, Default)) end, Kinds);
 values(What, _, Other) ->
     wrong("~s must be a map, not ~0p", [What, Other]).
 
-value(What, Key, _, required) ->
-    wrong("~s must have the key ~0p", [What, Key]);
-value(_, _, {part, What, Kinds}, Value) when is_map(Value) ->
-    values(What, Kinds, Value);
-value(_, _, {list, What, Kinds}, Values = [_ | _]) ->
-    [values(What, Kinds, Value) || Value <- Values];
-value(_, Key, Kind, Value) ->
+value(What, Key, {_, required}, required) -> wrong("~s must have the key ~0p", [What, Key]);
+value(_, _, {_, Default}, Default) -> Default;
+value(_, _, {{part, What, Kinds}, _}, Value) when is_map(Value) -> values(What, Kinds, Value);
+value(_, _, {{list, What, Kinds}, _}, Values = [_ | _]) -> [values(What, Kinds, Value) || Value <- Values];
+value(_, Key, {Kind, _}, Value) ->
     case is(Kind, Value) of
         true -> Value;
         false -> wrong("~0p must be ~s, not ~0p", [Key, element(1, kind(Kind)), Value])
@@ -120,9 +105,9 @@ is(Kind, Value) -> holds(element(2, kind(Kind)), Value).
 holds(Is, Value) ->
     try Is(Value) catch error:_ -> false end.
 
-%% What a value must be, in words and as a test.
+%% What a value must be if it isn't the default, in words and as a test.
 kind({list, _, _}) -> {"a list of at least one gateway", fun(_) -> false end};
-kind({part, _, _}) -> {"a map or none", fun(Value) -> Value =:= none end};
+kind({part, _, _}) -> {"a map or none", fun is_map/1};
 kind(tokens) ->
     {"a list of tokens such as {<<\"sixteen bytes or more\">>,operator} (or viewer)", all(fun is_token/1)};
 kind(roles) ->
@@ -137,19 +122,17 @@ kind(node) ->
      fun(Node) -> re:run(atom_to_list(Node), "^[^@]+@[^@]+$", [dollar_endonly]) =/= nomatch end};
 kind(secret) ->
     {"a binary of 16 to 255 bytes", fun(Secret) -> is_text(Secret) andalso is({16, 255}, byte_size(Secret)) end};
-kind(lease) -> {"address or {file,\"/path\"}", fun(address) -> true; ({file, File}) -> is_path(File) end};
+kind(lease) -> {"address or {file,\"/path\"}", fun({file, File}) -> is_path(File) end};
 kind(path) -> {"the path of a file", fun(Path) -> is_path(Path) andalso filelib:is_regular(Path) end};
-kind(file) -> {"a path such as \"/path\"", fun(Value) -> Value =:= none orelse is_path(Value) end};
+kind(file) -> {"a path such as \"/path\"", fun is_path/1};
 kind(boolean) -> {"true or false", fun is_boolean/1};
-kind(share) ->
-    {"quarter or a whole number from 1 to 100000", fun(Value) -> Value =:= quarter orelse is({1, 100000}, Value) end};
+kind(share) -> {"quarter or a whole number from 1 to 100000", element(2, kind({1, 100000}))};
 kind(digest) ->
     {"a list of md5 and sha256", fun(Value) -> lists:member(lists:sort(Value), [[md5], [sha256], [md5, sha256]]) end};
 kind(store) -> {"memory or disc", fun(Value) -> lists:member(Value, [memory, disc]) end};
 kind(text) -> {"a non-empty binary", fun is_text/1};
 kind(ip) -> {"an IPv4 address such as {127,0,0,1}", fun inet:is_ipv4_address/1};
 kind(address) -> {"an IPv4 address and a port such as {{127,0,0,1},2944}", fun is_address/1};
-kind(port) -> {element(1, kind(address)), fun(Value) -> Value =:= none orelse is_address(Value) end};
 kind({Min, Max}) ->
     {io_lib:format("a whole number from ~b to ~b", [Min, Max]),
      fun(Value) -> is_integer(Value) andalso Value >= Min andalso Value =< Max end}.

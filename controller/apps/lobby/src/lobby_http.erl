@@ -10,7 +10,7 @@
 -export_type([config/0]).
 
 -type config() :: #{http := {inet:ip4_address(), inet:port_number()},
-                    tokens := [{Token :: binary(), operator | viewer}], tls := lobby_config:tls() | none}.
+                    tokens := [{Token :: binary(), operator | viewer}], tls := lobby_socket:tls() | none}.
 -type answer() :: {Status :: pos_integer(), Headers :: [{atom() | string(), string()}], lobby_json:json() | iodata()}
                 | {events, lobby_events:watcher()}.
 %% Is called with the name in the path, if it has one, and with the object in the body. May throw a reason, too.
@@ -28,18 +28,13 @@
 
 -spec start_link(config()) -> {ok, pid()} | {error, term()}.
 start_link(#{http := {Address, Port}, tokens := Tokens, tls := Tls}) ->
-    ok = persistent_term:put(?MODULE, [{crypto:hash(sha256, Token), Role} || {Token, Role} <- Tokens]),
+    ok = persistent_term:put(?MODULE, [{hash(Token), Role} || {Token, Role} <- Tokens]),
     Root = code:priv_dir(lobby),
     Options = [{bind_address, Address}, {port, Port}, {server_name, "lobby"}, {server_root, Root},
                {document_root, Root}, {modules, [?MODULE]}, {customize, ?MODULE}, {max_body_size, ?MAX_BODY},
                {max_uri_size, 2048}, {max_clients, 1024}, {keep_alive_timeout, ?HEAD}, {server_tokens, none}
-               | secured(Tls)],
+               | [{socket_type, {ssl, lobby_socket:options(Tls)}} || #{http := true} <- [Tls]]],
     lobby_socket:opened(fun() -> inets:start(httpd, Options, stand_alone) end).
-
-secured(#{http := true, certificate := Certificate, key := Key}) ->
-    [{socket_type, {ssl, [{certfile, Certificate}, {keyfile, Key}, {log_level, emergency}]}}];
-secured(_) ->
-    [].
 
 %% @doc Called by httpd for each header of a request. `Connection: refused' closes the connection.
 -spec request_header({string(), string()}) -> {true, {string(), string()}}.
@@ -114,11 +109,12 @@ decoded(Part) ->
 -spec answer(string(), [binary()], [{string(), string()}], binary()) -> answer().
 answer("GET", Path, _, _) when is_map_key(Path, ?FILES) ->
     {File, Type} = map_get(Path, ?FILES),
-    {200, [{content_type, Type}], file(File)};
+    {ok, Bytes} = file:read_file(filename:join(code:priv_dir(lobby), File)),
+    {200, [{content_type, Type}], Bytes};
 answer(Method, Path, Headers, Body) ->
     Matching = [{Known, Name, Handler} || {Known, Route, Handler} <- routes(), Name <- name(Route, Path)],
     case {watcher(Headers), Matching} of
-        {none, _} ->
+        {false, _} ->
             failure(401, [{'www-authenticate', "Bearer"}],
                     <<"a valid token is required: Authorization: Bearer TOKEN">>);
         {_, []} -> failure(404, <<"there is no such path">>);
@@ -156,19 +152,13 @@ handled(Handler, Name, Body) ->
 object(<<>>) -> #{};
 object(Body) -> lobby_json:decode(Body).
 
-file(Name) ->
-    {ok, Bytes} = file:read_file(filename:join(code:priv_dir(lobby), Name)),
-    Bytes.
-
 %% Who asks, by the hash of his token: so that the time says nothing of the token.
 watcher(Headers) ->
-    case proplists:get_value("authorization", Headers) of
-        "Bearer " ++ Token ->
-            Hash = crypto:hash(sha256, unicode:characters_to_binary(string:trim(Token))),
-            case lists:keyfind(Hash, 1, persistent_term:get(?MODULE)) of false -> none; Watcher -> Watcher end;
-        _ ->
-            none
-    end.
+    Token = string:prefix(proplists:get_value("authorization", Headers, ""), "Bearer "),
+    Token =/= nomatch andalso lists:keyfind(hash(unicode:characters_to_binary(string:trim(Token))), 1,
+                                            persistent_term:get(?MODULE)).
+
+hash(Token) -> crypto:hash(sha256, Token).
 
 %% The name that a path has where the route has one in braces.
 name(Route, Path) ->
@@ -189,8 +179,9 @@ routes() ->
      {"POST", <<"/rooms/{name}/rules">>, fun(Name, Object) -> lobby_rooms:call(Name, {rules, add, rules(Object)}) end},
      {"POST", <<"/rooms/{name}/lock">>, fun(Name, _) -> lobby_rooms:call(Name, {settings, #{locked => true}}) end},
      {"POST", <<"/rooms/{name}/unlock">>, fun(Name, _) -> lobby_rooms:call(Name, {settings, #{locked => false}}) end},
-     {"POST", <<"/members/{id}/isolate">>, fun isolate/2},
-     {"POST", <<"/members/{id}/release">>, fun(Id, _) -> isolated(Id, false, #{isolated => false}) end},
+     {"POST", <<"/members/{id}/isolate">>,
+      fun(Id, Object) -> isolated(Id, true, [true || lobby_json:flag(<<"keep">>, Object)]) end},
+     {"POST", <<"/members/{id}/release">>, fun(Id, _) -> isolated(Id, false, [false]) end},
      {"POST", <<"/members/{id}/oneway">>, fun oneway/2},
      {"POST", <<"/members/{id}/mute">>, fun(Id, _) -> lobby_member:change(Id, #{muted => true}) end},
      {"POST", <<"/members/{id}/unmute">>, fun(Id, _) -> lobby_member:change(Id, #{muted => false}) end},
@@ -231,9 +222,7 @@ rules(Object) ->
 
 close(Name) ->
     case lobby_rooms:call(Name, {settings, #{kept => false}}) of
-        ok ->
-            ok = lobby_member:hang_up_all(Name),
-            left(Name);
+        ok -> ok = lobby_member:hang_up_all(Name), left(Name);
         Error -> Error
     end.
 
@@ -244,40 +233,32 @@ left(Name) ->
         Result -> Result
     end.
 
-gateways() -> [lobby_json:gateway(Handle, Load) || {Handle, Load} <- lobby_gateway:serving()].
+gateways() -> [Load#{name => lobby_gateway:name(Handle)} || {Handle, Load} <- lobby_gateway:serving()].
 
 %%% Members.
 
-isolate(Id, Object) ->
-    case lobby_json:flag(<<"keep">>, Object) of
-        true -> isolated(Id, true, #{isolated => true});
-        false -> lobby_member:change(Id, #{isolated => true})
-    end.
-
 %% If it is kept, whoever calls again under the same identity is isolated again.
-isolated(Id, Keep, Change) ->
-    _ = [lobby_identity:keep_isolated(Identity, Keep) || {ok, #{identity := Identity}} <- [lobby_member:find(Id)]],
-    lobby_member:change(Id, Change).
+isolated(Id, IsIsolated, Kept) ->
+    _ = [lobby_identity:keep_isolated(Identity, Is)
+         || Is <- Kept, {ok, #{identity := Identity}} <- [lobby_member:find(Id)]],
+    lobby_member:change(Id, #{isolated => IsIsolated}).
 
 oneway(Id, Object) ->
     Listener = lobby_json:text(<<"listener">>, Object),
-    case {lobby_member:find(Id), lobby_member:find(Listener)} of
-        {error, _} -> {error, no_member};
-        {{ok, #{room := Room}}, {ok, #{room := Room}}} ->
+    case {room_of(Id), lobby_member:find(Listener)} of
+        {Room, {ok, #{room := Room}}} ->
             lobby_rooms:call(Room, {rules, add, lobby_rules:oneway({member, Id}, {member, Listener})});
         {_, _} -> {error, no_listener}
     end.
 
+room_of(Id) ->
+    case lobby_member:find(Id) of {ok, #{room := Room}} -> Room; error -> throw(no_member) end.
+
 role(Object) -> lobby_json:text(<<"role">>, Object).
 
 hang_up(Id) ->
-    case lobby_member:find(Id) of
-        {ok, #{room := Room}} -> case lobby_member:hang_up(Id) of
-            ok -> left(Room);
-            Error -> Error
-        end;
-        error -> {error, no_member}
-    end.
+    Room = room_of(Id),
+    case lobby_member:hang_up(Id) of ok -> left(Room); Error -> Error end.
 
 refused({invalid, Text}) -> failure(400, Text);
 refused({refused, Code}) ->

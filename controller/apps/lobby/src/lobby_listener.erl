@@ -3,65 +3,54 @@
 
 -export([start_link/3, listen/3]).
 
-%% Of all connections over one port, of those from one address, and of new ones from it a second.
--define(MAX_CONNECTIONS, 1024).
--define(MAX_FROM, 64).
--define(NEW_FROM, 64).
+%% Of connections over one port, of those from one address, and of new ones from it a second. They are counted as calls.
+-define(LIMITS, #{max_calls => 1024, max_calls_from => 64, new_calls_from => 64}).
+%% Milliseconds.
+-define(ACCEPT, 1000).
 
--type limits() :: #{callers := [lobby_auth:network()], proxies := [lobby_auth:network()], _ => _}.
--record(known, {limits :: limits(), buckets = lobby_buckets:new() :: lobby_buckets:buckets(),
-                %% Connections by process, for their addresses.
-                connections = #{} :: #{pid() => inet:ip4_address()}}).
-
--spec start_link(lobby_socket:address(), lobby_socket:tls() | none, limits()) -> {ok, pid()} | {error, term()}.
+-spec start_link(lobby_socket:address(), lobby_socket:tls() | none, lobby_admission:limits()) ->
+          {ok, pid()} | {error, term()}.
 start_link(Own, Tls, Limits) ->
     proc_lib:start_link(?MODULE, listen, [Own, Tls, Limits]).
 
--spec listen(lobby_socket:address(), lobby_socket:tls() | none, limits()) -> no_return().
-listen(Own, Tls, Limits) ->
-    case lobby_socket:opened(fun() -> lobby_socket:listen(Own, Tls) end) of
-        {ok, Socket} -> proc_lib:init_ack({ok, self()}), accept(Socket, #known{limits = Limits});
+-spec listen(lobby_socket:address(), lobby_socket:tls() | none, lobby_admission:limits()) -> no_return().
+listen({Address, Port}, Tls, Limits) ->
+    Options = [binary, {ip, Address}, {active, false}, {reuseaddr, true}, {nodelay, true}, {backlog, 128},
+               {send_timeout, 5000}, {send_timeout_close, true}],
+    case lobby_socket:opened(fun() -> gen_tcp:listen(Port, Options) end) of
+        {ok, Socket} ->
+            proc_lib:init_ack({ok, self()}),
+            accept(Socket, Tls, lobby_admission:new(maps:merge(Limits, ?LIMITS)));
         {error, Reason} -> proc_lib:init_ack({error, Reason}), exit(Reason)
     end.
 
-accept(Listener, Known) ->
-    case lobby_socket:accept(Listener) of
-        {ok, Socket} -> accept(Listener, connected(Socket, ended(Known)));
-        {error, timeout} -> accept(Listener, ended(Known));
+accept(Listener, Tls, Admission) ->
+    case gen_tcp:accept(Listener, ?ACCEPT) of
+        {ok, Socket} -> accept(Listener, Tls, connected(Socket, Tls, ended(Admission)));
+        {error, timeout} -> accept(Listener, Tls, ended(Admission));
         %% No descriptors are left, or the phone gave up.
-        {error, Reason} when Reason =/= closed -> timer:sleep(100), accept(Listener, ended(Known))
+        {error, Reason} when Reason =/= closed -> timer:sleep(100), accept(Listener, Tls, ended(Admission))
     end.
 
-ended(Known = #known{connections = Connections}) ->
+ended(Admission) ->
     receive
-        {'DOWN', _, process, Pid, _} -> ended(Known#known{connections = maps:remove(Pid, Connections)})
-    after 0 -> Known
+        {'DOWN', _, process, Pid, _} -> ended(lobby_admission:left(Pid, Admission))
+    after 0 -> Admission
     end.
 
-connected(Socket, Known) ->
-    case lobby_socket:peer(Socket) of
-        {ok, Peer = {Address, _}} -> case may_connect(Address, Known) of
-            {true, Known1} -> started(Socket, Peer, Known1);
-            {false, Known1} -> ok = lobby_socket:close(Socket), Known1
-        end;
-        _ -> ok = lobby_socket:close(Socket), Known
+connected(Socket, Tls, Admission) ->
+    case inet:peername(Socket) of
+        {ok, Peer} -> admitted(Socket, Peer, Tls, Admission);
+        {error, _} -> ok = gen_tcp:close(Socket), Admission
     end.
 
-%% Who may not call takes no place of those who may.
-may_connect(Address, Known = #known{limits = Limits, buckets = Before, connections = Connections}) ->
-    Fits = map_size(Connections) < ?MAX_CONNECTIONS,
-    case lobby_auth:sender(Address, Limits) of
-        stranger -> {false, Known};
-        proxy -> {Fits, Known};
-        caller ->
-            {Taken, Buckets} = lobby_buckets:take(Address, ?NEW_FROM, erlang:monotonic_time(millisecond), Before),
-            From = [Other || Other <- maps:values(Connections), Other =:= Address],
-            {Taken andalso Fits andalso length(From) < ?MAX_FROM, Known#known{buckets = Buckets}}
+admitted(Socket, Peer = {Address, _}, Tls, Before) ->
+    case lobby_admission:call(Address, {<<>>, false}, erlang:monotonic_time(millisecond), Before) of
+        {ok, Admission} ->
+            {ok, Pid} = supervisor:start_child(lobby_connections, [Socket, Peer]),
+            _ = gen_tcp:controlling_process(Socket, Pid),
+            Pid ! {ready, Tls},
+            _ = monitor(process, Pid),
+            lobby_admission:entered(Pid, Address, <<>>, Admission);
+        {_, Admission} -> ok = gen_tcp:close(Socket), Admission
     end.
-
-started(Socket, Peer = {Address, _}, Known = #known{connections = Connections}) ->
-    {ok, Pid} = supervisor:start_child(lobby_connections, [Socket, Peer]),
-    _ = lobby_socket:give(Socket, Pid),
-    Pid ! ready,
-    _ = monitor(process, Pid),
-    Known#known{connections = Connections#{Pid => Address}}.

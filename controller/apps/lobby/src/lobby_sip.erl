@@ -11,7 +11,7 @@
 
 -type config() :: #{sip := lobby_sip_message:peer(), users := lobby_auth:users(), digest := [lobby_auth:algorithm()],
                     callers := [lobby_auth:network()], proxies := [lobby_auth:network()],
-                    tls := lobby_config:tls() | none, _ => _}.
+                    tls := lobby_socket:tls() | none, _ => _}.
 %% A call's process that has so many messages to handle gets no more.
 -define(MAX_WAITING, 100).
 %% Bytes. What is longer goes over TCP (RFC 3261, section 18.1.1).
@@ -52,11 +52,8 @@ answer(Status, Content, Request, Source) ->
 %% @doc The transport, and the own address, where somebody reaches us who sends from there.
 -spec own(lobby_sip_message:target()) -> lobby_dialog:own().
 own(Source) ->
-    {_, Own, _, OwnTls} = persistent_term:get(?MODULE),
-    case lobby_sip_message:transport(Source) of
-        <<"TLS">> -> {<<"TLS">>, OwnTls};
-        Transport -> {Transport, Own}
-    end.
+    Transport = lobby_sip_message:transport(Source),
+    {Transport, map_get(Transport, element(2, persistent_term:get(?MODULE)))}.
 
 %% @doc Our tag in the dialog with a caller: always the same for his INVITE, however often it comes.
 -spec own_tag(lobby_sip_message:message()) -> binary().
@@ -72,8 +69,8 @@ tag_in(Key) ->
 init(Config = #{sip := Own, digest := Algorithms, tls := Tls}) ->
     case lobby_socket:opened(fun() -> open(Own) end) of
         {ok, Socket} ->
-            OwnTls = case Tls of #{sip := Address} -> Address; none -> none end,
-            ok = persistent_term:put(?MODULE, {Socket, Own, secret(), OwnTls}),
+            Addresses = maps:from_list([{<<"UDP">>, Own}, {<<"TCP">>, Own} | [{<<"TLS">>, A} || #{sip := A} <- [Tls]]]),
+            ok = persistent_term:put(?MODULE, {Socket, Addresses, secret()}),
             State = #state{config = Config, socket = Socket, admission = lobby_admission:new(Config),
                            auth = lobby_auth:new(Algorithms)},
             Watch = fun({Pid, Source}, Acc) -> watch(Pid, Source, <<>>, Acc) end,
@@ -100,9 +97,9 @@ secret() ->
 handle_call({received, Message, Source}, _, State) ->
     {reply, ok, let_in(Message, Source, State)}.
 
--spec handle_cast(term(), #state{}) -> {noreply, #state{}}.
-handle_cast(_, State) ->
-    {noreply, State}.
+-spec handle_cast({started, pid(), lobby_sip_message:target()}, #state{}) -> {noreply, #state{}}.
+handle_cast({started, Pid, Source}, State) ->
+    {noreply, watch(Pid, Source, <<>>, State)}.
 
 -spec handle_info(term(), #state{}) -> {noreply, #state{}}.
 handle_info({udp, Socket, Address, Port, Datagram}, State = #state{socket = Socket})
@@ -111,8 +108,6 @@ handle_info({udp, Socket, Address, Port, Datagram}, State = #state{socket = Sock
 handle_info({udp_passive, Socket}, State = #state{socket = Socket}) ->
     ok = inet:setopts(Socket, [{active, 100}]),
     {noreply, State};
-handle_info({started, Pid, Source}, State) ->
-    {noreply, watch(Pid, Source, <<>>, State)};
 handle_info({'DOWN', _, process, Pid, _}, State = #state{admission = Admission}) ->
     {noreply, State#state{admission = lobby_admission:left(Pid, Admission)}};
 handle_info(_, State) ->
@@ -120,13 +115,11 @@ handle_info(_, State) ->
 
 %% Nothing is read of what isn't let in.
 let_in(Message, Source, State = #state{admission = Admission}) ->
-    case lobby_admission:message(lobby_sip_message:address(Source), now_ms(), Admission) of
+    Now = erlang:monotonic_time(millisecond),
+    case lobby_admission:message(lobby_sip_message:address(Source), Now, Admission) of
         {true, A} -> handle(lobby_sip_message:decode(Message, Source), Source, State#state{admission = A});
         {false, A} -> State#state{admission = A}
     end.
-
-now_ms() ->
-    erlang:monotonic_time(millisecond).
 
 handle({ok, Request = #sip{type = request}}, Source, State) ->
     case lobby_sip_message:refusal(Request) of
@@ -167,18 +160,9 @@ in_call(Key, Message = #sip{type = Type}, Source, State) ->
 
 %% What is dropped is sent again by whoever wants an answer.
 forward(Pid, Message, Source) ->
-    ok = used(Source, Pid),
-    case process_info(Pid, message_queue_len) of
-        {_, Waiting} when Waiting < ?MAX_WAITING -> Pid ! {sip, Message, Source}, ok;
-        _ -> ok
-    end.
-
-%% A connection is kept while it has calls.
-used(Source, Call) ->
-    case lobby_sip_message:connection(Source) of
-        none -> ok;
-        Connection -> lobby_tcp:in_call(Connection, Call)
-    end.
+    _ = [Pid ! {sip, Message, Source}
+         || {_, Waiting} <- [process_info(Pid, message_queue_len)], Waiting < ?MAX_WAITING],
+    lobby_tcp:in_call(lobby_sip_message:connection(Source), Pid).
 
 %% A request of no call. With our tag it is of one that has ended: the answer to his BYE was lost (section 17.2.2).
 unknown(Request = #sip{method = Method}, Source, State) ->
@@ -209,12 +193,13 @@ identified(Request, Address, State = #state{config = #{users := Users, proxies :
 
 admitted(Request = #sip{uri = #uri{user = Room}}, Source, State = #state{admission = Before}) ->
     Address = lobby_sip_message:address(Source),
-    {Verdict, Admission} = lobby_admission:call(Address, {Room, not lobby_rooms:exists(Room)}, now_ms(), Before),
+    IsNew = not lobby_rooms:exists(Room),
+    {Verdict, Admission} = lobby_admission:call(Address, {Room, IsNew}, erlang:monotonic_time(millisecond), Before),
     State1 = State#state{admission = Admission},
     case Verdict of
         ok ->
             {ok, Pid} = lobby_call:start(Room, Request, Source),
-            ok = used(Source, Pid),
+            ok = lobby_tcp:in_call(lobby_sip_message:connection(Source), Pid),
             watch(Pid, Source, Room, State1);
         too_many -> reply(486, [], Request, Source, State1);
         _ -> reply(503, [{'retry-after', {10, []}}], Request, Source, State1)

@@ -15,10 +15,10 @@
 
 -record(state, {socket :: lobby_socket:socket(), peer :: lobby_socket:address(), buffer = <<>> :: binary(),
                 %% Runs while a message has to come.
-                due :: reference() | none, calls = #{} :: #{pid() => reference()}}).
+                due :: reference() | none, calls = #{} :: #{pid() => uses}}).
 
-%% @doc The socket has to be given to this process, and it has to be told so by `ready'.
--spec start_link(lobby_socket:socket(), lobby_socket:address()) -> gen_server:start_ret().
+%% @doc The socket has to be given to this process, and it has to be told so by `{ready, Tls}'.
+-spec start_link(gen_tcp:socket(), lobby_socket:address()) -> gen_server:start_ret().
 start_link(Socket, Peer) ->
     gen_server:start_link(?MODULE, {Socket, Peer}, []).
 
@@ -26,10 +26,10 @@ start_link(Socket, Peer) ->
 send(Connection, Message) ->
     gen_server:cast(Connection, {send, Message}).
 
-%% @doc A call uses the connection, which is kept for as long as it lasts.
--spec in_call(pid(), Call :: pid()) -> ok.
-in_call(Connection, Call) ->
-    gen_server:cast(Connection, {call, Call}).
+%% @doc A call uses the connection, if there is one, which is kept for as long as it lasts.
+-spec in_call(pid() | none, Call :: pid()) -> ok.
+in_call(none, _) -> ok;
+in_call(Connection, Call) -> gen_server:cast(Connection, {call, Call}).
 
 %% @doc Splits off the first message in these bytes. Skips blank lines before it, which phones send as keep-alives.
 -spec frame(binary()) -> {ok, Message :: binary(), Rest :: binary()} | more | {error, too_long}.
@@ -57,7 +57,7 @@ content_length(Head) ->
         nomatch -> 0
     end.
 
--spec init({lobby_socket:socket(), lobby_socket:address()}) -> {ok, #state{}}.
+-spec init({gen_tcp:socket(), lobby_socket:address()}) -> {ok, #state{}}.
 init({Socket, Peer}) ->
     {ok, #state{socket = Socket, peer = Peer, due = erlang:start_timer(?MESSAGE, self(), due)}}.
 
@@ -80,26 +80,21 @@ handle_cast({send, Message}, State = #state{socket = Socket}) ->
         ok -> waits(State);
         {error, _} -> {stop, normal, State}
     end;
-handle_cast({call, Call}, State = #state{calls = Calls}) when not is_map_key(Call, Calls) ->
-    waits(State#state{calls = Calls#{Call => monitor(process, Call)}});
-handle_cast(_, State) ->
-    waits(State).
+handle_cast({call, Call}, State = #state{calls = Calls}) ->
+    _ = [monitor(process, Call) || not is_map_key(Call, Calls)],
+    waits(State#state{calls = Calls#{Call => uses}}).
 
 -spec handle_info(term(), #state{}) -> {noreply, #state{}, timeout()} | {stop, normal, #state{}}.
-handle_info(ready, State = #state{socket = Socket}) ->
-    case lobby_socket:secured(Socket) of
+handle_info({ready, Tls}, State = #state{socket = Socket}) ->
+    case lobby_socket:secured(Socket, Tls) of
         {ok, Secured} -> listen(State#state{socket = Secured});
         {error, _} -> {stop, normal, State}
     end;
 handle_info({Kind, Socket, Bytes}, State = #state{socket = Socket, buffer = Buffer}) when Kind =:= tcp; Kind =:= ssl ->
     frames(State#state{buffer = <<Buffer/binary, Bytes/binary>>});
-handle_info({Kind, Socket}, State = #state{socket = Socket}) when Kind =:= tcp_closed; Kind =:= ssl_closed ->
-    {stop, normal, State};
-handle_info({Kind, Socket, _}, State = #state{socket = Socket}) when Kind =:= tcp_error; Kind =:= ssl_error ->
-    {stop, normal, State};
-handle_info({timeout, Due, due}, State = #state{due = Due}) ->
-    {stop, normal, State};
-handle_info(timeout, State) ->
+%% The connection has ended, or nothing came in time.
+handle_info(Message, State = #state{socket = Socket, due = Due})
+  when element(2, Message) =:= Socket; element(2, Message) =:= Due; Message =:= timeout ->
     {stop, normal, State};
 handle_info({'DOWN', _, process, Call, _}, State = #state{calls = Calls}) ->
     waits(State#state{calls = maps:remove(Call, Calls)});

@@ -36,11 +36,7 @@ number({A, B, C, D}) -> (A bsl 24) bor (B bsl 16) bor (C bsl 8) bor D.
 -spec sender(inet:ip4_address(), #{callers := [network()], proxies := [network()], _ => _}) ->
           proxy | caller | stranger.
 sender(Address, #{callers := Callers, proxies := Proxies}) ->
-    case {is_in(Address, Proxies), Callers =:= [] orelse is_in(Address, Callers)} of
-        {true, _} -> proxy;
-        {false, true} -> caller;
-        {false, false} -> stranger
-    end.
+    hd([proxy || is_in(Address, Proxies)] ++ [caller || Callers =:= [] orelse is_in(Address, Callers)] ++ [stranger]).
 
 %% @doc Returns whether media may be sent to the address that a caller offers: it is his own, it lies in one of the
 %% networks, or a trusted proxy sent the offer.
@@ -62,16 +58,15 @@ new(Algorithms) ->
 check(Request, Address, Users, Auth) ->
     Now = erlang:system_time(second),
     Given = [maps:from_list([{Key, esip:unquote(Value)} || {Key, Value} <- Params])
-             || {authorization, {<<"digest">>, Params}} <- Request#sip.hdrs],
-    case [Digest || Digest <- Given, is_proved(Digest, Request, Users, Auth)] of
-        [#{<<"username">> := User, <<"nonce">> := Nonce, <<"nc">> := Count} | _] ->
-            case {age(Nonce, Request#sip.method, Address, Auth, Now), counted(Nonce, Count, Auth)} of
-                {Age, {ok, Counted}} when Age >= 0, Age =< ?AGE -> {ok, User, forgotten(Now, Counted)};
-                {unknown, _} -> challenges(Request, Address, Auth, Now, []);
-                {_, _} -> challenges(Request, Address, Auth, Now, [{<<"stale">>, <<"true">>}])
-            end;
-        [] ->
-            challenges(Request, Address, Auth, Now, [])
+             || {<<"digest">>, Params} <- lobby_sip_message:headers(authorization, Request)],
+    Proved = [{User, age(Nonce, Request#sip.method, Address, Auth, Now), counted(Nonce, Count, Auth)}
+              || Digest = #{<<"username">> := User, <<"nonce">> := Nonce, <<"nc">> := Count} <- Given,
+                 is_proved(Digest, Request, Users, Auth)],
+    case Proved of
+        [{User, Age, {ok, Counted}} | _] when Age >= 0, Age =< ?AGE -> {ok, User, forgotten(Now, Counted)};
+        [{_, Age, _} | _] when is_integer(Age) ->
+            challenges(Request, Address, Auth, Now, [{<<"stale">>, <<"true">>}]);
+        _ -> challenges(Request, Address, Auth, Now, [])
     end.
 
 %% RFC 7616, section 3.4.1. The digest is for this room.

@@ -106,13 +106,10 @@ route(#dialog{target = Target, routes = Routes = [{_, First, _} | Rest]}) ->
 -spec target(dialog(), Source :: lobby_sip_message:target()) -> lobby_sip_message:target().
 target(_, Connection = {tcp, _, _}) ->
     Connection;
-target(D, Source) ->
-    #uri{host = Host, port = Port} = case D of
-        #dialog{routes = [{_, First, _} | _]} -> First;
-        #dialog{target = Target} -> Target
-    end,
+target(#dialog{routes = Routes, target = Target}, Source) ->
+    #uri{host = Host, port = Port} = hd([First || {_, First, _} <- Routes] ++ [Target]),
     case inet:parse_ipv4strict_address(binary_to_list(Host)) of
-        {ok, Address} when is_integer(Port), Port > 0, Port < 65536 -> {Address, Port};
+        {ok, Address} when is_integer(Port), Port > 0 -> {Address, Port};
         {ok, Address} -> {Address, 5060};
         {error, _} -> Source
     end.

@@ -29,9 +29,7 @@ loop(Socket, ok) ->
         {lobby_event, Event} -> loop(Socket, lobby_socket:send(Socket, [text(E) || E <- waiting([Event])]));
         Exit = {'EXIT', _, _} -> Exit;
         %% Somebody else watches with the token, or the browser has ended the connection. It has nothing more to say.
-        lobby_events_end -> closed(Socket);
-        {_, Socket} -> closed(Socket);
-        {_, Socket, _} -> closed(Socket)
+        Message when Message =:= lobby_events_end; element(2, Message) =:= Socket -> closed(Socket)
     after ?QUIET -> loop(Socket, lobby_socket:send(Socket, ":\n\n"))
     end;
 loop(Socket, {error, _}) ->

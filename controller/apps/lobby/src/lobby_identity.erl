@@ -17,10 +17,8 @@ known(Invite, Source) ->
     Named = named(lobby_auth:identity(Invite), Invite),
     Known = Named#{isolated => lobby_store:has(lobby_isolated, maps:get(identity, Named))},
     Address = lobby_sip_message:address(Source),
-    case [Role || Rule <- application:get_env(lobby, roles, []), Role <- role(Rule, Invite, Address)] of
-        [Role | _] -> Known#{role => Role};
-        [] -> Known
-    end.
+    Roles = [Role || Rule <- application:get_env(lobby, roles, []), Role <- role(Rule, Invite, Address)],
+    maps:merge(Known, maps:from_list([{role, Role} || [Role | _] <- [Roles]])).
 
 %% The name that he has proved or that a trusted proxy asserts, and otherwise the address that he gives.
 named(none, Invite) ->

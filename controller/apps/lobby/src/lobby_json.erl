@@ -1,7 +1,7 @@
 %%% @doc What the HTTP interface reads and writes, as JSON terms (maps, as jiffy has them).
 -module(lobby_json).
 
--export([decode/1, encode/1, rules/1, text/2, flag/2, room/3, gateway/2]).
+-export([decode/1, encode/1, rules/1, text/2, flag/2, room/3]).
 -export_type([json/0]).
 
 -define(NO_RULE, <<"a rule must be {\"hears\": true or false, \"talker\": PARTY, \"listener\": PARTY}, "
@@ -99,8 +99,3 @@ written({Verdict, Talker, Listener}) ->
 
 written_party(everyone) -> <<"everyone">>;
 written_party({Kind, Name}) -> #{Kind => Name}.
-
-%% @doc A gateway that serves.
--spec gateway(lobby_gateway:handle(), lobby_placement:load()) -> json().
-gateway(Handle, Load) ->
-    Load#{name => lobby_gateway:name(Handle)}.

@@ -11,18 +11,17 @@
 -define(INVITATION, 180).
 
 %% @doc What a request asks for. `too_short': the answer is 422, with these headers. For who doesn't know the extension,
-%% a proxy may ask, which names no refresher: he isn't refused, and doesn't refresh (section 9).
+%% a proxy may ask: he isn't refused, and doesn't refresh if no refresher is named (section 9).
 -spec asked(lobby_sip_message:message(), Shortest :: pos_integer()) -> timer() | {too_short, [{atom(), term()}]}.
 asked(Request, Shortest) ->
     Knows = lists:member(<<"timer">>, lobby_sip_message:headers(supported, Request)),
     case lobby_sip_message:header('session-expires', Request) of
         undefined -> none;
         {Seconds, _} when Seconds < Shortest, Knows -> {too_short, [{'min-se', {Shortest, []}}]};
-        {Seconds, Params} -> {max(Shortest, Seconds), case {proplists:get_value(<<"refresher">>, Params), Knows} of
-            {<<"uas">>, _} -> ours;
-            {undefined, false} -> ours;
-            {_, _} -> theirs
-        end}
+        {Seconds, Params} ->
+            Default = case Knows of true -> <<"uac">>; false -> <<"uas">> end,
+            Named = proplists:get_value(<<"refresher">>, Params, Default),
+            {max(Shortest, Seconds), case Named of <<"uas">> -> ours; _ -> theirs end}
     end.
 
 %% @doc Headers of our answer.
@@ -34,8 +33,8 @@ answer({Seconds, ours}) -> [session_expires(Seconds, <<"uas">>)].
 %% @doc Headers of our own request, in which the roles are the other way round.
 -spec request(timer()) -> [{atom(), term()}].
 request(none) -> [];
-request({Seconds, theirs}) -> [{supported, [<<"timer">>]}, session_expires(Seconds, <<"uas">>)];
-request({Seconds, ours}) -> [{supported, [<<"timer">>]}, session_expires(Seconds, <<"uac">>)].
+request({Seconds, Who}) ->
+    [{supported, [<<"timer">>]}, session_expires(Seconds, case Who of theirs -> <<"uas">>; ours -> <<"uac">> end)].
 
 session_expires(Seconds, Refresher) ->
     {'session-expires', {Seconds, [{<<"refresher">>, Refresher}]}}.
@@ -49,7 +48,4 @@ timeout({Seconds, theirs}) -> {1000 * (Seconds - min(32, Seconds div 3)), expire
 %% @doc Milliseconds for which a caller waits for the answer to this INVITE.
 -spec invitation(lobby_sip_message:message()) -> non_neg_integer().
 invitation(Invite) ->
-    case lobby_sip_message:header(expires, Invite) of
-        undefined -> 1000 * ?INVITATION;
-        Seconds -> 1000 * min(Seconds, ?INVITATION)
-    end.
+    1000 * min(?INVITATION, lobby_sip_message:header(expires, Invite, ?INVITATION)).

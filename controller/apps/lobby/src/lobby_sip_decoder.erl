@@ -11,11 +11,16 @@
 %% Bytes of a head, and its lines, values and parameters: so many take less than a millisecond.
 -define(MAX_HEAD, 8192).
 -define(MAX_PARTS, 160).
-%% What is read: headers that a message has at most once, and those that it can have more often.
--define(ONCE, [from, to, 'call-id', cseq, 'max-forwards', expires, 'session-expires', 'min-se', 'content-type',
-               'content-length']).
--define(LISTS, [via, contact, 'record-route', require, supported, accept, 'content-encoding', authorization,
-                'p-asserted-identity']).
+%% What is read, by name. The short names are those of section 7.3.3, and of RFC 4028.
+-define(KEYS, #{<<"via">> => via, <<"v">> => via, <<"from">> => from, <<"f">> => from, <<"to">> => to, <<"t">> => to,
+                <<"call-id">> => 'call-id', <<"i">> => 'call-id', <<"cseq">> => cseq, <<"contact">> => contact,
+                <<"m">> => contact, <<"record-route">> => 'record-route', <<"max-forwards">> => 'max-forwards',
+                <<"expires">> => expires, <<"session-expires">> => 'session-expires', <<"x">> => 'session-expires',
+                <<"min-se">> => 'min-se', <<"content-type">> => 'content-type', <<"c">> => 'content-type',
+                <<"content-length">> => 'content-length', <<"l">> => 'content-length', <<"require">> => require,
+                <<"content-encoding">> => 'content-encoding', <<"e">> => 'content-encoding', <<"accept">> => accept,
+                <<"supported">> => supported, <<"k">> => supported, <<"authorization">> => authorization,
+                <<"p-asserted-identity">> => 'p-asserted-identity'}).
 -define(HOST, "(\\[[0-9A-Fa-f:.]+\\]|[A-Za-z0-9_.-]+)").
 
 %% @doc A message. With a status: a request that can be answered by it, but not served. A header that can't be read is
@@ -58,38 +63,33 @@ start_line(_) ->
     error.
 
 with_headers(Lines, Status, Message = #sip{type = Type, method = Method}) ->
-    Read = [Header || Line <- Lines, Header <- header(Line)],
-    Headers = lists:uniq(fun name/1, [Header || Header <- Read, Header =/= bad]),
+    Read = [Header || Line <- Lines, Header <- header(Line, Method)],
+    Headers = lists:uniq(fun once/1, [Header || Header <- Read, Header =/= bad]),
     IsGood = length(Headers) =:= length(Read) andalso lists:all(fun({Name, _}) -> is_atom(Name) end, Headers),
-    Cseq = fun(Header) -> lists:keyreplace(cseq, 1, Headers, Header) end,
-    case {lists:keyfind(cseq, 1, Headers), Type} of
-        {{cseq, {Number, Of}}, response} when IsGood -> {ok, Message#sip{method = Of, hdrs = Cseq({cseq, Number})}};
-        {_, response} -> {error, not_sip};
-        {{cseq, {Number, Method}}, request} -> {status(Status, IsGood), Message#sip{hdrs = Cseq({cseq, Number})}};
-        {{cseq, {Number, Other}}, request} ->
-            Text = <<(integer_to_binary(Number))/binary, " ", Other/binary>>,
-            {status(Status, false), Message#sip{hdrs = Cseq({<<"cseq">>, Text})}};
-        {_, request} -> {status(Status, false), Message#sip{hdrs = Headers}}
+    case {Type, lists:keytake(cseq, 1, Headers)} of
+        {response, {value, {cseq, {Number, Of}}, Others}} when IsGood ->
+            {ok, Message#sip{method = Of, hdrs = [{cseq, Number} | Others]}};
+        {response, _} -> {error, not_sip};
+        {request, _} when IsGood; Status =/= ok -> {Status, Message#sip{hdrs = Headers}};
+        {request, _} -> {400, Message#sip{hdrs = Headers}}
     end.
 
-status(ok, false) -> 400;
-status(Status, _) -> Status.
+%% What a message has at most once. Only headers with lists may come more often.
+once({role, {Name, _}}) -> Name;
+once({_, Values}) when is_list(Values) -> make_ref();
+once({Name, _}) -> Name.
 
-%% Headers with the same name occur once in a message.
-name({role, {Name, _}}) -> Name;
-name({Key, _}) ->
-    Name = case is_binary(Key) of true -> binary_to_atom(Key); false -> Key end,
-    case lists:member(Name, ?LISTS) of true -> make_ref(); false -> Name end.
-
-header(Line) ->
+%% A request has its method in CSeq, too.
+header(Line, Method) ->
     case {binary:split(Line, <<":">>), binary:match(Line, [<<"\r">>, <<"\n">>])} of
-        {[Name, Value], nomatch} -> case key(lower(trim(Name))) of
+        {[Name, Value], nomatch} -> case maps:get(lower(trim(Name)), ?KEYS, unused) of
             unused -> [{role, {Known, trim(Value)}}
                        || Known <- lists:usort([K || {header, K, _} <- application:get_env(lobby, roles, [])]),
                           Known =:= lower(trim(Name))];
             Key -> case read(fun(Text) -> value(Key, Text) end, trim(Value)) of
-                {ok, Read} -> [{Key, Read}];
-                error -> [{atom_to_binary(Key), trim(Value)}]
+                {ok, {Number, Method}} when Key =:= cseq -> [{cseq, Number}];
+                {ok, Read} when Key =/= cseq; Method =:= undefined -> [{Key, Read}];
+                _ -> [{atom_to_binary(Key), trim(Value)}]
             end
         end;
         {_, _} -> [bad]
@@ -98,19 +98,6 @@ header(Line) ->
 %% What isn't as it should be has no matching clause.
 read(Reader, Text) ->
     try {ok, Reader(Text)} catch error:_ -> error end.
-
-%% The short names are those of section 7.3.3, and of RFC 4028.
-key(<<Short>>) ->
-    proplists:get_value(Short, [{$v, via}, {$f, from}, {$t, to}, {$i, 'call-id'}, {$m, contact}, {$l, 'content-length'},
-                                {$c, 'content-type'}, {$e, 'content-encoding'}, {$k, supported},
-                                {$x, 'session-expires'}], unused);
-key(Name) ->
-    try lists:member(binary_to_existing_atom(Name), ?ONCE ++ ?LISTS) of
-        true -> binary_to_existing_atom(Name);
-        false -> unused
-    catch
-        error:_ -> unused
-    end.
 
 %% A Via that can be read is needed for the answer, even if it has too many separators.
 value(via, Text) -> [via(Item) || Item <- values(Text), re:run(Item, "[^;]") =/= nomatch];
@@ -132,7 +119,7 @@ value('content-type', Text) -> typed(Text);
 value(accept, Text) -> [typed(Item) || Item <- values(Text), Item =/= <<>>];
 value(authorization, Text) ->
     [Scheme, Rest] = binary:split(Text, <<" ">>),
-    {lower(Scheme), [param(Item) || Item <- values(Rest)]};
+    [{lower(Scheme), [param(Item) || Item <- values(Rest)]}];
 value(_, Text) -> [lower(Item) || Item <- values(Text)].
 
 %% At most a day, so that it fits into a timer.
@@ -172,12 +159,9 @@ typed(Text) ->
     {lower(Type), [param(Param) || Param <- Params]}.
 
 param(Text) ->
-    case binary:split(Text, <<"=">>) of
-        [Key, Value] -> {lower(nonempty(trim(Key))), trim(Value)};
-        [Key] -> {lower(nonempty(Key)), <<>>}
-    end.
-
-nonempty(Text) when Text =/= <<>> -> Text.
+    [Key | Value] = [trim(Part) || Part <- binary:split(Text, <<"=">>)],
+    true = Key =/= <<>>,
+    {lower(Key), iolist_to_binary(Value)}.
 
 via(Text) ->
     [Sent | Params] = split(Text, $;),

@@ -4,7 +4,7 @@
 -include_lib("p1_sip/include/esip.hrl").
 
 -export([decode/2, encode/1, refusal/1, response/4, response_target/2, peer/1, address/1, connection/1, transport/1]).
--export([header/2, headers/2, tag/2, sequence/1, body/1, branch/0, allow/0, accept/0]).
+-export([header/2, header/3, headers/2, tag/2, sequence/1, body/1, branch/0, allow/0, accept/0]).
 -export_type([message/0, peer/0, target/0]).
 
 -type message() :: #sip{}.
@@ -24,22 +24,18 @@ decode(Text, Source) ->
         {Status, Message} -> checked(Status, received(Message, peer(Source)))
     end.
 
-checked(Status, Message = #sip{type = Type}) ->
-    Present = [Key || Key <- [via, from, to, 'call-id', cseq], not lists:member(header(Key, Message), [undefined, []])],
-    case {Present, Status, Type} of
-        {[via, from, to, 'call-id', cseq], ok, response} -> {ok, Message};
-        {[via, from, to, 'call-id', cseq], ok, request} -> case is_whole(Message) of
-            true -> {ok, Message};
-            false -> {refused, 400, Message}
-        end;
-        {[via | _], ok, request} -> {refused, 400, Message};
-        {[via | _], _, request} -> {refused, Status, Message};
-        {_, _, _} -> {error, not_sip}
+checked(Status, Message = #sip{type = Type, body = Body}) ->
+    Missing = [Key || Key <- [via, from, to, 'call-id', cseq], lists:member(header(Key, Message), [undefined, []])],
+    %% Section 18.3: a body that is shorter than its Content-Length was cut off.
+    IsWhole = header('content-length', Message, 0) =< byte_size(Body),
+    case {Type, Status, Missing} of
+        {response, ok, []} -> {ok, Message};
+        {request, ok, []} when IsWhole -> {ok, Message};
+        {request, _, [via | _]} -> {error, not_sip};
+        {request, ok, _} -> {refused, 400, Message};
+        {request, _, _} -> {refused, Status, Message};
+        {response, _, _} -> {error, not_sip}
     end.
-
-%% Section 18.3: a body that is shorter than its Content-Length was cut off.
-is_whole(Message = #sip{body = Body}) ->
-    header('content-length', Message, 0) =< byte_size(Body).
 
 %% @doc The answer to a request that asks for what nobody here has (section 8.2), whatever call it is of. An ACK isn't
 %% answered, and a CANCEL isn't refused for its contents.
@@ -89,19 +85,16 @@ accept() ->
     {accept, [{<<"application/sdp">>, []}]}.
 
 %% RFC 3261, section 18.2.1, and RFC 3581: where the message came from.
-received(Message = #sip{type = request, hdrs = Headers}, {Address, Port}) ->
-    case header(via, Message) of
-        [Top = #via{params = Params} | Rest] ->
+received(Message = #sip{type = Type, hdrs = Headers}, {Address, Port}) ->
+    case {Type, header(via, Message)} of
+        {request, [Top = #via{params = Params} | Rest]} ->
             From = {<<"received">>, list_to_binary(inet:ntoa(Address))},
             Known = [Param || Param = {Key, _} <- Params, Key =/= <<"received">>],
             Asked = lists:keyreplace(<<"rport">>, 1, Known, {<<"rport">>, integer_to_binary(Port)}),
             Via = {via, [Top#via{params = [From | Asked]} | Rest]},
             Message#sip{hdrs = lists:keyreplace(via, 1, Headers, Via)};
-        _ ->
-            Message
-    end;
-received(Message, _) ->
-    Message.
+        {_, _} -> Message
+    end.
 
 -spec encode(message()) -> binary().
 encode(Message) ->
@@ -127,13 +120,11 @@ response(Status, Request = #sip{hdrs = Headers, method = Method}, Tag, {More, Bo
 response_target(_, Connection = {tcp, _, _}) ->
     Connection;
 response_target(Request, {Address, Port}) ->
-    case header(via, Request) of
-        [#via{params = Params, port = Sent} | _] -> case lists:keymember(<<"rport">>, 1, Params) of
-            true -> {Address, Port};
-            false when is_integer(Sent), Sent > 0, Sent < 65536 -> {Address, Sent};
-            false -> {Address, 5060}
-        end;
-        undefined -> {Address, Port}
+    [#via{params = Params, port = Sent} | _] = header(via, Request),
+    case lists:keymember(<<"rport">>, 1, Params) of
+        true -> {Address, Port};
+        false when is_integer(Sent), Sent > 0 -> {Address, Sent};
+        false -> {Address, 5060}
     end.
 
 -spec peer(target()) -> peer().
@@ -160,6 +151,7 @@ transport(_) -> <<"UDP">>.
 header(Key, Message) ->
     header(Key, Message, undefined).
 
+-spec header(atom(), message(), Default :: term()) -> term().
 header(Key, #sip{hdrs = Headers}, Default) ->
     proplists:get_value(Key, Headers, Default).
 

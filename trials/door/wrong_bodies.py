@@ -4,8 +4,9 @@ that, each of these tests has to pass on the unchanged controller. Some need a m
 to three times until it passes, and has to fail twice on a wrong body. Of a search, it prints how deep it went before it
 found a broken promise, and how many states it had seen.
 
-usage: wrong_bodies.py [NAME..]
-Without names, all wrong bodies are planted. It exits with status 1 if one isn't noticed.
+usage: wrong_bodies.py [--check | NAME..]
+Without names, all wrong bodies are planted. It exits with status 1 if one isn't noticed. Before that, and with --check
+only that, it looks whether each can be planted in today's controller.
 
 Run it in a network namespace of its own. It needs the Debian packages that controller/test needs, and the gateway in
 dist/, or where BRIDGE says.
@@ -43,8 +44,11 @@ BODIES = [
           [("first_mode(_, _) -> inactive.", "first_mode(_, Mode) -> Mode.")],
           PROMISE + "a_newcomer_whose_topology_is_refused"),
     Wrong("skip a rule", CONFERENCE,
-          [("isolated := false, waiting := false} <- Rows], Rules).",
-            "isolated := false, waiting := false} <- Rows], lists:sublist(Rules, length(Rules) - 1)).")],
+          [("    lobby_rules:flows(heard(Rows), Rules).",
+            "    lobby_rules:flows(heard(Rows), lists:sublist(Rules, length(Rules) - 1))."),
+           ("    sets:union(lobby_rules:flows(As, Bs, Rules), lobby_rules:flows(Bs, As, Rules)).",
+            "    Fewer = lists:sublist(Rules, length(Rules) - 1),\n"
+            "    sets:union(lobby_rules:flows(As, Bs, Fewer), lobby_rules:flows(Bs, As, Fewer)).")],
           SEARCH + "coaching_test_"),
     Wrong("move without silencing", CONFERENCE,
           [("++ [{Id, inactive} || Id <- maps:keys(Departing)],", ","),
@@ -270,12 +274,12 @@ BODIES = [
     Wrong("strangers are read", "lobby_admission",
           [("        stranger -> {false, A}\n", "        stranger -> {true, A}\n")],
           ANSWERS + "a_stranger_is_not_read"),
-    Wrong("strangers may connect", "lobby_listener",
-          [("        stranger -> {false, Known};", "        stranger -> {true, Known};")],
+    Wrong("strangers may connect", "lobby_admission",
+          [("        {_, stranger, _} -> {stranger, A};", "        {_, stranger, _} -> {ok, A};")],
           ANSWERS + "strangers_do_not_connect"),
     Wrong("silent connections stay", "lobby_tcp",
-          [("handle_info({timeout, Due, due}, State = #state{due = Due}) ->\n    {stop, normal, State};",
-            "handle_info({timeout, Due, due}, State = #state{due = Due}) ->\n    waits(State);")],
+          [("element(2, Message) =:= Due; Message =:= timeout ->",
+            "element(2, Message) =:= {Due}; Message =:= timeout ->")],
           ANSWERS + "silent_connections_end"),
     Wrong("an operator may be shut out", "lobby_events",
           [("        {false, viewer} -> {error, too_many};", "        {false, _} -> {error, too_many};")],
@@ -380,16 +384,37 @@ def compile_all(copy, name):
         sys.exit(f"{name} isn't compiled:\n{result.stdout}")
 
 
-def plant(wrong, copy):
-    """Whether the test notices the wrong body, and what a search says."""
-    path = copy / "apps" / "lobby" / "src" / f"{wrong.module}.erl"
-    right = body = path.read_text()
+def source(controller, wrong):
+    return controller / "apps" / "lobby" / "src" / f"{wrong.module}.erl"
+
+
+def edited(wrong, body):
+    """The wrong body, or what can't be replaced."""
     for old, new in wrong.edits:
         if body.count(old) != 1:
-            sys.exit(f"{wrong.name}: this occurs {body.count(old)} times: {old}")
+            return None, f"{wrong.name}: this occurs {body.count(old)} times in {wrong.module}: {old}"
         body = body.replace(old, new)
+    return body, None
+
+
+def check():
+    """Ends the program if a body can't be planted any more, or its test doesn't exist."""
+    wrongs = []
+    for wrong in BODIES:
+        wrongs.append(edited(wrong, source(CONTROLLER, wrong).read_text())[1])
+        module, function = wrong.test.split(":")
+        if not re.search(rf"^{function}\(", (CONTROLLER / "apps" / "lobby" / "test" / f"{module}.erl").read_text(), re.M):
+            wrongs.append(f"{wrong.name}: there is no test {wrong.test}")
+    if any(wrongs):
+        sys.exit("\n".join(filter(None, wrongs)))
+
+
+def plant(wrong, copy):
+    """Whether the test notices the wrong body, and what a search says."""
+    path = source(copy, wrong)
+    right = path.read_text()
     try:
-        path.write_text(body)
+        path.write_text(edited(wrong, right)[0])
         compile_all(copy, wrong.name)
         passed, printed = run(copy, wrong.test)
         #  A search finds the same each time.
@@ -400,6 +425,9 @@ def plant(wrong, copy):
 
 
 def main():
+    check()
+    if sys.argv[1:] == ["--check"]:
+        return
     bodies = [wrong for wrong in BODIES if not sys.argv[1:] or wrong.name in sys.argv[1:]]
     with tempfile.TemporaryDirectory() as folder:
         copy = pathlib.Path(folder) / "controller"

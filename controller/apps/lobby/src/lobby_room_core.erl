@@ -58,6 +58,8 @@
                busy = none :: none | holdings | {seat, id()} | place
                             | {reference_(), lobby_h248:action(), [id()], lobby_conference:step()},
                next = 1 :: pos_integer(), failures = 0 :: non_neg_integer(), waits = false :: boolean(),
+               %% Whether nothing was left to be done.
+               rests = false :: boolean(),
                %% Whether the gateway refused a member for whom it should have a seat.
                full = false :: boolean(),
                %% Rooms that want members who were here.
@@ -86,9 +88,15 @@ named(#room{conference = C}) ->
 %% @doc What happens at a time, in milliseconds, and what is to be done.
 -spec handle(event(), Now :: integer(), room()) -> {room(), [action()]}.
 handle(Event, Now, Room) ->
-    Worked = work(event(Event, Now, Room#room{out = [], waits = false})),
+    Rests = Room#room.rests andalso is_about_seats(Event),
+    Worked = work(event(Event, Now, Room#room{out = [], waits = false, rests = Rests})),
     Done = #room{out = Out} = published(saved(seated(ended(Event, Worked)))),
     {Done#room{out = []}, lists:reverse(Out)}.
+
+%% What the gateway is to have doesn't change by these.
+is_about_seats({admit, _, _, _}) -> true;
+is_about_seats({reserved, _}) -> true;
+is_about_seats(_) -> false.
 
 act(Action, Room = #room{out = Out}) -> Room#room{out = [Action | Out]}.
 acts(Actions, Room) -> lists:foldl(fun act/2, Room, Actions).
@@ -300,6 +308,8 @@ work(Room = #room{admits = [{Id, _} | Admits], gateway = Gateway}) ->
     Seating = Room#room{admits = Admits, busy = {seat, Id}},
     Ids = seated_ids(Seating),
     act({reserve, Gateway, Ids}, Seating#room{seats = Ids});
+work(Room = #room{rests = true}) ->
+    Room;
 work(Room = #room{full = true, gateway = Gateway}) ->
     act({place, ids(Room), none, Gateway}, Room#room{busy = place, full = false});
 work(Room = #room{failures = ?PATIENCE}) ->
@@ -339,7 +349,7 @@ settled(Room0 = #room{conference = C}) ->
     Room = audited(left(settled_phones(Room0))),
     Reported = answer_asked(report(Room)),
     case {lobby_conference:asked(C), lobby_conference:missing(C)} of
-        {[], []} -> Reported;
+        {[], []} -> Reported#room{rests = true};
         {[], _} -> waits(Reported);
         {_, _} -> act({retry, soon}, ask(Reported))
     end.

@@ -539,8 +539,8 @@ added(New, Flows, #{context := Context, results := Results}, C) ->
 %% Opens the flows with newcomers. Between the others, nothing has changed.
 entered(New, Flows, C = #conference{open = Open, agreed = Agreed}) ->
     Here = held_members(C),
-    Opened = flows_between(Here, Flows),
     Wanted = wanted([Row || Row = #{id := Id} <- Here, lists:member(Id, New)], Here, C),
+    Opened = case Flows of Wanted -> Wanted; _ -> flows_between(Here, Flows) end,
     C#conference{open = sets:union(Open, Opened), agreed = Agreed andalso Opened =:= Wanted}.
 
 %% One of them may have left while the request was under way.

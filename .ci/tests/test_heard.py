@@ -246,6 +246,14 @@ class Intervals(Commands):
             words = ["--listener=RTP/1", "--talker=RTP/2", f"--at={hour}04:{time}Z"]
             self.ends(status, answer, "", "heard", *words, text=text)
 
+    def test_comments_that_are_no_gaps(self):
+        for count in ("0", "", "-3", "3.5", "18446744073709551616"):
+            with self.subTest(count=count):
+                text = TITLE + date(20) + f"tick\n# missed {count} ticks\ntick\n# missed 3 ticks.\n# missed ticks\n"
+                self.ends(0, "", "", "heard", text=text)
+        gap = "gap from tick 1 until tick 4\n"
+        self.ends(0, gap, "", "heard", text=TITLE + "tick\n# missed 003 ticks\ntick\n")
+
 
 class Formats(Commands):
     def test_reports(self):

@@ -1,5 +1,5 @@
-%% Which values each setting may have at a moment of a search. A value that somebody asks for may hold at once. Once he is
-%% answered, it must hold until something else is asked for.
+%% Which values each setting may have at a moment of a search. A value may hold as soon as somebody asks for it. After the
+%% answer, no other value may hold until somebody asks for one.
 -module(promises).
 
 -export([new/0, given/3, asked/4, answered/3, possible/2]).

@@ -67,7 +67,7 @@ class Failures(Commands):
         self.assertIn("\ncontrol 127.0.0.1:", self.journal.read_text())
 
     def test_polls_fail(self):
-        """Then every socket is asked: the one for messages, and those for media."""
+        """Then every socket is asked in each tick: the one for messages, and those for media."""
         for words in (["serve"], ["live"]):
             failing = []
 
@@ -83,6 +83,20 @@ class Failures(Commands):
                     self.assertTrue(self.has_received(gateway, words, control=1, media=0))
                     caller.sendto(spoken(1, b"\x21" * 160), MEDIA)
                     self.assertTrue(self.has_received(gateway, words, control=1, media=1))
+                    made = sum(kernel.made.values())
+                    time.sleep(1)
+                    # A gateway that doesn't wait makes thousands.
+                    self.assertLess(sum(kernel.made.values()) - made, 500)
+
+    def test_nothing_is_received_where_nothing_arrived(self):
+        with Kernel(["recvfrom"]) as kernel, udp() as caller, Gateway("live", *ports(0, 4), kernel=kernel) as gateway:
+            caller.sendto(HEARTBEAT.encode(), CONTROL)
+            caller.recv(2000)
+            time.sleep(0.2)
+            made = kernel.made["recvfrom"]
+            time.sleep(0.5)
+            self.assertEqual(kernel.made["recvfrom"], made)
+            self.assertIsNone(gateway.process.poll())
 
     def test_an_idle_gateway_hardly_works(self):
         with udp() as caller, Gateway("live", *ports(0, 4)) as gateway:

@@ -147,6 +147,7 @@ class Heard(Commands):
             (self.TITLE + date(20) + "tick\ntick\n" + date(18), "line 5: the clock went back"),
             (self.TITLE + "tick\n" + other, "line 3: the title of another gateway"),
             (self.TITLE + "tick\n\n" + other, "line 4: the title of another gateway"),
+            (self.TITLE + "tick\n# missed 18446744073709551615 ticks\n", "too many ticks"),
             ("", no_title),
             (self.CALL, no_title),
             ("#" * 5000, no_title),
@@ -247,7 +248,7 @@ class Intervals(Commands):
             self.ends(status, answer, "", "heard", *words, text=text)
 
     def test_comments_that_are_no_gaps(self):
-        for count in ("0", "", "-3", "3.5", "18446744073709551616"):
+        for count in ("0", "", "+3", "-3", "3.5", "18446744073709551616", "000000000000000000003"):
             with self.subTest(count=count):
                 text = TITLE + date(20) + f"tick\n# missed {count} ticks\ntick\n# missed 3 ticks.\n# missed ticks\n"
                 self.ends(0, "", "", "heard", text=text)

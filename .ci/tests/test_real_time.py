@@ -50,6 +50,15 @@ class RealTime(Commands):
                 early += received(caller)[1] - answered > 0.005
         self.assertEqual(early, 5)
 
+    def test_ticks_come_one_by_one(self):
+        with udp() as caller, Gateway("live", *ports(0, 1)):
+            caller.setsockopt(socket.SOL_SOCKET, 35, 1)  # SO_TIMESTAMPNS
+            listen(caller)
+            caller.recv(2000)
+            times = [received(caller)[1] for _ in range(50)]
+        gaps = sorted(after - before for before, after in zip(times, times[1:]))
+        self.assertTrue(0.01 < gaps[len(gaps) // 2] < 0.03, gaps)
+
     def stall(self, gateway, seconds):
         """Stops the gateway for this long."""
         gateway.process.send_signal(signal.SIGSTOP)

@@ -4,7 +4,11 @@ use Rattle.std.proofs.lemmas.List.{at_drop_more}
 use Rattle.mg_words.specs.Address.{address_of}
 use Rattle.mg_words.specs.ResultSteps.{◌>>=◌}
 use Rattle.mg_arguments.specs.declared.controller_fault.ControllerFault.{ControllerFault}
-use Rattle.mg_arguments.specs.Controllers.{all_named}
+use Rattle.mg_arguments.specs.declared.controller_fault.ControllerFault.TheVariants.{Unreadable}
+use Rattle.mg_arguments.specs.Read.{all_read}
+
+abbrev pub all_named : List (List ℕ) → Result (List (List ℕ)) ControllerFault
+all_named texts = all_read address_of Unreadable texts
 
 -- addresses that were read, and then those that are named
 abbrev pub then_named : List (List ℕ) → Result (List (List ℕ)) ControllerFault → Result (List (List ℕ)) ControllerFault

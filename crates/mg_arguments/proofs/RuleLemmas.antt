@@ -13,9 +13,13 @@ use Rattle.mg_arguments.specs.declared.invocation.Invocation.{Invocation}
 use Rattle.mg_arguments.specs.declared.invocation.Invocation.TheVariants.{Watch}
 use Rattle.mg_arguments.specs.declared.printing.Printing.{Printing}
 use Rattle.mg_arguments.specs.declared.rule_fault.RuleFault.{RuleFault}
+use Rattle.mg_arguments.specs.declared.rule_fault.RuleFault.TheVariants.{Unreadable}
 use Rattle.mg_arguments.specs.Options.{file_in, printing_in, rules_in, selects_part, valid, watch_in}
-use Rattle.mg_arguments.specs.Rules.{all_stated}
+use Rattle.mg_arguments.specs.Read.{all_read}
 use Rattle.mg_arguments.proofs.HeardOptionLemmas.{ends, goes_on}
+
+abbrev pub all_stated : (has_names : Bool) → List (List ℕ) → Result (List AskedRule) RuleFault
+all_stated has_names texts = all_read (rule_by has_names) Unreadable texts
 
 -- rules that were read, and then those that are stated
 abbrev pub then_stated : List AskedRule → Result (List AskedRule) RuleFault → Result (List AskedRule) RuleFault

@@ -1,4 +1,5 @@
 pub mod Address
+pub mod Read
 pub mod Controllers
 pub mod Rules
 pub mod ZoneName

@@ -66,9 +66,9 @@ options = text_rule (codes "address") ∷ text_rule (codes "control-address")
 abbrev pub subcommand_line : Text → App
 subcommand_line name = fold with_rule (new_app name) options
 
--- the option that may be given several times
-abbrev pub controller_rule : Rule
-controller_rule = record (text_rule (codes "controller")) { action = Some Append }
+-- an option that may be given several times
+abbrev pub repeated_rule : Text → Rule
+repeated_rule name = record (text_rule name) { action = Some Append }
 
 -- an option with this name and without a value, which is set if it is given
 abbrev pub flag_rule : Text → Rule
@@ -77,7 +77,7 @@ flag_rule name = record (new_rule name) { long = Some name; action = Some SetTru
 -- a subcommand of a gateway on sockets
 abbrev pub sockets_line : Text → App
 sockets_line name =
-    fold with_rule (subcommand_line name) (text_rule (codes "bind-address") ∷ controller_rule
+    fold with_rule (subcommand_line name) (text_rule (codes "bind-address") ∷ repeated_rule (codes "controller")
     ∷ number_rule (codes "report") 0 65535 ∷ flag_rule (codes "record")
     ∷ flag_rule (codes "symmetric-rtp") ∷ text_rule (codes "journal") ∷ flag_rule (codes "sync")
     ∷ [])
@@ -98,15 +98,11 @@ check_line = with_rule (new_app (codes "check")) gateway_rule
 abbrev pub script_rule : Rule
 script_rule = record (new_rule (codes "file")) { value_names = 1 }
 
--- the option for rules about who must not be heard, which may be given several times
-abbrev pub never_rule : Rule
-never_rule = record (text_rule (codes "never")) { action = Some Append }
-
 -- the script and the options of the subcommand that says who could hear whom
 unfoldable pub heard_options : List Rule
 heard_options = script_rule ∷ text_rule (codes "listener") ∷ text_rule (codes "talker")
     ∷ text_rule (codes "at") ∷ text_rule (codes "from") ∷ text_rule (codes "to")
-    ∷ flag_rule (codes "audible") ∷ never_rule ∷ text_rule (codes "zone")
+    ∷ flag_rule (codes "audible") ∷ repeated_rule (codes "never") ∷ text_rule (codes "zone")
     ∷ text_rule (codes "names") ∷ text_rule (codes "format") ∷ flag_rule (codes "report") ∷ []
 
 -- the subcommand that says who could hear whom
@@ -325,6 +321,11 @@ request_in found = do
     at = time;
   })
 
+-- the run that answers what is asked about a script
+abbrev pub request_for : (HeardRequest → Result Invocation Kinds) → List Row
+    → Result Invocation Kinds
+request_for run found = request_in found >>= run
+
 -- a single time and a period; nobody can mean both
 abbrev pub asks_for_two_times : HeardRequest → Bool
 asks_for_two_times request =
@@ -333,12 +334,6 @@ asks_for_two_times request =
 abbrev pub heard_of : HeardRequest → Result Invocation Kinds
 heard_of request =
     if asks_for_two_times request then Err (ValueValidation ∷ []) else Ok (Heard request)
-
--- who could hear whom
-abbrev pub heard_in : List Row → Result Invocation Kinds
-heard_in found = do
-  request ← request_in found
-  heard_of request
 
 -- the number that a key is, if it is one
 abbrev pub number_named : Option Asked → Option ℕ
@@ -351,11 +346,6 @@ audible_of request =
     if is_some request.at then Err (ValueValidation ∷ [])
     else option_map_or (λ n. Ok (Audible (record { talker = n; heard = request })))
     (number_named request.query.talker) (Err (ValueValidation ∷ []))
-
-abbrev pub audible_in : List Row → Result Invocation Kinds
-audible_in found = do
-  request ← request_in found
-  audible_of request
 
 -- whether options select a part of what is heard, or a page, which rules don't allow
 abbrev pub selects_part : List Row → Bool
@@ -385,13 +375,12 @@ watch_in found = do
 abbrev pub script_in : List Row → Result Invocation Kinds
 script_in found =
     if is_given (codes "never") found then watch_in found
-    else (if is_set (codes "audible") found then audible_in found else heard_in found)
+    else (if is_set (codes "audible") found then request_for audible_of found
+    else request_for heard_of found)
 
 -- the check of the seals in a file, or in the input
 abbrev pub verify_in : List Row → Result Invocation Kinds
-verify_in found = do
-  file ← valid (file_in (codes "file") found)
-  Ok (Verify file)
+verify_in found = valid (file_in (codes "file") found) >>= (λ file. Ok (Verify file))
 
 -- what a subcommand with these options and arguments asks for
 abbrev pub run_in : Text → List Row → Result Invocation Kinds

@@ -6,7 +6,7 @@ ghost use Rattle.clap.specs.Words.{app_of, found_of, kind_of, rows_of, rule_of, 
 ghost use Rattle.mg_dates.specs.Dates.{date_of_text};
 ghost use Rattle.mg_options.specs.Line.{text_rule};
 ghost use Rattle.mg_arguments.specs.ZoneName.{zone_name};
-ghost use Rattle.mg_arguments.specs.Options.{asked_in, asks_for_two_times, audible_in, audible_of, form_in, format_of, heard_in, heard_line, heard_of, heard_options, named_by, never_rule, number_named, printing_in, query_in, request_in, reshapes_page, rules_in, script_in, script_rule, selects_part, watch_in};
+ghost use Rattle.mg_arguments.specs.Options.{asked_in, asks_for_two_times, audible_of, form_in, format_of, heard_line, heard_of, heard_options, named_by, number_named, printing_in, query_in, repeated_rule, request_for, request_in, reshapes_page, rules_in, script_in, script_rule, selects_part, watch_in};
 
 use crate::audible_request::AudibleRequest;
 use crate::heard_request::HeardRequest;
@@ -65,7 +65,7 @@ fn option<'a>(alloc: Global, name: &'a str, value: &'a str) -> Arg<'a>
 
 /// Creates the option for rules.
 fn never_option<'a>(alloc: Global) -> Arg<'a>
-    ensures rule { rule_of result ≡ never_rule }
+    ensures rule { rule_of result ≡ repeated_rule (codes "never") }
 {
     Arg::new(alloc, "never")
         .long("never")
@@ -321,8 +321,8 @@ fn heard_of(request: HeardRequest) -> Result<Invocation, &'static str>
 
 /// Returns who could hear whom, as the options ask, or the error message.
 fn heard_in(matches: &ArgMatches<'_>) -> Result<Invocation, &'static str>
-    ensures run { IfOk result (λ run. heard_in (rows_of (found_of matches.now)) ≡ Ok run) }
-    ensures refused { IfErr result (λ _. heard_in (rows_of (found_of matches.now)) ≡ Err (ValueValidation ∷ [])) }
+    ensures run { IfOk result (λ run. request_for heard_of (rows_of (found_of matches.now)) ≡ Ok run) }
+    ensures refused { IfErr result (λ _. request_for heard_of (rows_of (found_of matches.now)) ≡ Err (ValueValidation ∷ [])) }
 {
     let request = request_in(matches)?;
     heard_of(request)
@@ -361,8 +361,8 @@ fn audible_of(request: HeardRequest) -> Result<Invocation, &'static str>
 
 /// Returns the question when a talker was audible, or the error message.
 fn audible_in(matches: &ArgMatches<'_>) -> Result<Invocation, &'static str>
-    ensures run { IfOk result (λ run. audible_in (rows_of (found_of matches.now)) ≡ Ok run) }
-    ensures refused { IfErr result (λ _. audible_in (rows_of (found_of matches.now)) ≡ Err (ValueValidation ∷ [])) }
+    ensures run { IfOk result (λ run. request_for audible_of (rows_of (found_of matches.now)) ≡ Ok run) }
+    ensures refused { IfErr result (λ _. request_for audible_of (rows_of (found_of matches.now)) ≡ Err (ValueValidation ∷ [])) }
 {
     let request = request_in(matches)?;
     audible_of(request)

@@ -4,7 +4,7 @@ ghost use Rattle.clap.specs.Words.{app_of, found_of, kind_of, rows_of, rule_of, 
 ghost use Rattle.mg_options.specs.Requested.{IsRefused};
 ghost use Rattle.mg_options.specs.Line.{text_rule};
 ghost use Rattle.mg_options.specs.Numbers.{number_or};
-ghost use Rattle.mg_arguments.specs.Options.{address_in, requested, command_line, config_at, controller_rule, controllers_in};
+ghost use Rattle.mg_arguments.specs.Options.{address_in, requested, command_line, config_at, controllers_in, repeated_rule};
 ghost use Rattle.mg_arguments.specs.Options.{bind_address_in, check_in, check_line, draws_of, flag_rule, is_set, live_line, options, replay_line, run_of};
 ghost use Rattle.mg_arguments.specs.Options.{durability_in, file_in, gateway_in, gateway_rule, given_in, is_given, run_in, service_in, sockets_line, subcommand_line};
 
@@ -88,7 +88,7 @@ fn with_options<'a>(alloc: Global, command: Command<'a>) -> Result<Command<'a>, 
 
 /// Creates the option for a controller's IPv4 address, which can be given several times.
 fn controller_option<'a>(alloc: Global) -> Arg<'a>
-    ensures rule { rule_of result ≡ controller_rule }
+    ensures rule { rule_of result ≡ repeated_rule (codes "controller") }
 {
     Arg::new(alloc, "controller")
         .long("controller")

@@ -1,6 +1,7 @@
 -- What a follower keeps, note by note.
-use Rattle.std.proofs.Common.{◌≡◌, ◌≢◌, ℕ, ◌+◌, suc, zero, Bool, false, List, [], ◌∷◌, ◌++◌, length, get_or, map, take, Option, Some, None, Result, Ok, Err, OnOk, refl, sym, ap, subst, ◌∙◌, ◌<◌, ◌≤◌, arith}
+use Rattle.std.proofs.Common.{IfSome, ◌≡◌, ◌≢◌, ℕ, ◌+◌, suc, zero, Bool, false, List, [], ◌∷◌, ◌++◌, length, get_or, map, take, Option, Some, None, Result, Ok, Err, OnOk, refl, sym, ap, subst, ◌∙◌, ◌<◌, ◌≤◌, arith}
 use Rattle.std.specs.Prelude.{reverse}
+use Rattle.std.proofs.lemmas.List.Elements.{All-nil}
 use Rattle.std.proofs.lemmas.List.{append-nil, append_assoc, map-append, reverse-append, reverse-reverse, take_all, take_more}
 use Rattle.mg_engine.specs.declared.config.Config.{Config}
 use Rattle.mg_core.specs.declared.event.Event.{Event}
@@ -11,6 +12,8 @@ use Rattle.mg_core.specs.Follow.{ticks_of}
 use Rattle.mg_core.specs.Headline.{IsStart}
 use Rattle.mg_core.specs.Note.{Note, Comment, Happened, events_in}
 use Rattle.mg_core.specs.World.{start_of, world_after_tick}
+use Rattle.mg_dates.proofs.TimeLemmas.{back_one, back_ticks}
+use Rattle.mg_heard.specs.declared.clock.Clock.{Clock}
 use Rattle.mg_heard.specs.declared.entry.Entry.{Entry}
 use Rattle.mg_heard.specs.declared.entry.Entry.TheVariants as entries
 use Rattle.mg_heard.specs.declared.gap.Gap.{Gap}
@@ -18,14 +21,17 @@ use Rattle.mg_heard.specs.declared.moment.Moment.{Moment}
 use Rattle.mg_heard.specs.declared.open_flow.OpenFlow.{OpenFlow}
 use Rattle.mg_heard.specs.declared.open_interval.OpenInterval.{OpenInterval}
 use Rattle.mg_heard.specs.Intervals.{Interval, ended, ending, intervals}
-use Rattle.mg_heard.specs.Told.{audible_in, intervals_in}
+use Rattle.mg_heard.specs.Times.{gap_of, moment_after, tick_count}
+use Rattle.mg_heard.specs.Told.{audible_in, gaps_in, intervals_in}
 use Rattle.mg_heard.specs.aids.Opening.{AreLasting, ended_at, still_open}
+use Rattle.mg_heard.specs.aids.Timing.{AreBegun, AreTimed, IsBefore, IsClock, Timed}
 use Rattle.mg_heard.proofs.KeepingLemmas.{audible_in_both, events_in_both, intervals_in_both}
 use Rattle.mg_heard.proofs.MomentLemmas.{OneOutcome}
+use Rattle.mg_heard.proofs.TimingLemmas.{before_next, begun_more, begun_note, begun_ticks, clock_datagram, dated_all, timed_comment, timed_event, timed_gap, timed_intervals, timed_more, timed_start, timed_ticks}
 use Rattle.mg_audible.specs.Audible.{AreAudible, RunsWithout, audible_flows}
 use Rattle.mg_audible.specs.Laws.{DifferencesAreSpeech}
 use Rattle.mg_audible.specs.Told.{TellsAudible}
-use Rattle.mg_audible.specs.aids.Keeping.{KeepsAudible, LeadsBoth, StandForBoth, TellsPast, entry_until}
+use Rattle.mg_audible.specs.aids.Keeping.{KeepsAudible, KeepsTimed, LeadsBoth, StandForBoth, TellsPast, entry_until}
 use Rattle.mg_audible.proofs.LawLemmas.{tells_differences, tells_speech}
 use Rattle.mg_audible.proofs.RunLemmas.{if_tick, run_more}
 use Rattle.mg_audible.proofs.StepLemmas.{both_tick}
@@ -128,17 +134,6 @@ keeps_gap config talker notes gap whole without tick stored Told ToldNext tells 
   };
 }
 
--- a gap is told, unless the sink refuses it
-pub keeps_gap_on : {E : Type 0} (config : Config) (talker : ℕ) (notes : List Note) (gap : Gap)
-    (whole without : CoreState) (tick : ℕ) (stored : List OpenInterval) (Told ToldNext : List Entry → Type 0)
-    (result : Result (Unit {0}) E) →
-    ((before : List Entry) → Told before → OnOk result (ToldNext (before ++ entries.Gap gap ∷ []))) →
-    KeepsAudible config talker notes whole without tick stored Told →
-    OnOk result (KeepsAudible config talker notes whole without tick stored ToldNext)
-keeps_gap_on config talker notes gap whole without tick stored Told ToldNext (Ok done) tells h =
-    keeps_gap config talker notes gap whole without tick stored Told ToldNext tells h
-keeps_gap_on config talker notes gap whole without tick stored Told ToldNext (Err error) tells h = tt
-
 -- ## Datagrams
 
 no_tick : (event : Event) → event ≢ Tick → is_tick event ≡ false
@@ -229,12 +224,13 @@ ticks_more notes i =
 
 -- ## The end
 
-tells_all : (config : Config) (talker : ℕ) (notes : List Note) (whole without : CoreState) (tick : ℕ)
+tells_all : (config : Config) (talker : ℕ) (notes : List Note) (whole without : CoreState) (tick bound : ℕ)
     (stored : List OpenInterval) (Told ToldNext : List Entry → Type 0) → OneOutcome → DifferencesAreSpeech → IsStart config →
     KeepsAudible config talker notes whole without tick stored Told →
-    ((before : List Entry) → Told before → ToldNext (before ++ map (entry_until None) stored)) →
+    ((before : List Entry) → Told before →
+    Timed (reverse notes) bound ToldNext (before ++ map (entry_until None) stored)) →
     TellsAudible config talker notes ToldNext
-tells_all config talker notes whole without tick stored Told ToldNext one law start h last =
+tells_all config talker notes whole without tick bound stored Told ToldNext one law start h last =
     let xs = h.tells.xs ++ map (entry_until None) stored in
     let all : audible_in xs ≡ intervals h.past = audible_in_both h.tells.xs (map (entry_until None) stored)
     ∙ ap (λ (l : List Interval). l ++ audible_in (map (entry_until None) stored)) h.tells.ended_are
@@ -242,21 +238,164 @@ tells_all config talker notes whole without tick stored Told ToldNext one law st
     let are : AreAudible config talker (events_in notes) (audible_in xs) =
     (reverse h.past, h.v, h.w, h.runs, all ∙ ap intervals (sym (reverse-reverse h.past))) in
     let differ = tells_differences one config talker (events_in notes) (audible_in xs) are in
+    let (told, timed) = last h.tells.xs h.tells.told in
     record {
       xs = xs;
       no_others = still_no_others h.tells.xs None stored h.tells.no_others;
       are = are;
       differ = differ;
       speech = tells_speech config talker (events_in notes) (audible_in xs) law start differ;
-      told = last h.tells.xs h.tells.told;
+      gaps = timed.gaps;
+      dated = dated_all (reverse notes) bound xs timed;
+      told = told;
     }
+
+no_gaps : (end : Option Moment) (xs : List OpenInterval) → gaps_in (map (entry_until end) xs) ≡ []
+no_gaps end [] = refl
+no_gaps end (x ∷ xs) = no_gaps end xs
+
+timed_until : (older : List Note) (bound : ℕ) (end : Option Moment) (stored : List OpenInterval) (xs : List Entry) →
+    IfSome end (IsBefore older bound) → AreBegun older bound stored → AreTimed older bound xs →
+    AreTimed older bound (xs ++ map (entry_until end) stored)
+timed_until older bound end stored xs ends begun h = timed_intervals older bound (entry_until end) xs stored
+    (no_gaps end) (λ x first. (first, ends)) begun h
 
 -- the intervals that have not ended are told, unless the sink refuses one
 pub tells_all_on : {E : Type 0} (config : Config) (talker : ℕ) (notes : List Note) (whole without : CoreState)
-    (tick : ℕ) (stored : List OpenInterval) (Told ToldNext : List Entry → Type 0) (result : Result (Unit {0}) E) →
-    OneOutcome → DifferencesAreSpeech → IsStart config → KeepsAudible config talker notes whole without tick stored Told →
+    (clock : Clock) (stored : List OpenInterval) (Told ToldNext : List Entry → Type 0) (result : Result (Unit {0}) E) →
+    OneOutcome → DifferencesAreSpeech → IsStart config → KeepsTimed config talker notes whole without clock stored Told →
     ((before : List Entry) → Told before → OnOk result (ToldNext (before ++ map (entry_until None) stored))) →
     OnOk result (TellsAudible config talker notes ToldNext)
-tells_all_on config talker notes whole without tick stored Told ToldNext (Ok done) one law start h last =
-    tells_all config talker notes whole without tick stored Told ToldNext one law start h last
-tells_all_on config talker notes whole without tick stored Told ToldNext (Err error) one law start h last = tt
+tells_all_on config talker notes whole without clock stored Told ToldNext (Ok done) one law start h last =
+    let older = reverse notes in
+    let bound = tick_count older in
+    tells_all config talker notes whole without clock.ticks bound stored (Timed older bound Told) ToldNext one law start
+    h.keeps (λ before t. (last before t.0, timed_until older bound None stored before tt h.begun t.1))
+tells_all_on config talker notes whole without clock stored Told ToldNext (Err error) one law start h last = tt
+
+-- ## With dates and gaps
+
+audible_weaker : (config : Config) (talker : ℕ) (notes : List Note) (whole without : CoreState) (tick : ℕ)
+    (stored : List OpenInterval) (Told Next : List Entry → Type 0) → ((xs : List Entry) → Told xs → Next xs) →
+    KeepsAudible config talker notes whole without tick stored Told →
+    KeepsAudible config talker notes whole without tick stored Next
+audible_weaker config talker notes whole without tick stored Told Next more h = record {
+  past = h.past;
+  v = h.v;
+  w = h.w;
+  runs = h.runs;
+  stand = h.stand;
+  count = h.count;
+  tells = record {
+    lasts = h.tells.lasts;
+    xs = h.tells.xs;
+    no_others = h.tells.no_others;
+    ended_are = h.tells.ended_are;
+    told = more h.tells.xs h.tells.told;
+  };
+}
+
+-- from the notes, newest first, to the notes in order
+timed_back : (config : Config) (talker : ℕ) (notes older : List Note) (whole without : CoreState) (clock : Clock)
+    (stored : List OpenInterval) (Told : List Entry → Type 0) → reverse notes ≡ older → IsClock older clock →
+    AreBegun older (tick_count older) stored →
+    KeepsAudible config talker notes whole without clock.ticks stored (Timed older (tick_count older) Told) →
+    KeepsTimed config talker notes whole without clock stored Told
+timed_back config talker notes older whole without clock stored Told back is begun keeps = record {
+  clock_is = subst (λ (l : List Note). IsClock l clock) (sym back) is;
+  begun = subst (λ (l : List Note). AreBegun l (tick_count l) stored) (sym back) begun;
+  keeps = subst (λ (l : List Note). KeepsAudible config talker notes whole without clock.ticks stored
+      (Timed l (tick_count l) Told)) (sym back) keeps;
+}
+
+pub timed_begins : (config : Config) (talker : ℕ) (whole without : CoreState) (clock : Clock) (stored : List OpenInterval)
+    (Told : List Entry → Type 0) → StandForBoth whole without (start_of config) (start_of config) → IsClock [] clock →
+    clock.ticks ≡ 0 → stored ≡ [] → Told [] → KeepsTimed config talker [] whole without clock stored Told
+timed_begins config talker whole without clock stored Told stand is none empty told =
+    timed_back config talker [] [] whole without clock stored Told refl is
+    (subst (AreBegun [] 0) (sym empty) (All-nil (λ x. IsBefore [] 0 x.first)))
+    (keeps_start config talker whole without clock.ticks stored (Timed [] 0 Told) stand none empty (told, timed_start))
+
+pub timed_comment_none : (config : Config) (talker : ℕ) (notes : List Note) (line : List ℕ) (whole without : CoreState)
+    (old new : Clock) (stored : List OpenInterval) (Told : List Entry → Type 0) → new.ticks ≡ old.ticks →
+    None ≡ gap_of line (reverse notes) → IsClock (Comment line ∷ reverse notes) new →
+    KeepsTimed config talker notes whole without old stored Told →
+    KeepsTimed config talker (notes ++ Comment line ∷ []) whole without new stored Told
+timed_comment_none config talker notes line whole without old new stored Told same none is h =
+    let older = reverse notes in
+    timed_back config talker (notes ++ Comment line ∷ []) (Comment line ∷ older) whole without new stored Told
+    (back_one notes (Comment line)) is (begun_note (Comment line) older stored h.begun)
+    (audible_weaker config talker (notes ++ Comment line ∷ []) whole without new.ticks stored
+    (Timed older (tick_count older) Told) (Timed (Comment line ∷ older) (tick_count (Comment line ∷ older)) Told)
+    (λ xs t. (t.0, timed_comment older line xs none t.1))
+    (keeps_comment config talker notes line whole without old.ticks new.ticks stored
+    (Timed older (tick_count older) Told) same h.keeps))
+
+-- a comment with a gap, unless the sink refuses the gap
+pub timed_gap_on : {E : Type 0} (config : Config) (talker : ℕ) (notes : List Note) (line : List ℕ) (gap : Gap)
+    (whole without : CoreState) (old new : Clock) (stored : List OpenInterval) (Told ToldNext : List Entry → Type 0)
+    (result : Result (Unit {0}) E) → new.ticks ≡ old.ticks → Some gap ≡ gap_of line (reverse notes) →
+    IsClock (Comment line ∷ reverse notes) new →
+    ((before : List Entry) → Told before → OnOk result (ToldNext (before ++ entries.Gap gap ∷ []))) →
+    KeepsTimed config talker notes whole without old stored Told →
+    OnOk result (KeepsTimed config talker (notes ++ Comment line ∷ []) whole without new stored ToldNext)
+timed_gap_on config talker notes line gap whole without old new stored Told ToldNext (Ok done) same some is tells h =
+    let older = reverse notes in
+    timed_back config talker (notes ++ Comment line ∷ []) (Comment line ∷ older) whole without new stored ToldNext
+    (back_one notes (Comment line)) is (begun_note (Comment line) older stored h.begun)
+    (keeps_gap config talker (notes ++ Comment line ∷ []) gap whole without new.ticks stored
+    (Timed older (tick_count older) Told) (Timed (Comment line ∷ older) (tick_count (Comment line ∷ older)) ToldNext)
+    (λ before t. (tells before t.0, timed_gap older line gap before some t.1))
+    (keeps_comment config talker notes line whole without old.ticks new.ticks stored
+    (Timed older (tick_count older) Told) same h.keeps))
+timed_gap_on config talker notes line gap whole without old new stored Told ToldNext (Err error) same some is tells h = tt
+
+pub timed_datagram : (config : Config) (talker : ℕ) (notes : List Note) (event : Event)
+    (whole without whole_after without_after : CoreState) (old new : Clock) (stored : List OpenInterval)
+    (Told : List Entry → Type 0) → new.ticks ≡ old.ticks → (IsClock (reverse notes) old → IsClock (reverse notes) new) →
+    event ≢ Tick → LeadsBoth talker event whole without whole_after without_after →
+    KeepsTimed config talker notes whole without old stored Told →
+    KeepsTimed config talker (notes ++ Happened event ∷ []) whole_after without_after new stored Told
+timed_datagram config talker notes event whole without whole_after without_after old new stored Told same keeps not leads h =
+    let older = reverse notes in
+    timed_back config talker (notes ++ Happened event ∷ []) (Happened event ∷ older) whole_after without_after new stored
+    Told (back_one notes (Happened event)) (clock_datagram older event new not (keeps h.clock_is))
+    (begun_note (Happened event) older stored h.begun)
+    (audible_weaker config talker (notes ++ Happened event ∷ []) whole_after without_after new.ticks stored
+    (Timed older (tick_count older) Told) (Timed (Happened event ∷ older) (tick_count (Happened event ∷ older)) Told)
+    (λ xs t. (t.0, timed_event older event xs t.1))
+    (keeps_datagram config talker notes event whole without whole_after without_after old.ticks new.ticks stored
+    (Timed older (tick_count older) Told) same not leads h.keeps))
+
+-- one tick: the intervals that end with it are told
+pub timed_tick : (config : Config) (talker : ℕ) (notes : List Note)
+    (whole without whole_after without_after : CoreState) (old next : Clock) (now : Moment)
+    (stored new over : List OpenInterval) (Told ToldNext : List Entry → Type 0) → next.ticks ≡ old.ticks + 1 →
+    IsClock (ticks_of 1 ++ reverse notes) next → now ≡ moment_after (reverse notes) →
+    (h : KeepsTimed config talker notes whole without old stored Told) →
+    StandForBoth whole_after without_after (world_after_tick h.keeps.v) (world_after_tick h.keeps.w) →
+    AreLasting (audible_flows talker h.keeps.v h.keeps.w ∷ h.keeps.past) new →
+    map (ended_at now.tick) over ≡ ending h.keeps.past (audible_flows talker h.keeps.v h.keeps.w) →
+    AreBegun (reverse notes) (tick_count (reverse notes) + 1) new →
+    AreBegun (reverse notes) (tick_count (reverse notes)) over →
+    ((before : List Entry) → Told before → ToldNext (before ++ map (entry_until (Some now)) over)) →
+    KeepsTimed config talker (notes ++ ticks_of 1) whole_after without_after next new ToldNext
+timed_tick config talker notes whole without whole_after without_after old next now stored new over Told ToldNext sum is
+    moment h stand lasts ends begun over_begun tells =
+    let older = reverse notes in
+    let later = ticks_of 1 ++ older in
+    let bound = tick_count older + 1 in
+    let flows = audible_flows talker h.keeps.v h.keeps.w in
+    let told = tells_ended h.keeps.past flows now stored new over (Timed older (tick_count older) Told)
+    (Timed older bound ToldNext) lasts ends
+    (λ before t. (
+      tells before t.0,
+      timed_until older bound (Some now) over before (before_next older now moment) (begun_more older over over_begun)
+          (timed_more older before t.1),
+    )) h.keeps.tells in
+    timed_back config talker (notes ++ ticks_of 1) later whole_after without_after next new ToldNext (back_ticks notes 1) is
+    (begun_ticks 0 older new begun)
+    (audible_weaker config talker (notes ++ ticks_of 1) whole_after without_after next.ticks new
+    (Timed older bound ToldNext) (Timed later (tick_count later) ToldNext) (λ xs t. (t.0, timed_ticks 0 older xs t.1))
+    (keeps_tick config talker notes whole without whole_after without_after old.ticks next.ticks stored new
+    (Timed older (tick_count older) Told) (Timed older bound ToldNext) sum h.keeps stand told))

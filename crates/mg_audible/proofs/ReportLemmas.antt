@@ -36,6 +36,8 @@ reported_all config talker has_rtp input rest P Q more (state, h) = (
         are = h.follows.0.are;
         differ = h.follows.0.differ;
         speech = h.follows.0.speech;
+        gaps = h.follows.0.gaps;
+        dated = h.follows.0.dated;
         told = more h.follows.0.xs h.follows.0.told;
       },
       h.follows.1,

@@ -7,7 +7,8 @@ use Rattle.mg_core.specs.declared.event.Event.{Event}
 use Rattle.mg_core.specs.declared.event.Event.TheVariants.{Control, Media, Tick}
 use Rattle.mg_core.specs.declared.state.CoreState.{CoreState}
 use Rattle.mg_core.specs.Step.{Packet, Sent, Step}
-use Rattle.mg_core.specs.World.{StandsFor, TakesMedia, World, packets_of, world_after_tick}
+use Rattle.mg_core.specs.World.{TakesMedia, World, packets_of, world_after_tick}
+use Rattle.mg_core.specs.aids.Stands.{StandsFor}
 use Rattle.mg_audible.specs.Without.{StepUnless, StepWithout, is_port_of, is_speech_of}
 use Rattle.mg_audible.specs.aids.Keeping.{LeadsBoth}
 

@@ -1,14 +1,15 @@
 -- What is reported to a sink about a talker: when he was audible, and what that says.
-use Rattle.std.specs.Prelude.{◌≡◌, ℕ, List, []}
+use Rattle.std.specs.Prelude.{◌≡◌, ℕ, List, [], reverse, All}
 use Rattle.mg_engine.specs.declared.config.Config.{Config}
 use Rattle.mg_core.specs.Note.{Note, events_in}
 use Rattle.mg_heard.specs.declared.entry.Entry.{Entry}
-use Rattle.mg_heard.specs.Told.{audible_in, intervals_in}
+use Rattle.mg_heard.specs.Times.{gaps_of}
+use Rattle.mg_heard.specs.Told.{HasMoments, IsDated, audible_in, gaps_in, intervals_in}
 use Rattle.mg_audible.specs.Audible.{AreAudible}
 use Rattle.mg_audible.specs.Laws.{TellsDifferences, TellsSpeech}
 
--- After a whole script, all intervals in which the talker is audible have been reported, in order,
--- each once, and no others.
+-- After a whole script, all intervals in which the talker is audible have been reported, with their
+-- dates, and the script's gaps, in order, each once, and no others.
 pub record TellsAudible (config : Config) (talker : ℕ) (notes : List Note)
     (Told : List Entry → Type 0) : Type 0 where
   pub xs : List Entry
@@ -16,4 +17,6 @@ pub record TellsAudible (config : Config) (talker : ℕ) (notes : List Note)
   pub are : AreAudible config talker (events_in notes) (audible_in xs)
   pub differ : TellsDifferences config talker (events_in notes) (audible_in xs)
   pub speech : TellsSpeech config talker (events_in notes) (audible_in xs)
+  pub gaps : gaps_in xs ≡ gaps_of (reverse notes)
+  pub dated : All (HasMoments (IsDated (reverse notes))) xs
   pub told : Told xs

@@ -5,7 +5,7 @@ ghost use Rattle.mg_core.specs.Follow.{ticks_of};
 ghost use Rattle.mg_core.specs.Headline.{IsStart};
 ghost use Rattle.mg_core.specs.Note.{Note};
 ghost use Rattle.mg_audible.specs.Told.{TellsAudible};
-ghost use Rattle.mg_audible.specs.aids.Keeping.{KeepsAudible};
+ghost use Rattle.mg_audible.specs.aids.Keeping.{KeepsTimed};
 
 use crate::pair::Pair;
 use crate::telling::tell_audible;
@@ -39,8 +39,8 @@ impl<S: Sink> Audible<S> {
     ) -> Result<Self, HeardFault>
     where
         S: Drop,
-        ensures start { S.told sink sink [] → IfOk result (λ a. KeepsAudible config talker [] a.pair.whole.state
-            a.pair.without.state a.clock.ticks a.open (S.told a.sink a.sink)) }
+        ensures start { S.told sink sink [] → IfOk result (λ a. KeepsTimed config talker [] a.pair.whole.state
+            a.pair.without.state a.clock a.open (S.told a.sink a.sink)) }
         ensures sink { IfOk result (λ a. a.sink ≡ sink) }
         ensures talker { IfOk result (λ a. a.pair.talker ≡ talker) }
         ensures sound { OnOk result (IsValidConfig config) }
@@ -75,10 +75,10 @@ impl<S: Sink> Audible<S> {
     /// Runs a tick on both gateways, and reports the intervals that end with it.
     fn pass_tick(&mut self) -> Result<(), Stopped>
         ensures value { (start : S) (config : Config) (notes : List Note) →
-            KeepsAudible config self.old.pair.talker notes self.old.pair.whole.state self.old.pair.without.state
-            self.old.clock.ticks self.old.open (S.told start self.old.sink) →
-            OnOk result (KeepsAudible config self.old.pair.talker (notes ++ ticks_of 1) self.new.pair.whole.state
-            self.new.pair.without.state self.new.clock.ticks self.new.open (S.told start self.new.sink)) }
+            KeepsTimed config self.old.pair.talker notes self.old.pair.whole.state self.old.pair.without.state
+            self.old.clock self.old.open (S.told start self.old.sink) →
+            OnOk result (KeepsTimed config self.old.pair.talker (notes ++ ticks_of 1) self.new.pair.whole.state
+            self.new.pair.without.state self.new.clock self.new.open (S.told start self.new.sink)) }
         ensures talker { OnOk result (self.new.pair.talker ≡ self.old.pair.talker) }
     {
         let now = self.clock.now();
@@ -94,8 +94,8 @@ impl<S: Sink> Audible<S> {
     /// Reports the intervals that have not ended at the end of a script.
     pub(crate) fn finish(&mut self) -> Result<(), Stopped>
         ensures value { (start : S) (config : Config) (notes : List Note) → IsStart config →
-            KeepsAudible config self.old.pair.talker notes self.old.pair.whole.state self.old.pair.without.state
-            self.old.clock.ticks self.old.open (S.told start self.old.sink) →
+            KeepsTimed config self.old.pair.talker notes self.old.pair.whole.state self.old.pair.without.state
+            self.old.clock self.old.open (S.told start self.old.sink) →
             OnOk result (TellsAudible config self.old.pair.talker notes (S.told start self.new.sink)) }
     {
         mg_core::theorems::outcomes_are_unique();
@@ -106,12 +106,12 @@ impl<S: Sink> Audible<S> {
 
 impl<S: Sink> Follower for Audible<S> {
     ghost use Rattle.std.specs.Prelude.{◌≡◌, true};
-    ghost use Rattle.mg_audible.specs.aids.Keeping.{KeepsAudible};
+    ghost use Rattle.mg_audible.specs.aids.Keeping.{KeepsTimed};
 
     ghost may_stop = { true };
 
     ghost follows = { λ start a config notes. (a.pair.talker ≡ start.pair.talker)
-        × KeepsAudible config start.pair.talker notes a.pair.whole.state a.pair.without.state a.clock.ticks a.open
+        × KeepsTimed config start.pair.talker notes a.pair.whole.state a.pair.without.state a.clock a.open
         (S.told start.sink a.sink) };
 
     fn comment(&mut self, line: &[u8]) -> Result<(), Stopped> {

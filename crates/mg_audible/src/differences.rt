@@ -4,7 +4,8 @@ ghost use Rattle.std.specs.Prelude.{◌≡◌, ◌≤◌, ◌==◌, [], find, le
 ghost use Rattle.std.specs.Option.{option_map_or};
 ghost use Rattle.std.specs.Str.{bytes_eq};
 ghost use Rattle.mg_rooms.specs.Consistent.{IsConsistent};
-ghost use Rattle.mg_core.specs.World.{World, StandsFor, packets_of, world_after_tick};
+ghost use Rattle.mg_core.specs.World.{World, packets_of, world_after_tick};
+ghost use Rattle.mg_core.specs.aids.Stands.{StandsFor};
 ghost use Rattle.mg_heard.specs.aids.Parties.{IsParty};
 ghost use Rattle.mg_audible.specs.Audible.{audible_flows, bytes_from};
 

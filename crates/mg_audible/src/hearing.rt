@@ -7,7 +7,7 @@ ghost use Rattle.mg_core.specs.Headline.{IsStart};
 ghost use Rattle.mg_core.specs.Note.{Note, events_in};
 ghost use Rattle.mg_core.specs.declared.state.CoreState.{CoreState};
 ghost use Rattle.mg_audible.specs.Told.{TellsAudible};
-ghost use Rattle.mg_audible.specs.aids.Keeping.{KeepsAudible};
+ghost use Rattle.mg_audible.specs.aids.Keeping.{KeepsTimed};
 
 use crate::audible::Audible;
 use mg_core::{Config, Core, RunFault, resume};
@@ -49,8 +49,8 @@ fn finish<S: Sink>(mut audible: Audible<S>) -> Result<S, HeardFault>
 where
     S: Drop,
     ensures value { (start : S) (config : Config) (notes : List Note) → IsStart config →
-        KeepsAudible config audible.pair.talker notes audible.pair.whole.state audible.pair.without.state
-        audible.clock.ticks audible.open (S.told start audible.sink) →
+        KeepsTimed config audible.pair.talker notes audible.pair.whole.state audible.pair.without.state
+        audible.clock audible.open (S.told start audible.sink) →
         IfOk result (λ last. TellsAudible config audible.pair.talker notes (S.told start last)) }
 {
     match audible.finish() {

@@ -14,7 +14,7 @@
 //! speech reaches the listener (`specs/Laws.antt`). Equal bytes show less: either the talker could not be heard, or he
 //! was silent.
 //!
-//! Dates and gaps come from the script's comments, as in [`mg_heard`]. No proof covers them.
+//! Dates and gaps come from the script's comments, as in [`mg_heard`].
 #![tactic(auto)]
 
 mod audible;

@@ -4,7 +4,8 @@ ghost use Rattle.mg_core.specs.Counting.{is_media};
 ghost use Rattle.mg_core.specs.Follow.{IsFollowed};
 ghost use Rattle.mg_core.specs.Note.{events_in};
 ghost use Rattle.mg_core.specs.declared.state.CoreState.{CoreState};
-ghost use Rattle.mg_heard.specs.Reported.{HasReported, WritesReport};
+ghost use Rattle.mg_heard.specs.Reported.{WritesReport};
+ghost use Rattle.mg_heard.specs.aids.Reporting.{HasReported};
 ghost use Rattle.mg_audible.specs.Told.{TellsAudible};
 
 use crate::hearing::hear_talker;

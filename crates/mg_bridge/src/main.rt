@@ -12,18 +12,17 @@
 //! readers of standard output and standard error; the other subcommands (`check`, `heard`, `verify`, `seal`) do.
 #![tactic(auto)]
 
-mod disk_file;
 mod live_output;
-mod system_host;
+mod machine;
 #[cfg(test)]
 mod tests;
 
 use crate::live_output::LiveOutput;
-use crate::system_host::SystemHost;
+use crate::machine::SystemHost;
 use mg_core::RunFault;
 use mg_options::{Status, program_arguments};
 use mg_outlet::{Outlet, OutletFault, Overflow, SystemPipe};
-use mg_program::{System, program};
+use mg_program::{LocalSystem, System, program};
 use std::io::{self, ErrorKind, Stderr, Write};
 use std::process::ExitCode;
 
@@ -37,9 +36,11 @@ const ERRORS_LIMIT: usize = 1 << 20;
 fn system_of(rt: &HostRuntime) -> System<'_, HostRuntime, HostRuntime, HostRuntime, HostRuntime> {
     System {
         net: rt,
-        clock: rt,
-        random: rt,
-        files: rt,
+        local: LocalSystem {
+            clock: rt,
+            random: rt,
+            files: rt,
+        },
     }
 }
 
@@ -75,9 +76,9 @@ fn run_gateway(rt: &HostRuntime, words: &[String], is_serve: bool) -> Result<u8,
     let mut errors = error_outlet(rt)?;
     let mut reports = error_outlet(rt)?;
     let mut input = rt.stdin();
-    let code = program(
+    let ended = program(
         &system_of(rt),
-        &mut SystemHost::new(rt),
+        SystemHost::new(rt, rt),
         rt.alloc(),
         words,
         &mut input,
@@ -90,7 +91,7 @@ fn run_gateway(rt: &HostRuntime, words: &[String], is_serve: bool) -> Result<u8,
     } else {
         output.flush()
     };
-    let code = status_at_end(code, &passed, &mut errors);
+    let code = status_at_end(ended.status.code(), &passed, &mut errors);
     let _ = reports.flush();
     let _ = errors.flush();
     Ok(code)
@@ -102,16 +103,17 @@ fn run_plainly(rt: &HostRuntime, words: &[String]) -> u8 {
     let mut output = rt.stdout();
     let mut errors = rt.stderr();
     let mut reports = rt.stderr();
-    program(
+    let ended = program(
         &system_of(rt),
-        &mut SystemHost::new(rt),
+        SystemHost::new(rt, rt),
         rt.alloc(),
         words,
         &mut input,
         &mut output,
         &mut errors,
         &mut reports,
-    )
+    );
+    ended.status.code()
 }
 
 fn main(rt: HostRuntime) -> ExitCode {

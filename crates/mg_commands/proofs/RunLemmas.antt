@@ -14,7 +14,7 @@ use Rattle.mg_reply.specs.declared.outcome.Outcome.TheVariants.{Failed, Done}
 use Rattle.mg_reply.specs.Reply.{Answered, new_reply, after_put, after_all}
 use Rattle.mg_rooms.specs.declared.target.Target.{Target}
 use Rattle.mg_engine.specs.Gateway.{Gateway}
-use Rattle.mg_engine.specs.Stands.{EngineState, StandsFor, IsOutcome}
+use Rattle.mg_engine.specs.aids.Stands.{EngineState, StandsFor, IsOutcome}
 use Rattle.mg_engine.specs.Work.{RisesAtMost}
 use Rattle.mg_text.specs.declared.command.Command.{Command}
 use Rattle.mg_text.specs.declared.request.Action.{Action}

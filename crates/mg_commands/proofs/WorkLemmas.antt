@@ -6,7 +6,7 @@ use Rattle.mg_reply.specs.declared.item.Item.{Item}
 use Rattle.mg_reply.specs.declared.item.Item.TheVariants.{Command}
 use Rattle.mg_reply.specs.declared.outcome.Outcome.TheVariants.{Done}
 use Rattle.mg_reply.specs.declared.outcome.Parts.{Parts}
-use Rattle.mg_engine.specs.Stands.{EngineState}
+use Rattle.mg_engine.specs.aids.Stands.{EngineState}
 use Rattle.mg_engine.specs.Work.{RisesAtMost}
 use Rattle.mg_engine.proofs.WorkLemmas.{rises_twice, rises_less, stays}
 use Rattle.mg_commands.specs.Work.{is_edit, reports_edit, edits_reported}

@@ -4,7 +4,7 @@ ghost use Rattle.std.specs.Prelude.{◌≡◌};
 ghost use Rattle.mg_words.specs.declared.error_number.ErrorNumber.TheVariants.{NotServed};
 ghost use Rattle.mg_rooms.specs.Results.{passes};
 ghost use Rattle.mg_engine.specs.Gateway.{Gateway};
-ghost use Rattle.mg_engine.specs.Stands.{StandsFor};
+ghost use Rattle.mg_engine.specs.aids.Stands.{StandsFor};
 ghost use Rattle.mg_commands.specs.Outcome.{check_command, check_new_name, number_in};
 ghost use Rattle.mg_commands.specs.aids.Steps.{is_served, check_descriptors};
 

@@ -3,8 +3,8 @@
 ghost use Rattle.std.specs.Prelude.{◌≡◌, All, map};
 ghost use Rattle.mg_reply.specs.Reply.{after_all};
 ghost use Rattle.mg_engine.specs.Gateway.{Gateway};
-ghost use Rattle.mg_engine.specs.Place.{IsOnSeat};
-ghost use Rattle.mg_engine.specs.Stands.{StandsFor};
+ghost use Rattle.mg_engine.specs.aids.Place.{IsOnSeat};
+ghost use Rattle.mg_engine.specs.aids.Stands.{StandsFor};
 ghost use Rattle.mg_commands.specs.ContextProperties.{pair_item, audit_pair, audit_pairs};
 
 use crate::named_member::NamedMember;

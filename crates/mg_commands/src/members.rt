@@ -2,7 +2,7 @@
 
 ghost use Rattle.std.specs.Prelude.{◌≡◌, ◌≤◌, Ok, Err, MatchResult, IfOk, length, map, take};
 ghost use Rattle.mg_engine.specs.Gateway.{Gateway};
-ghost use Rattle.mg_engine.specs.Stands.{StandsFor};
+ghost use Rattle.mg_engine.specs.aids.Stands.{StandsFor};
 ghost use Rattle.mg_commands.specs.Outcome.{members_in};
 ghost use Rattle.mg_commands.specs.aids.Steps.{all_names};
 

@@ -3,7 +3,7 @@
 ghost use Rattle.std.specs.Prelude.{◌≡◌, OnErr, if◌then◌else◌};
 ghost use Rattle.mg_words.specs.declared.command_word.CommandWord.TheVariants.{Add, Modify, Move, Subtract};
 ghost use Rattle.mg_engine.specs.Gateway.{Gateway};
-ghost use Rattle.mg_engine.specs.Stands.{StandsFor, IsOutcome};
+ghost use Rattle.mg_engine.specs.aids.Stands.{StandsFor, IsOutcome};
 ghost use Rattle.mg_engine.specs.Work.{RisesAtMost};
 ghost use Rattle.mg_engine.specs.aids.Found.{HasStats};
 ghost use Rattle.mg_commands.specs.Outcome.{served_at, entered_at, audit_root, audit_outcome, outcome};

@@ -4,7 +4,7 @@ ghost use Rattle.mg_words.specs.Leads.{Leads};
 ghost use Rattle.mg_reply.specs.Reply.{IsWhole, new_reply, after_put, after_all, is_refusal, last_is_action};
 ghost use Rattle.mg_reply.specs.aids.Width.{is_wide};
 ghost use Rattle.mg_engine.specs.Gateway.{Gateway};
-ghost use Rattle.mg_engine.specs.Stands.{StandsFor};
+ghost use Rattle.mg_engine.specs.aids.Stands.{StandsFor};
 ghost use Rattle.mg_engine.specs.Work.{RisesAtMost};
 ghost use Rattle.mg_scan.specs.Span.{text_of};
 ghost use Rattle.mg_text.specs.Proper.{command_is_proper, action_is_proper, request_is_proper};

@@ -6,7 +6,8 @@ use Rattle.mg_core.specs.declared.event.Event.{Event}
 use Rattle.mg_core.specs.declared.state.CoreState.{CoreState}
 use Rattle.mg_core.specs.Headline.{ExtendsHistory}
 use Rattle.mg_core.specs.Step.{Sent, Step, Run}
-use Rattle.mg_core.specs.World.{World, StandsFor, start_of}
+use Rattle.mg_core.specs.World.{World, start_of}
+use Rattle.mg_core.specs.aids.Stands.{StandsFor}
 use Rattle.mg_core.proofs.RunLemmas.{run_both}
 
 pub one_event : (w v : World) (event : Event) (sent : List Sent) → Step w event sent v → Run w (event ∷ []) sent v

@@ -25,7 +25,8 @@ use Rattle.mg_core.specs.aids.Steps.{event_text, line_fault_of}
 use Rattle.mg_rooms.specs.aids.Sound.{IsSound}
 use Rattle.mg_core.proofs.QuietLemmas.{KeepsQuiet}
 use Rattle.mg_lines.proofs.WriterLemmas.{appends_then, appends_keeps, longer}
-use Rattle.mg_core.specs.World.{World, StandsFor, capped, packets_of, world_after_tick}
+use Rattle.mg_core.specs.World.{World, capped, packets_of, world_after_tick}
+use Rattle.mg_core.specs.aids.Stands.{StandsFor}
 
 pub same_appends : (a : Option (List ℕ)) → Appends a a []
 same_appends None = tt

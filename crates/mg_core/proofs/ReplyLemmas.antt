@@ -14,9 +14,10 @@ use Rattle.mg_reply.specs.declared.item.Item.TheVariants.{Fault}
 use Rattle.mg_words.specs.declared.error_number.ErrorNumber.TheVariants.{ReplyTooLong}
 use Rattle.mg_words.specs.ErrorNumber.{error_row, error_text}
 use Rattle.mg_reply.specs.Written.{reply_text}
-use Rattle.mg_engine.specs.Stands as engine_stands
+use Rattle.mg_engine.specs.aids.Stands as engine_stands
 use Rattle.mg_core.specs.declared.state.CoreState.{CoreState}
-use Rattle.mg_core.specs.World.{World, StandsFor}
+use Rattle.mg_core.specs.World.{World}
+use Rattle.mg_core.specs.aids.Stands.{StandsFor}
 use Rattle.mg_core.specs.aids.Steps.{TextGrows, put_text}
 use Rattle.mg_reply.specs.Reply.{Answered, new_reply, is_action, is_refusal, last_is_action, with_item, after_put, after_all}
 use Rattle.mg_reply.specs.Reply.{marked as marked_long}

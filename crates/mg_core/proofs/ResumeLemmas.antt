@@ -27,10 +27,11 @@ use Rattle.mg_core.specs.declared.fault.RunFault.TheVariants as runs
 use Rattle.mg_core.specs.declared.fault.ScriptFault.{ScriptFault}
 use Rattle.mg_core.specs.declared.fault.ScriptFault.TheVariants as scripts
 use Rattle.mg_core.specs.declared.state.CoreState.{CoreState}
-use Rattle.mg_core.specs.Follow.{HasRun, GoesOn, IsFollowed, IsFollowedUntil, ticks_of}
+use Rattle.mg_core.specs.Follow.{HasRun, IsFollowed, ticks_of}
+use Rattle.mg_core.specs.aids.Following.{GoesOn, IsFollowedUntil}
 use Rattle.mg_core.specs.Headline.{ExtendsByTicks, ExtendsHistory, HasHistory}
 use Rattle.mg_core.specs.Note.{Note, Comment, Happened, NotesHaveEvents, events_in, noted, notes_of}
-use Rattle.mg_core.specs.Resume.{FindsBadLine, IsResumed}
+use Rattle.mg_core.specs.aids.Resume.{FindsBadLine, IsResumed}
 use Rattle.mg_core.specs.Run.{HasRead}
 use Rattle.mg_core.specs.Script.{event_of, events_of, then_all}
 use Rattle.mg_core.specs.Step.{Sent}

@@ -8,7 +8,8 @@ use Rattle.std.proofs.KnownBytes.{Consumes-nil, Consumes-trans, Consumes-kept}
 use Rattle.std.specs.Io.KnownBytes.{Keeps, Consumes, IsAtEnd}
 use Rattle.mg_engine.specs.declared.config.Config.{Config}
 use Rattle.mg_core.specs.declared.state.CoreState.{CoreState}
-use Rattle.mg_core.specs.World.{World, StandsFor, start_of}
+use Rattle.mg_core.specs.World.{World, start_of}
+use Rattle.mg_core.specs.aids.Stands.{StandsFor}
 use Rattle.mg_core.specs.declared.event.Event.{Event}
 use Rattle.mg_core.specs.declared.line_runner.LineRunner.{LineRunner}
 use Rattle.mg_core.specs.declared.shown.Shown.{Shown}

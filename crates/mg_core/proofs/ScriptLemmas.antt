@@ -17,7 +17,8 @@ use Rattle.mg_core.specs.Run.{RanToFault, ScriptRan, Stops}
 use Rattle.mg_core.specs.Script.{events_of}
 use Rattle.mg_core.specs.aids.Faults.{RanAllRead, RanToBadLine, RanToCutLine, RanToUnrunLine}
 use Rattle.mg_core.specs.aids.Steps.{AllRan, run_fault_at_start, run_fault_of}
-use Rattle.mg_core.specs.World.{World, StandsFor, capped, counts_of, start_of}
+use Rattle.mg_core.specs.World.{World, capped, counts_of, start_of}
+use Rattle.mg_core.specs.aids.Stands.{StandsFor}
 use Rattle.mg_core.proofs.LineLemmas.{no_text, same_appends, sent_at_once}
 
 -- ## Faults, in the form that is told

@@ -5,7 +5,8 @@ use Rattle.mg_core.specs.declared.event.Event.TheVariants.{Tick}
 use Rattle.mg_core.specs.declared.state.CoreState.{CoreState}
 use Rattle.mg_core.specs.Headline.{ExtendsByTicks}
 use Rattle.mg_core.specs.Step.{Sent, Packet, Run}
-use Rattle.mg_core.specs.World.{World, StandsFor, packets_of, start_of, world_after_tick, world_after_ticks}
+use Rattle.mg_core.specs.World.{World, packets_of, start_of, world_after_tick, world_after_ticks}
+use Rattle.mg_core.specs.aids.Stands.{StandsFor}
 use Rattle.mg_core.proofs.RunLemmas.{run_both}
 
 -- a world with another gateway, and ticks counted

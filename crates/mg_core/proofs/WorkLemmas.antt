@@ -11,7 +11,8 @@ use Rattle.mg_commands.specs.Transaction.{replied}
 use Rattle.mg_commands.specs.Work.{edits_reported}
 use Rattle.mg_core.specs.declared.state.CoreState.{CoreState}
 use Rattle.mg_core.specs.Answer.{item_replied}
-use Rattle.mg_core.specs.World.{World, StandsFor}
+use Rattle.mg_core.specs.World.{World}
+use Rattle.mg_core.specs.aids.Stands.{StandsFor}
 use Rattle.mg_core.specs.Work.{edits_by_item, edits_by_items, edits_unless_kept}
 use Rattle.mg_core.specs.aids.Steps.{TextGrows}
 

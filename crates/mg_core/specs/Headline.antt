@@ -12,7 +12,8 @@ use Rattle.mg_engine.specs.Mix.{total_at}
 use Rattle.mg_core.specs.declared.event.Event.{Event}
 use Rattle.mg_core.specs.declared.event.Event.TheVariants.{Control, Tick}
 use Rattle.mg_core.specs.declared.state.CoreState.{CoreState}
-use Rattle.mg_core.specs.World.{World, StandsFor, packets_of, start_of}
+use Rattle.mg_core.specs.World.{World, packets_of, start_of}
+use Rattle.mg_core.specs.aids.Stands.{StandsFor}
 use Rattle.mg_core.specs.Step.{Sent, Run}
 
 -- A gateway was started with this configuration, these events arrived, one after another, and

@@ -1,5 +1,4 @@
 pub mod Peer
-pub mod CoreView
 pub mod World
 pub mod Answer
 pub mod Parsed
@@ -9,7 +8,6 @@ pub mod Script
 pub mod Flows
 pub mod Run
 pub mod Recording
-pub mod Resume
 pub mod Headline
 pub mod Note
 pub mod Follow

@@ -1,4 +1,4 @@
--- A gateway as seen from outside, and which worlds the state of a core represents.
+-- A gateway as seen from outside.
 use Rattle.std.specs.Prelude.{◌≡◌, ℕ, ◌+◌, ◌-◌, ◌^◌, min, List, [], map, replicate, take, drop}
 use Rattle.std.specs.Prelude.{slice_index, slice_set}
 use Rattle.std.specs.Fn.{iterate}
@@ -13,9 +13,7 @@ use Rattle.mg_engine.specs.declared.taken.Taken.TheVariants as takens
 use Rattle.mg_engine.specs.Arrival.{Takes}
 use Rattle.mg_engine.specs.Tick.{after_tick, concealed_in_tick, sent_in_tick}
 use Rattle.mg_engine.specs.Gateway as engine
-use Rattle.mg_engine.specs.Stands as engine_stands
 use Rattle.mg_core.specs.declared.counts.Counts.{Counts}
-use Rattle.mg_core.specs.declared.state.CoreState.{CoreState}
 
 -- The numbers of control datagrams, RTP datagrams and ticks, of RTP datagrams with each outcome,
 -- and of frames played in place of missing ones.
@@ -112,12 +110,3 @@ world_after_ticks count w = iterate world_after_tick count w
 
 abbrev pub packets_of : World → List Datagram
 packets_of w = sent_in_tick w.gateway
-
--- ## Which worlds a state represents
-
--- The engine represents the gateway, the kept replies equal the world's, and the counts match the
--- events.
-pub record StandsFor (state : CoreState) (w : World) : Type 0 where
-  pub gateway : engine_stands.StandsFor state.engine w.gateway
-  pub replies : w.replies ≡ state.kept
-  pub counts : state.counts ≡ counts_of w.tally

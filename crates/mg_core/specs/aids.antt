@@ -3,3 +3,7 @@ pub mod Steps
 pub mod Reads
 pub mod Faults
 pub mod Resuming
+pub mod CoreView
+pub mod Resume
+pub mod Stands
+pub mod Following

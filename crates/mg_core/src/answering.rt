@@ -10,7 +10,8 @@ ghost use Rattle.mg_reply.specs.Written.{head_text};
 ghost use Rattle.mg_text.specs.Message.{items_of, requests_in};
 ghost use Rattle.mg_text.specs.Proper.{are_proper, item_is_proper, request_is_proper};
 ghost use Rattle.mg_core.specs.Answer.{has_requests, item_replied, mark_after, replied_to, request_replied, run_and_kept, without_ranges};
-ghost use Rattle.mg_core.specs.World.{World, StandsFor};
+ghost use Rattle.mg_core.specs.World.{World};
+ghost use Rattle.mg_core.specs.aids.Stands.{StandsFor};
 ghost use Rattle.mg_core.specs.Work.{edits_by_item, edits_by_items};
 ghost use Rattle.mg_core.specs.aids.Steps.{TextGrows, put_text, refusal_of};
 

@@ -6,7 +6,8 @@ ghost use Rattle.mg_core.specs.Step.{Step};
 ghost use Rattle.mg_core.specs.aids.Steps.{AreKeptListeners, ChangesWritten, EventRan, Follows, LeadsOn, LineRan};
 ghost use Rattle.mg_core.specs.declared.shown.Shown.{Shown};
 ghost use Rattle.mg_core.specs.declared.line_runner.TheConstants.{OUTPUT_LIMIT};
-ghost use Rattle.mg_core.specs.World.{World, StandsFor, start_of};
+ghost use Rattle.mg_core.specs.World.{World, start_of};
+ghost use Rattle.mg_core.specs.aids.Stands.{StandsFor};
 
 use crate::answer::Answer;
 use crate::event::Event;

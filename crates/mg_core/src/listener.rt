@@ -3,7 +3,8 @@ ghost use Rattle.mg_rooms.specs.Registry.{record_at};
 ghost use Rattle.mg_engine.specs.Flow.{flow};
 ghost use Rattle.mg_engine.specs.Gateway.{numbers_of};
 ghost use Rattle.mg_core.specs.Flows.{listener_of};
-ghost use Rattle.mg_core.specs.World.{World, StandsFor};
+ghost use Rattle.mg_core.specs.World.{World};
+ghost use Rattle.mg_core.specs.aids.Stands.{StandsFor};
 
 use crate::machine::Core;
 use arrayvec::ArrayVec;

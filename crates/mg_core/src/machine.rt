@@ -22,7 +22,8 @@ ghost use Rattle.mg_core.specs.Headline.{HasHistory, ExtendsHistory, ExtendsByTi
 ghost use Rattle.mg_core.specs.Step.{Step, Packet, answer_to, reported};
 ghost use Rattle.mg_words.specs.Leads.{Leads};
 ghost use Rattle.mg_core.specs.Work.{CausesEdits, edits_by_items};
-ghost use Rattle.mg_core.specs.World.{World, StandsFor, TakesMedia, counts_of, packets_of, start_of, world_after_tick, world_after_ticks, with_control};
+ghost use Rattle.mg_core.specs.World.{World, TakesMedia, counts_of, packets_of, start_of, world_after_tick, world_after_ticks, with_control};
+ghost use Rattle.mg_core.specs.aids.Stands.{StandsFor};
 
 use crate::answer::Answer;
 use crate::answering::{REPLY_ROOM, has_requests, items_of, put_error, put_replies, refusal_of};
@@ -56,7 +57,7 @@ pub struct Core {
 
 impl Model for Core {
     ghost use Rattle.std.specs.Prelude.{◌≡◌, ◌+◌, length};
-    ghost use Rattle.mg_core.specs.CoreView.{CoreView};
+    ghost use Rattle.mg_core.specs.aids.CoreView.{CoreView};
     ghost use Rattle.mg_core.specs.declared.machine.TheConstants.{ANSWER_LIMIT};
 
     ghost Value = { CoreView };

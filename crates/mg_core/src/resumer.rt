@@ -3,7 +3,8 @@ ghost use Rattle.memchr.specs.Find.{IsFirstByte, is_byte};
 ghost use Rattle.mg_engine.specs.Config.{IsValidConfig};
 ghost use Rattle.mg_core.specs.aids.Resuming.{AllResumed, BytesResumed, EndedResumed, HasFollowed, IsAfterTicks, KeepsUp, LastResumed};
 ghost use Rattle.mg_core.specs.declared.script_runner.TheConstants.{PARTIAL_LIMIT};
-ghost use Rattle.mg_core.specs.Follow.{HasRun, IsFollowedUntil};
+ghost use Rattle.mg_core.specs.Follow.{HasRun};
+ghost use Rattle.mg_core.specs.aids.Following.{IsFollowedUntil};
 ghost use Rattle.mg_engine.specs.declared.config.Config.{Config};
 
 use crate::fault::{LineFault, ScriptFault};

@@ -1,7 +1,7 @@
 ghost use Rattle.std.specs.Prelude.{◌≡◌, ◌↔◌, ℕ, [], true, Err, IfOk, OnOk};
 ghost use Rattle.mg_engine.specs.Config.{IsValidConfig};
 ghost use Rattle.mg_core.specs.Follow.{IsFollowed};
-ghost use Rattle.mg_core.specs.Resume.{FindsBadLine, IsResumed};
+ghost use Rattle.mg_core.specs.aids.Resume.{FindsBadLine, IsResumed};
 
 use crate::fault::RunFault;
 use crate::follower::Follower;

@@ -1,7 +1,8 @@
 ghost use Rattle.std.specs.Prelude.{◌≡◌, ◌+◌, ◌*◌, ◌^◌, ◌<◌, ◌≤◌, ◌↔◌, [], ℕ, List, length, Some, OnOk, IfOk, Result};
 ghost use Rattle.mg_engine.specs.declared.config.Config.{Config};
 ghost use Rattle.mg_engine.specs.Config.{IsValidConfig};
-ghost use Rattle.mg_core.specs.World.{World, StandsFor, counts_of, start_of};
+ghost use Rattle.mg_core.specs.World.{World, counts_of, start_of};
+ghost use Rattle.mg_core.specs.aids.Stands.{StandsFor};
 ghost use Rattle.mg_lines.specs.Lines.{without_return};
 ghost use Rattle.mg_core.specs.aids.Steps.{AllRan, Follows, LeadsOn, LineRan, BytesRan, Finishes};
 ghost use Rattle.mg_core.specs.declared.shown.Shown.{Shown};

@@ -1,5 +1,6 @@
 ghost use Rattle.std.specs.Prelude.{◌≡◌, ◌+◌, ℕ};
-ghost use Rattle.mg_core.specs.World.{World, StandsFor, capped, with_control, with_taken, with_tick};
+ghost use Rattle.mg_core.specs.World.{World, capped, with_control, with_taken, with_tick};
+ghost use Rattle.mg_core.specs.aids.Stands.{StandsFor};
 
 use crate::counts::Counts;
 use mg_commands::Kept;

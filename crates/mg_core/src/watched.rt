@@ -1,7 +1,8 @@
 ghost use Rattle.std.specs.Prelude.{◌≡◌, [], IfOk};
 ghost use Rattle.mg_lines.specs.Streams.{Writes};
 ghost use Rattle.mg_core.specs.Flows.{changes, listeners_of};
-ghost use Rattle.mg_core.specs.World.{World, StandsFor, capped};
+ghost use Rattle.mg_core.specs.World.{World, capped};
+ghost use Rattle.mg_core.specs.aids.Stands.{StandsFor};
 
 use crate::changes::{ENDED_LIMIT, NEW_LIMIT, push_changes};
 use crate::listeners::KeptListeners;

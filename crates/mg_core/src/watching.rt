@@ -1,5 +1,5 @@
 ghost use Rattle.std.specs.Prelude.{◌≡◌, [], IfOk};
-ghost use Rattle.mg_core.specs.Follow.{IsFollowedUntil};
+ghost use Rattle.mg_core.specs.aids.Following.{IsFollowedUntil};
 
 use crate::fault::RunFault;
 use crate::machine::Core;

@@ -1,1 +1,2 @@
 pub mod DateLemmas
+pub mod TimeLemmas

@@ -1,4 +1,5 @@
 ghost use Rattle.std.specs.Prelude.{◌≡◌};
+ghost use Rattle.mg_dates.specs.Times.{date_in};
 ghost use Rattle.mg_dates.specs.aids.Texts.{IsShortLine};
 
 use crate::date::Date;
@@ -47,7 +48,9 @@ impl DateText {
 }
 
 /// Returns the date in a comment line such as `# time 2026-11-27T14:03:20.5Z`, or `None` if the line has no date.
-pub fn date_in(line: &[u8]) -> Option<Date> {
+pub fn date_in(line: &[u8]) -> Option<Date>
+    ensures value { result ≡ date_in line.now }
+{
     let text = line.strip_prefix(b"# time ".as_slice())?;
     match str::from_utf8(text) {
         Ok(text) => Date::of_text(text),

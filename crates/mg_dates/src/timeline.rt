@@ -1,5 +1,7 @@
-ghost use Rattle.std.specs.Prelude.{◌≡◌};
+ghost use Rattle.std.specs.Prelude.{◌≡◌, None, Some};
+ghost use Rattle.std.specs.Option.{option_map_or};
 ghost use Rattle.mg_dates.specs.Dates.{missed_ticks};
+ghost use Rattle.mg_dates.specs.Times.{after_date, after_ticks, agreement_of, date_in, missed_since, next_tick};
 
 use crate::agreement::Agreement;
 use crate::date::Date;
@@ -23,8 +25,10 @@ const TOLERANCE: u64 = 1000;
 /// to rounding, the next one makes up for it.
 #[derive(Clone, Copy, Debug, PartialEq, Eq)]
 pub struct Timeline {
-    start: Option<Date>,
-    ticks: u64,
+    /// The date from which ticks are counted, or `None` before the first date.
+    pub start: Option<Date>,
+    /// The number of ticks since that date.
+    pub ticks: u64,
 }
 
 /// Returns how many ticks were missed between a date and now, if `ticks` ticks followed the date. If the clock has been
@@ -43,7 +47,9 @@ fn missed_ticks(date: Date, ticks: u64, now: Date) -> u64
 }
 
 /// Returns how a date compares with the time that was expected.
-fn agreement_of(expected: Date, date: Date) -> Agreement {
+fn agreement_of(expected: Date, date: Date) -> Agreement
+    ensures value { result ≡ agreement_of (Some expected) date }
+{
     if expected.millis.abs_diff(date.millis) <= TOLERANCE {
         Agreement::Agrees
     } else if date < expected {
@@ -55,7 +61,9 @@ fn agreement_of(expected: Date, date: Date) -> Agreement {
 
 impl Timeline {
     /// Creates a timeline that hasn't read any of a journal's lines yet.
-    pub fn new() -> Self {
+    pub fn new() -> Self
+        ensures value { result ≡ record { start = None; ticks = 0 } }
+    {
         Timeline {
             start: None,
             ticks: 0,
@@ -63,7 +71,9 @@ impl Timeline {
     }
 
     /// Returns how many ticks have been missed since the journal's last line. Returns 0 if there is no date.
-    pub fn missed(&self, now: Date) -> u64 {
+    pub fn missed(&self, now: Date) -> u64
+        ensures value { result ≡ missed_since self.now now }
+    {
         match self.start {
             Some(start) => missed_ticks(start, self.ticks, now),
             None => 0,
@@ -71,14 +81,19 @@ impl Timeline {
     }
 
     /// Returns when the next tick should happen. Returns `None` if there is no date.
-    pub fn next_tick(&self) -> Option<Date> {
+    pub fn next_tick(&self) -> Option<Date>
+        ensures value { result ≡ next_tick self.now }
+    {
         let start = self.start?;
         let millis = start.millis.saturating_add(self.ticks.saturating_mul(TICK));
         Some(Date { millis })
     }
 
     /// Takes note of a date, and returns how it compares with the time computed from the ticks before it.
-    pub fn pass_date(&mut self, date: Date) -> Agreement {
+    pub fn pass_date(&mut self, date: Date) -> Agreement
+        ensures value { self.new ≡ after_date self.old date }
+        ensures agreement { result ≡ agreement_of (next_tick self.old) date }
+    {
         let agreement = match self.next_tick() {
             Some(expected) => agreement_of(expected, date),
             None => Agreement::First,
@@ -91,21 +106,27 @@ impl Timeline {
     }
 
     /// Takes note of a comment or an empty line, given without its line end. Only a date has an effect.
-    pub fn pass_comment(&mut self, line: &[u8]) {
+    pub fn pass_comment(&mut self, line: &[u8])
+        ensures value { self.new ≡ option_map_or (after_date self.old) (date_in line.now) self.old }
+    {
         if let Some(date) = date_in(line) {
             let _ = self.pass_date(date);
         }
     }
 
     /// Adds consecutive ticks to the count.
-    pub fn pass_ticks(&mut self, count: u64) {
+    pub fn pass_ticks(&mut self, count: u64)
+        ensures value { self.new ≡ after_ticks count self.old }
+    {
         self.ticks = self.ticks.saturating_add(count);
     }
 }
 
 impl Follower for Timeline {
-    // Nothing is promised about dates.
-    ghost follows = { λ _ _ _ _. Unit {0} };
+    ghost use Rattle.std.specs.Prelude.{◌≡◌, reverse};
+    ghost use Rattle.mg_dates.specs.Times.{timeline_of};
+
+    ghost follows = { λ start t config notes. t ≡ timeline_of (reverse notes) };
 
     fn comment(&mut self, line: &[u8]) -> Result<(), Stopped> {
         self.pass_comment(line);

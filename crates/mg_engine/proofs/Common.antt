@@ -6,11 +6,11 @@ pub use Rattle.mg_engine.specs.Config.{HasControlPort, limits_of}
 pub use Rattle.mg_engine.specs.Flow.{has, may_hear}
 pub use Rattle.mg_engine.specs.Gateway.{Apply, ContextEdit, Enter, Gateway, Leave, TerminationMedia, context_of, frame_of, media_of, mode_of, new_media, numbers_of}
 pub use Rattle.mg_engine.specs.Isolation.{IsolatedAreNotHeard, NoneHearsItself, OwnSpeechChangesNoPacket, PacketsDependOnHeard, PayloadsAreMixes, UnheardChangesNoPacket, hears_itself, leaves_isolated, progress_of, replayed, with_frame}
-pub use Rattle.mg_engine.specs.Media.{SlotMedia, idle}
+pub use Rattle.mg_engine.specs.aids.Media.{SlotMedia, idle}
 pub use Rattle.mg_engine.specs.Mix.{heard, is_loopback, mix, mixed, part_of_mix, part_of_total, played_sample, total, total_at}
 pub use Rattle.mg_engine.specs.Outcome.{added, done_with, existing_context, media_with, media_without, modified, moved, subtracted, tuned}
-pub use Rattle.mg_engine.specs.Place.{IsOnPlace, IsOnSeat, member_place, place_of, seated_place}
-pub use Rattle.mg_engine.specs.Stands.{EngineState, IsMediaOf, IsOutcome, ShareContext, StandsFor, media_at}
+pub use Rattle.mg_engine.specs.aids.Place.{IsOnPlace, IsOnSeat, member_place, place_of, seated_place}
+pub use Rattle.mg_engine.specs.aids.Stands.{EngineState, IsMediaOf, IsOutcome, ShareContext, StandsFor, media_at}
 pub use Rattle.mg_engine.specs.Steps.{counted_up, play_after, received, transmitted}
 pub use Rattle.mg_engine.specs.Tick.{after_tick, after_ticks, all_ended, all_played, concealed_in_tick, concealed_in_ticks, conceals, header_of, packet, packet_of, packets, played, sends_at, sent, sent_to, type_of}
 pub use Rattle.mg_engine.specs.Triples.{check_triple, check_triples, is_barred, matched, names_others, with_triples}
@@ -35,7 +35,7 @@ pub use Rattle.mg_engine.specs.declared.share.Share.{Share}
 pub use Rattle.mg_engine.specs.declared.taken.Taken.{Taken}
 pub use Rattle.mg_engine.specs.declared.topology_triple.TopologyTriple.{TopologyTriple}
 pub use Rattle.mg_flow.specs.Place.{IsWithinLimits, are_together, is_same_place, sibling_place}
-pub use Rattle.mg_flow.specs.Table.{KeepsOthers, KeepsPlaces, RoomFlows, SetsPlace, flows, hears, hears_after, holds, listens_at, room_at, talks_at}
+pub use Rattle.mg_flow.specs.aids.Table.{KeepsOthers, KeepsPlaces, RoomFlows, SetsPlace, flows, hears, hears_after, holds, listens_at, room_at, talks_at}
 pub use Rattle.mg_flow.specs.declared.place.Place.{Place}
 pub use Rattle.mg_g711.specs.Law.{byte_of}
 pub use Rattle.mg_playout.specs.Played.{is_concealed, sound_of}
@@ -46,9 +46,9 @@ pub use Rattle.mg_rooms.proofs.OutcomeLemmas.{Enters, add_done, bind_ok, modify_
 pub use Rattle.mg_rooms.proofs.SoundLemmas.{sound_if}
 pub use Rattle.mg_rooms.specs.Changes.{change, inserted, replaced}
 pub use Rattle.mg_rooms.specs.Consistent.{IsConsistent, IsTermination}
-pub use Rattle.mg_rooms.specs.Lasting.{Lasts, LeavesOthers}
+pub use Rattle.mg_rooms.specs.aids.Lasting.{Lasts, LeavesOthers}
 pub use Rattle.mg_rooms.specs.Limits.{slot_port}
-pub use Rattle.mg_rooms.specs.Member.{ExistsAs}
+pub use Rattle.mg_rooms.specs.aids.Member.{ExistsAs}
 pub use Rattle.mg_rooms.specs.Outcome.{add, is_number, modify, move_to, subtract}
 pub use Rattle.mg_rooms.specs.Registry.{IsMember, Registry, context_at, holder_of, members_at, record_at, start_of}
 pub use Rattle.mg_rooms.specs.aids.Sound.{IsSound}
@@ -65,7 +65,8 @@ pub use Rattle.mg_sdp.specs.declared.chosen.Chosen.{Chosen}
 pub use Rattle.mg_sums.proofs.HeardLemmas.{map_agree}
 pub use Rattle.mg_sums.proofs.SumLemmas.{sum_of-cons, sum_of-filter, sum_of-map, sum_of-nil, sum_of-none, sum_of-plus, sum_of-same, sum_of-ones, sum_of-agree}
 pub use Rattle.mg_sums.specs.Samples.{frame_or_silence, nearest_sample, silence, sum_of}
-pub use Rattle.mg_sums.specs.Sums.{SumsState, frame_of_row, total_of}
+pub use Rattle.mg_sums.specs.Sums.{SumsState}
+pub use Rattle.mg_sums.specs.aids.Sums.{frame_of_row, total_of}
 pub use Rattle.mg_topology.specs.Mask.{has_seat, seat_limit}
 pub use Rattle.mg_topology.specs.Triple.{Overlaps, is_oneway, mentions, overlaps, word_of}
 pub use Rattle.mg_topology.specs.declared.triple.Triple.{Triple}

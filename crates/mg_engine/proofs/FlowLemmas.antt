@@ -1,9 +1,9 @@
 -- Who hears whom in the worlds that an engine stands for.
 use Rattle.mg_engine.proofs.Common.{◌≡◌, ℕ, ◌&&◌, not, eqb, Bool, true, false, List, Some, refl, sym, ap, subst, ◌∙◌, is_some, eqb-true, eq-eqb, ne_eqb, Record, record_at, Place, Gateway, IsOnPlace, EngineState, StandsFor, ShareContext, HasMembers, IsSound, flows_between, Registry, flows_now, context_in, mode_or_inactive, mode_of, context_of, arith, nat_tests}
-use Rattle.mg_flow.specs.Table as flow
+use Rattle.mg_flow.specs.aids.Table as flow
 use Rattle.mg_engine.specs.Flow.{share_context, is_silenced}
 use Rattle.mg_engine.specs.Flow as worlds
-use Rattle.mg_engine.specs.Masks.{RepresentsFlows}
+use Rattle.mg_engine.specs.aids.Masks.{RepresentsFlows}
 use Rattle.mg_engine.proofs.IsolationLemmas.{none_hears_itself}
 use Rattle.mg_engine.proofs.MemberLemmas.{seats_differ, unequal}
 use Rattle.mg_engine.proofs.PlaceLemmas.{on_place, one_place, in_one_room, in_one_context, hears_apart, no_hearing}

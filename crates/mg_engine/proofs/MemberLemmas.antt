@@ -1,6 +1,6 @@
 -- The table of who hears whom when one member enters, leaves or has another mode.
 use Rattle.mg_engine.proofs.Common.{◌≡◌, ◌≢◌, ℕ, eqb, ◌||◌, Bool, true, false, cond, List, [], ◌∷◌, Option, Some, None, refl, sym, ap, subst, ◌∙◌, is_some, option_map, eqb-true, eq-eqb, ne_eqb, Context, Record, Limits, Registry, record_at, context_at, Place, RoomFlows, hears, ContextEdit, Enter, may_hear, IsOnPlace, ShareContext, AreSeated, HasMembers, IsSound, IsTrue, IsFalse, start_of, Lasts, is_same_place, are_together, holds, talks_at, listens_at, SetsPlace, talks, listens, and_parts, true≢false, false_from_ne_true}
-use Rattle.mg_flow.specs.Table as flow
+use Rattle.mg_flow.specs.aids.Table as flow
 use Rattle.mg_engine.specs.aids.Members.{Enters, Leaves, TakesMode, SaysOf}
 use Rattle.mg_engine.proofs.PlaceLemmas.{at, seated, place, one_record, one_place, one_member, in_one_room, apart_places}
 

@@ -2,7 +2,7 @@
 use Rattle.mg_engine.proofs.Common.{◌≡◌, ◌≢◌, ℕ, ◌<◌, ◌&&◌, not, eqb, Bool, true, false, cond, ℤ, pos, ◌+ℤ◌, List, [], ◌∷◌, length, map, get_or, Option, Some, None, refl, sym, ap, ◌∙◌, arith, All, range_with_len, eqb-true, eq-eqb, get_or-map, length-map, sum_by-cons, seat_limit, has_seat, Record, record_at, Place, sibling_place, SumsState, total_of, nearest_sample, sum_of-cons, sum_of-same, place_of, IsOnPlace, EngineState, Inside, IsWholeEngine, view, talks, listens, slot_at, sample_at, heard_now, silenced_now, map_agree, IsTrue, AllPairs, count_by, All-cons, All-map, filter_passes, All-weaker, sits_among, is_seated_in, ints, length-range_with_len, get_or-range_with_len, sum_of-map, sum_of-nil, sum_of-plus, is_silenced_between, part_now, and-false, and_parts, count-found, sum_of-ones, sum_of-agree, true≢false, sum_of}
 use Rattle.std.proofs.lemmas.List.Kept.{AllPairs-cons, AllPairs-filter}
 use Rattle.mg_topology.specs.Mask.{seats_of}
-use Rattle.mg_flow.specs.Table as flow
+use Rattle.mg_flow.specs.aids.Table as flow
 use Rattle.mg_sums.specs.Sums.{AreOfRoom, sample_in, is_joined, heard_of, left_out_by, mix_of}
 use Rattle.mg_engine.proofs.FlowLemmas.{nobody_hears_itself, silenced_apart, not_itself}
 use Rattle.mg_engine.proofs.MaskLemmas.{flows_apart, seated_is, sum_on_seats}

@@ -1,6 +1,6 @@
 -- Places of members: each has one, and no two of them one place.
 use Rattle.mg_engine.proofs.Common.{arith, ◌≡◌, ◌≢◌, ℕ, eqb, ◌&&◌, Bool, false, List, Option, Some, None, refl, sym, ap, ◌∙◌, IsSome, eqb-true, same_Some, Context, Record, IsSound, and_parts, and-false, and_right, false_from_ne_true, Registry, record_at, context_at, Place, RoomFlows, hears, place_of, member_place, IsOnPlace, nat_tests, Member, ExistsAs, IsWithinLimits, is_same_place, room_at, talks_at, listens_at, flows}
-use Rattle.mg_topology.specs.Topology as topology
+use Rattle.mg_topology.specs.aids.Topology as topology
 
 -- ## The place of a member
 

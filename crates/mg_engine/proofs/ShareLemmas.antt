@@ -1,6 +1,6 @@
 -- Packets that lend their payloads keep them.
 use Rattle.mg_engine.proofs.Common.{◌≡◌, ℕ, zero, suc, ◌<◌, eqb, Bool, true, false, cond, List, [], ◌∷◌, ◌++◌, length, replicate, refl, sym, ap, subst, ◌∙◌, arith, nat_lt, All, eqb-true, get_or-set_same, get_or-set_other, Datagram, Share, EngineState, with_mixes, AreShared, context_limit, member_limit, length_push, get_or-append_seam, All-nil, All-weaker, All-push, IsShared, one_more, packet_at, payload_of, payload_on, shares_in, with_share, get_or_append_left}
-use Rattle.mg_engine.specs.Datagram.{blank}
+use Rattle.mg_engine.specs.aids.Datagram.{blank}
 use Rattle.mg_engine.proofs.MemberLemmas.{unequal}
 
 -- one packet more

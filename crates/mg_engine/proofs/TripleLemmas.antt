@@ -1,7 +1,7 @@
 -- Triples by the seats of the members that their terms match.
 use Rattle.mg_engine.proofs.Common.{IsSound, ne_eqb, and_parts, and-false, false_from_ne_true, ◌≡◌, ℕ, zero, suc, ◌+◌, ◌<◌, eqb, ◌&&◌, ◌||◌, Bool, true, false, cond, List, [], ◌∷◌, ◌++◌, ◌==◌, length, get_or, take, drop, Some, Result, Ok, Err, refl, sym, ap, subst, ◌∙◌, arith, Any, list_any, eqb-true, eq-eqb, take_more, Triple, has_seat, Overlaps, Context, Record, Registry, record_at, context_at, members_at, Place, RoomFlows, hears, Target, Gateway, ContextEdit, Apply, may_hear, existing_context, EngineState, StandsFor, ShareContext, has, place_of, HasMembers, ErrorNumber, TopologyTriple, with_triples, check_triples, AreMatched, IsTrue, ◌↔◌, nat_tests, are_together, holds, hears_after, KeepsPlaces, KeepsOthers, drop_more, IllegalCombination, matched, is_barred, names_others, check_triple, overlaps, mentions, word_of, is_oneway, Isolate, Oneway, Bothway, IsOutcome, IsRoomOf, IsSeated, Matches, IsMatched, or-false}
 use Rattle.std.specs.Cmp.{both_ways}
-use Rattle.mg_topology.specs.Topology as topology
+use Rattle.mg_topology.specs.aids.Topology as topology
 use Rattle.mg_engine.specs.Outcome.{apply_triples}
 use Rattle.mg_words.specs.declared.association.Association.{Association}
 use Rattle.mg_engine.specs.Triples as terms

@@ -2,17 +2,11 @@ pub mod Config
 pub mod Gateway
 pub mod Flow
 pub mod Triples
-pub mod Place
 pub mod Mix
 pub mod Steps
 pub mod Outcome
-pub mod Datagram
 pub mod Tick
 pub mod Arrival
-pub mod Media
-pub mod Stands
-pub mod Masks
-pub mod Totals
 pub mod Work
 pub mod Isolation
 pub mod Unaffected

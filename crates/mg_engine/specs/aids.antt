@@ -11,3 +11,9 @@ pub mod Whole
 pub mod Agreement
 pub mod Order
 pub mod Placing
+pub mod Stands
+pub mod Masks
+pub mod Totals
+pub mod Media
+pub mod Place
+pub mod Datagram

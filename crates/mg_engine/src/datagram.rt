@@ -24,7 +24,7 @@ pub struct Datagram {
 
 impl Default for Datagram {
     ghost use Rattle.std.specs.Prelude.{◌≡◌};
-    ghost use Rattle.mg_engine.specs.Datagram.{blank};
+    ghost use Rattle.mg_engine.specs.aids.Datagram.{blank};
 
     ghost is_default = { λ datagram. datagram ≡ blank };
 

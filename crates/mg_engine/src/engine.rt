@@ -14,28 +14,28 @@ ghost use Rattle.mg_rooms.specs.aids.Sound.{IsSound};
 ghost use Rattle.mg_engine.specs.aids.Playing.{AreApart, HaveTicked, IsIdleEngine, IsPlayed};
 ghost use Rattle.mg_engine.specs.aids.Sending.{heard_now, mixed_now, silenced_now, mix_work_now, sending_work_now, packet_now, packets_now, slot_sends, with_mixes, IsEnded, PlacedAt};
 ghost use Rattle.mg_engine.specs.aids.Shares.{AreShared, IsPut, payload_of};
-ghost use Rattle.mg_engine.specs.Masks.{RepresentsFlows};
-ghost use Rattle.mg_engine.specs.Totals.{RepresentsTotals};
+ghost use Rattle.mg_engine.specs.aids.Masks.{RepresentsFlows};
+ghost use Rattle.mg_engine.specs.aids.Totals.{RepresentsTotals};
 ghost use Rattle.mg_engine.specs.Work.{RisesAtMost, sending_work, tick_work};
 ghost use Rattle.mg_engine.specs.declared.datagram.Datagram.{Datagram};
-ghost use Rattle.mg_engine.specs.Place.{IsOnPlace, IsOnSeat};
+ghost use Rattle.mg_engine.specs.aids.Place.{IsOnPlace, IsOnSeat};
 ghost use Rattle.mg_engine.specs.Tick.{sends, sent_to, packets, all_played, all_ended, sent_in_tick, after_tick, after_ticks, conceals, concealed_in_tick, concealed_in_ticks};
 ghost use Rattle.mg_g711.specs.Law.{byte_of};
 ghost use Rattle.mg_words.specs.Mode.{listens};
-ghost use Rattle.mg_flow.specs.Table as table;
+ghost use Rattle.mg_flow.specs.aids.Table as table;
 ghost use Rattle.mg_topology.specs.Mask.{has_seat};
-ghost use Rattle.mg_sums.specs.Sums.{AreValidSums, first_sums, frame_of_row, room_of};
+ghost use Rattle.mg_sums.specs.aids.Sums.{AreValidSums, first_sums, frame_of_row, room_of};
 ghost use Rattle.mg_engine.specs.aids.Seating.{place_count};
 ghost use Rattle.mg_rtp.specs.aids.Read.{reading_of};
 ghost use Rattle.mg_engine.specs.Arrival.{at_port, arrived, Takes};
 ghost use Rattle.mg_engine.specs.Flow.{flow, hears};
 ghost use Rattle.mg_engine.specs.Mix.{total_at};
-ghost use Rattle.mg_engine.specs.Media.{idle};
+ghost use Rattle.mg_engine.specs.aids.Media.{idle};
 ghost use Rattle.mg_engine.specs.aids.MediaSteps.{initial_media, slot_ended, is_concealing, slot_tuned as tuned_media};
 ghost use Rattle.mg_engine.specs.Config.{IsValidConfig};
 ghost use Rattle.mg_engine.specs.Gateway.{Gateway, start_of, stats_of};
 ghost use Rattle.mg_sums.specs.Samples.{silence};
-ghost use Rattle.mg_engine.specs.Stands.{StandsFor, IsOutcome, media_at};
+ghost use Rattle.mg_engine.specs.aids.Stands.{StandsFor, IsOutcome, media_at};
 ghost use Rattle.mg_engine.specs.aids.Found.{HasStats};
 
 use crate::arrival::{frame_by_law, law_for};
@@ -90,7 +90,7 @@ pub struct Engine {
 }
 
 impl Model for Engine {
-    ghost use Rattle.mg_engine.specs.Stands.{EngineState};
+    ghost use Rattle.mg_engine.specs.aids.Stands.{EngineState};
     ghost use Rattle.mg_engine.specs.aids.Whole.{IsWholeEngine};
 
     ghost Value = { EngineState };

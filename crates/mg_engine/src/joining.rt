@@ -2,7 +2,7 @@
 
 ghost use Rattle.std.specs.Prelude.{◌≡◌, ◌<◌, ◌↔◌, IsTrue, None, Some, length};
 ghost use Rattle.mg_words.specs.Limits.{context_limit, termination_limit};
-ghost use Rattle.mg_sums.specs.Sums.{room_of};
+ghost use Rattle.mg_sums.specs.aids.Sums.{room_of};
 ghost use Rattle.mg_engine.specs.Work.{RisesAtMost};
 ghost use Rattle.mg_engine.specs.aids.Joined.{SetsRow, room_for};
 

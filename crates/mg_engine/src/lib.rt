@@ -24,7 +24,7 @@
 //! The cost of that step grows only with the number of terminations.
 //!
 //! The engine keeps no history, so one state may represent several gateways. Its contracts hold for every `Gateway`
-//! (`specs/Gateway.antt`) that the state represents, before and after a call (`StandsFor` in `specs/Stands.antt`).
+//! (`specs/Gateway.antt`) that the state represents, before and after a call (`StandsFor` in `specs/aids/Stands.antt`).
 #![tactic(auto)]
 
 mod arrival;

@@ -22,7 +22,7 @@ pub struct HeldMedia {
 }
 
 impl Model for HeldMedia {
-    ghost use Rattle.mg_engine.specs.Media.{SlotMedia};
+    ghost use Rattle.mg_engine.specs.aids.Media.{SlotMedia};
 
     ghost Value = { SlotMedia };
 
@@ -36,7 +36,7 @@ impl Model for HeldMedia {
 }
 
 impl HeldMedia {
-    ghost use Rattle.mg_engine.specs.Media.{idle};
+    ghost use Rattle.mg_engine.specs.aids.Media.{idle};
     ghost use Rattle.mg_engine.specs.aids.MediaSteps.{initial_media_at, slot_tuned, slot_placed, slot_played, frame_played, is_concealing, header, slot_ended, slot_passed};
     ghost use Rattle.mg_playout.specs.Playout.{is_idle};
     ghost use Rattle.mg_playout.specs.Played.{is_concealed, sound_of};

@@ -4,8 +4,8 @@
 ghost use Rattle.std.specs.Prelude.{◌≡◌, ◌<◌, IsFalse, IsTrue, length, slice_set};
 ghost use Rattle.mg_words.specs.Limits.{termination_limit};
 ghost use Rattle.mg_flow.specs.Place.{IsWithinLimits};
-ghost use Rattle.mg_flow.specs.Table as table;
-ghost use Rattle.mg_engine.specs.Place.{place_of, member_place};
+ghost use Rattle.mg_flow.specs.aids.Table as table;
+ghost use Rattle.mg_engine.specs.aids.Place.{place_of, member_place};
 ghost use Rattle.mg_engine.specs.aids.Seating.{index_of};
 ghost use Rattle.mg_engine.specs.Work.{RisesAtMost};
 ghost use Rattle.mg_engine.specs.aids.Joined.{SetsRow, room_for};

@@ -1,6 +1,6 @@
 ghost use Rattle.std.specs.Prelude.{◌≡◌, ◌<◌, ◌≤◌, ℕ, All, IsSome, length, map, slice_index_or};
 ghost use Rattle.mg_rooms.specs.Registry.{record_at};
-ghost use Rattle.mg_engine.specs.Place.{IsOnSeat, seated_place};
+ghost use Rattle.mg_engine.specs.aids.Place.{IsOnSeat, seated_place};
 
 use arrayvec::ArrayVec;
 use mg_flow::Place;

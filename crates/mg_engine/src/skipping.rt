@@ -2,7 +2,7 @@
 
 ghost use Rattle.std.specs.Prelude.{◌≡◌, ◌<◌, ◌≤◌, IsTrue, EachIndex, length, slice_index_or, slice_set};
 ghost use Rattle.mg_words.specs.Limits.{termination_limit};
-ghost use Rattle.mg_engine.specs.Stands.{media_at};
+ghost use Rattle.mg_engine.specs.aids.Stands.{media_at};
 ghost use Rattle.mg_engine.specs.aids.MediaSteps.{slot_passed};
 ghost use Rattle.mg_engine.specs.aids.Playing.{AreApart, HasPassed, IsIdleSlot};
 ghost use Rattle.mg_engine.specs.aids.Sending.{slot_sends};

@@ -10,7 +10,7 @@ use Rattle.mg_flow.specs.declared.place.Place.{Place}
 use Rattle.mg_flow.specs.Place.{is_same_place, are_together}
 use Rattle.mg_flow.specs.Edits.{FlowEdit, Enter, Leave, SetMode, Apply, apply_in_room, edits_in, is_held, may_hear}
 use Rattle.mg_flow.specs.Edits.{hears_in}
-use Rattle.mg_flow.specs.Table.{RoomFlows, holds, hears, hears_after, StandsFor, StandsForSome}
+use Rattle.mg_flow.specs.aids.Table.{RoomFlows, holds, hears, hears_after, StandsFor, StandsForSome}
 use Rattle.mg_flow.proofs.TableLemmas.{own_triples, hears-stands}
 
 -- whatever is told of two places by each list of edits is so

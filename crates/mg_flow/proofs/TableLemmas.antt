@@ -9,15 +9,15 @@ use Rattle.mg_topology.specs.declared.overlap.Overlap.{Overlap}
 use Rattle.mg_topology.specs.declared.triple.Triple.{Triple}
 use Rattle.mg_topology.specs.Mask.{seat_limit, has_seat}
 use Rattle.mg_topology.specs.Edits as topology
-use Rattle.mg_topology.specs.Topology as kept
+use Rattle.mg_topology.specs.aids.Topology as kept
 use Rattle.mg_flow.specs.declared.place.Place.{Place}
 use Rattle.mg_flow.specs.Place.{is_same_place, sibling_place, are_together}
 use Rattle.mg_flow.specs.Edits.{FlowEdit, Enter, Leave, SetMode, Apply, apply_in_room, edits_in, is_held, talks_in}
 use Rattle.mg_flow.specs.Edits.{listens_in, may_hear, hears_in, flows_in, is_silenced_in}
 use Rattle.mg_flow.specs.aids.RoomFlows.{flows_to, is_blocked_for, IsVacant, SetsSeat}
 use Rattle.mg_flow.specs.aids.Table.{IsFlowTable}
-use Rattle.mg_flow.specs.Table.{RoomFlows, vacant, room_at, talks_at, listens_at, holds, hears, flows, is_silenced}
-use Rattle.mg_flow.specs.Table.{StandsFor}
+use Rattle.mg_flow.specs.aids.Table.{RoomFlows, vacant, room_at, talks_at, listens_at, holds, hears, flows, is_silenced}
+use Rattle.mg_flow.specs.aids.Table.{StandsFor}
 use Rattle.mg_flow.proofs.SeatLemmas.{has_seat-empty}
 
 -- ---- a table in which one room was written

@@ -1,4 +1,3 @@
 pub mod Edits
 pub mod Place
-pub mod Table
 pub mod aids

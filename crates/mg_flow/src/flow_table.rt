@@ -17,7 +17,7 @@ use std::marker::Model;
 /// Who hears whom in all rooms of a gateway, and the masks of each listener's talkers.
 ///
 /// In contracts, the table appears as the list of rooms, each with its topology and the masks of who talks and who
-/// listens. Contracts describe the table in terms of `specs/Table.antt`. The table that [`FlowTable::new`] returns
+/// listens. Contracts describe the table in terms of `specs/aids/Table.antt`. The table that [`FlowTable::new`] returns
 /// represents the empty list of edits, and each call adds its edits to the lists that the table represents. So every
 /// table represents some list ([`each_table_represents_edits`]).
 ///
@@ -29,7 +29,7 @@ pub struct FlowTable {
 
 impl Model for FlowTable {
     ghost use Rattle.std.specs.Prelude.{List};
-    ghost use Rattle.mg_flow.specs.Table.{RoomFlows};
+    ghost use Rattle.mg_flow.specs.aids.Table.{RoomFlows};
     ghost use Rattle.mg_flow.specs.aids.Table.{IsFlowTable};
 
     ghost Value = { List RoomFlows };
@@ -41,7 +41,7 @@ impl Model for FlowTable {
 
 impl FlowTable {
     ghost use Rattle.mg_flow.specs.Edits.{FlowEdit, Enter, Leave, SetMode, apply_in_room, is_held, hears_in, flows_in, is_silenced_in};
-    ghost use Rattle.mg_flow.specs.Table.{StandsFor, StandsForSome, KeepsOthers, SetsPlace, KeepsPlaces, holds, hears, hears_after, flows, is_silenced};
+    ghost use Rattle.mg_flow.specs.aids.Table.{StandsFor, StandsForSome, KeepsOthers, SetsPlace, KeepsPlaces, holds, hears, hears_after, flows, is_silenced};
 
     /// Creates the table of a gateway whose rooms are all empty.
     ///

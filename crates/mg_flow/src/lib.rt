@@ -20,8 +20,8 @@
 //! ```
 //!
 //! A table keeps no history. So its contracts hold for every list of edits that it represents, before and after a call
-//! (`StandsFor` in `specs/Table.antt`). `specs/Edits.antt` defines what a list of edits means, looking back from the
-//! newest edit. [`theorems`] states the consequences. For a proof without such a list, the clauses `kept`, `place`,
+//! (`StandsFor` in `specs/aids/Table.antt`). `specs/Edits.antt` defines what a list of edits means, looking back from
+//! the newest edit. [`theorems`] states the consequences. For a proof without such a list, the clauses `kept`, `place`,
 //! `places`, `hears` and `others` say what is stored, what changes, and what is unchanged.
 #![tactic(auto)]
 

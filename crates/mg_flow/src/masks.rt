@@ -17,7 +17,7 @@ pub(crate) struct Masks {
 }
 
 impl Masks {
-    ghost use Rattle.mg_flow.specs.Table.{RoomFlows};
+    ghost use Rattle.mg_flow.specs.aids.Table.{RoomFlows};
     ghost use Rattle.mg_flow.specs.aids.RoomFlows.{AreMasks};
 
     /// Derives the masks of a room from its topology, and from who talks and who listens.

@@ -2,7 +2,7 @@ ghost use Rattle.std.specs.Prelude.{◌≡◌, ℕ, ◌<◌, ◌∷◌, List, tr
 ghost use Rattle.mg_topology.specs.Mask.{seat_limit, has_seat};
 ghost use Rattle.mg_topology.specs.Triple.{Overlaps};
 ghost use Rattle.mg_topology.specs.Edits.{TopologyEdit, Enter, Leave, apply_all};
-ghost use Rattle.mg_topology.specs.Topology.{holds, hears, StandsFor};
+ghost use Rattle.mg_topology.specs.aids.Topology.{holds, hears, StandsFor};
 ghost use Rattle.mg_flow.specs.aids.RoomFlows.{flows_to, is_blocked_for};
 
 use crate::masks::Masks;
@@ -23,7 +23,7 @@ pub(crate) struct RoomFlows {
 }
 
 impl Model for RoomFlows {
-    ghost use Rattle.mg_flow.specs.Table.{RoomFlows as RoomState};
+    ghost use Rattle.mg_flow.specs.aids.Table.{RoomFlows as RoomState};
     ghost use Rattle.mg_flow.specs.aids.RoomFlows.{AreMasks};
 
     ghost Value = { RoomState };

@@ -9,7 +9,7 @@ ghost use Rattle.mg_topology.specs.Triple.{mentions, word_of};
 ghost use Rattle.mg_flow.specs.declared.place.Place.{Place};
 ghost use Rattle.mg_flow.specs.Place.{is_same_place, are_together};
 ghost use Rattle.mg_flow.specs.Edits.{FlowEdit, Enter, Leave, SetMode, Apply, is_held, talks_in, listens_in, may_hear, flows_in, is_silenced_in};
-ghost use Rattle.mg_flow.specs.Table.{StandsForSome};
+ghost use Rattle.mg_flow.specs.aids.Table.{StandsForSome};
 
 use crate::flow_table::FlowTable;
 

@@ -18,6 +18,7 @@ use Rattle.mg_heard.specs.declared.verdict.Verdict.{Verdict}
 use Rattle.mg_heard.specs.Told.{TellsAll}
 use Rattle.mg_heard.specs.Verdict.{gap_at, heard_at, is_in_gap, is_within, verdict_at, verdict_of}
 use Rattle.mg_heard.specs.aids.Finding.{HasFound}
+use Rattle.mg_heard.proofs.KeepingLemmas.{tells_weaker}
 
 or_none : {A : Type 0} (o : Option A) → option_or o None ≡ o
 or_none None = refl
@@ -100,23 +101,21 @@ abbrev asked : Query → Date → Instant
 asked query time = record { query = query; time = time; heard = None; gap = None }
 
 pub answers_found : (config : Config) (input rest : Option (List ℕ)) (state : CoreState) (query : Query) (time : Date)
-    (start now : Instant) (extent : Extent) (verdict : Verdict) → start ≡ asked query time →
-    verdict ≡ verdict_of (is_within extent now.time) now.gap now.heard →
-    IsFollowed config input rest state (λ notes. TellsAll config notes (HasFound start now)) →
-    IsFollowed config input rest state (λ notes. TellsAll config notes (λ xs. verdict ≡ verdict_at query time extent xs))
-answers_found config input rest state query time start now extent verdict is e h =
-    let found = subst (λ (s : Instant). HasFound s now h.follows.xs) is h.follows.told in
-    record {
-      script = h.script;
-      read = h.read;
-      notes = h.notes;
-      are = h.are;
-      run = h.run;
-      follows = record {
-        xs = h.follows.xs;
-        are = h.follows.are;
-        no_others = h.follows.no_others;
-        flow = h.follows.flow;
-        told = e ∙ (λ i. verdict_of (is_within extent (found.time i)) (found.gap i) (found.heard i));
-      };
-    }
+    (start now : Instant) (covered : Extent) (verdict : Verdict) → start ≡ asked query time →
+    verdict ≡ verdict_of (is_within covered now.time) now.gap now.heard →
+    IsFollowed config input rest state
+    (λ notes. TellsAll config notes (λ extent xs. HasFound start now xs × (covered ≡ extent))) →
+    IsFollowed config input rest state
+    (λ notes. TellsAll config notes (λ extent xs. verdict ≡ verdict_at query time extent xs))
+answers_found config input rest state query time start now covered verdict is e h = record {
+  script = h.script;
+  read = h.read;
+  notes = h.notes;
+  are = h.are;
+  run = h.run;
+  follows = tells_weaker config h.notes (λ extent xs. HasFound start now xs × (covered ≡ extent))
+      (λ extent xs. verdict ≡ verdict_at query time extent xs)
+      (λ xs (told, covers).
+      let found = subst (λ (s : Instant). HasFound s now xs) is told in
+      e ∙ (λ i. verdict_of (is_within (covers i) (found.time i)) (found.gap i) (found.heard i))) h.follows;
+}

@@ -2,14 +2,17 @@
 use Rattle.std.proofs.Common.{◌≡◌, ℕ, true, List, [], refl, sym, ap, subst, ◌∙◌}
 use Rattle.std.specs.Prelude.{count_by, reverse}
 use Rattle.mg_engine.specs.Flow.{flow}
+use Rattle.mg_engine.specs.declared.config.Config.{Config}
+use Rattle.mg_core.specs.declared.event.Event.{Event}
 use Rattle.mg_core.specs.Counting.{is_tick}
 use Rattle.mg_core.specs.ExceptReceived.{RtpChangesSpeechOnly}
 use Rattle.mg_core.specs.Headline.{WorldsAreConsistent}
 use Rattle.mg_core.specs.World.{World, start_of}
 use Rattle.mg_core.proofs.ReceivedLemmas.{agrees_itself}
 use Rattle.mg_heard.specs.Intervals.{Interval, intervals}
-use Rattle.mg_heard.specs.Laws.{EventsDetermineIntervals, IntervalsTellTheFlow, IntervalsTellTheTruth, IsToldAt, NoPairIsToldTwice, RtpChangesNoInterval}
+use Rattle.mg_heard.specs.Laws.{AreIntervals, EventsDetermineIntervals, IntervalsTellTheTruth, IsToldAt, NoPairIsToldTwice, RtpChangesNoInterval, TellsTheFlow}
 use Rattle.mg_heard.specs.Maximal.{IsOfPair, IsTellingOnce, LiesIn}
+use Rattle.mg_heard.specs.Moments.{AreMoments}
 use Rattle.mg_heard.specs.OpenFlows.{open_flow}
 use Rattle.mg_heard.specs.declared.open_flow.OpenFlow.{OpenFlow}
 use Rattle.mg_heard.proofs.FlowLemmas.{IsOpenIn, from_open, open_in}
@@ -40,11 +43,12 @@ flow_from_told w moments n talker listener is told =
     ap (λ (t : ℕ). flow w.gateway t listener) (sym pair.0) ∙ ap (λ (l : ℕ). flow w.gateway y.flow.talker l) (sym pair.1)
     ∙ (open_in_world w moments n y is j lies).flows
 
-pub intervals_tell_the_flow : OneOutcome → IntervalsTellTheFlow
-intervals_tell_the_flow one config past future w ys talker listener h =
-    let (moments, are, e) = h.told in
+pub intervals_tell_the_flow : OneOutcome → (config : Config) (events : List Event) (ys : List Interval) →
+    AreIntervals config events ys → TellsTheFlow config events ys
+intervals_tell_the_flow one config events ys (moments, are, e) past future sent w talker listener split run tick =
     let n = count_by is_tick past in
-    let is = moment_of one (start_of config) w past future h.sent moments h.run h.tick are in (
+    let is = moment_of one (start_of config) w past future sent moments run tick
+    (subst (λ (l : List Event). AreMoments (start_of config) l moments) split are) in (
       λ flows. subst (λ (l : List Interval). IsToldAt n talker listener l) (sym e)
           (told_in_world w moments n talker listener is flows),
       λ told. flow_from_told w moments n talker listener is

@@ -13,6 +13,8 @@ pub mod HearerLemmas
 pub mod FillLemmas
 pub mod AdvanceLemmas
 pub mod RowLemmas
+pub mod TimingLemmas
+pub mod BegunLemmas
 pub mod KeepingLemmas
 pub mod WatchLemmas
 pub mod FindingLemmas

@@ -17,7 +17,8 @@ use Rattle.mg_core.specs.declared.event.Event.TheVariants.{Control, Media, Tick}
 use Rattle.mg_core.proofs.HeadlineLemmas.{one_event}
 use Rattle.mg_core.proofs.ReceivedLemmas.{agrees_itself}
 use Rattle.mg_core.proofs.RunLemmas.{run_both}
-use Rattle.mg_heard.specs.Laws.{IsAtTick, OnlyControlChangesFlows}
+use Rattle.mg_heard.specs.Laws.{IsAtTick}
+use Rattle.mg_heard.specs.aids.Changes.{OnlyControlChangesFlows}
 use Rattle.mg_heard.specs.Moments.{AreMoments}
 use Rattle.mg_heard.specs.OpenFlows.{open_flows}
 use Rattle.mg_heard.specs.declared.open_flow.OpenFlow.{OpenFlow}

@@ -8,7 +8,7 @@ use Rattle.mg_heard.specs.declared.style.Style.{Style}
 use Rattle.mg_heard.specs.declared.query.Query.{Query}
 use Rattle.mg_heard.specs.Lines.{AreLines, IsLine}
 use Rattle.mg_heard.specs.Query.{selects_entry}
-use Rattle.mg_heard.specs.Reported.{HasReported, Reported}
+use Rattle.mg_heard.specs.aids.Reporting.{HasReported, Reported}
 
 -- lines and one more
 lines_more : (style : Style) (xs : List Entry) (x : Entry) (text line : List ℕ) → AreLines style xs text →

@@ -1,17 +1,21 @@
 -- From what a sink was told to what was written.
-use Rattle.std.proofs.Common.{◌≡◌, ℕ, false, List, [], Option, Result, Ok, Err, OnOk, filter, is_err, refl, subst}
+use Rattle.std.proofs.Common.{◌≡◌, ℕ, false, List, [], Option, Result, Ok, Err, OnOk, filter, is_err, refl, reverse, subst}
 use Rattle.std.specs.Io.KnownBytes.{Appends}
 use Rattle.std.proofs.KnownBytes.{Appends-nil, Appends-trans}
 use Rattle.mg_engine.specs.declared.config.Config.{Config}
 use Rattle.mg_core.specs.declared.state.CoreState.{CoreState}
 use Rattle.mg_core.specs.Follow.{IsFollowed}
 use Rattle.mg_heard.specs.declared.entry.Entry.{Entry}
+use Rattle.mg_heard.specs.declared.extent.Extent.{Extent}
 use Rattle.mg_heard.specs.declared.style.Style.{Style}
 use Rattle.mg_heard.specs.declared.query.Query.{Query}
 use Rattle.mg_heard.specs.Lines.{AreLines, head_of}
 use Rattle.mg_heard.specs.Query.{selects_entry}
-use Rattle.mg_heard.specs.Reported.{HasReported, Reported, WritesReport}
+use Rattle.mg_heard.specs.Reported.{WritesReport}
+use Rattle.mg_heard.specs.aids.Reporting.{HasReported, Reported}
+use Rattle.mg_heard.specs.Times.{extent_of}
 use Rattle.mg_heard.specs.Told.{TellsAll}
+use Rattle.mg_heard.proofs.KeepingLemmas.{tells_weaker}
 
 -- what is so if a call succeeds, after one that did
 pub if_done : {X E : Type 0} (result : Result (Unit {0}) E) → is_err result ≡ false → OnOk result X → X
@@ -39,8 +43,8 @@ reported_whole style query old start now xs formed asked begins h =
     )
 
 -- what was written, once a script was followed
-pub reported_all : (config : Config) (input rest : Option (List ℕ)) (P Q : List Entry → Type 0) →
-    ((xs : List Entry) → P xs → Q xs) →
+pub reported_all : (config : Config) (input rest : Option (List ℕ)) (P Q : Extent → List Entry → Type 0) →
+    ((extent : Extent) (xs : List Entry) → P extent xs → Q extent xs) →
     ((state : CoreState) × IsFollowed config input rest state (λ notes. TellsAll config notes P)) →
     (state : CoreState) × IsFollowed config input rest state (λ notes. TellsAll config notes Q)
 reported_all config input rest P Q more (state, h) = (
@@ -51,12 +55,6 @@ reported_all config input rest P Q more (state, h) = (
     notes = h.notes;
     are = h.are;
     run = h.run;
-    follows = record {
-      xs = h.follows.xs;
-      are = h.follows.are;
-      no_others = h.follows.no_others;
-      flow = h.follows.flow;
-      told = more h.follows.xs h.follows.told;
-    };
+    follows = tells_weaker config h.notes P Q (more (extent_of (reverse h.notes))) h.follows;
   },
 )

@@ -9,17 +9,19 @@ use Rattle.mg_core.specs.declared.event.Event.{Event}
 use Rattle.mg_core.specs.declared.event.Event.TheVariants.{Tick}
 use Rattle.mg_core.specs.declared.state.CoreState.{CoreState}
 use Rattle.mg_core.specs.Counting.{is_control}
-use Rattle.mg_core.specs.Follow.{GoesOn, HasRun, IsFollowedUntil, ticks_of}
+use Rattle.mg_core.specs.Follow.{HasRun, ticks_of}
+use Rattle.mg_core.specs.aids.Following.{GoesOn, IsFollowedUntil}
 use Rattle.mg_core.specs.Note.{Note, Comment, Happened, events_in}
 use Rattle.mg_core.specs.Step.{Run, Sent}
-use Rattle.mg_core.specs.World.{World, StandsFor, start_of}
+use Rattle.mg_core.specs.World.{World, start_of}
+use Rattle.mg_core.specs.aids.Stands.{StandsFor}
 use Rattle.mg_heard.specs.declared.moment.Moment.{Moment}
 use Rattle.mg_heard.specs.declared.open_flow.OpenFlow.{OpenFlow}
 use Rattle.mg_heard.specs.declared.open_interval.OpenInterval.{OpenInterval}
 use Rattle.mg_heard.specs.declared.rule.Rule.{Rule}
 use Rattle.mg_heard.specs.declared.violation.Violation.{Violation}
 use Rattle.mg_heard.specs.declared.watch.Watch.{Watch}
-use Rattle.mg_heard.specs.Laws.{OnlyControlChangesFlows}
+use Rattle.mg_heard.specs.aids.Changes.{OnlyControlChangesFlows}
 use Rattle.mg_heard.specs.Moments.{AreMoments}
 use Rattle.mg_heard.specs.Never.{IsKept, IsWatched, first_forbidden, forbidden_in, is_forbidden, without_date}
 use Rattle.mg_heard.specs.OpenFlows.{open_flows}

@@ -1,6 +1,7 @@
 -- How questions name terminations, and which terminations they are about.
-use Rattle.std.specs.Prelude.{◌≡◌, ℕ, ◌<◌, ◌-◌, ◌&&◌, Bool, ⊤, List, [], ◌∷◌, length, take, drop, Option}
+use Rattle.std.specs.Prelude.{◌≡◌, ℕ, ◌<◌, ◌-◌, ◌&&◌, Bool, List, [], ◌∷◌, length, take, drop, Option}
 use Rattle.std.specs.Prelude.{Some, None, codes, if◌then◌else◌}
+use Rattle.std.specs.List.{AllZip}
 use Rattle.std.specs.Option.{option_map, option_or}
 use Rattle.std.specs.Str.{bytes_eq}
 use Rattle.mg_words.specs.Cut.{cut}
@@ -69,8 +70,4 @@ pub record IsRule (lines : List Named) (asked : AskedRule) (rule : Rule) : Type 
 
 -- a rule for each one that is asked for, in the same order
 abbrev pub AreRules : List Named → List AskedRule → List Rule → Type 0
-AreRules lines [] [] = ⊤
-AreRules lines (asked ∷ others) (rule ∷ rules) =
-    IsRule lines asked rule × AreRules lines others rules
-AreRules lines [] (rule ∷ rules) = ⊥
-AreRules lines (asked ∷ others) [] = ⊥
+AreRules lines asked rules = AllZip (IsRule lines) asked rules

@@ -1,19 +1,19 @@
 -- What the intervals say: exactly who could hear whom, and nothing twice.
-use Rattle.std.specs.Prelude.{◌≡◌, ◌↔◌, ℕ, true, false, List, [], ◌∷◌, ◌++◌, AllPairs, Any}
-use Rattle.std.specs.Prelude.{Contains, count_by, replicate, reverse}
+use Rattle.std.specs.Prelude.{◌≡◌, ◌↔◌, ℕ, true, List, [], ◌∷◌, ◌++◌, AllPairs, Any, Contains}
+use Rattle.std.specs.Prelude.{count_by, reverse}
 use Rattle.mg_engine.specs.declared.config.Config.{Config}
 use Rattle.mg_engine.specs.Flow.{flow}
 use Rattle.mg_core.specs.declared.event.Event.{Event}
-use Rattle.mg_core.specs.Counting.{is_control, is_tick}
+use Rattle.mg_core.specs.Counting.{is_tick}
 use Rattle.mg_core.specs.ExceptReceived.{without_rtp}
 use Rattle.mg_core.specs.Headline.{IsStart}
-use Rattle.mg_core.specs.Step.{Sent, Run, Step}
+use Rattle.mg_core.specs.Step.{Sent, Run}
 use Rattle.mg_core.specs.World.{World, start_of}
 use Rattle.mg_heard.specs.declared.open_flow.OpenFlow.{OpenFlow}
-use Rattle.mg_heard.specs.Intervals.{Interval, ended, intervals, lasting}
+use Rattle.mg_heard.specs.Intervals.{Interval, intervals}
 use Rattle.mg_heard.specs.Maximal.{IsOfPair, IsTellingOnce, LiesIn}
 use Rattle.mg_heard.specs.Moments.{AreMoments}
-use Rattle.mg_heard.specs.OpenFlows.{open_flow, open_flows}
+use Rattle.mg_heard.specs.OpenFlows.{open_flow}
 
 -- the intervals of these events on a gateway that was started with this configuration
 abbrev pub AreIntervals : Config → List Event → List Interval → Type 0
@@ -48,13 +48,13 @@ abbrev pub IsToldAt : ℕ → ℕ → ℕ → List Interval → Type 0
 IsToldAt tick talker listener ys =
     Any (λ y. IsOfPair talker listener y × LiesIn tick y) ys
 
--- An interval contains a tick for a pair if and only if the talker's speech flows to the listener
--- in the world before that tick. This is the flow of the headline theorem. The same is true of the
--- tick that comes next after all events.
-abbrev pub IntervalsTellTheFlow : Type 0
-IntervalsTellTheFlow =
-    (config : Config) (past future : List Event) (w : World) (ys : List Interval)
-    (talker listener : ℕ) → HasIntervals config past future w ys
+-- Before each tick, and before the tick that comes next after all events, a talker's speech flows
+-- to a listener if and only if one of the intervals contains this tick for this pair. This is the
+-- flow of the headline theorem.
+abbrev pub TellsTheFlow : Config → List Event → List Interval → Type 0
+TellsTheFlow config events ys =
+    (past future : List Event) (sent : List Sent) (w : World) (talker listener : ℕ)
+    → events ≡ past ++ future → Run (start_of config) past sent w → IsAtTick future
     → (flow w.gateway talker listener ≡ true)
     ↔ IsToldAt (count_by is_tick past) talker listener ys
 
@@ -82,19 +82,3 @@ abbrev pub RtpChangesNoInterval : Type 0
 RtpChangesNoInterval =
     (config : Config) (events : List Event) (ys : List Interval)
     → AreIntervals config events ys → AreIntervals config (without_rtp events) ys
-
--- ## Without changes
-
--- Only control datagrams change which flows are open.
-abbrev pub OnlyControlChangesFlows : Type 0
-OnlyControlChangesFlows =
-    (w next : World) (event : Event) (sent : List Sent) → is_control event ≡ false
-    → Step w event sent next → open_flows next.gateway ≡ open_flows w.gateway
-
--- Equal moments in a row end no interval, and the open intervals stay open. So nothing has to be
--- compared again until a control datagram arrives.
-abbrev pub EqualMomentsTellNothing : Type 0
-EqualMomentsTellNothing =
-    (flows : List OpenFlow) (past : List (List OpenFlow)) (count : ℕ)
-    → (ended (replicate count flows ++ flows ∷ past) ≡ ended (flows ∷ past))
-    × (lasting (replicate count flows ++ flows ∷ past) ≡ lasting (flows ∷ past))

@@ -4,6 +4,7 @@ pub mod Moments
 pub mod Intervals
 pub mod Maximal
 pub mod Laws
+pub mod Times
 pub mod Told
 pub mod Query
 pub mod Names

@@ -1,9 +1,8 @@
 -- The lines for intervals and gaps: sentences of this project's own, rows (CSV, RFC 4180), objects
 -- (JSON, RFC 8259) and rows of a table in a page (HTML). No definition says what the text of a date
 -- is, because none says what `jiff` writes. So the texts of a line's two dates are parameters.
-use Rattle.std.specs.Prelude.{◌≡◌, ℕ, ◌∷◌, ◌++◌, List, [], filter, Option, Some, None, codes}
+use Rattle.std.specs.Prelude.{◌≡◌, ℕ, ◌∷◌, ◌++◌, List, [], Option, Some, None, codes}
 use Rattle.std.specs.Prelude.{decimal, length, ◌==◌, if◌then◌else◌}
-use Rattle.std.specs.Io.KnownBytes.{Appends}
 use Rattle.std.specs.Prelude.{option_and_then}
 use Rattle.mg_words.specs.Term.{rtp_name}
 use Rattle.mg_words.specs.declared.peer.Peer.{Peer}
@@ -19,13 +18,11 @@ use Rattle.mg_heard.specs.declared.interval.Interval.{Interval}
 use Rattle.mg_heard.specs.declared.moment.Moment.{Moment}
 use Rattle.mg_heard.specs.declared.named.Named.{Named}
 use Rattle.mg_heard.specs.declared.open_flow.OpenFlow.{OpenFlow}
-use Rattle.mg_heard.specs.declared.query.Query.{Query}
 use Rattle.mg_heard.specs.declared.style.Style.{Style}
 use Rattle.mg_heard.specs.declared.verdict.Verdict.{Verdict}
 use Rattle.mg_heard.specs.declared.verdict.Verdict.TheVariants.{CouldHear, CouldNotHear, Unknown}
 use Rattle.mg_heard.specs.Escaped.{escaped}
 use Rattle.mg_heard.specs.Names.{name_of}
-use Rattle.mg_heard.specs.Query.{selects_entry}
 
 -- ## Sentences
 
@@ -263,9 +260,3 @@ AreLines style [] text = text ≡ []
 AreLines style (x ∷ xs) text =
     (line : List ℕ) × (others : List ℕ) × IsLine style x line × AreLines style xs others
     × (text ≡ line ++ others)
-
--- a writer has received a line for each entry that is asked for
-abbrev pub WritesLines : Style → Query → (old new : Option (List ℕ)) → List Entry → Type 0
-WritesLines style query old new xs =
-    (text : List ℕ) × AreLines style (filter (selects_entry query) xs) text
-    × Appends old new text

@@ -1,11 +1,11 @@
 -- What reports and answers write.
-use Rattle.std.specs.Prelude.{◌≡◌, ℕ, List, ◌++◌, filter, Option}
+use Rattle.std.specs.Prelude.{ℕ, List, ◌++◌, filter, Option}
 use Rattle.std.specs.Io.KnownBytes.{Appends}
 use Rattle.mg_heard.specs.declared.entry.Entry.{Entry}
 use Rattle.mg_heard.specs.declared.query.Query.{Query}
 use Rattle.mg_heard.specs.declared.style.Style.{Style}
 use Rattle.mg_heard.specs.declared.verdict.Verdict.{Verdict}
-use Rattle.mg_heard.specs.Lines.{AreLines, IsVerdictLine, WritesLines, head_of}
+use Rattle.mg_heard.specs.Lines.{AreLines, IsVerdictLine, head_of}
 use Rattle.mg_heard.specs.Query.{selects_entry}
 
 -- a writer has received a whole report about these entries: the names of the columns, if the format
@@ -19,15 +19,3 @@ WritesReport style query old new xs =
 abbrev pub WritesVerdict : Style → Verdict → (old new : Option (List ℕ)) → Type 0
 WritesVerdict style verdict old new =
     (line : List ℕ) × IsVerdictLine style verdict line × Appends old new line
-
--- a report, as its caller sees it
-pub record Reported : Type 0 where
-  pub style : Style
-  pub query : Query
-  pub written : Option (List ℕ)
-
--- a line was written for each of these entries that is asked for
-pub record HasReported (start now : Reported) (xs : List Entry) : Type 0 where
-  pub style : now.style ≡ start.style
-  pub query : now.query ≡ start.query
-  pub lines : WritesLines start.style start.query start.written now.written xs

@@ -1,10 +1,9 @@
 -- Who could hear whom at a given time.
-use Rattle.std.specs.Prelude.{◌&&◌, ◌||◌, not, Bool, false, List, [], ◌∷◌, nat_le, nat_lt, Option}
-use Rattle.std.specs.Prelude.{Some, None, is_some, if◌then◌else◌}
+use Rattle.std.specs.Prelude.{◌&&◌, ◌||◌, not, Bool, false, List, find, nat_le, nat_lt, Option}
+use Rattle.std.specs.Prelude.{is_some, if◌then◌else◌}
 use Rattle.std.specs.Option.{option_map_or}
 use Rattle.mg_dates.specs.declared.date.Date.{Date}
 use Rattle.mg_heard.specs.declared.entry.Entry.{Entry}
-use Rattle.mg_heard.specs.declared.entry.Entry.TheVariants as entries
 use Rattle.mg_heard.specs.declared.extent.Extent.{Extent}
 use Rattle.mg_heard.specs.declared.gap.Gap.{Gap}
 use Rattle.mg_heard.specs.declared.interval.Interval.{Interval}
@@ -13,14 +12,11 @@ use Rattle.mg_heard.specs.declared.query.Query.{Query}
 use Rattle.mg_heard.specs.declared.verdict.Verdict.{Verdict}
 use Rattle.mg_heard.specs.declared.verdict.Verdict.TheVariants.{CouldHear, CouldNotHear, Unknown}
 use Rattle.mg_heard.specs.Query.{covers, selects}
+use Rattle.mg_heard.specs.Told.{gaps_in, heard_in}
 
 -- the first interval that the query selects and that contains the time
 abbrev pub heard_at : Query → Date → List Entry → Option Interval
-heard_at query time [] = None
-heard_at query time (entries.Interval x ∷ xs) =
-    if selects query x && covers x time then Some x else heard_at query time xs
-heard_at query time (entries.Gap gap ∷ xs) = heard_at query time xs
-heard_at query time (entries.Audible x ∷ xs) = heard_at query time xs
+heard_at query time xs = find (λ x. selects query x && covers x time) (heard_in xs)
 
 -- the moment is known to be at or before this time
 abbrev pub is_past : Moment → Date → Bool
@@ -35,10 +31,7 @@ is_in_gap gap time = is_past gap.first time && is_future gap.end time
 
 -- the first gap that contains the time
 abbrev pub gap_at : Date → List Entry → Option Gap
-gap_at time [] = None
-gap_at time (entries.Interval x ∷ xs) = gap_at time xs
-gap_at time (entries.Gap gap ∷ xs) = if is_in_gap gap time then Some gap else gap_at time xs
-gap_at time (entries.Audible x ∷ xs) = gap_at time xs
+gap_at time xs = find (λ gap. is_in_gap gap time) (gaps_in xs)
 
 -- the script covers this time: it is not before the first date, and it is before the end
 abbrev pub is_within : Extent → Date → Bool

@@ -5,3 +5,6 @@ pub mod Parties
 pub mod Hearers
 pub mod Rows
 pub mod Finding
+pub mod Timing
+pub mod Changes
+pub mod Reporting

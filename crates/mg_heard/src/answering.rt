@@ -3,7 +3,6 @@ ghost use Rattle.mg_core.specs.Follow.{IsFollowed};
 ghost use Rattle.mg_core.specs.declared.state.CoreState.{CoreState};
 ghost use Rattle.mg_heard.specs.Told.{TellsAll};
 ghost use Rattle.mg_heard.specs.Verdict.{verdict_at};
-ghost use Rattle.mg_heard.specs.declared.extent.Extent.{Extent};
 
 use crate::heard_fault::HeardFault;
 use crate::hearing::hear;
@@ -17,8 +16,6 @@ use std::io::Read;
 
 /// Runs a script, and answers whether a listener could hear a talker at a given time, for the listeners and talkers
 /// that `query` selects.
-///
-/// Dates, gaps and the extent are only tested.
 pub fn hear_at<R: Read>(
     alloc: Global,
     config: Config,
@@ -26,9 +23,9 @@ pub fn hear_at<R: Read>(
     query: Query,
     time: Date,
 ) -> Result<Verdict, HeardFault>
-    ensures answer { IfOk result (λ verdict. (state : CoreState) × (extent : Extent) ×
+    ensures answer { IfOk result (λ verdict. (state : CoreState) ×
         IsFollowed config (R.remaining reader.old) (R.remaining reader.new) state
-        (λ notes. TellsAll config notes (λ xs. verdict ≡ verdict_at query time extent xs))) }
+        (λ notes. TellsAll config notes (λ extent xs. verdict ≡ verdict_at query time extent xs))) }
 {
     let (instant, extent) = hear(alloc, config, reader, Instant::new(query, time))?;
     Ok(instant.verdict(&extent))

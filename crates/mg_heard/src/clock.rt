@@ -1,22 +1,30 @@
-ghost use Rattle.std.specs.Prelude.{◌≡◌, ◌+◌, IfOk, OnOk};
+ghost use Rattle.std.specs.Prelude.{◌≡◌, ◌+◌, ◌++◌, ◌∷◌, [], nat_lt, IfOk, List, None, OnOk, Some};
+ghost use Rattle.mg_core.specs.Follow.{ticks_of};
+ghost use Rattle.mg_core.specs.Note.{Note, Comment};
+ghost use Rattle.mg_dates.specs.Times.{date_in, next_tick};
+ghost use Rattle.mg_heard.specs.Times.{extent_of, gap_if, gap_of, moment_after};
+ghost use Rattle.mg_heard.specs.aids.Timing.{IsClock};
 
 use crate::clock_fault::ClockFault;
 use crate::extent::Extent;
 use crate::gap::Gap;
+use crate::missed::missed_in;
 use crate::moment::Moment;
-use crate::remark::Remark;
 use arrayvec::ArrayVec;
-use mg_dates::{Agreement, Date, Timeline};
+use mg_dates::{Agreement, Date, Timeline, date_in};
 
 /// The maximum length of a title's line, in bytes.
 const TITLE_LIMIT: usize = 600;
 
+/// How the title of a gateway begins.
+const TITLE: &[u8] = b"# mg_bridge ";
+
 /// Counts the ticks and lines of a script, and keeps track of when the ticks happened.
 #[derive(Drop)]
 pub struct Clock {
-    timeline: Timeline,
-    /// The first tick whose time is known.
-    first: Option<Moment>,
+    pub timeline: Timeline,
+    /// The moment of the first date.
+    pub first: Option<Moment>,
     /// The number of ticks so far. This is also the index of the next tick, because ticks are counted from 0.
     pub ticks: u64,
     /// The number of lines so far.
@@ -29,6 +37,7 @@ impl Clock {
     /// Creates a clock at the beginning of a script.
     pub fn new() -> Self
         ensures ticks { result.ticks ≡ 0 }
+        ensures start { IsClock [] result }
     {
         Clock {
             timeline: Timeline::new(),
@@ -42,6 +51,8 @@ impl Clock {
     /// Returns the next tick.
     pub fn now(&self) -> Moment
         ensures tick { result.tick ≡ self.now.ticks }
+        ensures date { result.date ≡ next_tick self.now.timeline }
+        ensures value { (older : List Note) → IsClock older self.now → result ≡ moment_after older }
     {
         Moment {
             tick: self.ticks,
@@ -50,26 +61,35 @@ impl Clock {
     }
 
     /// Returns the time that the script has covered so far.
-    pub(crate) fn extent(&self) -> Extent {
+    pub(crate) fn extent(&self) -> Extent
+        ensures value { (older : List Note) → IsClock older self.now → result ≡ extent_of older }
+    {
         Extent {
             first: self.first,
             end: self.now(),
         }
     }
 
-    /// Returns the tick that follows `count` more ticks.
-    fn after(&self, count: u64) -> Moment {
+    /// Returns the tick that follows `count` more ticks. Fails if the script then has 2^64 ticks or more.
+    fn after(&self, count: u64) -> Result<Moment, ClockFault>
+        ensures value { (older : List Note) → IsClock older self.now →
+            IfOk result (λ m. m ≡ moment_after (ticks_of count ++ older)) }
+    {
+        let Some(tick) = self.ticks.checked_add(count) else {
+            return Err(ClockFault::TooManyTicks);
+        };
         let mut timeline = self.timeline;
         timeline.pass_ticks(count);
-        Moment {
-            tick: self.ticks.saturating_add(count),
+        Ok(Moment {
+            tick,
             date: timeline.next_tick(),
-        }
+        })
     }
 
     /// Counts the line of a datagram.
     pub fn pass_line(&mut self)
         ensures ticks { self.new.ticks ≡ self.old.ticks }
+        ensures value { (older : List Note) → IsClock older self.old → IsClock older self.new }
     {
         self.lines = self.lines.saturating_add(1);
     }
@@ -77,6 +97,8 @@ impl Clock {
     /// Counts ticks and their lines. Fails if the script then has 2^64 ticks or more.
     pub fn pass_ticks(&mut self, count: u64) -> Result<(), ClockFault>
         ensures ticks { OnOk result (self.new.ticks ≡ self.old.ticks + count) }
+        ensures value { (older : List Note) → IsClock older self.old →
+            OnOk result (IsClock (ticks_of count ++ older) self.new) }
     {
         let Some(ticks) = self.ticks.checked_add(count) else {
             return Err(ClockFault::TooManyTicks);
@@ -91,56 +113,77 @@ impl Clock {
     /// any.
     pub fn pass_comment(&mut self, line: &[u8]) -> Result<Option<Gap>, ClockFault>
         ensures ticks { self.new.ticks ≡ self.old.ticks }
+        ensures value { (older : List Note) → IsClock older self.old → IfOk result (λ gap.
+            (gap ≡ gap_of line.now older) × IsClock (Comment line.now ∷ older) self.new) }
     {
         self.lines = self.lines.saturating_add(1);
-        match Remark::of(line) {
-            Remark::Time(date) => self.pass_date(date),
-            Remark::Title(title) => self.pass_title(title),
-            Remark::Missed(count) => Ok(self.missed(count)),
-            Remark::Other => Ok(None),
+        match date_in(line) {
+            Some(date) => self.pass_date(date, line),
+            None => self.pass_undated(line),
+        }
+    }
+
+    /// Takes note of a comment without a date. Returns the gap that begins with the comment, if any.
+    fn pass_undated(&mut self, line: &[u8]) -> Result<Option<Gap>, ClockFault>
+        requires undated { date_in line.now ≡ None }
+        ensures ticks { self.new.ticks ≡ self.old.ticks }
+        ensures value { (older : List Note) → IsClock older self.old → IfOk result (λ gap.
+            (gap ≡ gap_of line.now older) × IsClock (Comment line.now ∷ older) self.new) }
+    {
+        match missed_in(line) {
+            Some(count) => self.missed(count),
+            None => self.pass_other(line),
         }
     }
 
     /// Returns the gap that `count` missed ticks leave, or `None` if `count` is 0.
-    fn missed(&self, count: u64) -> Option<Gap> {
+    fn missed(&self, count: u64) -> Result<Option<Gap>, ClockFault>
+        ensures value { (older : List Note) → IsClock older self.now → IfOk result (λ gap.
+            gap ≡ gap_if (nat_lt 0 count) (moment_after older) (moment_after (ticks_of count ++ older))) }
+    {
+        let end = self.after(count)?;
         if count == 0 {
-            return None;
-        }
-        Some(Gap {
-            first: self.now(),
-            end: self.after(count),
-        })
-    }
-
-    /// Takes note of a date. If the date is more than a second later than expected, returns the gap before it. Fails if
-    /// the date is more than a second earlier than expected.
-    fn pass_date(&mut self, date: Date) -> Result<Option<Gap>, ClockFault>
-        ensures ticks { self.new.ticks ≡ self.old.ticks }
-    {
-        let first = self.now();
-        match self.timeline.pass_date(date) {
-            Agreement::WentBack => Err(ClockFault::WentBack(self.lines)),
-            Agreement::JumpedAhead => Ok(Some(Gap {
-                first,
-                end: self.now(),
-            })),
-            Agreement::First => {
-                self.first = Some(self.now());
-                Ok(None)
-            }
-            Agreement::Agrees => Ok(None),
-        }
-    }
-
-    /// Takes note of a title. Fails if it differs from the first title. Returns no gap.
-    fn pass_title(&mut self, title: &[u8]) -> Result<Option<Gap>, ClockFault>
-        ensures ticks { self.new.ticks ≡ self.old.ticks }
-    {
-        if self.title.is_empty() {
-            let _ = self.title.try_extend_from_slice(title);
             return Ok(None);
         }
-        if self.title.as_slice() == title {
+        Ok(Some(Gap {
+            first: self.now(),
+            end,
+        }))
+    }
+
+    /// Takes note of the date in a comment. If the date is more than a second later than expected, returns the gap before it. Fails if
+    /// the date is more than a second earlier than expected.
+    fn pass_date(&mut self, date: Date, line: &[u8]) -> Result<Option<Gap>, ClockFault>
+        requires dated { date_in line.now ≡ Some date }
+        ensures ticks { self.new.ticks ≡ self.old.ticks }
+        ensures value { (older : List Note) → IsClock older self.old → IfOk result (λ gap.
+            (gap ≡ gap_of line.now older) × IsClock (Comment line.now ∷ older) self.new) }
+    {
+        let first = self.now();
+        let agreement = self.timeline.pass_date(date);
+        let end = self.now();
+        self.first = self.first.or(Some(end));
+        match agreement {
+            Agreement::WentBack => Err(ClockFault::WentBack(self.lines)),
+            Agreement::JumpedAhead => Ok(Some(Gap { first, end })),
+            Agreement::First | Agreement::Agrees => Ok(None),
+        }
+    }
+
+    /// Takes note of any other comment. Fails if it is a title that differs from the first title. Returns no gap.
+    fn pass_other(&mut self, line: &[u8]) -> Result<Option<Gap>, ClockFault>
+        ensures ticks { self.new.ticks ≡ self.old.ticks }
+        ensures same { (older : List Note) → IsClock older self.old → IsClock older self.new }
+        ensures none { IfOk result (λ gap. gap ≡ None) }
+    {
+        if !line.starts_with(TITLE) {
+            return Ok(None);
+        }
+        if self.title.is_empty() {
+            let _ = self.title.try_extend_from_slice(line);
+            return Ok(None);
+        }
+        if self.title.as_slice() == line {
             Ok(None)
         } else {
             Err(ClockFault::OtherGateway(self.lines))

@@ -1,7 +1,8 @@
 //! Intervals for flows, one after another.
 
 ghost use Rattle.std.specs.Prelude.{◌≡◌, ◌≤◌, ◌<◌, ◌+◌, ◌++◌, ◌∷◌, [], length, map, take};
-ghost use Rattle.mg_core.specs.World.{World, StandsFor};
+ghost use Rattle.mg_core.specs.World.{World};
+ghost use Rattle.mg_core.specs.aids.Stands.{StandsFor};
 ghost use Rattle.mg_heard.specs.OpenFlows.{open_flows};
 ghost use Rattle.mg_heard.specs.aids.Hearers.{flows_heard, seats_of};
 ghost use Rattle.mg_heard.specs.aids.Opening.{beginning_at};

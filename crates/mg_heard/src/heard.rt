@@ -1,21 +1,25 @@
-ghost use Rattle.std.specs.Prelude.{◌≡◌, ◌∷◌, [], false, length, IfOk, List, OnOk};
+ghost use Rattle.std.specs.Prelude.{◌≡◌, ◌+◌, ◌∷◌, [], false, length, IfOk, List, OnOk};
 ghost use Rattle.mg_engine.specs.declared.config.Config.{Config};
 ghost use Rattle.mg_core.specs.Follow.{HasRun};
 ghost use Rattle.mg_core.specs.Note.{Note};
-ghost use Rattle.mg_core.specs.World.{World, StandsFor};
+ghost use Rattle.mg_core.specs.World.{World};
+ghost use Rattle.mg_core.specs.aids.Stands.{StandsFor};
 ghost use Rattle.mg_heard.specs.Intervals.{newest};
 ghost use Rattle.mg_heard.specs.OpenFlows.{open_flows};
+ghost use Rattle.mg_heard.specs.Times.{tick_count};
 ghost use Rattle.mg_heard.specs.Told.{TellsAll};
-ghost use Rattle.mg_heard.specs.aids.Keeping.{KeepsOpen, TellsPast};
+ghost use Rattle.mg_heard.specs.aids.Keeping.{KeepsHeard, TellsTimed};
+ghost use Rattle.mg_heard.specs.aids.Timing.{IsClock};
 ghost use Rattle.mg_heard.specs.declared.open_flow.OpenFlow.{OpenFlow};
 
+use crate::changes::only_control_changes_flows;
 use crate::clock::Clock;
 use crate::clock_fault::ClockFault;
 use crate::open_rows::OpenRows;
 use crate::rows::Rows;
 use crate::sink::Sink;
 use crate::telling::{tell_gap, tell_rows};
-use crate::theorems::{intervals_tell_the_flow, only_control_changes_intervals};
+use crate::theorems::intervals_tell_the_flow;
 use mg_core::{Core, Event, Follower, Stopped};
 use std::alloc::{AllocError, Global};
 
@@ -39,7 +43,7 @@ impl<S: Sink> Heard<S> {
     where
         S: Drop,
         ensures start { (config : Config) → S.told sink sink [] → IfOk result (λ h.
-            KeepsOpen config [] h.clock.ticks h.is_changed h.open (S.told h.sink h.sink)) }
+            KeepsHeard config [] h.clock h.is_changed h.open (S.told h.sink h.sink)) }
         ensures sink { IfOk result (λ h. h.sink ≡ sink) }
     {
         Ok(Heard {
@@ -60,11 +64,12 @@ impl<S: Sink> Heard<S> {
 
     /// Compares the stored intervals with the flows that are open in a core, if those flows may have changed.
     fn update(&mut self, core: &Core) -> Result<(), Stopped>
-        ensures value { (w : World) (past : List (List OpenFlow)) (start : S) → StandsFor core.now.state w →
-            self.old.clock.ticks ≡ length past →
+        ensures value { (w : World) (past : List (List OpenFlow)) (older : List Note) (start : S) →
+            StandsFor core.now.state w → IsClock older self.old.clock → self.old.clock.ticks ≡ length past →
             (self.old.is_changed ≡ false → open_flows w.gateway ≡ newest past) →
-            TellsPast past self.old.open (S.told start self.old.sink) → OnOk result
-            (TellsPast (open_flows w.gateway ∷ past) self.new.open (S.told start self.new.sink)) }
+            TellsTimed older (tick_count older) past self.old.open (S.told start self.old.sink) → OnOk result
+            (TellsTimed older (tick_count older + 1) (open_flows w.gateway ∷ past) self.new.open
+            (S.told start self.new.sink)) }
         ensures clock { self.new.clock ≡ self.old.clock }
     {
         if self.is_changed {
@@ -75,9 +80,11 @@ impl<S: Sink> Heard<S> {
 
     /// Compares the stored intervals with the flows that are open in a core, and reports the intervals that have ended.
     fn tell_changes(&mut self, core: &Core) -> Result<(), Stopped>
-        ensures value { (w : World) (past : List (List OpenFlow)) (start : S) → StandsFor core.now.state w →
-            self.old.clock.ticks ≡ length past → TellsPast past self.old.open (S.told start self.old.sink) →
-            OnOk result (TellsPast (open_flows w.gateway ∷ past) self.new.open (S.told start self.new.sink)) }
+        ensures value { (w : World) (past : List (List OpenFlow)) (older : List Note) (start : S) →
+            StandsFor core.now.state w → IsClock older self.old.clock → self.old.clock.ticks ≡ length past →
+            TellsTimed older (tick_count older) past self.old.open (S.told start self.old.sink) → OnOk result
+            (TellsTimed older (tick_count older + 1) (open_flows w.gateway ∷ past) self.new.open
+            (S.told start self.new.sink)) }
         ensures clock { self.new.clock ≡ self.old.clock }
     {
         let now = self.clock.now();
@@ -89,8 +96,9 @@ impl<S: Sink> Heard<S> {
     /// Reports the intervals that have not ended at the end of a script. `core` is the gateway's state at that point.
     pub(crate) fn finish(&mut self, core: &Core) -> Result<(), Stopped>
         ensures value { (start : S) (config : Config) (notes : List Note) → HasRun config notes core.now.state →
-            KeepsOpen config notes self.old.clock.ticks self.old.is_changed self.old.open (S.told start self.old.sink) →
-            OnOk result (TellsAll config notes (S.told start self.new.sink)) }
+            KeepsHeard config notes self.old.clock self.old.is_changed self.old.open (S.told start self.old.sink) →
+            OnOk result (TellsAll config notes (λ _. S.told start self.new.sink)) }
+        ensures clock { self.new.clock ≡ self.old.clock }
     {
         mg_core::theorems::outcomes_are_unique();
         intervals_tell_the_flow();
@@ -101,12 +109,12 @@ impl<S: Sink> Heard<S> {
 
 impl<S: Sink> Follower for Heard<S> {
     ghost use Rattle.std.specs.Prelude.{true};
-    ghost use Rattle.mg_heard.specs.aids.Keeping.{KeepsOpen};
+    ghost use Rattle.mg_heard.specs.aids.Keeping.{KeepsHeard};
 
     ghost may_stop = { true };
 
     ghost follows = { λ start h config notes.
-        KeepsOpen config notes h.clock.ticks h.is_changed h.open (S.told start.sink h.sink) };
+        KeepsHeard config notes h.clock h.is_changed h.open (S.told start.sink h.sink) };
 
     fn comment(&mut self, line: &[u8]) -> Result<(), Stopped> {
         match self.clock.pass_comment(line) {
@@ -118,7 +126,7 @@ impl<S: Sink> Follower for Heard<S> {
 
     fn datagram(&mut self, event: &Event, _core: &Core) -> Result<(), Stopped> {
         mg_core::theorems::outcomes_are_unique();
-        only_control_changes_intervals();
+        only_control_changes_flows();
         self.clock.pass_line();
         if let Event::Control(_, _) = event {
             self.is_changed = true;
@@ -128,7 +136,7 @@ impl<S: Sink> Follower for Heard<S> {
 
     fn ticks(&mut self, core: &Core, count: u64) -> Result<(), Stopped> {
         mg_core::theorems::outcomes_are_unique();
-        only_control_changes_intervals();
+        only_control_changes_flows();
         if count == 0 {
             return Ok(());
         }

@@ -2,7 +2,8 @@ ghost use Rattle.std.specs.Prelude.{◌≡◌, ◌≤◌, All, Some, length};
 ghost use Rattle.mg_rooms.specs.Consistent.{IsConsistent};
 ghost use Rattle.mg_rooms.specs.Registry.{record_at};
 ghost use Rattle.mg_words.specs.Limits.{member_limit};
-ghost use Rattle.mg_core.specs.World.{World, StandsFor};
+ghost use Rattle.mg_core.specs.World.{World};
+ghost use Rattle.mg_core.specs.aids.Stands.{StandsFor};
 ghost use Rattle.mg_heard.specs.aids.Hearers.{flows_heard, is_heard, is_same_hearer, seated_of, seats_of, AreHearers, AreRising, HearsTalkers};
 
 use crate::seated::Seated;

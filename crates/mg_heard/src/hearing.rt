@@ -3,12 +3,12 @@ ghost use Rattle.mg_engine.specs.Config.{IsValidConfig};
 ghost use Rattle.mg_engine.specs.declared.config.Config.{Config};
 ghost use Rattle.mg_core.specs.Follow.{HasRun, IsFollowed};
 ghost use Rattle.mg_core.specs.Note.{Note};
-ghost use Rattle.mg_core.specs.Resume.{FindsBadLine};
+ghost use Rattle.mg_core.specs.aids.Resume.{FindsBadLine};
 ghost use Rattle.mg_core.specs.declared.fault.RunFault.{RunFault};
 ghost use Rattle.mg_core.specs.declared.fault.RunFault.TheVariants as runs;
 ghost use Rattle.mg_core.specs.declared.state.CoreState.{CoreState};
 ghost use Rattle.mg_heard.specs.Told.{TellsAll};
-ghost use Rattle.mg_heard.specs.aids.Keeping.{KeepsOpen};
+ghost use Rattle.mg_heard.specs.aids.Keeping.{KeepsHeard};
 
 use crate::clock_fault::ClockFault;
 use crate::extent::Extent;
@@ -33,7 +33,7 @@ where
     S: Drop,
     ensures told { S.told sink sink [] → IfOk result (λ heard. (state : CoreState) ×
         IsFollowed config (R.remaining reader.old) (R.remaining reader.new) state
-        (λ notes. TellsAll config notes (S.told sink heard.0))) }
+        (λ notes. TellsAll config notes (λ extent xs. S.told sink heard.0 xs × (heard.1 ≡ extent)))) }
     ensures script { (number : ℕ) → result ≡ Err (HeardFault.Run (runs.Script number)) →
         FindsBadLine (R.remaining reader.old) (R.remaining reader.new) number }
     ensures bad { result ≡ Err (HeardFault.Run runs.BadConfig) → ¬ IsValidConfig config }
@@ -53,8 +53,8 @@ fn finish<S: Sink>(mut heard: Heard<S>, core: &Core) -> Result<(S, Extent), Hear
 where
     S: Drop,
     ensures value { (start : S) (config : Config) (notes : List Note) → HasRun config notes core.now.state →
-        KeepsOpen config notes heard.clock.ticks heard.is_changed heard.open (S.told start heard.sink) →
-        IfOk result (λ ended. TellsAll config notes (S.told start ended.0)) }
+        KeepsHeard config notes heard.clock heard.is_changed heard.open (S.told start heard.sink) →
+        IfOk result (λ ended. TellsAll config notes (λ extent xs. S.told start ended.0 xs × (ended.1 ≡ extent))) }
     ensures stops { IfErr result (λ fault. fault ≡ HeardFault.Stopped) }
 {
     match heard.finish(core) {

@@ -18,13 +18,14 @@
 //! (`specs/Intervals.antt`). Intervals that have not ended are stored, and compared with the flows before the next
 //! tick. Each listener has a row of intervals, and a row is only looked at if its flows may have changed.
 //!
-//! Dates come from the script's comments. No proof covers dates or gaps.
+//! Dates and gaps come from the script's comments (`specs/Times.antt`).
 #![tactic(auto)]
 
 mod answering;
 mod asked;
 mod asked_query;
 mod asked_rule;
+mod changes;
 mod claim;
 mod clock;
 mod clock_fault;
@@ -45,6 +46,7 @@ mod keys;
 mod line;
 mod line_writer;
 mod listener_row;
+mod missed;
 mod moment;
 mod name;
 mod name_fault;
@@ -57,7 +59,6 @@ mod open_rows;
 mod party;
 mod party_name;
 mod query;
-mod remark;
 mod report;
 mod reporting;
 mod row;

@@ -1,8 +1,12 @@
-ghost use Rattle.std.specs.Prelude.{◌≡◌, ◌≤◌, ◌∷◌, [], length, map, take, IfOk, List};
-ghost use Rattle.mg_core.specs.World.{World, StandsFor};
+ghost use Rattle.std.specs.Prelude.{◌≡◌, ◌≤◌, ◌+◌, ◌∷◌, [], length, map, take, IfOk, List};
+ghost use Rattle.mg_core.specs.Note.{Note};
+ghost use Rattle.mg_core.specs.World.{World};
+ghost use Rattle.mg_core.specs.aids.Stands.{StandsFor};
 ghost use Rattle.mg_heard.specs.Intervals.{ending};
 ghost use Rattle.mg_heard.specs.OpenFlows.{open_flows};
+ghost use Rattle.mg_heard.specs.Times.{moment_after, tick_count};
 ghost use Rattle.mg_heard.specs.aids.Opening.{beginning_at, continued, ended_at, flows_of, without_flows, IsRising, AreLasting};
+ghost use Rattle.mg_heard.specs.aids.Timing.{AreBegun};
 ghost use Rattle.mg_heard.specs.declared.open_flow.OpenFlow.{OpenFlow};
 
 use crate::continuing::{continue_each, keep_ended};
@@ -59,6 +63,9 @@ impl OpenIntervals {
         ensures value { (past : List (List OpenFlow)) → IsRising (map (beginning_at now) flows.now) →
             now.tick ≡ length past → AreLasting past self.old → AreLasting (flows.now ∷ past) self.new
             × (map (ended_at now.tick) ended.new ≡ ending past flows.now) }
+        ensures begun { (older : List Note) → IsRising (map (beginning_at now) flows.now) → IsRising self.old →
+            now ≡ moment_after older → AreBegun older (tick_count older) self.old →
+            AreBegun older (tick_count older + 1) self.new × AreBegun older (tick_count older) ended.new }
     {
         mem::swap(self, ended);
         self.replace(flows, now);

@@ -1,9 +1,13 @@
-ghost use Rattle.std.specs.Prelude.{◌≡◌, ◌∷◌, [], length, map, IfOk, List};
-ghost use Rattle.mg_core.specs.World.{World, StandsFor};
+ghost use Rattle.std.specs.Prelude.{◌≡◌, ◌+◌, ◌∷◌, [], length, map, IfOk, List};
+ghost use Rattle.mg_core.specs.Note.{Note};
+ghost use Rattle.mg_core.specs.World.{World};
+ghost use Rattle.mg_core.specs.aids.Stands.{StandsFor};
 ghost use Rattle.mg_heard.specs.Intervals.{ending};
 ghost use Rattle.mg_heard.specs.OpenFlows.{open_flows};
+ghost use Rattle.mg_heard.specs.Times.{moment_after, tick_count};
 ghost use Rattle.mg_heard.specs.aids.Opening.{ended_at, AreLasting};
 ghost use Rattle.mg_heard.specs.aids.Rows.{intervals_of};
+ghost use Rattle.mg_heard.specs.aids.Timing.{AreBegun};
 ghost use Rattle.mg_heard.specs.declared.open_flow.OpenFlow.{OpenFlow};
 
 use crate::hearer::hearers_of;
@@ -56,6 +60,8 @@ impl OpenRows {
             now.tick ≡ length past → AreLasting past self.old →
             AreLasting (open_flows w.gateway ∷ past) self.new
             × (map (ended_at now.tick) (intervals_of ended.new) ≡ ending past (open_flows w.gateway)) }
+        ensures begun { (older : List Note) → now ≡ moment_after older → AreBegun older (tick_count older) self.old →
+            AreBegun older (tick_count older + 1) self.new × AreBegun older (tick_count older) (intervals_of ended.new) }
     {
         let hearers = hearers_of(core);
         mem::swap(&mut self.rows, ended);

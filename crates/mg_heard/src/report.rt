@@ -15,7 +15,7 @@ pub struct Report<'a, W: Write> {
 
 impl<W: Write> Sink for Report<'_, W> {
     ghost use Rattle.std.specs.Prelude.{◌≡◌};
-    ghost use Rattle.mg_heard.specs.Reported.{HasReported};
+    ghost use Rattle.mg_heard.specs.aids.Reporting.{HasReported};
 
     ghost told = { λ start now xs. (now.writer.ghost_name ≡ start.writer.ghost_name) × HasReported
         (record { style = start.lines.now; query = start.query.now; written = W.contents start.writer.now })

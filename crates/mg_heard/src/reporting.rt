@@ -1,10 +1,10 @@
 ghost use Rattle.std.specs.Prelude.{◌≡◌, IfOk};
 ghost use Rattle.mg_core.specs.Follow.{IsFollowed};
 ghost use Rattle.mg_core.specs.declared.state.CoreState.{CoreState};
-ghost use Rattle.mg_heard.specs.Reported.{HasReported, WritesReport, WritesVerdict};
+ghost use Rattle.mg_heard.specs.Reported.{WritesReport, WritesVerdict};
+ghost use Rattle.mg_heard.specs.aids.Reporting.{HasReported};
 ghost use Rattle.mg_heard.specs.Told.{TellsAll};
 ghost use Rattle.mg_heard.specs.Verdict.{verdict_at};
-ghost use Rattle.mg_heard.specs.declared.extent.Extent.{Extent};
 
 use crate::answering::hear_at;
 use crate::extent::Extent;
@@ -31,9 +31,10 @@ fn hear_report<'a, R: Read, W: Write>(
     ensures same_reference { IfOk result (λ heard. heard.0.writer.ghost_name ≡ report.entry.writer.ghost_name) }
     ensures reported { IfOk result (λ heard. (state : CoreState) ×
         IsFollowed config (R.remaining reader.old) (R.remaining reader.new) state
-        (λ notes. TellsAll config notes (HasReported
+        (λ notes. TellsAll config notes (λ extent xs. HasReported
         (record { style = report.entry.lines.now; query = report.entry.query.now; written = W.contents report.entry.writer.now })
-        (record { style = heard.0.lines.now; query = heard.0.query.now; written = W.contents heard.0.writer.now })))) }
+        (record { style = heard.0.lines.now; query = heard.0.query.now; written = W.contents heard.0.writer.now }) xs
+        × (heard.1 ≡ extent)))) }
 {
     let (report, extent) = hear(alloc, config, reader, report)?;
     Ok((report, extent))
@@ -50,10 +51,10 @@ pub fn write_report<R: Read, W: Write>(
     query: Query,
     writer: &mut W,
 ) -> Result<(Scale, Extent), HeardFault>
-    ensures report { IfOk result (λ _. (state : CoreState) ×
+    ensures report { IfOk result (λ written. (state : CoreState) ×
         IsFollowed config (R.remaining reader.old) (R.remaining reader.new) state
-        (λ notes. TellsAll config notes
-        (WritesReport style query (W.contents writer.old) (W.contents writer.new)))) }
+        (λ notes. TellsAll config notes (λ extent xs.
+        WritesReport style query (W.contents writer.old) (W.contents writer.new) xs × (written.1 ≡ extent)))) }
 {
     let Ok(mut lines) = LineWriter::new(alloc, style) else {
         return Err(HeardFault::NoMemory);
@@ -93,8 +94,6 @@ fn write_verdict<W: Write>(
 
 /// Runs a script, and writes one line that answers whether a listener could hear a talker at a given time, for the
 /// listeners and talkers that `query` selects. Returns the answer.
-///
-/// Dates, gaps and the extent are only tested.
 pub fn write_answer<R: Read, W: Write>(
     alloc: Global,
     config: Config,
@@ -104,9 +103,9 @@ pub fn write_answer<R: Read, W: Write>(
     time: Date,
     writer: &mut W,
 ) -> Result<Verdict, HeardFault>
-    ensures answer { IfOk result (λ verdict. (state : CoreState) × (extent : Extent) ×
+    ensures answer { IfOk result (λ verdict. (state : CoreState) ×
         IsFollowed config (R.remaining reader.old) (R.remaining reader.new) state
-        (λ notes. TellsAll config notes (λ xs. verdict ≡ verdict_at query time extent xs))) }
+        (λ notes. TellsAll config notes (λ extent xs. verdict ≡ verdict_at query time extent xs))) }
     ensures written { IfOk result (λ verdict.
         WritesVerdict style verdict (W.contents writer.old) (W.contents writer.new)) }
 {

@@ -2,8 +2,9 @@
 
 ghost use Rattle.std.specs.Prelude.{◌≡◌, ◌↔◌, true, List};
 ghost use Rattle.mg_engine.specs.declared.config.Config.{Config};
+ghost use Rattle.mg_core.specs.declared.event.Event.{Event};
 ghost use Rattle.mg_heard.specs.Intervals.{Interval};
-ghost use Rattle.mg_heard.specs.Laws.{AreIntervals, EqualMomentsTellNothing, EventsDetermineIntervals, IntervalsTellTheFlow, IntervalsTellTheTruth, NoPairIsToldTwice, OnlyControlChangesFlows, RtpChangesNoInterval};
+ghost use Rattle.mg_heard.specs.Laws.{AreIntervals, EventsDetermineIntervals, IntervalsTellTheTruth, NoPairIsToldTwice, RtpChangesNoInterval, TellsTheFlow};
 ghost use Rattle.mg_heard.specs.Maximal.{IntervalsAreTrueAndMaximal};
 ghost use Rattle.mg_heard.specs.OpenFlow.{is_same};
 ghost use Rattle.mg_heard.specs.declared.open_flow.OpenFlow.{OpenFlow};
@@ -34,7 +35,8 @@ pub fn intervals_are_unique()
 /// An interval contains a tick for a pair if and only if the talker's speech flows to the listener in the world before
 /// that tick. What the interval says about the pair's context and Remotes is also true in that world.
 pub fn intervals_tell_the_flow()
-    ensures flow { IntervalsTellTheFlow }
+    ensures flow { (config : Config) (events : List Event) (ys : List Interval) →
+        AreIntervals config events ys → TellsTheFlow config events ys }
     ensures truth { IntervalsTellTheTruth }
 {
     mg_core::theorems::outcomes_are_unique();
@@ -55,15 +57,6 @@ pub fn no_pair_is_told_twice()
 /// A journal and a full recording of the same gateway have the same intervals.
 pub fn rtp_changes_no_interval()
     ensures theorem { RtpChangesNoInterval }
-{
-    mg_core::theorems::rtp_changes_speech_only();
-}
-
-/// Only control datagrams change which flows are open. As long as the open flows stay the same, no interval ends and
-/// none begins.
-pub fn only_control_changes_intervals()
-    ensures flows { OnlyControlChangesFlows }
-    ensures moments { EqualMomentsTellNothing }
 {
     mg_core::theorems::rtp_changes_speech_only();
 }

@@ -1,12 +1,14 @@
-ghost use Rattle.std.specs.Prelude.{◌≡◌, [], false, IfOk, None, Option, ℕ};
+ghost use Rattle.std.specs.Prelude.{◌≡◌, [], false, IfOk, None, Option};
 ghost use Rattle.std.specs.Option.{option_map, option_or};
 ghost use Rattle.mg_engine.specs.declared.config.Config.{Config};
-ghost use Rattle.mg_core.specs.World.{World, StandsFor};
+ghost use Rattle.mg_core.specs.World.{World};
+ghost use Rattle.mg_core.specs.aids.Stands.{StandsFor};
 ghost use Rattle.mg_heard.specs.Never.{forbidden_in, without_date};
 ghost use Rattle.mg_heard.specs.OpenFlows.{open_flows};
 ghost use Rattle.mg_heard.specs.aids.Opening.{flows_of};
 ghost use Rattle.mg_heard.specs.aids.Watching.{KeepsRules, forbidden_at};
 
+use crate::changes::only_control_changes_flows;
 use crate::clock::Clock;
 use crate::clock_fault::ClockFault;
 use crate::moment::Moment;
@@ -14,7 +16,6 @@ use crate::open_flow::OpenFlow;
 use crate::open_interval::OpenInterval;
 use crate::open_intervals::OpenIntervals;
 use crate::rule::{Rule, is_forbidden};
-use crate::theorems::only_control_changes_intervals;
 use crate::violation::Violation;
 use mg_core::{Core, Event, Follower, Stopped, Watcher};
 use std::alloc::{AllocError, Global};
@@ -121,7 +122,7 @@ impl Follower for Watch<'_> {
 
     fn datagram(&mut self, event: &Event, _core: &Core) -> Result<(), Stopped> {
         mg_core::theorems::outcomes_are_unique();
-        only_control_changes_intervals();
+        only_control_changes_flows();
         self.clock.pass_line();
         if let Event::Control(_, _) = event {
             self.is_changed = true;
@@ -131,7 +132,7 @@ impl Follower for Watch<'_> {
 
     fn ticks(&mut self, core: &Core, count: u64) -> Result<(), Stopped> {
         mg_core::theorems::outcomes_are_unique();
-        only_control_changes_intervals();
+        only_control_changes_flows();
         if count == 0 {
             return Ok(());
         }

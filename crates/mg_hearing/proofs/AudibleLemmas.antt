@@ -1,5 +1,5 @@
 -- What is printed about a talker.
-use Rattle.std.proofs.Common.{◌≡◌, ◌∙◌, ℕ, Bool, true, List, Option, Some, None, subst, sym}
+use Rattle.std.proofs.Common.{◌≡◌, ◌∙◌, ℕ, Bool, true, List, Option, Some, subst, sym}
 use Rattle.std.specs.Fmt.{option_append}
 use Rattle.std.specs.Io.KnownBytes.{Consumes}
 use Rattle.std.specs.List.{list_any}
@@ -9,6 +9,8 @@ use Rattle.mg_core.specs.Counting.{is_media}
 use Rattle.mg_core.specs.Follow.{IsFollowed}
 use Rattle.mg_core.specs.Note.{events_in}
 use Rattle.mg_heard.specs.Reported.{WritesReport}
+use Rattle.mg_host.specs.declared.host_call.HostCall.{HostCall}
+use Rattle.mg_host.specs.HostCalls.{ReadsFrom}
 use Rattle.mg_options.specs.declared.status.Status.{Status}
 use Rattle.mg_options.specs.declared.status.Status.TheVariants as statuses
 use Rattle.mg_arguments.specs.declared.audible_request.AudibleRequest.{AudibleRequest}
@@ -75,11 +77,11 @@ reports_more heard more statuses.NoAnswer f h = h
 reports_more heard more statuses.NoPort f h = h
 
 -- what a request asks for, of what its question's answer is
-pub audible_from : (request : AudibleRequest) (asked : Question) (script input old new : Option (List ℕ))
-    (silent quiet : Type 0) (status : Status) → IsAsked request.heard asked →
-    (request.heard.file ≡ None → script ≡ input) → (silent → quiet) →
+pub audible_from : (request : AudibleRequest) (asked : Question) (before after : Option (List HostCall))
+    (script input old new : Option (List ℕ)) (silent quiet : Type 0) (status : Status) → IsAsked request.heard asked →
+    ReadsFrom request.heard.file before after input script → (silent → quiet) →
     Reports (IsAudible request.talker asked script old new silent) status →
-    Reports (IsAudibleFrom request input old new quiet) status
-audible_from request asked script input old new silent quiet status is from more h =
-    reports_more (IsAudible request.talker asked script old new silent) (IsAudibleFrom request input old new quiet) status
-    (λ a. (script, asked, from, is, more_audible request.talker asked script old new silent quiet more a)) h
+    Reports (IsAudibleFrom request before after input old new quiet) status
+audible_from request asked before after script input old new silent quiet status is from more h =
+    reports_more (IsAudible request.talker asked script old new silent) (IsAudibleFrom request before after input old new quiet)
+    status (λ a. (script, asked, from, is, more_audible request.talker asked script old new silent quiet more a)) h

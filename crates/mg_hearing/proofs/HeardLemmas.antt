@@ -1,5 +1,5 @@
 -- Reading the first line of a script, and then the script; and what an exit status answers.
-use Rattle.std.proofs.Common.{◌≡◌, ◌⊎◌, ◌∙◌, ℕ, Bool, true, List, ◌++◌, Option, Some, None, ap, append_assoc, codes, inl, inr, refl, subst, sym}
+use Rattle.std.proofs.Common.{◌≡◌, ◌⊎◌, ◌∙◌, ℕ, Bool, true, List, ◌++◌, Option, Some, None, ap, append_assoc, codes, inl, inr, refl, reverse, subst, sym}
 use Rattle.std.proofs.Math.Seq.{take-append_seam}
 use Rattle.std.specs.Prelude.{IfSome}
 use Rattle.std.specs.Io.{StartsWith}
@@ -18,8 +18,10 @@ use Rattle.mg_heard.specs.declared.verdict.Verdict.{Verdict}
 use Rattle.mg_heard.specs.declared.verdict.Verdict.TheVariants.{CouldHear}
 use Rattle.mg_heard.specs.declared.verdict.Verdict.TheVariants as verdicts
 use Rattle.mg_heard.specs.Reported.{WritesReport, WritesVerdict}
+use Rattle.mg_heard.specs.Times.{extent_of}
 use Rattle.mg_heard.specs.Told.{TellsAll}
 use Rattle.mg_heard.specs.Verdict.{verdict_at}
+use Rattle.mg_heard.proofs.KeepingLemmas.{tells_weaker}
 use Rattle.mg_options.specs.declared.status.Status.{Status}
 use Rattle.mg_options.specs.declared.status.Status.TheVariants.{Done, CouldNotHear, Unknown}
 use Rattle.mg_options.specs.declared.status.Status.TheVariants.{Failed, NoMemory, BadJournal}
@@ -77,17 +79,21 @@ answers_by verdicts.CouldNotHear = inr (inl refl)
 answers_by verdicts.Unknown = inr (inr refl)
 
 answers : (asked : Question) (time : Option Date) (old new : Option (List ℕ)) (status : Status)
-    (xs : List Entry) → Prints asked time old new status xs → IsAnswer status
-answers asked None old new status xs h = inl h.1
-answers asked (Some time) old new status xs (extent, line, is) =
+    (extent : Extent) (xs : List Entry) → Prints asked time old new status extent xs → IsAnswer status
+answers asked None old new status extent xs h = inl h.1
+answers asked (Some time) old new status extent xs (line, is) =
     subst IsAnswer (sym is) (answers_by (verdict_at asked.query time extent xs))
 
-answers_as : (format : Format) (request : HeardRequest) (asked : Question) (old new : Option (List ℕ)) (status : Status)
-    (xs : List Entry) → PrintsAs format request asked old new status xs → IsAnswer status
-answers_as formats.Page request asked old new status xs h = inl h.1
-answers_as formats.Text request asked old new status xs h = answers asked asked.at old new status xs h
-answers_as formats.Csv request asked old new status xs h = answers asked asked.at old new status xs h
-answers_as formats.Json request asked old new status xs h = answers asked asked.at old new status xs h
+answers_as : (format : Format) (request : HeardRequest) (asked : Question) (script old new : Option (List ℕ))
+    (status : Status) (extent : Extent) (xs : List Entry) →
+    PrintsAs format request asked script old new status extent xs → IsAnswer status
+answers_as formats.Page request asked script old new status extent xs h = inl h.1
+answers_as formats.Text request asked script old new status extent xs h =
+    answers asked asked.at old new status extent xs h
+answers_as formats.Csv request asked script old new status extent xs h =
+    answers asked asked.at old new status extent xs h
+answers_as formats.Json request asked script old new status extent xs h =
+    answers asked asked.at old new status extent xs h
 
 hears_of : (heard silent : Type 0) (status : Status) → IsAnswer status → heard × silent → Hears heard silent status
 hears_of heard silent status (inl is) h = subst (λ (s : Status). Hears heard silent s) (sym is) h
@@ -96,8 +102,9 @@ hears_of heard silent status (inr (inr is)) h = subst (λ (s : Status). Hears he
 
 -- ## What is printed
 
-pub prints_more : (config : Config) (input rest : Option (List ℕ)) (state : CoreState) (P Q : List Entry → Type 0) →
-    ((xs : List Entry) → P xs → Q xs) → IsFollowed config input rest state (λ notes. TellsAll config notes P) →
+pub prints_more : (config : Config) (input rest : Option (List ℕ)) (state : CoreState)
+    (P Q : Extent → List Entry → Type 0) → ((extent : Extent) (xs : List Entry) → P extent xs → Q extent xs) →
+    IsFollowed config input rest state (λ notes. TellsAll config notes P) →
     IsFollowed config input rest state (λ notes. TellsAll config notes Q)
 prints_more config input rest state P Q more h = record {
   script = h.script;
@@ -105,30 +112,23 @@ prints_more config input rest state P Q more h = record {
   notes = h.notes;
   are = h.are;
   run = h.run;
-  follows = record {
-    xs = h.follows.xs;
-    are = h.follows.are;
-    no_others = h.follows.no_others;
-    flow = h.follows.flow;
-    told = more h.follows.xs h.follows.told;
-  };
+  follows = tells_weaker config h.notes P Q (more (extent_of (reverse h.notes))) h.follows;
 }
 
 -- the line of the answer about a given time
 pub prints_answer : (asked : Question) (at : Option Date) (time : Date) (config : Config)
     (input rest old new : Option (List ℕ)) (verdict : Verdict) (status : Status) → at ≡ Some time →
     WritesVerdict asked.style verdict old new → status ≡ status_for verdict →
-    ((state : CoreState) × (extent : Extent) × IsFollowed config input rest state
-    (λ notes. TellsAll config notes (λ xs. verdict ≡ verdict_at asked.query time extent xs))) →
+    ((state : CoreState) × IsFollowed config input rest state
+    (λ notes. TellsAll config notes (λ extent xs. verdict ≡ verdict_at asked.query time extent xs))) →
     (state : CoreState) × IsFollowed config input rest state
     (λ notes. TellsAll config notes (Prints asked at old new status))
-prints_answer asked at time config input rest old new verdict status timed written is (state, extent, h) = (
+prints_answer asked at time config input rest old new verdict status timed written is (state, h) = (
   state,
-  prints_more config input rest state (λ xs. verdict ≡ verdict_at asked.query time extent xs)
+  prints_more config input rest state (λ extent xs. verdict ≡ verdict_at asked.query time extent xs)
       (Prints asked at old new status)
-      (λ (xs : List Entry) (e : verdict ≡ verdict_at asked.query time extent xs).
-      subst (λ (t : Option Date). Prints asked t old new status xs) (sym timed) (
-        extent,
+      (λ (extent : Extent) (xs : List Entry) (e : verdict ≡ verdict_at asked.query time extent xs).
+      subst (λ (t : Option Date). Prints asked t old new status extent xs) (sym timed) (
         subst (λ (v : Verdict). WritesVerdict asked.style v old new) e written,
         is ∙ ap (λ (v : Verdict). status_for v) e,
       )) h,
@@ -136,24 +136,25 @@ prints_answer asked at time config input rest old new verdict status timed writt
 
 -- a line for each interval and each gap
 pub prints_report : (asked : Question) (at : Option Date) (config : Config)
-    (input rest old new : Option (List ℕ)) (status : Status) → at ≡ None → status ≡ Done →
-    ((state : CoreState) × IsFollowed config input rest state
-    (λ notes. TellsAll config notes (WritesReport asked.style asked.query old new))) →
+    (input rest old new : Option (List ℕ)) (status : Status) (covered : Extent) → at ≡ None → status ≡ Done →
+    ((state : CoreState) × IsFollowed config input rest state (λ notes. TellsAll config notes (λ extent xs.
+    WritesReport asked.style asked.query old new xs × (covered ≡ extent)))) →
     (state : CoreState) × IsFollowed config input rest state
     (λ notes. TellsAll config notes (Prints asked at old new status))
-prints_report asked at config input rest old new status timed is (state, h) = (
+prints_report asked at config input rest old new status covered timed is (state, h) = (
   state,
-  prints_more config input rest state (WritesReport asked.style asked.query old new)
+  prints_more config input rest state
+      (λ extent xs. WritesReport asked.style asked.query old new xs × (covered ≡ extent))
       (Prints asked at old new status)
-      (λ (xs : List Entry) (written : WritesReport asked.style asked.query old new xs).
-      subst (λ (t : Option Date). Prints asked t old new status xs) (sym timed) (written, is)) h,
+      (λ (extent : Extent) (xs : List Entry) (h : WritesReport asked.style asked.query old new xs × (covered ≡ extent)).
+      subst (λ (t : Option Date). Prints asked t old new status extent xs) (sym timed) (h.0, is)) h,
 )
 
 -- a script with its first line in front
 pub is_heard : (request : HeardRequest) (asked : Question) (config : Config) (old mid : Option (List ℕ)) (front : List ℕ)
     (held written : Option (List ℕ)) (status : Status) → Consumes old mid front → front ≡ title_line config →
     ((rest : Option (List ℕ)) × (state : CoreState) × IsFollowed config (option_append (Some front) mid) rest state
-    (λ notes. TellsAll config notes (PrintsAs asked.style.format request asked held written status))) →
+    (λ notes. TellsAll config notes (PrintsAs asked.style.format request asked old held written status))) →
     IsHeard request asked old held written status
 is_heard request asked config old mid front held written status first is (rest, state, h) = record {
   config = config;
@@ -175,7 +176,8 @@ pub hears : (request : HeardRequest) (asked : Question) (script old new : Option
     Hears (IsHeard request asked script old new status) silent status
 hears request asked script old new silent status h quiet =
     hears_of (IsHeard request asked script old new status) silent status
-    (answers_as asked.style.format request asked old new status h.prints.follows.xs h.prints.follows.told) (h, quiet)
+    (answers_as asked.style.format request asked script old new status (extent_of (reverse h.prints.notes)) h.prints.follows.xs
+    h.prints.follows.told) (h, quiet)
 
 -- what follows from what a run did, is true after it
 pub hears_more : (heard more silent quiet : Type 0) (status : Status) → (heard → more) → (silent → quiet) →

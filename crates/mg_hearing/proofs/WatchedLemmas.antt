@@ -5,6 +5,8 @@ use Rattle.std.specs.Io.KnownBytes.{Consumes}
 use Rattle.mg_engine.specs.declared.config.Config.{Config}
 use Rattle.mg_heard.specs.declared.violation.Violation.{Violation}
 use Rattle.mg_heard.specs.Never.{IsWatched, WritesViolation}
+use Rattle.mg_host.specs.declared.host_call.HostCall.{HostCall}
+use Rattle.mg_host.specs.HostCalls.{ReadsFrom}
 use Rattle.mg_options.specs.declared.status.Status.{Status}
 use Rattle.mg_arguments.specs.declared.watch_request.WatchRequest.{WatchRequest}
 use Rattle.mg_hearing.specs.declared.alarm.Alarm.{Alarm}
@@ -48,10 +50,10 @@ answers answered silent None status is h quiet = subst (λ (s : Status). Hears a
 answers answered silent (Some v) status is h quiet = subst (λ (s : Status). Hears answered silent s) (sym is) (h, quiet)
 
 -- what a request asks for, of what its alarm did
-pub answered_from : (request : WatchRequest) (alarm : Alarm) (script input old new : Option (List ℕ))
-    (silent quiet : Type 0) (status : Status) → IsSet request alarm → (request.file ≡ None → script ≡ input) →
-    (silent → quiet) → Hears (IsAnswered alarm script old new status) silent status →
-    Hears (IsAnsweredFrom request input old new status) quiet status
-answered_from request alarm script input old new silent quiet status set from more h =
-    hears_more (IsAnswered alarm script old new status) (IsAnsweredFrom request input old new status) silent quiet status
+pub answered_from : (request : WatchRequest) (alarm : Alarm) (before after : Option (List HostCall))
+    (script input old new : Option (List ℕ)) (silent quiet : Type 0) (status : Status) → IsSet request alarm →
+    ReadsFrom request.file before after input script → (silent → quiet) → Hears (IsAnswered alarm script old new status) silent status →
+    Hears (IsAnsweredFrom request before after input old new status) quiet status
+answered_from request alarm before after script input old new silent quiet status set from more h =
+    hears_more (IsAnswered alarm script old new status) (IsAnsweredFrom request before after input old new status) silent quiet status
     (λ a. (script, alarm, from, set, a)) more h

@@ -1,5 +1,5 @@
 -- What `mg_bridge heard --audible` prints.
-use Rattle.std.specs.Prelude.{◌≡◌, ℕ, ⊤, true, List, Option, None, IfSome}
+use Rattle.std.specs.Prelude.{◌≡◌, ℕ, ⊤, true, List, Option, IfSome}
 use Rattle.std.specs.Io.{StartsWith}
 use Rattle.std.specs.List.{list_any}
 use Rattle.mg_engine.specs.declared.config.Config.{Config}
@@ -15,6 +15,8 @@ use Rattle.mg_arguments.specs.Title.{title_line}
 use Rattle.mg_hearing.specs.declared.question.Question.{Question}
 use Rattle.mg_hearing.specs.Heard.{IsAsked}
 use Rattle.mg_audible.specs.Told.{TellsAudible}
+use Rattle.mg_host.specs.declared.host_call.HostCall.{HostCall}
+use Rattle.mg_host.specs.HostCalls.{ReadsFrom}
 
 -- A script was read to its end. It begins with the title of the configuration with which it is run,
 -- and what is printed is about all intervals in which the talker is audible. If the script has an
@@ -30,11 +32,12 @@ pub record IsAudible (talker : ℕ) (asked : Question) (script old new : Option 
       (WritesReport asked.style asked.query old new)
       × (list_any is_media (events_in notes) ≡ true → silent))
 
--- Without a file, the script is the input. (No contract says what a file contains.)
-abbrev pub IsAudibleFrom : AudibleRequest → (input old new : Option (List ℕ)) → (silent : Type 0)
-    → Type 0
-IsAudibleFrom request input old new silent =
-    (script : Option (List ℕ)) × (asked : Question) × (request.heard.file ≡ None → script ≡ input)
+-- What is audible in the script in a file, or in the input.
+abbrev pub IsAudibleFrom : AudibleRequest → (before after : Option (List HostCall))
+    → (input old new : Option (List ℕ)) → (silent : Type 0) → Type 0
+IsAudibleFrom request before after input old new silent =
+    (script : Option (List ℕ)) × (asked : Question)
+    × ReadsFrom request.heard.file before after input script
     × IsAsked request.heard asked × IsAudible request.talker asked script old new silent
 
 -- What is true after a run, given its status. It succeeded, a read or a write failed, memory ran

@@ -25,6 +25,8 @@ use Rattle.mg_arguments.specs.declared.printing.Printing.{Printing}
 use Rattle.mg_arguments.specs.Title.{title_line}
 use Rattle.mg_hearing.specs.declared.question.Question.{Question}
 use Rattle.mg_hearing.specs.Page.{WritesPage}
+use Rattle.mg_host.specs.declared.host_call.HostCall.{HostCall}
+use Rattle.mg_host.specs.HostCalls.{ReadsFrom}
 
 -- the exit status that answers a question about a given time
 abbrev pub status_for : Verdict → Status
@@ -32,26 +34,24 @@ status_for (CouldHear x) = Done
 status_for verdicts.CouldNotHear = CouldNotHear
 status_for verdicts.Unknown = Unknown
 
--- What is printed about the intervals and gaps of a script. Without a time, it is a line for each
--- that is asked for. With one, it is the line of the answer that follows from them, and the status
--- answers too. (No contract says that gaps, dates and the extent are those of the script.)
-abbrev pub Prints : Question → Option Date → (old new : Option (List ℕ)) → Status → List Entry
-    → Type 0
-Prints asked None old new status xs =
+-- What is printed about the intervals and gaps of a script, and the time that it covers. Without a
+-- time, it is a line for each that is asked for. With one, it is the line of the answer that follows
+-- from them, and the status answers too.
+abbrev pub Prints : Question → Option Date → (old new : Option (List ℕ)) → Status → Extent
+    → List Entry → Type 0
+Prints asked None old new status extent xs =
     WritesReport asked.style asked.query old new xs × (status ≡ Done)
-Prints asked (Some time) old new status xs =
-    (extent : Extent)
-    × WritesVerdict asked.style (verdict_at asked.query time extent xs) old new
+Prints asked (Some time) old new status extent xs =
+    WritesVerdict asked.style (verdict_at asked.query time extent xs) old new
     × (status ≡ status_for (verdict_at asked.query time extent xs))
 
 -- what is printed in a format: a page, or what the request asks for in lines
-abbrev pub PrintsAs : Format → HeardRequest → Question → (old new : Option (List ℕ)) → Status
-    → List Entry → Type 0
-PrintsAs formats.Page request asked old new status xs =
-    WritesPage request asked old new xs × (status ≡ Done)
-PrintsAs formats.Text request asked old new status xs = Prints asked asked.at old new status xs
-PrintsAs formats.Csv request asked old new status xs = Prints asked asked.at old new status xs
-PrintsAs formats.Json request asked old new status xs = Prints asked asked.at old new status xs
+abbrev pub PrintsAs : Format → HeardRequest → Question → (script old new : Option (List ℕ))
+    → Status → Extent → List Entry → Type 0
+PrintsAs formats.Page request asked script old new status extent xs =
+    WritesPage request asked script old new xs × (status ≡ Done)
+PrintsAs _ request asked script old new status extent xs =
+    Prints asked asked.at old new status extent xs
 
 -- A script was read to its end. It begins with the title of the configuration with which it is run,
 -- and what is printed is about all its intervals.
@@ -62,7 +62,7 @@ pub record IsHeard (request : HeardRequest) (asked : Question)
   pub rest : Option (List ℕ)
   pub state : CoreState
   pub prints : IsFollowed config script rest state
-      (λ notes. TellsAll config notes (PrintsAs asked.style.format request asked old new status))
+      (λ notes. TellsAll config notes (PrintsAs asked.style.format request asked script old new status))
 
 -- How an answer is written, as a request asks: in its format; and without a file of names, nothing
 -- has a name. (No contract says what a file contains, or which time zones the system has.)
@@ -77,10 +77,12 @@ pub record IsAsked (request : HeardRequest) (asked : Question) : Type 0 where
   pub query : IsQuery asked.style.names request.query asked.query
   pub at : asked.at ≡ request.at
 
--- Without a file, the script is the input. (No contract says what a file contains.)
-abbrev pub IsHeardFrom : HeardRequest → (input old new : Option (List ℕ)) → Status → Type 0
-IsHeardFrom request input old new status =
-    (script : Option (List ℕ)) × (asked : Question) × (request.file ≡ None → script ≡ input)
+-- What is heard of the script in a file, or in the input.
+abbrev pub IsHeardFrom : HeardRequest → (before after : Option (List HostCall))
+    → (input old new : Option (List ℕ)) → Status → Type 0
+IsHeardFrom request before after input old new status =
+    (script : Option (List ℕ)) × (asked : Question)
+    × ReadsFrom request.file before after input script
     × IsAsked request asked × IsHeard request asked script old new status
 
 -- What is true after a run, given its status. The statuses of answers aren't those of faults: a

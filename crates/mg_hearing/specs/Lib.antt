@@ -2,3 +2,4 @@ pub mod Page
 pub mod Heard
 pub mod Audible
 pub mod Watched
+pub mod aids

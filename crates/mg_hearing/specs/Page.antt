@@ -1,12 +1,12 @@
 -- The page (HTML) that `mg_bridge heard --report` prints: fixed parts, which are constants of the
 -- program, and between them escaped texts and the rows of a table.
-use Rattle.std.specs.Prelude.{◌≡◌, ℕ, ◌==◌, Bool, true, false, List, [], ◌∷◌, ◌++◌}
-use Rattle.std.specs.Prelude.{Option, Some, None, codes, filter, unwrap_or, if◌then◌else◌}
+use Rattle.std.specs.Prelude.{◌≡◌, ℕ, ◌==◌, List, [], ◌∷◌, ◌++◌}
+use Rattle.std.specs.Prelude.{Option, Some, None, codes, filter, unwrap_or, IfSome, if◌then◌else◌}
 use Rattle.std.specs.Io.KnownBytes.{Appends}
 use Rattle.std.specs.List.{concat, flat_map}
+use Rattle.hex.specs.Hex.{encode_lower}
+use Rattle.sha2.specs.Sha256.{sha256}
 use Rattle.mg_heard.specs.declared.entry.Entry.{Entry}
-use Rattle.mg_heard.specs.declared.format.Format.{Format}
-use Rattle.mg_heard.specs.declared.format.Format.TheVariants as formats
 use Rattle.mg_heard.specs.declared.asked.Asked.{Asked}
 use Rattle.mg_heard.specs.declared.asked.Asked.TheVariants.{Key, Name}
 use Rattle.mg_heard.specs.Escaped.{escaped}
@@ -66,10 +66,10 @@ abbrev pub last_words : Option (List ℕ) → List ℕ
 last_words None = codes " < FILE"
 last_words (Some name) = codes " -- " ++ quoted name
 
--- the end of a page: what was read, which program wrote the page, and the command that it ran
-pub record IsOrigin (file : Option (List ℕ)) (text : List ℕ) : Type 0 where
+-- the end of a page: what was read, with this digest, which program wrote the page, and the command
+-- that it ran
+pub record IsOrigin (file : Option (List ℕ)) (digest text : List ℕ) : Type 0 where
   pub size : List ℕ
-  pub digest : List ℕ
   pub covered : List ℕ
   pub program : List ℕ
   pub program_digest : List ℕ
@@ -82,12 +82,6 @@ pub record IsOrigin (file : Option (List ℕ)) (text : List ℕ) : Type 0 where
 
 -- ## The page
 
-abbrev pub is_page : Format → Bool
-is_page formats.Page = true
-is_page formats.Text = false
-is_page formats.Csv = false
-is_page formats.Json = false
-
 -- a writer has received the front of a page and a row for each entry that is asked for
 abbrev pub WritesTable : HeardRequest → Question → (old new : Option (List ℕ)) → List Entry → Type 0
 WritesTable request asked old new xs =
@@ -95,10 +89,15 @@ WritesTable request asked old new xs =
     × AreLines asked.style (filter (selects_entry asked.query) xs) rows
     × Appends old new (front ++ (head_of asked.style.format ++ rows))
 
--- A writer has received a page about these entries. (No contract says that the timeline's scale,
--- times, hashes and options are right.)
-abbrev pub WritesPage : HeardRequest → Question → (old new : Option (List ℕ)) → List Entry → Type 0
-WritesPage request asked old new xs =
-    (mid : Option (List ℕ)) × (scale : List ℕ) × (origin : List ℕ)
-    × WritesTable request asked old mid xs × IsScale scale × IsOrigin request.file origin
-    × Appends mid new (scale ++ origin)
+-- the SHA-256 of a text, if the text is known, in lower-case hexadecimal digits
+abbrev pub IsDigest : Option (List ℕ) → List ℕ → Type 0
+IsDigest text digest = IfSome text (λ t. digest ≡ encode_lower (sha256 t))
+
+-- A writer has received a page about these entries of a script, with the script's digest. (No
+-- contract says that the timeline's scale, times, the program's hash and options are right.)
+abbrev pub WritesPage : HeardRequest → Question → (script old new : Option (List ℕ)) → List Entry
+    → Type 0
+WritesPage request asked script old new xs =
+    (mid : Option (List ℕ)) × (scale : List ℕ) × (digest : List ℕ) × (origin : List ℕ)
+    × WritesTable request asked old mid xs × IsScale scale × IsDigest script digest
+    × IsOrigin request.file digest origin × Appends mid new (scale ++ origin)

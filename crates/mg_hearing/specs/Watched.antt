@@ -11,6 +11,8 @@ use Rattle.mg_arguments.specs.declared.watch_request.WatchRequest.{WatchRequest}
 use Rattle.mg_arguments.specs.Title.{title_line}
 use Rattle.mg_hearing.specs.Heard.{IsStyle}
 use Rattle.mg_hearing.specs.declared.alarm.Alarm.{Alarm}
+use Rattle.mg_host.specs.declared.host_call.HostCall.{HostCall}
+use Rattle.mg_host.specs.HostCalls.{ReadsFrom}
 
 abbrev pub status_for : Option Violation → Status
 status_for None = Done
@@ -35,8 +37,9 @@ pub record IsSet (request : WatchRequest) (alarm : Alarm) : Type 0 where
   pub style : IsStyle request.printing alarm.style
   pub rules : AreRules alarm.style.names request.rules alarm.rules.items
 
--- Without a file, the script is the input. (No contract says what a file contains.)
-abbrev pub IsAnsweredFrom : WatchRequest → (input old new : Option (List ℕ)) → Status → Type 0
-IsAnsweredFrom request input old new status =
-    (script : Option (List ℕ)) × (alarm : Alarm) × (request.file ≡ None → script ≡ input)
+-- What is answered about the script in a file, or in the input.
+abbrev pub IsAnsweredFrom : WatchRequest → (before after : Option (List HostCall))
+    → (input old new : Option (List ℕ)) → Status → Type 0
+IsAnsweredFrom request before after input old new status =
+    (script : Option (List ℕ)) × (alarm : Alarm) × ReadsFrom request.file before after input script
     × IsSet request alarm × IsAnswered alarm script old new status

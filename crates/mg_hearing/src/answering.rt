@@ -1,9 +1,9 @@
-ghost use Rattle.std.specs.Prelude.{◌≡◌, ◌⊎◌, IfErr, IfOk, IsSome, OnOk, Option, List, false, ℕ};
+ghost use Rattle.std.specs.Prelude.{◌≡◌, ◌⊎◌, IfErr, IfOk, IsSome, OnOk, false};
 ghost use Rattle.mg_core.specs.Follow.{IsFollowed};
 ghost use Rattle.mg_core.specs.declared.state.CoreState.{CoreState};
 ghost use Rattle.mg_heard.specs.Told.{TellsAll};
 ghost use Rattle.mg_hearing.specs.Heard.{Hears, IsAsked, IsHeard, IsHeardFrom, Prints, status_for};
-ghost use Rattle.mg_hearing.specs.Page.{is_page};
+ghost use Rattle.mg_hearing.specs.aids.Forms.{is_page};
 
 use crate::asking::Asking;
 use crate::faults::report_fault;
@@ -15,9 +15,10 @@ use crate::words::script_name;
 use mg_arguments::HeardRequest;
 use mg_core::Config;
 use mg_heard::{Format, HeardFault, Verdict, write_answer, write_report};
+use mg_host::Texts;
 use mg_options::Status;
 use std::alloc::Global;
-use std::fs::{Files, OpenOptions};
+use std::fs::Files;
 use std::io::{Read, Write};
 
 /// Returns the exit status that answers a question about a given time.
@@ -141,7 +142,8 @@ pub(crate) fn question_of<F: Files, E: Write>(
 
 /// Prints who could hear whom while a script ran, or answers a question about a given time. Returns the exit status. A
 /// fault is reported to `errors`.
-pub fn heard<F: Files, R: Read, W: Write, E: Write>(
+pub fn heard<H: Texts, F: Files, R: Read, W: Write, E: Write>(
+    host: &mut H,
     files: &F,
     alloc: Global,
     request: &HeardRequest,
@@ -149,7 +151,7 @@ pub fn heard<F: Files, R: Read, W: Write, E: Write>(
     output: &mut W,
     errors: &mut E,
 ) -> Status
-    ensures value { Hears (IsHeardFrom request.now (R.remaining input.old) (W.contents output.old)
+    ensures value { Hears (IsHeardFrom request.now (H.calls host.old) (H.calls host.new) (R.remaining input.old) (W.contents output.old)
         (W.contents output.new) result) (errors.new ≡ errors.old) result }
     ensures unread { IsSome request.now.file → input.new ≡ input.old }
 {
@@ -162,7 +164,7 @@ pub fn heard<F: Files, R: Read, W: Write, E: Write>(
         return hear_script(files, alloc, asking, input, output, errors);
     };
     let name = path.as_str();
-    match OpenOptions::new().read(true).open(files, name) {
+    match host.open_text(name) {
         Ok(mut file) => hear_script(files, alloc, asking, &mut file, output, errors),
         Err(error) => {
             let _ = writeln!(errors, "{name}: cannot be opened: {error}");

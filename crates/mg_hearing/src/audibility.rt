@@ -8,9 +8,10 @@ use crate::script_title::read_title;
 use crate::talker_question::TalkerQuestion;
 use mg_arguments::AudibleRequest;
 use mg_audible::{TalkerQuery, write_audible};
+use mg_host::Texts;
 use mg_options::Status;
 use std::alloc::Global;
-use std::fs::{Files, OpenOptions};
+use std::fs::Files;
 use std::io::{Read, Write};
 
 /// Returns the successful exit status. If a script has no RTP datagrams, says so to `errors`.
@@ -56,7 +57,8 @@ fn audible_script<R: Read, W: Write, E: Write>(
 
 /// Prints when a talker was audible while a script ran. Returns the exit status. A fault is reported to `errors`, and
 /// so is a script without RTP datagrams, in which nothing can be audible.
-pub fn audible<F: Files, R: Read, W: Write, E: Write>(
+pub fn audible<H: Texts, F: Files, R: Read, W: Write, E: Write>(
+    host: &mut H,
     files: &F,
     alloc: Global,
     request: &AudibleRequest,
@@ -64,7 +66,7 @@ pub fn audible<F: Files, R: Read, W: Write, E: Write>(
     output: &mut W,
     errors: &mut E,
 ) -> Status
-    ensures value { Reports (IsAudibleFrom request.now (R.remaining input.old) (W.contents output.old)
+    ensures value { Reports (IsAudibleFrom request.now (H.calls host.old) (H.calls host.new) (R.remaining input.old) (W.contents output.old)
         (W.contents output.new) (errors.new ≡ errors.old)) result }
     ensures unread { IsSome request.now.heard.file → input.new ≡ input.old }
 {
@@ -80,7 +82,7 @@ pub fn audible<F: Files, R: Read, W: Write, E: Write>(
         return audible_script(alloc, INPUT, asked, input, output, errors);
     };
     let name = path.as_str();
-    match OpenOptions::new().read(true).open(files, name) {
+    match host.open_text(name) {
         Ok(mut file) => audible_script(alloc, name, asked, &mut file, output, errors),
         Err(error) => {
             let _ = writeln!(errors, "{name}: cannot be opened: {error}");

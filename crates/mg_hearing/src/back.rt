@@ -1,4 +1,4 @@
-ghost use Rattle.std.specs.Prelude.{◌++◌, List, OnOk, ℕ};
+ghost use Rattle.std.specs.Prelude.{◌++◌, take, List, OnOk, ℕ};
 ghost use Rattle.std.specs.Io.KnownBytes.{Appends};
 ghost use Rattle.mg_hearing.specs.Page.{IsOrigin, IsScale};
 
@@ -73,7 +73,7 @@ fn write_origin<W: Write>(
     origin: &Origin,
     output: &mut W,
 ) -> io::Result<()>
-    ensures value { OnOk result ((text : List ℕ) × IsOrigin request.now.file text
+    ensures value { OnOk result ((text : List ℕ) × IsOrigin request.now.file (take 64 origin.now.script.end) text
         × Appends (W.contents output.old) (W.contents output.new) text) }
 {
     let length = origin.script.length;
@@ -122,9 +122,9 @@ pub(crate) fn write_back<W: Write>(
     origin: &Origin,
     output: &mut W,
 ) -> io::Result<()>
-    ensures value { OnOk result ((scale : List ℕ) × (origin : List ℕ) × IsScale scale
-        × IsOrigin request.now.file origin
-        × Appends (W.contents output.old) (W.contents output.new) (scale ++ origin)) }
+    ensures value { OnOk result ((scale_text : List ℕ) × (origin_text : List ℕ) × IsScale scale_text
+        × IsOrigin request.now.file (take 64 origin.now.script.end) origin_text
+        × Appends (W.contents output.old) (W.contents output.new) (scale_text ++ origin_text)) }
 {
     write_scale(alloc, scale, output)?;
     write_origin(alloc, request, origin, output)

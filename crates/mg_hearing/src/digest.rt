@@ -1,3 +1,5 @@
+ghost use Rattle.std.specs.Prelude.{◌≡◌, take};
+
 use mg_chain::END;
 
 /// The length and the SHA-256 of a text.
@@ -10,7 +12,9 @@ pub(crate) struct Digest {
 
 impl Digest {
     /// Returns the SHA-256 in hexadecimal digits.
-    pub(crate) fn digits(&self) -> &[u8] {
+    pub(crate) fn digits(&self) -> &[u8]
+        ensures value { result.now ≡ take 64 self.now.end }
+    {
         &self.end[..END - 1]
     }
 }

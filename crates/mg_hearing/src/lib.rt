@@ -1,7 +1,7 @@
 //! What `mg_bridge heard` prints.
 //!
 //! ```rust
-//! let status = heard(&rt, alloc, &request, &mut input, &mut output, &mut errors);
+//! let status = heard(&mut host, &rt, alloc, &request, &mut input, &mut output, &mut errors);
 //! ```
 //!
 //! The script is a journal or a recording, whose first line states the configuration of its gateway. [`heard`] runs it
@@ -31,6 +31,7 @@ mod question;
 mod script_title;
 mod styling;
 mod talker_question;
+mod text_key;
 mod watching;
 mod words;
 

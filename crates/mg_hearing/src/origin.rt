@@ -1,5 +1,10 @@
+ghost use Rattle.std.specs.Prelude.{take};
+ghost use Rattle.std.specs.Io.KnownBytes.{IsAtEnd};
+ghost use Rattle.mg_hearing.specs.Page.{IsDigest};
+
 use crate::digest::Digest;
 use crate::hashed::{Hashed, program_digest};
+use crate::text_key::TextKey;
 use mg_heard::Extent;
 use std::fs::Files;
 use std::io::Read;
@@ -17,11 +22,13 @@ pub(crate) struct Origin {
 
 impl Origin {
     /// Returns the origin of a page about the script of a reader.
-    pub(crate) fn of<F: Files, R: Read>(
+    pub(crate) fn of<F: Files, R: Read, K: TextKey>(
         files: &F,
-        script: &Hashed<R>,
+        script: &Hashed<R, K>,
         extent: Option<Extent>,
-    ) -> Self {
+    ) -> Self
+        ensures script { IsAtEnd (R.remaining script.now.inner) → IsDigest K.text (take 64 result.script.end) }
+    {
         Origin {
             script: script.digest(),
             extent,

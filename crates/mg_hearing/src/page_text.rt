@@ -130,12 +130,13 @@ pub(crate) const COMMAND: &[u8] = b"</code></dd>\n\
 /// The end of a page: what is proved, and what is trusted.
 pub(crate) const TRUST: &[u8] = b"</code></pre>\n\
 <h2>How far to trust it</h2>\n\
-<p><strong>Proved</strong>, and checked by a machine: the rows are the periods in question, each once. In the gateway\n\
-that the file describes, a talker's speech flows to a listener before a tick if and only if the tick lies in a period of\n\
-that pair.</p>\n\
-<p><strong>Trusted</strong>, not proved: that the gateway wrote this file, and who used which address; that the dates,\n\
-gaps, hashes and the timeline are right, which is tested; and the tools of the proof, the operating system and the\n\
-browser.</p>\n\
+<p><strong>Proved</strong>, and checked by a machine: the rows are the periods in question, each once, with the gaps and\n\
+dates that follow from the dates in the file. In the gateway that the file describes, a talker's speech flows to a\n\
+listener before a tick if and only if the tick lies in a period of that pair. The file's SHA-256 is that of the bytes\n\
+read.</p>\n\
+<p><strong>Trusted</strong>, not proved: that the gateway wrote this file, that its clock was right, and who used which\n\
+address; how dates are written, the program's SHA-256 and the timeline, which are tested; and the tools of the proof,\n\
+the operating system and the browser.</p>\n\
 </main>\n\
 </body>\n\
 </html>\n";

@@ -3,7 +3,8 @@ ghost use Rattle.mg_core.specs.Follow.{IsFollowed};
 ghost use Rattle.mg_core.specs.declared.state.CoreState.{CoreState};
 ghost use Rattle.mg_heard.specs.Told.{TellsAll};
 ghost use Rattle.mg_hearing.specs.Heard.{Hears, IsHeard};
-ghost use Rattle.mg_hearing.specs.Page.{WritesTable, is_page};
+ghost use Rattle.mg_hearing.specs.Page.{WritesTable};
+ghost use Rattle.mg_hearing.specs.aids.Forms.{is_page};
 
 use crate::asking::Asking;
 use crate::back::{write_back, write_broken};
@@ -13,6 +14,7 @@ use crate::hashed::Hashed;
 use crate::origin::Origin;
 use crate::question::Question;
 use crate::script_title::read_title;
+use crate::text_key::TextKey;
 use crate::words::script_name;
 use mg_arguments::HeardRequest;
 use mg_core::Config;
@@ -21,6 +23,7 @@ use mg_options::Status;
 use std::alloc::Global;
 use std::fs::Files;
 use std::io::{Error, ErrorKind, Read, Write};
+use std::marker::Brand;
 
 /// Returns the fault for a page that can't be written.
 fn fault_of(error: &Error) -> HeardFault {
@@ -44,12 +47,52 @@ fn write_table<R: Read, W: Write>(
     ensures value { IfOk result (λ _. (state : CoreState) ×
         IsFollowed config (R.remaining reader.old) (R.remaining reader.new) state
         (λ notes. TellsAll config notes
-        (WritesTable request.now question (W.contents output.old) (W.contents output.new)))) }
+        (λ _. WritesTable request.now question (W.contents output.old) (W.contents output.new)))) }
 {
     let Question { style, query, .. } = question;
     match write_front(alloc, request, output) {
         Ok(()) => write_report(alloc, config, reader, style, query, output),
         Err(error) => Err(fault_of(&error)),
+    }
+}
+
+/// Prints a page about the script of a reader. A fault is reported to `errors`, and on the page if it has begun.
+fn write_page<F: Files, R: Read, K: TextKey, W: Write, E: Write>(
+    files: &F,
+    alloc: Global,
+    asking: Asking<'_>,
+    reader: &mut R,
+    output: &mut W,
+    errors: &mut E,
+) -> Status
+    requires page { is_page asking.question.style.format ≡ true }
+    requires text { R.remaining reader.old ≡ K.text }
+    ensures value { Hears (IsHeard asking.entry.request.now asking.entry.question (R.remaining reader.old)
+        (W.contents output.old) (W.contents output.new) result) (errors.new ≡ errors.old) result }
+{
+    let Asking { request, question } = asking;
+    let name = script_name(request);
+    let mut hashed = Hashed::<&mut R, K>::new(reader);
+    let (line, config) = match read_title(alloc, name, &mut hashed, errors) {
+        Ok(title) => title,
+        Err(status) => return status,
+    };
+    let mut script = line.as_slice().chain(hashed);
+    match write_table(alloc, config, request, question, &mut script, output) {
+        Ok((scale, extent)) => {
+            let (_, hashed) = script.into_inner();
+            let origin = Origin::of(files, &hashed, Some(extent));
+            match write_back(alloc, request, &scale, &origin, output) {
+                Ok(()) => Status::Done,
+                Err(error) => report_fault(name, fault_of(&error), errors),
+            }
+        }
+        Err(fault) => {
+            let (_, hashed) = script.into_inner();
+            let origin = Origin::of(files, &hashed, None);
+            let _ = write_broken(alloc, request, &fault, &origin, output);
+            report_fault(name, fault, errors)
+        }
     }
 }
 
@@ -66,26 +109,5 @@ pub(crate) fn hear_page<F: Files, R: Read, W: Write, E: Write>(
     ensures value { Hears (IsHeard asking.entry.request.now asking.entry.question (R.remaining reader.old)
         (W.contents output.old) (W.contents output.new) result) (errors.new ≡ errors.old) result }
 {
-    let Asking { request, question } = asking;
-    let name = script_name(request);
-    let mut hashed = Hashed::new(reader);
-    let (line, config) = match read_title(alloc, name, &mut hashed, errors) {
-        Ok(title) => title,
-        Err(status) => return status,
-    };
-    let mut script = line.as_slice().chain(&mut hashed);
-    match write_table(alloc, config, request, question, &mut script, output) {
-        Ok((scale, extent)) => {
-            let origin = Origin::of(files, &hashed, Some(extent));
-            match write_back(alloc, request, &scale, &origin, output) {
-                Ok(()) => Status::Done,
-                Err(error) => report_fault(name, fault_of(&error), errors),
-            }
-        }
-        Err(fault) => {
-            let origin = Origin::of(files, &hashed, None);
-            let _ = write_broken(alloc, request, &fault, &origin, output);
-            report_fault(name, fault, errors)
-        }
-    }
+    write_page::<F, R, Brand, W, E>(files, alloc, asking, reader, output, errors)
 }

@@ -9,9 +9,10 @@ use crate::script_title::read_title;
 use crate::styling::{report_name_fault, style_of};
 use mg_arguments::WatchRequest;
 use mg_heard::{Violation, rules_of, write_violation};
+use mg_host::Texts;
 use mg_options::Status;
 use std::alloc::Global;
-use std::fs::{Files, OpenOptions};
+use std::fs::Files;
 use std::io::{Read, Write};
 
 /// Returns the exit status that says whether a script breaks a rule.
@@ -72,7 +73,8 @@ fn alarm_of<F: Files, E: Write>(
 
 /// Prints the first violation in a script of the rules in `request`, as soon as it arrives. Returns the exit status. A
 /// fault is reported to `errors`.
-pub fn watch<F: Files, R: Read, W: Write, E: Write>(
+pub fn watch<H: Texts, F: Files, R: Read, W: Write, E: Write>(
+    host: &mut H,
     files: &F,
     alloc: Global,
     request: &WatchRequest,
@@ -80,7 +82,7 @@ pub fn watch<F: Files, R: Read, W: Write, E: Write>(
     output: &mut W,
     errors: &mut E,
 ) -> Status
-    ensures value { Hears (IsAnsweredFrom request.now (R.remaining input.old) (W.contents output.old)
+    ensures value { Hears (IsAnsweredFrom request.now (H.calls host.old) (H.calls host.new) (R.remaining input.old) (W.contents output.old)
         (W.contents output.new) result) (errors.new ≡ errors.old) result }
     ensures unread { IsSome request.now.file → input.new ≡ input.old }
 {
@@ -92,7 +94,7 @@ pub fn watch<F: Files, R: Read, W: Write, E: Write>(
         return watch_script(alloc, INPUT, alarm, input, output, errors);
     };
     let name = path.as_str();
-    match OpenOptions::new().read(true).open(files, name) {
+    match host.open_text(name) {
         Ok(mut file) => watch_script(alloc, name, alarm, &mut file, output, errors),
         Err(error) => {
             let _ = writeln!(errors, "{name}: cannot be opened: {error}");

@@ -1,7 +1,8 @@
 //! What a program asks of the machine that it runs on.
 //!
-//! A [`Host`] opens files. It may log the calls in one list, with their arguments and results ([`Tells`]), so that
-//! contracts can say what was found in a file. `specs/HostCalls.antt` defines what is known about the calls.
+//! A [`Host`] opens files, has UDP sockets and a clock, and knows the date. It may log the calls in one list, with their arguments and
+//! results ([`Tells`]), so that contracts can say what was found in a file, received and sent.
+//! `specs/HostCalls.antt` defines what is known about the calls.
 //!
 //! A program is generic over its host, so its contracts hold for a host that logs its calls, and the program can't know
 //! whether it runs on one. The operating system logs nothing. [`FakeHost`] is a host in memory:
@@ -12,17 +13,27 @@
 //! ```
 #![tactic(auto)]
 
+mod clocks;
+mod dates;
 mod fake_host;
+mod fake_watch;
 mod host;
 mod host_call;
 mod host_log;
 mod journals;
+mod sockets;
 mod tells;
 mod texts;
+mod unsent;
 
+pub use crate::clocks::Clocks;
+pub use crate::dates::Dates;
 pub use crate::fake_host::FakeHost;
+pub use crate::fake_watch::FakeWatch;
 pub use crate::host::Host;
 pub use crate::host_call::HostCall;
 pub use crate::journals::Journals;
+pub use crate::sockets::Sockets;
 pub use crate::tells::Tells;
 pub use crate::texts::Texts;
+pub use crate::unsent::Unsent;

@@ -9,7 +9,8 @@ use Rattle.std.proofs.KnownBytes.{starts_with_rest}
 use Rattle.mg_journal.specs.declared.extent.Extent.{Extent}
 use Rattle.mg_journal.specs.Text.{whole_lines, IsWhole}
 use Rattle.mg_journal.specs.JournalFile.{FileState, Cuts, HasAt, ReadsAt, cut_to}
-use Rattle.mg_journal.specs.Opening.{IsSound, IsWithin, text_in}
+use Rattle.mg_journal.specs.Opening.{IsSound, IsWithin}
+use Rattle.mg_journal.specs.aids.Opened.{text_in}
 use Rattle.mg_journal.specs.aids.Appending.{IsJournal}
 use Rattle.mg_journal.specs.aids.Opening.{IsExtent, HasExtent, HasFront}
 use Rattle.mg_journal.proofs.TextLemmas.{whole_front, whole_le, whole_twice}

@@ -1,3 +1,4 @@
 pub mod Appending
 pub mod LastPart
 pub mod Opening
+pub mod Opened

@@ -2,7 +2,8 @@ ghost use Rattle.std.specs.Prelude.{◌≡◌, ◌≢◌, ℕ, ◌+◌, ◌<◌,
 ghost use Rattle.std.specs.Io.{ReadsAtMost, StartsWith};
 ghost use Rattle.std.specs.Io.KnownBytes.{Consumes, ReadConsumes};
 ghost use Rattle.mg_journal.specs.Text.{whole_lines};
-ghost use Rattle.mg_journal.specs.Opening.{IsSound, left_to_read, text_in};
+ghost use Rattle.mg_journal.specs.Opening.{IsSound};
+ghost use Rattle.mg_journal.specs.aids.Opened.{left_to_read, text_in};
 ghost use Rattle.mg_journal.specs.aids.Appending.{IsHashed, IsJournal};
 ghost use Rattle.mg_journal.specs.aids.LastPart.{HasHash};
 ghost use Rattle.mg_journal.specs.aids.Opening.{HasExtent, Measures};
@@ -32,7 +33,8 @@ pub struct Opening<F: JournalFile> {
 
 impl<F: JournalFile> Model for Opening<F> {
     ghost use Rattle.std.specs.Prelude.{◌≤◌};
-    ghost use Rattle.mg_journal.specs.Opening.{OpeningState, IsSound};
+    ghost use Rattle.mg_journal.specs.Opening.{IsSound};
+    ghost use Rattle.mg_journal.specs.aids.Opened.{OpeningState};
     ghost use Rattle.mg_journal.specs.aids.Opening.{HasExtent};
 
     ghost Value = { OpeningState };

@@ -12,7 +12,7 @@ pub trait Pipe {
     fn is_ready(&mut self) -> bool
         ensures asked { Called (calls self.old) (calls self.new) (Asked result ∷ []) };
 
-    /// Writes the first of these bytes, and returns how many were written.
+    /// Writes these bytes, or the first ones of them, and returns how many were written.
     fn write(&mut self, bytes: &[u8]) -> io::Result<usize>
         ensures within { IfOk result (λ n. n ≤ length bytes.now) }
         ensures wrote { Called (calls self.old) (calls self.new) (Wrote bytes.now (taken_by result) ∷ []) };

@@ -1,2 +1,4 @@
 pub mod EndLemmas
-pub mod ReadinessLemmas
+pub mod PortLemmas
+pub mod FailLemmas
+pub mod DecisionLemmas

@@ -1,6 +1,7 @@
 pub mod Status
 pub mod Replay
-pub mod Readiness
+pub mod Decisions
 pub mod Serve
 pub mod Program
 pub mod Verify
+pub mod aids

@@ -1,5 +1,6 @@
 -- What a run of the program does; `EndsWith` in `mg_options` says how it ends on its arguments.
 use Rattle.std.specs.Prelude.{◌≡◌, ◌⊎◌, ℕ, List, IsSome, Option}
+use Rattle.mg_clock.specs.Ticks.{ClockSeen}
 use Rattle.mg_host.specs.declared.host_call.HostCall.{HostCall}
 use Rattle.mg_options.specs.declared.status.Status.{Status}
 use Rattle.mg_options.specs.declared.status.Status.TheVariants.{Done, Failed, NoAnswer}
@@ -24,34 +25,38 @@ Checks old new status =
 
 -- A run took place, and the status says how it ended. A successful run prints no error, unless it
 -- is asked when a talker was audible and the script has no RTP datagrams. A clock-driven run reads
--- no input. `before` and `after` are the calls on the host, if they are known.
+-- no input. `before` and `after` are the calls on the host, if they are known, and `clock` is the
+-- clock that was stopped.
 abbrev pub Runs : {R W : Type 0} → (R → Option (List ℕ)) → (W → Option (List ℕ))
-    → (silent : Type 0) → (before after : Option (List HostCall)) → R → R → W → W → Invocation
-    → Status → Type 0
-Runs remaining contents silent before after input rest old new (Replay config shown) status =
+    → (silent : Type 0) → (before after : Option (List HostCall)) → (clock : ClockSeen) → R → R → W
+    → W → Invocation → Status → Type 0
+Runs remaining contents silent before after clock input rest old new (Replay config shown) status =
     Replays config shown (remaining input) (remaining rest) (contents old) (contents new) status
     × (status ≡ Done → silent) × (after ≡ before)
-Runs remaining contents silent before after input rest old new (Serve config service) status =
+Runs remaining contents silent before after clock input rest old new (Serve config service) status =
     Serves (ByLines (remaining input) (remaining rest) (contents old) (contents new))
     ((rest ≡ input) × (new ≡ old)) config service no_draws before after status
     × (status ≡ Done → silent)
-Runs remaining contents silent before after input rest old new (Live config service draws late) status =
-    (rest ≡ input) × Serves (ByClock late (contents old) (contents new)) (new ≡ old) config service
-    draws before after status
-Runs remaining contents silent before after input rest old new (Check gateway) status =
+Runs remaining contents silent before after clock input rest old new (Live config service draws late) status =
+    (rest ≡ input) × Serves (ByClock late clock (contents old) (contents new)) (new ≡ old) config
+    service draws before after status
+Runs remaining contents silent before after clock input rest old new (Check gateway) status =
     (rest ≡ input) × Checks old new status × (status ≡ Done → silent) × (after ≡ before)
-Runs remaining contents silent before after input rest old new (Heard request) status =
+Runs remaining contents silent before after clock input rest old new (Heard request) status =
     (IsSome request.file → rest ≡ input)
-    × Hears (IsHeardFrom request (remaining input) (contents old) (contents new) status) silent status
-Runs remaining contents silent before after input rest old new (Watch request) status =
+    × Hears (IsHeardFrom request before after (remaining input) (contents old) (contents new) status)
+    silent status
+Runs remaining contents silent before after clock input rest old new (Watch request) status =
     (IsSome request.file → rest ≡ input)
-    × Hears (IsAnsweredFrom request (remaining input) (contents old) (contents new) status) silent status
-Runs remaining contents silent before after input rest old new (Audible request) status =
+    × Hears (IsAnsweredFrom request before after (remaining input) (contents old) (contents new) status)
+    silent status
+Runs remaining contents silent before after clock input rest old new (Audible request) status =
     (IsSome request.heard.file → rest ≡ input)
-    × Reports (IsAudibleFrom request (remaining input) (contents old) (contents new) silent) status
-Runs remaining contents silent before after input rest old new (Verify file) status =
+    × Reports (IsAudibleFrom request before after (remaining input) (contents old) (contents new) silent)
+    status
+Runs remaining contents silent before after clock input rest old new (Verify file) status =
     (IsSome file → rest ≡ input)
     × Verifies (IsVerifiedFrom file before after (remaining input) (contents old) (contents new) status)
     silent status
-Runs remaining contents silent before after input rest old new Seal status =
+Runs remaining contents silent before after clock input rest old new Seal status =
     SealsInput (remaining input) (contents old) (contents new) silent status × (after ≡ before)

@@ -1,9 +1,11 @@
-ghost use Rattle.std.specs.Prelude.{◌≡◌, ◌≤◌, map};
+ghost use Rattle.std.specs.Prelude.{◌≡◌, map};
+ghost use Rattle.mg_options.specs.Status.{code_of};
 ghost use Rattle.mg_options.specs.Ends.{EndsWith};
 ghost use Rattle.mg_arguments.specs.Options.{requested};
 ghost use Rattle.mg_program.specs.Program.{Runs};
 
 use crate::check::check;
+use crate::ended::Ended;
 use crate::live::live;
 use crate::replay::replay;
 use crate::serve::serve;
@@ -22,45 +24,112 @@ use std::net::Net;
 use std::random::RandomSource;
 use std::time::Clock;
 
-/// Does what the arguments ask for. Returns the exit status.
-fn run<N: Net, C: Clock, G: RandomSource, F: Files, H: Host, R: Read, W: Write, E: Write, T: Write>(
+/// Does what the arguments ask for. Returns the host and the exit status.
+fn run<
+    N: Net,
+    C: Clock,
+    G: RandomSource,
+    F: Files,
+    H: Host + Drop,
+    R: Read,
+    W: Write,
+    E: Write,
+    T: Write,
+>(
     system: &System<'_, N, C, G, F>,
-    host: &mut H,
+    host: H,
     alloc: Global,
     invocation: &Invocation,
     input: &mut R,
     output: &mut W,
     errors: &mut E,
     reports: &mut T,
-) -> Status
-    ensures runs { Runs R.remaining W.contents (errors.new ≡ errors.old) (H.calls host.old) (H.calls host.new) input.old
-        input.new output.old output.new invocation.now result }
+) -> Ended<H>
+    ensures runs { Runs R.remaining W.contents (errors.new ≡ errors.old) (H.calls host) (H.calls result.host)
+        (H.stopped result.host) input.old input.new output.old output.new invocation.now result.status }
 {
+    let mut host = host;
     match invocation {
-        Invocation::Replay(config, shown) => replay(alloc, *config, *shown, input, output, errors),
+        Invocation::Replay(config, shown) => {
+            let status = replay(alloc, *config, *shown, input, output, errors);
+            Ended { host, status }
+        }
         Invocation::Serve(config, service) => serve(
-            system, host, alloc, *config, service, input, output, errors, reports,
-        ),
-        Invocation::Live(config, service, draws, late) => live(
-            system, host, alloc, *config, service, *draws, *late, output, errors, reports,
-        ),
-        Invocation::Check(gateway) => check(system.net, system.clock, *gateway, output, errors),
-        Invocation::Heard(request) => heard(system.files, alloc, request, input, output, errors),
-        Invocation::Watch(request) => watch(system.files, alloc, request, input, output, errors),
-        Invocation::Audible(request) => audible(
-            system.files,
+            &system.local,
+            host,
             alloc,
-            request,
+            *config,
+            service,
             input,
             output,
             errors,
+            reports,
         ),
-        Invocation::Verify(file) => verify(host, alloc, file, input, output, errors),
-        Invocation::Seal => seal(alloc, input, output, errors),
+        Invocation::Live(config, service, draws, late) => live(
+            &system.local,
+            host,
+            alloc,
+            *config,
+            service,
+            *draws,
+            *late,
+            output,
+            errors,
+            reports,
+        ),
+        Invocation::Check(gateway) => {
+            let status = check(system.net, system.local.clock, *gateway, output, errors);
+            Ended { host, status }
+        }
+        Invocation::Heard(request) => {
+            let status = heard(
+                &mut host,
+                system.local.files,
+                alloc,
+                request,
+                input,
+                output,
+                errors,
+            );
+            Ended { host, status }
+        }
+        Invocation::Watch(request) => {
+            let status = watch(
+                &mut host,
+                system.local.files,
+                alloc,
+                request,
+                input,
+                output,
+                errors,
+            );
+            Ended { host, status }
+        }
+        Invocation::Audible(request) => {
+            let status = audible(
+                &mut host,
+                system.local.files,
+                alloc,
+                request,
+                input,
+                output,
+                errors,
+            );
+            Ended { host, status }
+        }
+        Invocation::Verify(file) => {
+            let status = verify(&mut host, alloc, file, input, output, errors);
+            Ended { host, status }
+        }
+        Invocation::Seal => {
+            let status = seal(alloc, input, output, errors);
+            Ended { host, status }
+        }
     }
 }
 
-/// Runs the program with these arguments on a host. The arguments don't include the program's name. Returns its exit status.
+/// Runs the program with these arguments on a host. The arguments don't include the program's name. Returns the host
+/// and the exit status.
 ///
 /// The status is 0 on success, 1 for a bad script line, and 2 for invalid arguments, an invalid configuration or a
 /// gateway that doesn't answer. It is 3 if a read or a write failed, if the clock can't be read, or if the system has
@@ -77,7 +146,7 @@ pub fn program<
     C: Clock,
     G: RandomSource,
     F: Files,
-    H: Host,
+    H: Host + Drop,
     S: AsStr,
     R: Read,
     W: Write,
@@ -85,24 +154,23 @@ pub fn program<
     T: Write,
 >(
     system: &System<'_, N, C, G, F>,
-    host: &mut H,
+    host: H,
     alloc: Global,
     words: &'a [S],
     input: &mut R,
     output: &mut W,
     errors: &mut E,
     reports: &mut T,
-) -> u8
-    ensures status { result ≤ 6 }
+) -> Ended<H>
     // The status says whether the program did what the arguments request and, if not, why.
     ensures ends { EndsWith
-        (Runs R.remaining W.contents (errors.new ≡ errors.old) (H.calls host.old) (H.calls host.new) input.old input.new
-        output.old output.new)
+        (Runs R.remaining W.contents (errors.new ≡ errors.old) (H.calls host) (H.calls result.host)
+        (H.stopped result.host) input.old input.new output.old output.new)
         (requested (map S.text words.now)) Status.Failed
-        ((input.new ≡ input.old) × (H.calls host.new ≡ H.calls host.old)) (errors.new ≡ errors.old) output.old output.new
-        result }
+        ((input.new ≡ input.old) × (H.calls result.host ≡ H.calls host)) (errors.new ≡ errors.old) output.old output.new
+        (code_of result.status) }
 {
-    let status = match requested_run(alloc, words) {
+    match requested_run(alloc, words) {
         Ok(invocation) => run(
             system,
             host,
@@ -113,7 +181,9 @@ pub fn program<
             errors,
             reports,
         ),
-        Err(error) => report_error(&error, Status::Failed, output, errors),
-    };
-    status.code()
+        Err(error) => {
+            let status = report_error(&error, Status::Failed, output, errors);
+            Ended { host, status }
+        }
+    }
 }

@@ -1,41 +1,43 @@
-//! The library behind `mg_bridge`: a conference media gateway that runs a script or uses the system's UDP sockets.
+//! The library behind `mg_bridge`: a conference media gateway that runs a script or uses UDP sockets.
 //!
 //! [`program`] does everything, from the command-line arguments to the exit status:
 //!
 //! ```rust
 //! let words = ["replay", "--slots", "4"];
-//! let system = System { net: &rt, clock: &rt, random: &rt, files: &rt };
-//! let status = program(&system, alloc, &words, &mut input, &mut output, &mut errors, &mut reports);
+//! let local = LocalSystem { clock: &rt, random: &rt, files: &rt };
+//! let system = System { net: &rt, local };
+//! let ended = program(&system, host, alloc, &words, &mut input, &mut output, &mut errors, &mut reports);
 //! ```
 //!
-//! [`Sockets`] holds a gateway's sockets, which are bound at startup. None of its calls blocks, and a media socket is
-//! not read unless the system reported a datagram. [`UdpPorts`] lends the sockets to a session (`mg_serve`), and sends
-//! no packet in a late tick. [`ControlWatch`] is a clock that also waits for messages.
+//! A gateway's sockets are those of the host ([`mg_host::Sockets`]), which are bound at startup. `GatewayPorts` lends
+//! them to a session (`mg_serve`). It sends no packet in a late tick or to an address that no caller can have, and
+//! receives from a media socket only if a datagram may be waiting there. `specs/Decisions.antt` defines that.
 //!
 //! `specs/Program.antt` defines how a run ends. `mg_arguments` defines what the arguments ask for, and `mg_start`
 //! defines how a gateway starts.
 #![tactic(auto)]
 
 mod bind_fault;
+mod binding;
 mod check;
-mod control_watch;
+mod ended;
 mod entry;
+mod gateway_ports;
 mod live;
+mod local_system;
+mod log_key;
 mod metrics_file;
-mod readiness;
 mod ready;
+mod receiving;
 mod replay;
+mod sending;
 mod serve;
-mod sockets;
 mod status;
 mod system;
-mod udp_ports;
-mod unsent;
 mod verify;
 
-pub use crate::bind_fault::BindFault;
+pub use crate::ended::Ended;
 pub use crate::entry::program;
-pub use crate::readiness::SOCKETS;
-pub use crate::sockets::Sockets;
+pub use crate::local_system::LocalSystem;
+pub use crate::receiving::SOCKETS;
 pub use crate::system::System;
-pub use crate::udp_ports::UdpPorts;

@@ -3,38 +3,39 @@ ghost use Rattle.std.specs.Option.{option_map_or};
 ghost use Rattle.mg_clock.specs.Ticks.{clock_seen};
 ghost use Rattle.mg_engine.specs.Config.{IsValidConfig};
 ghost use Rattle.mg_journal.specs.Journal.{no_journal};
-ghost use Rattle.mg_journal.specs.Opening.{text_in};
-ghost use Rattle.mg_start.specs.Journal.{KeepsTimes};
-ghost use Rattle.mg_core.specs.World.{World, StandsFor};
+ghost use Rattle.mg_journal.specs.aids.Opened.{text_in};
+ghost use Rattle.mg_start.specs.aids.Starting.{KeepsTimes, CanResume, CanStart};
+ghost use Rattle.mg_core.specs.World.{World};
+ghost use Rattle.mg_core.specs.aids.Stands.{StandsFor};
 ghost use Rattle.mg_ports.specs.Journaled.{ports_seen};
 ghost use Rattle.mg_serve.specs.Serve.{ServedByClock};
 ghost use Rattle.mg_arguments.specs.Setup.{setup_of};
 ghost use Rattle.mg_arguments.specs.Title.{title_if};
-ghost use Rattle.mg_start.specs.Start.{CanResume, CanStart};
-ghost use Rattle.mg_program.specs.Serve.{ByClock, Serves, ServesChosen, ServesOnPorts};
+ghost use Rattle.mg_host.specs.declared.host_call.HostCall.{HostCall};
+ghost use Rattle.mg_host.specs.HostCalls.{Grows, IsUnread};
+ghost use Rattle.mg_program.specs.Serve.{ByClock, Serves, ServesChosen, ServesOnPorts, binds_of};
 
-use crate::control_watch::ControlWatch;
+use crate::ended::Ended;
+use crate::gateway_ports::GatewayPorts;
+use crate::local_system::LocalSystem;
+use crate::log_key::LogKey;
 use crate::metrics_file::MetricsFile;
 use crate::ready::{Ready, make_ready};
-use crate::sockets::Sockets;
 use crate::status::status_after;
-use crate::system::System;
-use crate::udp_ports::UdpPorts;
 use mg_arguments::{Draws, Service, title_of};
-use mg_clock::{SystemWatch, Watch};
+use mg_clock::Watch;
 use mg_core::{Config, Core, RunFault};
-use mg_host::Journals;
+use mg_host::Host;
 use mg_journal::{Journal, JournalFile};
 use mg_monitor::{Both, Metrics, Reports};
 use mg_options::{Status, VERSION};
 use mg_ports::Ports;
 use mg_serve::Monitor;
 use mg_start::{Prepared, prepare};
-use mio::Events;
 use std::alloc::{AllocError, Global};
 use std::fs::Files;
-use std::io::Write;
-use std::net::Net;
+use std::io::{self, ErrorKind, Write};
+use std::marker::Brand;
 use std::random::RandomSource;
 use std::time::Clock;
 
@@ -73,34 +74,42 @@ fn live_on<P: Ports, K: Watch, W: Write, M: Monitor>(
     )
 }
 
-/// Runs a gateway on UDP ports, driven by a clock that watches the control port.
-fn live_on_sockets<J: Journal + Drop, C: Clock, W: Write, M: Monitor>(
+/// Runs a gateway on UDP ports, driven by the host's clock, which is stopped at the end.
+fn live_on_sockets<L: LogKey, H: Host + Drop, J: Journal + Drop, C: Clock, W: Write, M: Monitor>(
+    host: H,
     alloc: Global,
     ready: Ready<'_, J, C>,
     service: &Service,
-    watch: &mut ControlWatch<'_, C>,
+    watch: H::Watch,
     late: u16,
     output: &mut W,
     monitor: &mut M,
-) -> RunFault
+) -> (H, RunFault)
     requires sound { IsValidConfig ready.config }
-    ensures value { (text : Option (List ℕ)) → CanStart service.now.journal text ready.entry.config ready.entry.core.state
-        (option_map_or (λ j. j) ready.entry.journal no_journal) →
-        ServesOnPorts (ByClock late (W.contents output.old) (W.contents output.new)) ready.entry.config service.now text
-        (Err result) }
+    requires begins { H.calls host ≡ L.calls }
+    requires unread { IsUnread (H.calls host) (clock_seen (H.Watch.readings watch) (H.Watch.waits watch)) }
+    ensures value { (text : Option (List ℕ)) (bound : Option (List HostCall)) →
+        CanStart service.now.journal text ready.entry.config ready.entry.core.state
+        (option_map_or (λ j. j) ready.entry.journal no_journal) bound (H.calls host) →
+        ServesOnPorts (ByClock late (H.stopped result.0) (W.contents output.old) (W.contents output.new))
+        ready.entry.config service.now text bound (H.calls result.0) (Err result.1) }
 {
-    let mut ports = UdpPorts::new(ready.sockets, ready.journal);
-    live_on(
+    let mut watch = watch;
+    let mut ports = GatewayPorts::<_, _, _, L>::new(host, ready.journal);
+    let fault = live_on(
         alloc,
         ready.config,
         ready.core,
         service,
         &mut ports,
-        watch,
+        &mut watch,
         late,
         output,
         monitor,
-    )
+    );
+    let mut host = ports.host;
+    host.stop(watch);
+    (host, fault)
 }
 
 /// Runs a gateway on UDP ports, driven by the system's clock: a poll and a tick every 20 ms, and a poll when a message
@@ -111,9 +120,9 @@ fn live_on_sockets<J: Journal + Drop, C: Clock, W: Write, M: Monitor>(
 /// After a delay, all missed polls and ticks are executed at once. If a tick is more than `late` ticks late, its
 /// packets are not sent. So callers hear a gap, and timestamps stay in step with the clock. `reports` receives the
 /// number of packets that weren't sent, and the periodic reports if they are enabled.
-pub fn live<N: Net, C: Clock, G: RandomSource, F: Files, H: Journals, W: Write, E: Write, T: Write>(
-    system: &System<'_, N, C, G, F>,
-    host: &mut H,
+pub fn live<C: Clock, G: RandomSource, F: Files, H: Host + Drop, W: Write, E: Write, T: Write>(
+    system: &LocalSystem<'_, C, G, F>,
+    host: H,
     alloc: Global,
     config: Config,
     service: &Service,
@@ -122,30 +131,40 @@ pub fn live<N: Net, C: Clock, G: RandomSource, F: Files, H: Journals, W: Write, 
     output: &mut W,
     errors: &mut E,
     reports: &mut T,
-) -> Status
-    ensures value { Serves (ByClock late (W.contents output.old) (W.contents output.new)) (output.new ≡ output.old)
-        config service.now draws (H.calls host.old) (H.calls host.new) result }
+) -> Ended<H>
+    ensures value { Serves (ByClock late (H.stopped result.host) (W.contents output.old) (W.contents output.new))
+        (output.new ≡ output.old) config service.now draws (H.calls host) (H.calls result.host) result.status }
 {
-    match prepare(host, system.random, alloc, config, service, draws, errors) {
+    let mut host = host;
+    match prepare(
+        &mut host,
+        system.random,
+        alloc,
+        config,
+        service,
+        draws,
+        errors,
+    ) {
         Ok(prepared) => live_prepared(
-            system, alloc, prepared, service, late, output, errors, reports,
+            system, host, alloc, prepared, service, late, output, errors, reports,
         ),
-        Err(status) => status,
+        Err(status) => Ended { host, status },
     }
 }
 
 /// Runs a prepared gateway on UDP ports, driven by the system's clock.
 fn live_prepared<
-    N: Net,
     C: Clock,
     G: RandomSource,
     F: Files,
+    H: Host + Drop,
     J: JournalFile + Drop,
     W: Write,
     E: Write,
     T: Write,
 >(
-    system: &System<'_, N, C, G, F>,
+    system: &LocalSystem<'_, C, G, F>,
+    host: H,
     alloc: Global,
     prepared: Prepared<J>,
     service: &Service,
@@ -153,33 +172,39 @@ fn live_prepared<
     output: &mut W,
     errors: &mut E,
     reports: &mut T,
-) -> Status
+) -> Ended<H>
     requires resumed { CanResume service.now.journal (option_map_or (λ j. text_in j.opening.file) prepared.journal None)
         prepared.config prepared.core.state }
     requires found { IsSome service.now.journal → IsSome prepared.journal }
     requires times { IfSome prepared.journal (λ j. KeepsTimes j.timeline (text_in j.opening.file)) }
-    ensures value { ServesChosen (ByClock late (W.contents output.old) (W.contents output.new)) (output.new ≡ output.old)
-        prepared.config service.now (option_map_or (λ j. text_in j.opening.file) prepared.journal None) result }
+    ensures value { ServesChosen (ByClock late (H.stopped result.host) (W.contents output.old) (W.contents output.new))
+        (output.new ≡ output.old) prepared.config service.now
+        (option_map_or (λ j. text_in j.opening.file) prepared.journal None) (H.calls host) (H.calls result.host)
+        result.status }
 {
+    let mut host = host;
     prepared.tell(service, reports);
-    match make_ready(system, alloc, prepared, service, errors) {
-        Ok(ready) => live_ready(system, alloc, ready, service, late, output, errors, reports),
-        Err(status) => status,
+    match make_ready(system, &mut host, alloc, prepared, service, errors) {
+        Ok(ready) => live_ready(
+            system, host, alloc, ready, service, late, output, errors, reports,
+        ),
+        Err(status) => Ended { host, status },
     }
 }
 
 /// Runs a gateway whose ports are bound, driven by the system's clock.
 fn live_ready<
-    N: Net,
     C: Clock,
     G: RandomSource,
     F: Files,
+    H: Host + Drop,
     J: Journal + Drop,
     W: Write,
     E: Write,
     T: Write,
 >(
-    system: &System<'_, N, C, G, F>,
+    system: &LocalSystem<'_, C, G, F>,
+    host: H,
     alloc: Global,
     ready: Ready<'_, J, C>,
     service: &Service,
@@ -187,41 +212,47 @@ fn live_ready<
     output: &mut W,
     errors: &mut E,
     reports: &mut T,
-) -> Status
+) -> Ended<H>
     requires sound { IsValidConfig ready.config }
-    ensures value { (text : Option (List ℕ)) → CanStart service.now.journal text ready.entry.config ready.entry.core.state
-        (option_map_or (λ j. j) ready.entry.journal no_journal) →
-        ServesChosen (ByClock late (W.contents output.old) (W.contents output.new)) (output.new ≡ output.old)
-        ready.entry.config service.now text result }
+    ensures value { (text : Option (List ℕ)) (found bound : Option (List HostCall)) →
+        CanStart service.now.journal text ready.entry.config ready.entry.core.state
+        (option_map_or (λ j. j) ready.entry.journal no_journal) bound (H.calls host) →
+        Grows found bound (binds_of ready.entry.config service.now.bind_address) →
+        ServesChosen (ByClock late (H.stopped result.host) (W.contents output.old) (W.contents output.new))
+        (output.new ≡ output.old) ready.entry.config service.now text found (H.calls result.host) result.status }
 {
     let config = ready.config;
-    let mut ready = ready;
-    let mut watch = match watch_control(
-        system.net,
-        system.clock,
-        alloc,
-        &mut ready.sockets,
-        errors,
-    ) {
+    let mut host = host;
+    let watch = match host.watch() {
         Ok(watch) => watch,
-        Err(status) => return status,
+        Err(error) => {
+            let status = watch_fault(&error, errors);
+            return Ended { host, status };
+        }
     };
-    let fault = match monitor(system.files, system.clock, alloc, service, errors, reports) {
-        Ok(mut monitor) => live_on_sockets(
+    let (host, fault) = match monitor(system.files, system.clock, alloc, service, errors, reports) {
+        Ok(mut monitor) => live_on_sockets::<Brand, _, _, _, _, _>(
+            host,
             alloc,
             ready,
             service,
-            &mut watch,
+            watch,
             late,
             output,
             &mut monitor,
         ),
         Err(AllocError) => {
             let _ = writeln!(errors, "{}", RunFault::NoMemory);
-            return Status::NoMemory;
+            return Ended {
+                host,
+                status: Status::NoMemory,
+            };
         }
     };
-    status_after(&Err(fault), &config, errors)
+    Ended {
+        host,
+        status: status_after(&Err(fault), &config, errors),
+    }
 }
 
 /// Creates the monitor of a gateway: reports, and metrics if they are enabled.
@@ -244,33 +275,14 @@ fn monitor<'a, C: Clock, F: Files, E: Write, T: Write>(
     Ok(Both { first, second })
 }
 
-/// Starts a clock that watches the control socket. If that fails, reports the fault to `errors` and returns the
-/// program's exit status.
-fn watch_control<'a, N: Net, C: Clock, E: Write>(
-    net: &N,
-    clock: &'a C,
-    alloc: Global,
-    sockets: &mut Sockets,
-    errors: &mut E,
-) -> Result<ControlWatch<'a, C>, Status>
-    ensures ends { IfErr result (λ status. (status ≡ Status.NoMemory) ⊎ (status ≡ Status.Failed)) }
+/// Reports why the clock couldn't be started. Returns the program's exit status.
+fn watch_fault<E: Write>(error: &io::Error, errors: &mut E) -> Status
+    ensures ends { (result ≡ Status.NoMemory) ⊎ (result ≡ Status.Failed) }
 {
-    let Ok(events) = Events::with_capacity(alloc, 1) else {
+    if error.kind() == ErrorKind::OutOfMemory {
         let _ = writeln!(errors, "{}", RunFault::NoMemory);
-        return Err(Status::NoMemory);
-    };
-    let watch = match SystemWatch::start_now(clock) {
-        Ok(watch) => watch,
-        Err(failed) => {
-            let _ = writeln!(errors, "{failed}");
-            return Err(Status::Failed);
-        }
-    };
-    match ControlWatch::new(net, watch, events, sockets) {
-        Ok(watch) => Ok(watch),
-        Err(error) => {
-            let _ = writeln!(errors, "the control port cannot be watched: {error}");
-            Err(Status::Failed)
-        }
+        return Status::NoMemory;
     }
+    let _ = writeln!(errors, "the control port cannot be watched: {error}");
+    Status::Failed
 }

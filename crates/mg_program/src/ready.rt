@@ -1,25 +1,28 @@
-ghost use Rattle.std.specs.Prelude.{◌≡◌, None, IfErr, IfOk, IfSome, IsSome, OnOk};
+ghost use Rattle.std.specs.Prelude.{◌≡◌, List, Option, None, IfErr, IfOk, IfSome, IsSome, OnErr, OnOk};
 ghost use Rattle.std.specs.Option.{option_map_or};
 ghost use Rattle.mg_engine.specs.Config.{IsValidConfig};
 ghost use Rattle.mg_journal.specs.Journal.{no_journal};
-ghost use Rattle.mg_journal.specs.Opening.{text_in};
-ghost use Rattle.mg_start.specs.Journal.{KeepsTimes};
-ghost use Rattle.mg_start.specs.Start.{CanResume, CanStart, FailsToStart};
+ghost use Rattle.mg_journal.specs.aids.Opened.{text_in};
+ghost use Rattle.mg_start.specs.Journal.{RunsNoSession};
+ghost use Rattle.mg_start.specs.aids.Starting.{KeepsTimes, CanResume, CanStart};
+ghost use Rattle.mg_host.specs.declared.host_call.HostCall.{HostCall};
+ghost use Rattle.mg_host.specs.HostCalls.{Grows};
+ghost use Rattle.mg_start.specs.Start.{FailsToStart};
+ghost use Rattle.mg_program.specs.Serve.{binds_of};
 
+use crate::binding::bind;
+use crate::local_system::LocalSystem;
 use crate::metrics_file::{can_write_metrics, replaces_journal};
-use crate::serve::bind;
-use crate::sockets::Sockets;
-use crate::system::System;
 use mg_arguments::Service;
 use mg_core::{Config, Core};
 use mg_dates::DatedJournal;
+use mg_host::{Dates, Sockets};
 use mg_journal::{FileJournal, Journal, JournalFile};
 use mg_options::Status;
 use mg_start::{Prepared, begin_journal};
 use std::alloc::Global;
 use std::fs::Files;
 use std::io::Write;
-use std::net::Net;
 use std::random::RandomSource;
 use std::time::Clock;
 
@@ -28,7 +31,6 @@ use std::time::Clock;
 pub struct Ready<'a, J: Journal, C: Clock> {
     pub config: Config,
     pub core: Core,
-    pub sockets: Sockets,
     pub journal: Option<DatedJournal<'a, J, C>>,
 }
 
@@ -65,8 +67,17 @@ fn check_metrics<F: Files, E: Write>(
 
 /// Binds the ports of a prepared gateway, checks that its metrics can be written, and starts appending to its journal.
 /// If that fails, reports the fault to `errors` and returns the program's exit status.
-pub fn make_ready<'a, N: Net, C: Clock, G: RandomSource, F: Files, J: JournalFile + Drop, E: Write>(
-    system: &System<'a, N, C, G, F>,
+pub fn make_ready<
+    'a,
+    C: Clock,
+    G: RandomSource,
+    F: Files,
+    H: Sockets + Dates,
+    J: JournalFile + Drop,
+    E: Write,
+>(
+    system: &LocalSystem<'a, C, G, F>,
+    host: &mut H,
     alloc: Global,
     prepared: Prepared<J>,
     service: &Service,
@@ -76,24 +87,26 @@ pub fn make_ready<'a, N: Net, C: Clock, G: RandomSource, F: Files, J: JournalFil
         prepared.config prepared.core.state }
     requires found { IsSome service.now.journal → IsSome prepared.journal }
     requires times { IfSome prepared.journal (λ j. KeepsTimes j.timeline (text_in j.opening.file)) }
+    ensures fails { OnErr result (RunsNoSession (H.calls host.old) (H.calls host.new)) }
     ensures config { IfOk result (λ r. r.config ≡ prepared.config) }
     ensures sound { IfOk result (λ r. IsValidConfig r.config) }
-    ensures start { IfOk result (λ r. CanStart service.now.journal
-        (option_map_or (λ j. text_in j.opening.file) prepared.journal None) r.config r.core.state
-        (option_map_or (λ j. j) r.journal no_journal)) }
+    ensures start { IfOk result (λ r. (bound : Option (List HostCall)) ×
+        Grows (H.calls host.old) bound (binds_of prepared.config service.now.bind_address) ×
+        CanStart service.now.journal (option_map_or (λ j. text_in j.opening.file) prepared.journal None) r.config
+        r.core.state (option_map_or (λ j. j) r.journal no_journal) bound (H.calls host.new)) }
     ensures quiet { OnOk result (errors.new ≡ errors.old) }
     ensures ends { IfErr result (FailsToStart prepared.config) }
 {
     let config = prepared.config;
     let mut core = prepared.core;
-    let sockets = match bind(system.net, alloc, &config, service.bind_address, errors) {
-        Ok(sockets) => sockets,
-        Err(status) => return Err(status),
-    };
+    if let Err(status) = bind(host, &config, service.bind_address, errors) {
+        return Err(status);
+    }
     if let Err(status) = check_metrics(system.files, service, errors) {
         return Err(status);
     }
     match begin_journal(
+        host,
         alloc,
         &config,
         service,
@@ -105,7 +118,6 @@ pub fn make_ready<'a, N: Net, C: Clock, G: RandomSource, F: Files, J: JournalFil
         Ok(journal) => Ok(Ready {
             config,
             core,
-            sockets,
             journal,
         }),
         Err(status) => Err(status),

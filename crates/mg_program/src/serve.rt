@@ -2,70 +2,41 @@ ghost use Rattle.std.specs.Prelude.{◌≡◌, ◌≢◌, ℕ, List, Option, Non
 ghost use Rattle.std.specs.Option.{option_map_or};
 ghost use Rattle.mg_engine.specs.Config.{IsValidConfig};
 ghost use Rattle.mg_journal.specs.Journal.{no_journal};
-ghost use Rattle.mg_journal.specs.Opening.{text_in};
+ghost use Rattle.mg_journal.specs.aids.Opened.{text_in};
 ghost use Rattle.mg_arguments.specs.Draws.{no_draws};
-ghost use Rattle.mg_start.specs.Journal.{KeepsTimes};
-ghost use Rattle.mg_core.specs.World.{World, StandsFor};
+ghost use Rattle.mg_start.specs.aids.Starting.{KeepsTimes, CanResume, CanStart};
+ghost use Rattle.mg_core.specs.World.{World};
+ghost use Rattle.mg_core.specs.aids.Stands.{StandsFor};
 ghost use Rattle.mg_ports.specs.Journaled.{ports_seen};
 ghost use Rattle.mg_serve.specs.Serve.{ServedSession};
 ghost use Rattle.mg_arguments.specs.Setup.{setup_of};
 ghost use Rattle.mg_arguments.specs.Title.{title_if};
-ghost use Rattle.mg_start.specs.Start.{CanResume, CanStart, FailsToStart};
-ghost use Rattle.mg_program.specs.Serve.{ByLines, Serves, ServesChosen, ServesOnPorts};
+ghost use Rattle.mg_start.specs.Start.{FailsToStart};
+ghost use Rattle.mg_host.specs.declared.host_call.HostCall.{HostCall};
+ghost use Rattle.mg_host.specs.HostCalls.{Grows};
+ghost use Rattle.mg_program.specs.Serve.{ByLines, Serves, ServesChosen, ServesOnPorts, binds_of};
 
-use crate::readiness::SOCKETS;
+use crate::ended::Ended;
+use crate::gateway_ports::GatewayPorts;
+use crate::local_system::LocalSystem;
+use crate::log_key::LogKey;
 use crate::ready::{Ready, make_ready};
-use crate::sockets::Sockets;
 use crate::status::status_after;
-use crate::system::System;
-use crate::udp_ports::UdpPorts;
-use mg_arguments::{ConfigFault, Draws, Service, title_of};
+use mg_arguments::{Draws, Service, title_of};
 use mg_core::{Config, Core, Counts, RunFault};
-use mg_host::Journals;
+use mg_host::{Dates, Host, Sockets};
 use mg_journal::{Journal, JournalFile};
 use mg_monitor::Reports;
 use mg_options::Status;
 use mg_ports::Ports;
 use mg_serve::Monitor;
 use mg_start::{Prepared, prepare};
-use mio::Events;
 use std::alloc::Global;
 use std::fs::Files;
 use std::io::{Read, Write};
-use std::net::Net;
+use std::marker::Brand;
 use std::random::RandomSource;
 use std::time::Clock;
-
-/// Binds the sockets of a gateway. If that fails, reports the fault to `errors` and returns the program's exit status.
-///
-/// An invalid configuration is reported before a port is bound.
-pub fn bind<N: Net, E: Write>(
-    net: &N,
-    alloc: Global,
-    config: &Config,
-    bind_address: Option<[u8; 4]>,
-    errors: &mut E,
-) -> Result<Sockets, Status>
-    ensures sound { OnOk result (IsValidConfig config.now) }
-    ensures ends { IfErr result (FailsToStart config.now) }
-    ensures quiet { OnOk result (errors.new ≡ errors.old) }
-{
-    if let Some(fault) = ConfigFault::of(config) {
-        let _ = writeln!(errors, "{}: {fault}", RunFault::BadConfig);
-        return Err(Status::Usage);
-    }
-    let Ok(events) = Events::with_capacity(alloc, SOCKETS) else {
-        let _ = writeln!(errors, "{}", RunFault::NoMemory);
-        return Err(Status::NoMemory);
-    };
-    match Sockets::bind(net, config, bind_address, events) {
-        Ok(sockets) => Ok(sockets),
-        Err(fault) => {
-            let _ = writeln!(errors, "{fault}");
-            Err(Status::NoPort)
-        }
-    }
-}
 
 /// Runs a gateway on these ports, driven by input lines.
 fn serve_on<P: Ports, R: Read, W: Write, M: Monitor>(
@@ -100,22 +71,33 @@ fn serve_on<P: Ports, R: Read, W: Write, M: Monitor>(
 }
 
 /// Runs a gateway on UDP ports, driven by input lines.
-fn serve_on_sockets<J: Journal + Drop, C: Clock, R: Read, W: Write, M: Monitor>(
+fn serve_on_sockets<
+    L: LogKey,
+    H: Sockets + Drop,
+    J: Journal + Drop,
+    C: Clock,
+    R: Read,
+    W: Write,
+    M: Monitor,
+>(
+    host: H,
     alloc: Global,
     ready: Ready<'_, J, C>,
     service: &Service,
     input: &mut R,
     output: &mut W,
     monitor: &mut M,
-) -> Result<Counts, RunFault>
+) -> (H, Result<Counts, RunFault>)
     requires sound { IsValidConfig ready.config }
-    ensures value { (text : Option (List ℕ)) → CanStart service.now.journal text ready.entry.config ready.entry.core.state
-        (option_map_or (λ j. j) ready.entry.journal no_journal) →
+    requires begins { H.calls host ≡ L.calls }
+    ensures value { (text : Option (List ℕ)) (bound : Option (List HostCall)) →
+        CanStart service.now.journal text ready.entry.config ready.entry.core.state
+        (option_map_or (λ j. j) ready.entry.journal no_journal) bound (H.calls host) →
         ServesOnPorts (ByLines (R.remaining input.old) (R.remaining input.new) (W.contents output.old)
-        (W.contents output.new)) ready.entry.config service.now text result }
+        (W.contents output.new)) ready.entry.config service.now text bound (H.calls result.0) result.1 }
 {
-    let mut ports = UdpPorts::new(ready.sockets, ready.journal);
-    serve_on(
+    let mut ports = GatewayPorts::<_, _, _, L>::new(host, ready.journal);
+    let outcome = serve_on(
         alloc,
         ready.config,
         ready.core,
@@ -124,7 +106,8 @@ fn serve_on_sockets<J: Journal + Drop, C: Clock, R: Read, W: Write, M: Monitor>(
         input,
         output,
         monitor,
-    )
+    );
+    (ports.host, outcome)
 }
 
 /// Runs a gateway on UDP ports, driven by input lines. The gateway is new, or it resumes from the journal. A fault is
@@ -133,18 +116,17 @@ fn serve_on_sockets<J: Journal + Drop, C: Clock, R: Read, W: Write, M: Monitor>(
 /// An invalid configuration is reported before a port is bound. A port that can't be bound is reported before a line is
 /// read, and before anything is appended to the journal.
 pub fn serve<
-    N: Net,
     C: Clock,
     G: RandomSource,
     F: Files,
-    H: Journals,
+    H: Host + Drop,
     R: Read,
     W: Write,
     E: Write,
     T: Write,
 >(
-    system: &System<'_, N, C, G, F>,
-    host: &mut H,
+    system: &LocalSystem<'_, C, G, F>,
+    host: H,
     alloc: Global,
     config: Config,
     service: &Service,
@@ -152,14 +134,15 @@ pub fn serve<
     output: &mut W,
     errors: &mut E,
     reports: &mut T,
-) -> Status
+) -> Ended<H>
     ensures value { Serves (ByLines (R.remaining input.old) (R.remaining input.new) (W.contents output.old)
         (W.contents output.new)) ((input.new ≡ input.old) × (output.new ≡ output.old)) config service.now no_draws
-        (H.calls host.old) (H.calls host.new) result }
-    ensures quiet { result ≡ Status.Done → errors.new ≡ errors.old }
+        (H.calls host) (H.calls result.host) result.status }
+    ensures quiet { result.status ≡ Status.Done → errors.new ≡ errors.old }
 {
+    let mut host = host;
     match prepare(
-        host,
+        &mut host,
         system.random,
         alloc,
         config,
@@ -168,25 +151,26 @@ pub fn serve<
         errors,
     ) {
         Ok(prepared) => serve_prepared(
-            system, alloc, prepared, service, input, output, errors, reports,
+            system, host, alloc, prepared, service, input, output, errors, reports,
         ),
-        Err(status) => status,
+        Err(status) => Ended { host, status },
     }
 }
 
 /// Runs a prepared gateway on UDP ports, driven by input lines.
 fn serve_prepared<
-    N: Net,
     C: Clock,
     G: RandomSource,
     F: Files,
+    H: Sockets + Dates + Drop,
     J: JournalFile + Drop,
     R: Read,
     W: Write,
     E: Write,
     T: Write,
 >(
-    system: &System<'_, N, C, G, F>,
+    system: &LocalSystem<'_, C, G, F>,
+    host: H,
     alloc: Global,
     prepared: Prepared<J>,
     service: &Service,
@@ -194,25 +178,36 @@ fn serve_prepared<
     output: &mut W,
     errors: &mut E,
     reports: &mut T,
-) -> Status
+) -> Ended<H>
     requires resumed { CanResume service.now.journal (option_map_or (λ j. text_in j.opening.file) prepared.journal None)
         prepared.config prepared.core.state }
     requires found { IsSome service.now.journal → IsSome prepared.journal }
     requires times { IfSome prepared.journal (λ j. KeepsTimes j.timeline (text_in j.opening.file)) }
     ensures value { ServesChosen (ByLines (R.remaining input.old) (R.remaining input.new) (W.contents output.old)
         (W.contents output.new)) ((input.new ≡ input.old) × (output.new ≡ output.old)) prepared.config service.now
-        (option_map_or (λ j. text_in j.opening.file) prepared.journal None) result }
-    ensures quiet { result ≡ Status.Done → errors.new ≡ errors.old }
+        (option_map_or (λ j. text_in j.opening.file) prepared.journal None) (H.calls host) (H.calls result.host)
+        result.status }
+    ensures quiet { result.status ≡ Status.Done → errors.new ≡ errors.old }
 {
+    let mut host = host;
     prepared.tell(service, reports);
-    match make_ready(system, alloc, prepared, service, errors) {
-        Ok(ready) => serve_ready(alloc, ready, service, input, output, errors, reports),
-        Err(status) => status,
+    match make_ready(system, &mut host, alloc, prepared, service, errors) {
+        Ok(ready) => serve_ready(host, alloc, ready, service, input, output, errors, reports),
+        Err(status) => Ended { host, status },
     }
 }
 
 /// Runs a gateway whose ports are bound, driven by input lines.
-fn serve_ready<J: Journal + Drop, C: Clock, R: Read, W: Write, E: Write, T: Write>(
+fn serve_ready<
+    H: Sockets + Drop,
+    J: Journal + Drop,
+    C: Clock,
+    R: Read,
+    W: Write,
+    E: Write,
+    T: Write,
+>(
+    host: H,
     alloc: Global,
     ready: Ready<'_, J, C>,
     service: &Service,
@@ -220,20 +215,36 @@ fn serve_ready<J: Journal + Drop, C: Clock, R: Read, W: Write, E: Write, T: Writ
     output: &mut W,
     errors: &mut E,
     reports: &mut T,
-) -> Status
+) -> Ended<H>
     requires sound { IsValidConfig ready.config }
-    ensures value { (text : Option (List ℕ)) → CanStart service.now.journal text ready.entry.config ready.entry.core.state
-        (option_map_or (λ j. j) ready.entry.journal no_journal) →
+    ensures value { (text : Option (List ℕ)) (found bound : Option (List HostCall)) →
+        CanStart service.now.journal text ready.entry.config ready.entry.core.state
+        (option_map_or (λ j. j) ready.entry.journal no_journal) bound (H.calls host) →
+        Grows found bound (binds_of ready.entry.config service.now.bind_address) →
         ServesChosen (ByLines (R.remaining input.old) (R.remaining input.new) (W.contents output.old)
         (W.contents output.new)) ((input.new ≡ input.old) × (output.new ≡ output.old)) ready.entry.config service.now
-        text result }
-    ensures quiet { result ≡ Status.Done → errors.new ≡ errors.old }
+        text found (H.calls result.host) result.status }
+    ensures quiet { result.status ≡ Status.Done → errors.new ≡ errors.old }
 {
     let config = ready.config;
     let Ok(mut monitor) = Reports::new(alloc, service.report, reports) else {
         let _ = writeln!(errors, "{}", RunFault::NoMemory);
-        return Status::NoMemory;
+        return Ended {
+            host,
+            status: Status::NoMemory,
+        };
     };
-    let outcome = serve_on_sockets(alloc, ready, service, input, output, &mut monitor);
-    status_after(&outcome, &config, errors)
+    let (host, outcome) = serve_on_sockets::<Brand, _, _, _, _, _, _>(
+        host,
+        alloc,
+        ready,
+        service,
+        input,
+        output,
+        &mut monitor,
+    );
+    Ended {
+        host,
+        status: status_after(&outcome, &config, errors),
+    }
 }

@@ -1,13 +1,13 @@
+use crate::local_system::LocalSystem;
 use std::fs::Files;
 use std::net::Net;
 use std::random::RandomSource;
 use std::time::Clock;
 
-/// The parts of the operating system that the program uses.
+/// The parts of the operating system that the program uses besides its host.
 #[derive(Drop)]
 pub struct System<'a, N: Net, C: Clock, G: RandomSource, F: Files> {
+    /// Only `check` gets this: a gateway's only way to a network is its host.
     pub net: &'a N,
-    pub clock: &'a C,
-    pub random: &'a G,
-    pub files: &'a F,
+    pub local: LocalSystem<'a, C, G, F>,
 }

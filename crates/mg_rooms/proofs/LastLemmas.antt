@@ -3,7 +3,7 @@ use Rattle.mg_rooms.proofs.Common.{◌≡◌, ℕ, ◌≤◌, false, List, [], �
 use Rattle.std.proofs.lemmas.Bool.Decides.{nat_tests}
 use Rattle.mg_rooms.specs.Changes.{inserted, replaced, entered}
 use Rattle.mg_rooms.specs.aids.Entering.{entered_at}
-use Rattle.mg_rooms.specs.Lasting.{Lasts, LeavesOthers}
+use Rattle.mg_rooms.specs.aids.Lasting.{Lasts, LeavesOthers}
 use Rattle.mg_rooms.proofs.CountLemmas.{count-zero, find-none, find-push_some, find-push_none, find-push_other, find-change_other, find-change_same}
 use Rattle.mg_rooms.proofs.ListsLemmas.{Keeps, keeps-number, keeps_left}
 use Rattle.mg_rooms.proofs.OutcomeLemmas.{Added, Modified, Moved, Subtracted}

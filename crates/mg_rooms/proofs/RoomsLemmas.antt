@@ -1,6 +1,6 @@
 -- What an outcome says of the terminations and contexts that a call left.
 use Rattle.mg_rooms.proofs.Common.{◌≡◌, Result, Ok, Err, OnErr, Record, ErrorNumber, Registry}
-use Rattle.mg_rooms.specs.Outcome.{Gives}
+use Rattle.mg_rooms.specs.aids.Gives.{Gives}
 
 -- a refused call changes nothing
 pub refused : {A : Type 0} (record_of : A → Record) (old new : Registry) (r : Result A ErrorNumber)

@@ -2,8 +2,8 @@
 use Rattle.mg_rooms.proofs.Common.{◌≡◌, ℕ, Some, Ok, Err, sym, IsSome, option_map, ◌<◌, ◌==◌, ◌∷◌, List, [], get_or, refl, ◌∙◌, AllByRecursion, eq-eqb, eqb-true, Record, Settings, Target, Registry, record_at, context_at, IsTermination, IsConsistent, ErrorNumber, named, member, removed, left}
 use Rattle.mg_rooms.specs.aids.Sound.{IsSound}
 use Rattle.mg_rooms.specs.declared.member.Member.{Member}
-use Rattle.mg_rooms.specs.Member.{ExistsAs}
-use Rattle.mg_rooms.specs.Lasting.{Lasts, LeavesOthers}
+use Rattle.mg_rooms.specs.aids.Member.{ExistsAs}
+use Rattle.mg_rooms.specs.aids.Lasting.{Lasts, LeavesOthers}
 use Rattle.mg_rooms.specs.Changes.{inserted, replaced}
 use Rattle.mg_rooms.specs.Outcome.{add, modify, move_to, subtract}
 use Rattle.mg_rooms.proofs.OutcomeLemmas.{found_number, named_is, add_done, modify_done, move_done, subtract_done}

@@ -1,12 +1,10 @@
 pub mod Registry
 pub mod Outcome
 pub mod Changes
-pub mod Member
 pub mod Members
 pub mod Record
 pub mod Settings
 pub mod Limits
 pub mod Results
 pub mod Consistent
-pub mod Lasting
 pub mod aids

@@ -3,7 +3,7 @@
 -- command. The termination has its new record, or the old one if it was subtracted. The order of
 -- the checks is this project's own: the termination, the action's context, exhausted resources, the
 -- media.
-use Rattle.std.specs.Prelude.{◌≡◌, ℕ, Bool, false, not, ◌&&◌, length, Some, None, Result, Ok, Err}
+use Rattle.std.specs.Prelude.{ℕ, Bool, false, not, ◌&&◌, length, Some, None, Result, Ok, Err}
 use Rattle.std.specs.Prelude.{◌==◌, nat_lt, nat_le, ok_or}
 use Rattle.mg_rooms.specs.declared.record.Record.{Record}
 use Rattle.mg_rooms.specs.declared.place.EntryPlace.{EntryPlace}
@@ -112,9 +112,3 @@ unfoldable pub subtract : Registry → Target → ℕ → Result (Registry × Re
 subtract w target n = do
   r ← member w target n
   Ok (left (removed w r.number) r.context r.number, r)
-
--- The outcome is the call's result and the state after the call. A rejected call changes nothing.
-abbrev pub Gives : {A : Type 0} → (A → Record) → Registry → Registry → Result A ErrorNumber
-    → Result (Registry × Record) ErrorNumber → Type 0
-Gives record_of old new (Ok x) outcome = outcome ≡ Ok (new, record_of x)
-Gives record_of old new (Err e) outcome = (outcome ≡ Err e) × (new ≡ old)

@@ -4,3 +4,6 @@ pub mod Found
 pub mod Order
 pub mod Sound
 pub mod Tables
+pub mod Lasting
+pub mod Member
+pub mod Gives

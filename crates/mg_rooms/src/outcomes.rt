@@ -3,7 +3,8 @@
 ghost use Rattle.std.specs.Prelude.{◌≡◌, ◌<◌, Some};
 ghost use Rattle.mg_rooms.specs.Registry.{record_at};
 ghost use Rattle.mg_rooms.specs.Changes.{removed, left};
-ghost use Rattle.mg_rooms.specs.Outcome.{Gives, add, modify, move_to};
+ghost use Rattle.mg_rooms.specs.Outcome.{add, modify, move_to};
+ghost use Rattle.mg_rooms.specs.aids.Gives.{Gives};
 
 use crate::member::Member;
 use crate::record::Record;

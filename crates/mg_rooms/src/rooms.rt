@@ -1,9 +1,10 @@
 ghost use Rattle.std.specs.Prelude.{◌≡◌, ◌<◌, ◌≤◌, nat_lt, if◌then◌else◌, Some, None, IfOk, IfSome, IfNone, OnErr, length, option_map};
 ghost use Rattle.mg_rooms.specs.Limits.{slot_port, AreValidLimits};
 ghost use Rattle.mg_rooms.specs.Registry.{start_of, record_at, context_at, members_at, holder_of};
-ghost use Rattle.mg_rooms.specs.Lasting.{Lasts, LeavesOthers};
-ghost use Rattle.mg_rooms.specs.Member.{ExistsAs};
-ghost use Rattle.mg_rooms.specs.Outcome.{Gives, member, add, modify, move_to, subtract};
+ghost use Rattle.mg_rooms.specs.aids.Lasting.{Lasts, LeavesOthers};
+ghost use Rattle.mg_rooms.specs.aids.Member.{ExistsAs};
+ghost use Rattle.mg_rooms.specs.Outcome.{member, add, modify, move_to, subtract};
+ghost use Rattle.mg_rooms.specs.aids.Gives.{Gives};
 
 use crate::limits::Limits;
 use crate::member::Member;

@@ -14,7 +14,8 @@ use Rattle.mg_core.specs.declared.event.Event.{Event}
 use Rattle.mg_core.specs.declared.event.Event.TheVariants as events
 use Rattle.mg_core.specs.declared.state.CoreState.{CoreState}
 use Rattle.mg_core.specs.Recording.{IsDatagram}
-use Rattle.mg_core.specs.World.{World, StandsFor, TakesMedia, packets_of, world_after_tick}
+use Rattle.mg_core.specs.World.{World, TakesMedia, packets_of, world_after_tick}
+use Rattle.mg_core.specs.aids.Stands.{StandsFor}
 use Rattle.mg_core.specs.Step.{Sent, Packet, Step}
 use Rattle.mg_words.specs.Leads.{Leads}
 use Rattle.mg_ports.specs.declared.call.Call.{Call}

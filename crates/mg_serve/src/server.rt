@@ -2,7 +2,8 @@ ghost use Rattle.std.specs.Prelude.{◌≡◌, ◌^◌, ◌<◌, ◌≤◌, ◌+
 ghost use Rattle.mg_rooms.specs.Limits.{slot_port};
 ghost use Rattle.mg_engine.specs.Config.{IsValidConfig, limits_of};
 ghost use Rattle.mg_core.specs.Step.{Packet, Step};
-ghost use Rattle.mg_core.specs.World.{World, StandsFor, counts_of};
+ghost use Rattle.mg_core.specs.World.{World, counts_of};
+ghost use Rattle.mg_core.specs.aids.Stands.{StandsFor};
 ghost use Rattle.mg_words.specs.Leads.{Leads};
 ghost use Rattle.mg_ports.specs.declared.call.Call.TheVariants.{Send};
 ghost use Rattle.mg_ports.specs.Calls.{Logged};
@@ -476,6 +477,7 @@ impl<'a, M: Monitor> Server<'a, M> {
     ) -> Result<bool, WriteFailed>
         requires sound { IsValidConfig setup.now.config }
         requires room { length buffer.old ≤ DATAGRAM_LIMIT }
+        requires whole { self.old.printer.has_failed ≡ false }
         requires few { self.old.journal.lacking + 1 < 2 ^ 64 }
         ensures quit { IfOk result (λ quit. quit ≡ is_quit command) }
         ensures whole { OnOk result (self.new.printer.has_failed ≡ false) }

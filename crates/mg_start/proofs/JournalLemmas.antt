@@ -1,5 +1,5 @@
 -- What a gateway appends to its journal before it starts.
-use Rattle.std.proofs.Common.{◌≡◌, ℕ, ne_eqb, ◌+◌, ◌-◌, ◌<◌, ◌≤◌, decimal, List, [], ◌∷◌, ◌++◌, codes, false, replicate, Option, Some, None, refl, sym, ap, subst, ◌∙◌, append_assoc, append-nil, arith, IsSome, Result, Ok, Err, is_err, is_some, OnOk}
+use Rattle.std.proofs.Common.{◌≡◌, ℕ, ne_eqb, ◌+◌, ◌-◌, ◌<◌, ◌≤◌, decimal, List, [], ◌∷◌, ◌++◌, codes, false, replicate, Option, Some, None, refl, sym, ap, subst, ◌∙◌, append_assoc, append-nil, arith, Result, Ok, Err, OnOk}
 use Rattle.std.specs.Prelude.{flat_map}
 use Rattle.std.proofs.lemmas.List.{replicate-append-replicate}
 use Rattle.std.proofs.lemmas.List.Concat.{flat_map-append}
@@ -7,20 +7,19 @@ use Rattle.std.specs.Io.KnownBytes.{append_known}
 use Rattle.mg_core.specs.declared.event.Event.{Event}
 use Rattle.mg_core.specs.declared.event.Event.TheVariants.{Tick}
 use Rattle.mg_core.specs.Recording.{event_line}
-use Rattle.mg_dates.specs.declared.timeline.Timeline.{Timeline}
 use Rattle.mg_engine.specs.declared.config.Config.{Config}
-use Rattle.mg_journal.specs.declared.durability.Durability.TheVariants.{Written, Synced}
+use Rattle.mg_journal.specs.declared.durability.Durability.TheVariants.{Written}
 use Rattle.mg_journal.specs.declared.append_fault.AppendFault.{AppendFault}
-use Rattle.mg_journal.specs.declared.durability.Durability.{Durability}
-use Rattle.mg_journal.specs.Journal.{JournalState, Appends, appended}
+use Rattle.mg_journal.specs.Journal.{JournalState, appended}
 use Rattle.mg_journal.specs.Text.{EndsInLineFeed}
 use Rattle.mg_journal.proofs.TextLemmas.{ends_line}
-use Rattle.mg_start.specs.Journal.{Begins, missed_comment, missed_lines, title_before}
+use Rattle.mg_start.specs.Journal.{missed_comment, missed_lines}
+use Rattle.mg_start.specs.aids.Starting.{HasBegun}
 use Rattle.mg_arguments.specs.Title.{title_line}
 use Rattle.mg_arguments.specs.Title.{title_text}
 use Rattle.mg_serve.specs.Journaled.{tick_lines}
 
-ticks_both : (n m : ℕ) → tick_lines (n + m) ≡ tick_lines n ++ tick_lines m
+pub ticks_both : (n m : ℕ) → tick_lines (n + m) ≡ tick_lines n ++ tick_lines m
 ticks_both n m =
     sym (ap (λ (l : List Event). flat_map event_line l) (replicate-append-replicate n m Tick))
     ∙ flat_map-append event_line (replicate n Tick) (replicate m Tick)
@@ -29,7 +28,7 @@ known_both : (text : Option (List ℕ)) (a b : List ℕ) → append_known (appen
 known_both None a b = refl
 known_both (Some text) a b = ap (λ (l : List ℕ). Some l) (append_assoc text a b)
 
-known_none : (text : Option (List ℕ)) → append_known text [] ≡ text
+pub known_none : (text : Option (List ℕ)) → append_known text [] ≡ text
 known_none None = refl
 known_none (Some text) = ap (λ (l : List ℕ). Some l) (append-nil text)
 
@@ -50,29 +49,13 @@ ticks_more all left batch old mid new some few is more =
     (sym (ticks_both (all - left) batch) ∙ ap tick_lines count))
 
 -- the journal with its title, and then with the ticks
-begins : (title : List ℕ) (missed : ℕ) (found : Option (List ℕ)) (titled last : JournalState)
+pub begins : (title : List ℕ) (missed : ℕ) (found : Option (List ℕ)) (titled last : JournalState)
     → titled.is_broken ≡ false → titled.text ≡ append_known found title
-    → last ≡ appended (missed_lines missed) Written titled → Begins title missed found last
+    → last ≡ appended (missed_lines missed) Written titled → HasBegun title missed found last
 begins title missed found titled last works text is = record {
   works = ap (λ (j : JournalState). j.is_broken) is ∙ works;
   text = ap (λ (j : JournalState). j.text) is ∙ ap (λ (t : Option (List ℕ)). append_known t (missed_lines missed)) text;
 }
-
-pub new_begins : (timeline : Option Timeline) (config : Config) (missed : ℕ) (found : Option (List ℕ))
-    (first titled last : JournalState) → is_some timeline ≡ false → first.is_broken ≡ false → first.text ≡ found
-    → titled ≡ appended (title_line config) Synced first → last ≡ appended (missed_lines missed) Written titled
-    → Begins (title_before timeline config) missed found last
-new_begins None config missed found first titled last none works text is more =
-    begins (title_line config) missed found titled last (ap (λ (j : JournalState). j.is_broken) is ∙ works)
-    (ap (λ (j : JournalState). j.text) is ∙ ap (λ (t : Option (List ℕ)). append_known t (title_line config)) text) more
-new_begins (Some timeline) config missed found first titled last none works text is more = absurd cc
-
-pub old_begins : (timeline : Option Timeline) (config : Config) (missed : ℕ) (found : Option (List ℕ))
-    (first last : JournalState) → IsSome timeline → first.is_broken ≡ false → first.text ≡ found
-    → last ≡ appended (missed_lines missed) Written first → Begins (title_before timeline config) missed found last
-old_begins None config missed found first last some works text more = absurd cc
-old_begins (Some timeline) config missed found first last some works text more =
-    begins [] missed found first last works (text ∙ sym (known_none found)) more
 
 feed_after : (front text : List ℕ) → EndsInLineFeed (front ++ (text ++ codes "\n"))
 feed_after front text = subst EndsInLineFeed (append_assoc front text (10 ∷ [])) (ends_line (front ++ text))
@@ -80,17 +63,6 @@ feed_after front text = subst EndsInLineFeed (append_assoc front text (10 ∷ []
 -- the title is a whole line
 pub title_feed : (config : Config) → EndsInLineFeed (title_line config)
 title_feed config = feed_after (codes "# ") (title_text config)
-
-pub ticks_done : (result : Result (Unit {0}) AppendFault) (missed : ℕ) (old new : JournalState) → is_err result ≡ false
-    → OnOk result (new ≡ appended (missed_lines missed) Written old) → new ≡ appended (missed_lines missed) Written old
-ticks_done (Ok done) missed old new ok value = value
-ticks_done (Err fault) missed old new ok value = absurd cc
-
-pub append_done : (result : Result (Unit {0}) AppendFault) (lines : List ℕ) (durability : Durability)
-    (old new : JournalState) → is_err result ≡ false → Appends lines durability old new result
-    → new ≡ appended lines durability old
-append_done (Ok done) lines durability old new ok value = value.1
-append_done (Err fault) lines durability old new ok value = absurd cc
 
 -- the comment, and then the ticks
 pub marked : (result : Result (Unit {0}) AppendFault) (missed : ℕ) (old mid new : JournalState)

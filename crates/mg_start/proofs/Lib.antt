@@ -2,3 +2,5 @@ pub mod JournalLemmas
 pub mod ResumeLemmas
 pub mod TitleLemmas
 pub mod StartLemmas
+pub mod LogLemmas
+pub mod BeginLemmas

@@ -4,8 +4,9 @@ use Rattle.mg_core.specs.declared.state.CoreState.{CoreState}
 use Rattle.std.proofs.lemmas.List.Elements.{All-nil}
 use Rattle.mg_core.proofs.RecordingLemmas.{recordings_are_read}
 use Rattle.mg_core.specs.Recording.{IsRecorded}
-use Rattle.mg_core.specs.Resume.{IsResumed}
-use Rattle.mg_core.specs.World.{StandsFor, start_of}
+use Rattle.mg_core.specs.aids.Resume.{IsResumed}
+use Rattle.mg_core.specs.World.{start_of}
+use Rattle.mg_core.specs.aids.Stands.{StandsFor}
 use Rattle.mg_engine.specs.declared.config.Config.{Config}
 
 -- it is resumed from no line, so from no event

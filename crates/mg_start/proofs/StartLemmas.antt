@@ -1,30 +1,37 @@
 -- How a gateway finds its journal, chooses its configuration and starts.
 use Rattle.std.proofs.Common.{◌≡◌, ◌≢◌, inl, inr, ℕ, zero, suc, ◌<◌, ◌==◌, true, length, take, drop, slice_index, arith, List, [], ◌∷◌, ◌++◌, codes, Option, Some, None, refl, sym, ap, ◌∙◌, append_assoc, append-nil, IfSome, MatchOption, Bor}
+use Rattle.std.specs.Prelude.{reverse, unwrap_or}
 use Rattle.std.specs.Option.{option_map}
 use Rattle.std.proofs.lemmas.Bool.{eqb-true}
 use Rattle.std.specs.Io.KnownBytes.{Consumes}
 use Rattle.mg_core.specs.declared.state.CoreState.{CoreState}
-use Rattle.mg_core.specs.Resume.{IsResumed}
+use Rattle.mg_core.specs.aids.Resume.{IsResumed}
+use Rattle.mg_core.specs.Follow.{IsFollowed}
+use Rattle.mg_core.specs.Note.{Note, notes_of}
 use Rattle.mg_core.specs.Run.{HasRead}
 use Rattle.mg_core.specs.Script.{events_of}
 use Rattle.mg_core.specs.World.{world_after_ticks}
 use Rattle.mg_core.specs.declared.event.Event.{Event}
 use Rattle.mg_dates.specs.declared.timeline.Timeline.{Timeline}
+use Rattle.mg_dates.specs.Times.{missed_since, timeline_of}
 use Rattle.mg_engine.specs.declared.config.Config.{Config}
-use Rattle.mg_lines.specs.Lines.{lines_of}
+use Rattle.mg_lines.specs.Lines.{lines_after, lines_of}
 use Rattle.mg_journal.specs.Journal.{JournalState}
 use Rattle.mg_journal.specs.JournalFile.{FileState}
-use Rattle.mg_journal.specs.Opening.{text_in}
+use Rattle.mg_journal.specs.aids.Opened.{text_in}
 use Rattle.mg_journal.specs.Text.{whole_lines}
 use Rattle.mg_host.specs.declared.host_call.HostCall.{HostCall}
-use Rattle.mg_host.specs.HostCalls.{IsLogged, IsLoggedText}
+use Rattle.mg_host.specs.declared.host_call.HostCall.TheVariants.{ReadDate}
+use Rattle.mg_host.specs.HostCalls.{Grows, IsLogged, IsLoggedText}
 use Rattle.mg_arguments.specs.declared.draws.Draws.{Draws}
 use Rattle.mg_arguments.specs.declared.given.Given.{Given}
 use Rattle.mg_arguments.specs.Draws.{IsDrawn}
 use Rattle.mg_arguments.specs.Given.{Agrees}
 use Rattle.mg_arguments.specs.Title.{title_line, title_text}
-use Rattle.mg_start.specs.Journal.{Begins, KeepsTimes, PassesTicks, missed_lines, title_before}
-use Rattle.mg_start.specs.Start.{BeginsWithTitle, CanResume, CanStart, IsChosenBy, started_text}
+use Rattle.mg_start.specs.Journal.{missed_after, missed_lines, timeline_after}
+use Rattle.mg_start.specs.aids.Starting.{HasBegun, HasWritten, KeepsTimes, PassesTicks, missed_by, title_before, CanResume, CanStart}
+use Rattle.mg_start.specs.Start.{BeginsWithTitle, IsChosenBy, started_text}
+use Rattle.mg_start.proofs.LogLemmas.{grows_both}
 
 -- the complete lines in a file whose bytes are logged
 pub found_lines : (calls : Option (List HostCall)) (file : FileState) (bytes : List ℕ) → IsLogged calls file bytes
@@ -70,21 +77,75 @@ resumes_from path text rest config state r = record {
 
 -- the text of the journal, after its title and the ticks that were missed
 writes : (timeline : Option Timeline) (config : Config) (missed : ℕ) (text : Option (List ℕ)) (journal : JournalState)
-    → KeepsTimes timeline text → Begins (title_before timeline config) missed text journal
+    → KeepsTimes timeline text → HasBegun (title_before timeline config) missed text journal
     → journal.text ≡ option_map (started_text config missed) text
 writes None config missed None journal keeps begins = begins.text
 writes None config missed (Some []) journal keeps begins = begins.text
 writes None config missed (Some (byte ∷ text)) journal keeps begins = absurd cc
 writes (Some timeline) config missed None journal keeps begins = begins.text
-writes (Some timeline) config missed (Some []) journal keeps begins = absurd (keeps refl)
+writes (Some timeline) config missed (Some []) journal keeps begins = absurd (keeps.0 refl)
 writes (Some timeline) config missed (Some (byte ∷ text)) journal keeps begins =
     begins.text ∙ ap (λ (l : List ℕ). Some (l ++ missed_lines missed)) (append-nil (byte ∷ text))
 
+-- ## The ticks that were missed
+
+known_times : (text rest : Option (List ℕ)) (script : List ℕ) (notes : List Note) (timeline : Timeline)
+    → HasRead text rest script true → notes_of (lines_of true script) ≡ Some notes
+    → timeline ≡ timeline_of (reverse notes) → IfSome text (λ found. timeline ≡ timeline_after found)
+known_times None rest script notes timeline read are is = tt
+known_times (Some text) rest script notes timeline read are is =
+    is ∙ sym (ap (λ (n : Option (List Note)). timeline_of (reverse (unwrap_or n [])))
+    (ap (λ (l : List ℕ). notes_of (lines_of true l)) (read_whole text script rest read) ∙ are))
+
+-- the times of a journal that was followed to its end
+pub times_from : (config : Config) (text rest : Option (List ℕ)) (state : CoreState) (timeline : Timeline)
+    → IsFollowed config text rest state (λ notes. timeline ≡ timeline_of (reverse notes))
+    → IfSome text (λ found. timeline ≡ timeline_after found)
+times_from config text rest state timeline f =
+    known_times text rest f.script f.notes timeline f.read f.are f.follows
+
+pub times_kept : (timeline : Timeline) (text : Option (List ℕ)) → IfSome text (λ found. found ≢ [])
+    → IfSome text (λ found. timeline ≡ timeline_after found) → KeepsTimes (Some timeline) text
+times_kept timeline None lines is = tt
+times_kept timeline (Some text) lines is = (lines, is)
+
+-- a timeline before any note
+pub new_times : record { start = None; ticks = 0 } ≡ timeline_of (reverse [])
+unfolding timeline_of
+new_times = refl
+
+-- nothing was missed before a new journal begins
+none_missed : (millis : Option ℕ) → 0 ≡ missed_after [] millis
+unfolding lines_after notes_of timeline_of
+none_missed None = refl
+none_missed (Some millis) = refl
+
+times_missed : (timeline : Timeline) (text : List ℕ) (millis : Option ℕ) → timeline ≡ timeline_after text
+    → missed_by (Some timeline) millis ≡ missed_after text millis
+times_missed timeline text None is = refl
+times_missed timeline text (Some millis) is =
+    ap (λ (t : Timeline). missed_since t (record { millis = millis })) is
+
+-- the ticks that were missed, and the lines that are appended before a gateway starts
+lines_begun : (timeline : Option Timeline) (config : Config) (missed : ℕ) (millis : Option ℕ) (text : Option (List ℕ))
+    → missed ≡ missed_by timeline millis → KeepsTimes timeline text
+    → IfSome text (λ found. (missed ≡ missed_after found millis)
+    × (started_text config missed found ≡ found ++ (title_before timeline config ++ missed_lines missed)))
+lines_begun timeline config missed millis None is keeps = tt
+lines_begun None config missed millis (Some []) is keeps = (is ∙ none_missed millis, refl)
+lines_begun None config missed millis (Some (byte ∷ text)) is keeps = absurd cc
+lines_begun (Some timeline) config missed millis (Some []) is keeps = absurd (keeps.0 refl)
+lines_begun (Some timeline) config missed millis (Some (byte ∷ text)) is keeps =
+    (is ∙ times_missed timeline (byte ∷ text) millis keeps.1, refl)
+
 pub starts_from : (path : List ℕ) (text : Option (List ℕ)) (config : Config) (old new : CoreState)
-    (timeline : Option Timeline) (missed : ℕ) (journal : JournalState) → CanResume (Some path) text config old
-    → KeepsTimes timeline text → PassesTicks missed old new → Begins (title_before timeline config) missed text journal
-    → CanStart (Some path) text config new journal
-starts_from path text config old new timeline missed journal can keeps passes begins = record {
+    (timeline : Option Timeline) (missed : ℕ) (millis : Option ℕ) (journal : JournalState)
+    (bound read begun : Option (List HostCall)) → CanResume (Some path) text config old → KeepsTimes timeline text
+    → missed ≡ missed_by timeline millis → Grows bound read (ReadDate millis ∷ []) → PassesTicks missed old new
+    → HasBegun (title_before timeline config) missed text journal
+    → HasWritten read begun (title_before timeline config ++ missed_lines missed)
+    → CanStart (Some path) text config new journal bound begun
+starts_from path text config old new timeline missed millis journal bound read begun can keeps is grows passes begins (calls, more, written) = record {
   world = world_after_ticks missed can.world;
   stands = passes can.world can.stands;
   started = record {
@@ -92,13 +153,22 @@ starts_from path text config old new timeline missed journal can keeps passes be
     starts = (can.world, can.resumes, refl);
     works = λ some. begins.works;
     writes = λ some. writes timeline config missed text journal keeps begins;
+    begins = (
+      millis,
+      calls,
+      title_before timeline config ++ missed_lines missed,
+      grows_both bound read begun (ReadDate millis ∷ []) calls grows more,
+      written,
+      lines_begun timeline config missed millis text is keeps,
+    );
   };
 }
 
 -- without a journal
 pub starts_anew : (text : Option (List ℕ)) (config : Config) (state : CoreState) (journal : JournalState)
-    → CanResume None text config state → CanStart None text config state journal
-starts_anew text config state journal can = record {
+    (calls : Option (List HostCall)) → CanResume None text config state
+    → CanStart None text config state journal calls calls
+starts_anew text config state journal calls can = record {
   world = can.world;
   stands = can.stands;
   started = record {
@@ -106,6 +176,7 @@ starts_anew text config state journal can = record {
     starts = can.resumes;
     works = λ some. absurd cc;
     writes = λ some. absurd cc;
+    begins = refl;
   };
 }
 

@@ -3,7 +3,7 @@ use Rattle.std.proofs.Common.{◌≡◌, ℕ, ◌+◌, true, List, [], length, t
 use Rattle.std.proofs.lemmas.List.{take_all}
 use Rattle.std.specs.Io.{StartsWith}
 use Rattle.mg_journal.specs.Text.{whole_lines}
-use Rattle.mg_start.specs.Journal.{may_be_title}
+use Rattle.mg_start.specs.aids.Starting.{may_be_title}
 
 -- a file without a complete line is what was peeked at
 pub partial_title : (known : Option (List ℕ)) (n : ℕ) (part : List ℕ) → length part ≡ n →

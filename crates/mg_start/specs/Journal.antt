@@ -1,31 +1,16 @@
 -- What a gateway finds in its journal, and what it appends to it before it starts.
-use Rattle.std.specs.Prelude.{◌≡◌, ◌≢◌, ◌==◌, ℕ, false, List, [], ◌++◌, codes, decimal, Option, Some, None}
-use Rattle.std.specs.Prelude.{IfSome, if◌then◌else◌, Bool, ◌||◌, nat_eq}
-use Rattle.std.specs.List.{starts_with}
-use Rattle.std.specs.Io.KnownBytes.{append_known}
+use Rattle.std.specs.Prelude.{◌≡◌, ◌==◌, ℕ, List, [], ◌∷◌, ◌++◌, codes, decimal}
+use Rattle.std.specs.Prelude.{Option, Some, None, Ok, true, reverse, unwrap_or}
+use Rattle.std.specs.Prelude.{if◌then◌else◌}
+use Rattle.mg_lines.specs.Lines.{lines_of}
+use Rattle.mg_core.specs.Note.{notes_of}
 use Rattle.mg_dates.specs.declared.timeline.Timeline.{Timeline}
-use Rattle.mg_engine.specs.declared.config.Config.{Config}
-use Rattle.mg_core.specs.declared.state.CoreState.{CoreState}
-use Rattle.mg_core.specs.World.{World, StandsFor, world_after_ticks}
-use Rattle.mg_journal.specs.Journal.{JournalState}
-use Rattle.mg_arguments.specs.Title.{title_line}
+use Rattle.mg_dates.specs.Times.{missed_since, timeline_of}
+use Rattle.mg_ports.specs.declared.call.Call.TheVariants.{Append}
+use Rattle.mg_host.specs.declared.host_call.HostCall.{HostCall}
+use Rattle.mg_host.specs.declared.host_call.HostCall.TheVariants.{Bind, OnPorts, ReadDate}
+use Rattle.mg_host.specs.HostCalls.{Grows}
 use Rattle.mg_serve.specs.Journaled.{tick_lines}
-
--- Times are kept for a journal if and only if it has lines, as far as its text is known.
-abbrev pub KeepsTimes : Option Timeline → (found : Option (List ℕ)) → Type 0
-KeepsTimes None found = IfSome found (λ text. text ≡ [])
-KeepsTimes (Some timeline) found = IfSome found (λ text. text ≢ [])
-
--- the beginning of a title, or a text that begins like one
-abbrev pub may_be_title : List ℕ → Bool
-may_be_title text =
-    let start = codes "# mg_bridge replay " in
-    starts_with nat_eq text start || starts_with nat_eq start text
-
--- A new journal, for which no times are known, begins with its title.
-abbrev pub title_before : Option Timeline → Config → List ℕ
-title_before None config = title_line config
-title_before (Some timeline) config = []
 
 -- the comment about ticks that were missed, if there are any
 abbrev pub missed_comment : ℕ → List ℕ
@@ -36,14 +21,30 @@ missed_comment ticks =
 abbrev pub missed_lines : ℕ → List ℕ
 missed_lines ticks = missed_comment ticks ++ tick_lines ticks
 
--- this many ticks have passed
-abbrev pub PassesTicks : ℕ → CoreState → CoreState → Type 0
-PassesTicks ticks old new =
-    (w : World) → StandsFor old w → StandsFor new (world_after_ticks ticks w)
+-- lines were appended to a journal, in this order, and nothing else was done
+abbrev pub Writes : List HostCall → (lines : List ℕ) → Type 0
+Writes [] lines = lines ≡ []
+Writes (OnPorts (Append part durability (Ok done)) ∷ calls) lines =
+    (rest : List ℕ) × (lines ≡ part ++ rest) × Writes calls rest
+Writes (call ∷ calls) lines = ⊥
 
--- A journal that works, and whose text, if it is known, is the text that was found, then the title,
--- then lines for this many missed ticks.
-pub record Begins (title : List ℕ) (ticks : ℕ) (found : Option (List ℕ)) (journal : JournalState)
-    : Type 0 where
-  pub works : journal.is_broken ≡ false
-  pub text : journal.text ≡ append_known (append_known found title) (missed_lines ticks)
+-- what the dates in the comments of a journal's text say about when its ticks happened
+abbrev pub timeline_after : (text : List ℕ) → Timeline
+timeline_after text = timeline_of (reverse (unwrap_or (notes_of (lines_of true text)) []))
+
+-- how many ticks were missed since then, at this date; none if the date isn't known
+abbrev pub missed_after : (text : List ℕ) → (millis : Option ℕ) → ℕ
+missed_after text None = 0
+missed_after text (Some millis) = missed_since (timeline_after text) (record { millis = millis })
+
+-- Sockets were bound, the date was read, and lines were appended to a journal, but nothing else was
+-- done.
+abbrev pub IsQuiet : List HostCall → Type 0
+IsQuiet [] = Unit {0}
+IsQuiet (Bind address port bound ∷ calls) = IsQuiet calls
+IsQuiet (ReadDate millis ∷ calls) = IsQuiet calls
+IsQuiet (OnPorts (Append lines durability result) ∷ calls) = IsQuiet calls
+IsQuiet (call ∷ calls) = ⊥
+
+abbrev pub RunsNoSession : (old new : Option (List HostCall)) → Type 0
+RunsNoSession old new = (calls : List HostCall) × Grows old new calls × IsQuiet calls

@@ -8,12 +8,11 @@ use Rattle.mg_lines.specs.Lines.{lines_of}
 use Rattle.mg_core.specs.declared.event.Event.{Event}
 use Rattle.mg_core.specs.Script.{events_of}
 use Rattle.mg_core.specs.Step.{Sent, Run}
-use Rattle.mg_core.specs.declared.state.CoreState.{CoreState}
-use Rattle.mg_core.specs.World.{World, StandsFor, start_of, world_after_ticks}
+use Rattle.mg_core.specs.World.{World, start_of, world_after_ticks}
 use Rattle.mg_journal.specs.Journal.{JournalState}
 use Rattle.mg_journal.specs.Text.{whole_lines}
 use Rattle.mg_host.specs.declared.host_call.HostCall.{HostCall}
-use Rattle.mg_host.specs.declared.host_call.HostCall.TheVariants.{OpenJournal}
+use Rattle.mg_host.specs.declared.host_call.HostCall.TheVariants.{OpenJournal, ReadDate}
 use Rattle.mg_host.specs.HostCalls.{Grows, IsLoggedText}
 use Rattle.mg_options.specs.declared.status.Status.{Status}
 use Rattle.mg_options.specs.declared.status.Status.TheVariants.{Usage, Failed, NoMemory}
@@ -23,7 +22,7 @@ use Rattle.mg_arguments.specs.declared.given.Given.{Given}
 use Rattle.mg_arguments.specs.Draws.{IsDrawn}
 use Rattle.mg_arguments.specs.Given.{Agrees}
 use Rattle.mg_arguments.specs.Title.{title_line}
-use Rattle.mg_start.specs.Journal.{missed_lines}
+use Rattle.mg_start.specs.Journal.{Writes, missed_after, missed_lines}
 
 -- why a run didn't begin: ports are bound only for a valid configuration
 abbrev pub FailsToStart : Config → Status → Type 0
@@ -87,24 +86,22 @@ abbrev pub started_text : Config → (missed : ℕ) → (found : List ℕ) → L
 started_text config missed [] = title_line config ++ missed_lines missed
 started_text config missed (byte ∷ found) = (byte ∷ found) ++ missed_lines missed
 
--- a core in a world in which the gateway is resumed
-pub record CanResume (journal text : Option (List ℕ)) (config : Config) (state : CoreState) : Type 0
-  where
-    pub world : World
-    pub stands : StandsFor state world
-    pub resumes : ResumesIn journal text config world
+-- What is done on the host before a gateway starts: if there is a journal, the date is read, and
+-- lines are appended to the journal. As far as its text is known, that and the date say which.
+abbrev pub Begins : (journal text : Option (List ℕ)) → Config → (missed : ℕ)
+    → (old new : Option (List HostCall)) → Type 0
+Begins None text config missed old new = new ≡ old
+Begins (Some path) text config missed old new =
+    (millis : Option ℕ) × (calls : List HostCall) × (lines : List ℕ)
+    × Grows old new (ReadDate millis ∷ calls) × Writes calls lines
+    × IfSome text (λ found. (missed ≡ missed_after found millis)
+    × (started_text config missed found ≡ found ++ lines))
 
 -- The world in which a gateway starts, and its journal, if it has one, which works.
 pub record HasStarted (journal text : Option (List ℕ)) (config : Config) (start : World)
-    (before : JournalState) : Type 0 where
+    (before : JournalState) (bound begun : Option (List HostCall)) : Type 0 where
   pub missed : ℕ
   pub starts : StartsIn journal text config missed start
   pub works : IsSome journal → before.is_broken ≡ false
   pub writes : IsSome journal → before.text ≡ option_map (started_text config missed) text
-
--- a core in the world in which a gateway starts
-pub record CanStart (journal text : Option (List ℕ)) (config : Config) (state : CoreState)
-    (before : JournalState) : Type 0 where
-  pub world : World
-  pub stands : StandsFor state world
-  pub started : HasStarted journal text config world before
+  pub begins : Begins journal text config missed bound begun

@@ -1,14 +1,16 @@
-ghost use Rattle.std.specs.Prelude.{◌≡◌, None, IfErr, IfOk, IfSome, IsSome, OnOk};
+ghost use Rattle.std.specs.Prelude.{◌≡◌, None, IfErr, IfOk, IfSome, IsSome, OnErr, OnOk};
 ghost use Rattle.std.specs.Option.{option_map_or};
 ghost use Rattle.mg_journal.specs.Journal.{no_journal};
-ghost use Rattle.mg_journal.specs.Opening.{text_in};
-ghost use Rattle.mg_start.specs.Journal.{KeepsTimes};
-ghost use Rattle.mg_start.specs.Start.{CanResume, CanStart, FailsToStart};
+ghost use Rattle.mg_journal.specs.aids.Opened.{text_in};
+ghost use Rattle.mg_start.specs.Journal.{RunsNoSession};
+ghost use Rattle.mg_start.specs.aids.Starting.{KeepsTimes, CanResume, CanStart};
+ghost use Rattle.mg_start.specs.Start.{FailsToStart};
 
 use crate::found_journal::FoundJournal;
 use mg_arguments::Service;
 use mg_core::{Config, Core};
 use mg_dates::DatedJournal;
+use mg_host::Dates;
 use mg_journal::{FileJournal, JournalFile};
 use mg_options::Status;
 use std::alloc::Global;
@@ -17,7 +19,8 @@ use std::time::Clock;
 
 /// Starts appending to the journal, if there is one, and skips the ticks that the gateway missed. If that fails,
 /// reports the fault to `errors` and returns the program's exit status.
-pub fn begin_journal<'a, F: JournalFile, C: Clock, E: Write>(
+pub fn begin_journal<'a, T: Dates, F: JournalFile, C: Clock, E: Write>(
+    host: &mut T,
     alloc: Global,
     config: &Config,
     service: &Service,
@@ -34,7 +37,8 @@ where
     requires times { IfSome found (λ j. KeepsTimes j.timeline (text_in j.opening.file)) }
     ensures started { IfOk result (λ journal. CanStart service.now.journal
         (option_map_or (λ j. text_in j.opening.file) found None) config.now core.new.state
-        (option_map_or (λ j. j) journal no_journal)) }
+        (option_map_or (λ j. j) journal no_journal) (T.calls host.old) (T.calls host.new)) }
+    ensures fails { OnErr result (RunsNoSession (T.calls host.old) (T.calls host.new)) }
     ensures quiet { OnOk result (errors.new ≡ errors.old) }
     ensures ends { IfErr result (FailsToStart config.now) }
 {
@@ -44,7 +48,7 @@ where
     let Some(found) = found else {
         return Ok(None);
     };
-    match found.begin(alloc, config, clock, core) {
+    match found.begin(host, alloc, config, clock, core) {
         Ok(journal) => Ok(Some(journal)),
         Err(fault) => Err(fault.report(path, errors)),
     }

@@ -1,7 +1,12 @@
-ghost use Rattle.std.specs.Prelude.{◌≡◌, ◌<◌, ◌≤◌, ◌+◌, ◌++◌, ℕ, length, IfOk, OnOk};
+ghost use Rattle.std.specs.Prelude.{◌≡◌, ◌<◌, ◌≤◌, ◌+◌, ◌++◌, ◌∷◌, [], ℕ, List, Option, true, false, length, is_none, IfOk, OnErr, OnOk};
 ghost use Rattle.mg_journal.specs.Journal.{Appends, appended};
-ghost use Rattle.mg_journal.specs.Opening.{text_in};
-ghost use Rattle.mg_start.specs.Journal.{Begins, PassesTicks, missed_comment, missed_lines, title_before};
+ghost use Rattle.mg_journal.specs.aids.Opened.{text_in};
+ghost use Rattle.mg_journal.specs.Text.{EndsInLineFeed};
+ghost use Rattle.mg_start.specs.Journal.{RunsNoSession, missed_comment, missed_lines};
+ghost use Rattle.mg_host.specs.declared.host_call.HostCall.{HostCall};
+ghost use Rattle.mg_host.specs.declared.host_call.HostCall.TheVariants.{ReadDate};
+ghost use Rattle.mg_host.specs.HostCalls.{Grows};
+ghost use Rattle.mg_start.specs.aids.Starting.{HasBegun, Logs, PassesTicks, missed_by, title_before};
 ghost use Rattle.mg_arguments.specs.Title.{title_line};
 ghost use Rattle.mg_serve.specs.Journaled.{tick_lines};
 
@@ -11,6 +16,7 @@ use itoa::Buffer;
 use mg_arguments::{TITLE_LIMIT, title_of};
 use mg_core::{Config, Core};
 use mg_dates::{Date, DatedJournal, Timeline};
+use mg_host::{Dates, Tells};
 use mg_journal::{AppendFault, Durability, FileJournal, Journal, JournalFile, Opening};
 use std::alloc::{AllocError, Global};
 use std::io::{self, ErrorKind};
@@ -56,33 +62,74 @@ fn title_line(config: &Config) -> TitleLine
     line
 }
 
+/// Appends lines to a journal.
+fn append<T: Tells, J: Journal>(
+    host: &mut T,
+    journal: &mut J,
+    lines: &[u8],
+    durability: Durability,
+) -> Result<(), AppendFault>
+    requires line_feed { EndsInLineFeed lines.now }
+    ensures value { Appends lines.now durability (J.journal journal.old) (J.journal journal.new) result }
+    ensures logged { Logs (T.calls host.old) (T.calls host.new) lines.now result }
+{
+    let outcome = journal.append(lines, durability);
+    host.log_append(lines, durability, outcome);
+    outcome
+}
+
 /// Appends the title of a new journal.
-fn append_title<J: Journal>(config: &Config, journal: &mut J) -> Result<(), AppendFault>
+fn append_title<T: Tells, J: Journal>(
+    host: &mut T,
+    config: &Config,
+    journal: &mut J,
+) -> Result<(), AppendFault>
     ensures value { Appends (title_line config.now) Durability.Synced (J.journal journal.old) (J.journal journal.new)
         result }
+    ensures logged { Logs (T.calls host.old) (T.calls host.new) (title_line config.now) result }
 {
-    journal.append(title_line(config).as_slice(), Durability::Synced)
+    append(
+        host,
+        journal,
+        title_line(config).as_slice(),
+        Durability::Synced,
+    )
 }
 
 /// Appends ticks in one append.
-fn append_batch<J: Journal>(ticks: usize, journal: &mut J) -> Result<(), AppendFault>
+fn append_batch<T: Tells, J: Journal>(
+    host: &mut T,
+    ticks: usize,
+    journal: &mut J,
+) -> Result<(), AppendFault>
     requires some { 0 < ticks }
     requires few { ticks ≤ BATCH }
     ensures value { Appends (tick_lines ticks) Durability.Written (J.journal journal.old) (J.journal journal.new) result }
+    ensures logged { Logs (T.calls host.old) (T.calls host.new) (tick_lines ticks) result }
 {
     let lines = TICK_LINES;
-    journal.append(lines[..ticks].as_flattened(), Durability::Written)
+    append(
+        host,
+        journal,
+        lines[..ticks].as_flattened(),
+        Durability::Written,
+    )
 }
 
 /// Appends ticks.
-fn append_ticks<J: Journal>(ticks: u64, journal: &mut J) -> Result<(), AppendFault>
+fn append_ticks<T: Tells, J: Journal>(
+    host: &mut T,
+    ticks: u64,
+    journal: &mut J,
+) -> Result<(), AppendFault>
     ensures value { OnOk result (J.journal journal.new ≡ appended (tick_lines ticks) Durability.Written
         (J.journal journal.old)) }
+    ensures logged { Logs (T.calls host.old) (T.calls host.new) (tick_lines ticks) result }
 {
     let mut left = ticks;
     while left > 0 {
         let batch = left.min(BATCH as u64);
-        if let Err(fault) = append_batch(batch as usize, journal) {
+        if let Err(fault) = append_batch(host, batch as usize, journal) {
             return Err(fault);
         }
         left -= batch;
@@ -110,26 +157,74 @@ fn missed_line(ticks: u64) -> MissedLine
 }
 
 /// Appends the comment about missed ticks.
-fn append_comment<J: Journal>(ticks: u64, journal: &mut J) -> Result<(), AppendFault>
+fn append_comment<T: Tells, J: Journal>(
+    host: &mut T,
+    ticks: u64,
+    journal: &mut J,
+) -> Result<(), AppendFault>
     requires some { 0 < ticks }
     ensures value { Appends (missed_comment ticks) Durability.Written (J.journal journal.old) (J.journal journal.new)
         result }
+    ensures logged { Logs (T.calls host.old) (T.calls host.new) (missed_comment ticks) result }
 {
-    journal.append(missed_line(ticks).as_slice(), Durability::Written)
+    append(
+        host,
+        journal,
+        missed_line(ticks).as_slice(),
+        Durability::Written,
+    )
 }
 
 /// Appends ticks that were missed, after a comment that says how many.
-fn append_missed<J: Journal>(ticks: u64, journal: &mut J) -> Result<(), AppendFault>
+fn append_missed<T: Tells, J: Journal>(
+    host: &mut T,
+    ticks: u64,
+    journal: &mut J,
+) -> Result<(), AppendFault>
     ensures value { OnOk result (J.journal journal.new ≡ appended (missed_lines ticks) Durability.Written
         (J.journal journal.old)) }
+    ensures logged { Logs (T.calls host.old) (T.calls host.new) (missed_lines ticks) result }
 {
     if ticks == 0 {
         return Ok(());
     }
-    if let Err(fault) = append_comment(ticks, journal) {
+    if let Err(fault) = append_comment(host, ticks, journal) {
         return Err(fault);
     }
-    append_ticks(ticks, journal)
+    append_ticks(host, ticks, journal)
+}
+
+/// Appends what comes first: the title, if the journal is new, and ticks that were missed.
+fn append_first<T: Tells, J: Journal>(
+    host: &mut T,
+    is_new: bool,
+    config: &Config,
+    missed: u64,
+    journal: &mut J,
+) -> Result<(), AppendFault>
+    ensures new { is_new ≡ true → OnOk result (J.journal journal.new ≡ appended (missed_lines missed) Durability.Written
+        (appended (title_line config.now) Durability.Synced (J.journal journal.old))) }
+    ensures new_logged { is_new ≡ true → Logs (T.calls host.old) (T.calls host.new)
+        (title_line config.now ++ missed_lines missed) result }
+    ensures old { is_new ≡ false → OnOk result (J.journal journal.new ≡ appended (missed_lines missed) Durability.Written
+        (J.journal journal.old)) }
+    ensures old_logged { is_new ≡ false → Logs (T.calls host.old) (T.calls host.new) (missed_lines missed) result }
+    ensures fails { OnErr result (RunsNoSession (T.calls host.old) (T.calls host.new)) }
+{
+    if !is_new {
+        return append_missed(host, missed, journal);
+    }
+    if let Err(fault) = append_title(host, config, journal) {
+        return Err(fault);
+    }
+    append_missed(host, missed, journal)
+}
+
+/// Returns whether a journal is new: no times are known for it.
+fn is_new(timeline: &Option<Timeline>) -> bool
+    ensures value { result ≡ is_none timeline.now }
+{
+    timeline.is_none()
 }
 
 /// Returns the fault for a failed append.
@@ -143,20 +238,25 @@ fn write_fault<F: JournalFile>(journal: &FileJournal<F>) -> JournalFault {
 
 impl<F: JournalFile> FoundJournal<F> {
     /// Returns how many ticks have been missed since the end of the journal, according to the system's clock.
-    fn missed<C: Clock>(&self, clock: &C) -> u64 {
+    fn missed<T: Dates>(&self, host: &mut T) -> u64
+        ensures value { (millis : Option ℕ) × Grows (T.calls host.old) (T.calls host.new) (ReadDate millis ∷ [])
+            × (result ≡ missed_by self.now.timeline millis) }
+    {
+        let now = host.millis();
         let Some(timeline) = &self.timeline else {
             return 0;
         };
-        match Date::now(clock) {
-            Ok(now) => timeline.missed(now),
-            Err(_) => 0,
+        match now {
+            Some(millis) => timeline.missed(Date { millis }),
+            None => 0,
         }
     }
 
     /// Starts appending to the journal. Skips the ticks that the gateway missed, and appends them to the journal, after
     /// a comment that says how many.
-    pub fn begin<'a, C: Clock>(
+    pub fn begin<'a, T: Dates, C: Clock>(
         self,
+        host: &mut T,
         alloc: Global,
         config: &Config,
         clock: &'a C,
@@ -164,21 +264,21 @@ impl<F: JournalFile> FoundJournal<F> {
     ) -> Result<DatedJournal<'a, FileJournal<F>, C>, JournalFault>
     where
         F: Drop,
-        ensures passed { (missed : ℕ) × PassesTicks missed core.old.state core.new.state
+        ensures passed { (missed : ℕ) × (millis : Option ℕ) × (read : Option (List HostCall))
+            × (missed ≡ missed_by self.timeline millis) × Grows (T.calls host.old) read (ReadDate millis ∷ [])
+            × PassesTicks missed core.old.state core.new.state
             × IfOk result (λ journal.
-            Begins (title_before self.timeline config.now) missed (text_in self.opening.file) journal) }
+            HasBegun (title_before self.timeline config.now) missed (text_in self.opening.file) journal)
+            × Logs read (T.calls host.new) (title_before self.timeline config.now ++ missed_lines missed) result }
     {
-        let missed = self.missed(clock);
+        let missed = self.missed(host);
         core.skip(missed);
-        let is_new = self.timeline.is_none();
+        let is_new = is_new(&self.timeline);
         let mut journal = match self.opening.accept() {
             Ok(journal) => journal,
             Err(error) => return Err(JournalFault::Write(error)),
         };
-        if is_new && append_title(config, &mut journal).is_err() {
-            return Err(write_fault(&journal));
-        }
-        if append_missed(missed, &mut journal).is_err() {
+        if append_first(host, is_new, config, missed, &mut journal).is_err() {
             return Err(write_fault(&journal));
         }
         match DatedJournal::new(alloc, journal, clock) {

@@ -1,10 +1,11 @@
-ghost use Rattle.std.specs.Prelude.{◌≡◌, ◌≢◌, ◌++◌, ℕ, List, Option, true, codes, IfOk, IfSome, IsSome, None, []};
+ghost use Rattle.std.specs.Prelude.{◌≡◌, ◌≢◌, ◌++◌, ℕ, List, Option, true, codes, IfOk, IfSome, IsSome, None, Some, []};
 ghost use Rattle.mg_journal.specs.Text.{whole_lines};
-ghost use Rattle.mg_journal.specs.Opening.{text_in};
-ghost use Rattle.mg_core.specs.Resume.{IsResumed};
+ghost use Rattle.mg_journal.specs.aids.Opened.{text_in};
+ghost use Rattle.mg_core.specs.aids.Resume.{IsResumed};
 ghost use Rattle.mg_engine.specs.Config.{IsValidConfig};
 ghost use Rattle.mg_arguments.specs.Given.{Agrees};
-ghost use Rattle.mg_start.specs.Journal.{may_be_title};
+ghost use Rattle.mg_start.specs.Journal.{timeline_after};
+ghost use Rattle.mg_start.specs.aids.Starting.{KeepsTimes, may_be_title};
 ghost use Rattle.mg_start.specs.Start.{BeginsWithTitle};
 
 use crate::journal_fault::JournalFault;
@@ -32,11 +33,12 @@ pub(crate) struct History {
     pub timeline: Timeline,
 }
 
-/// A journal whose events were run, and the gateway in the state that they lead to.
+/// A journal whose events were run, the gateway in the state that they lead to, and when its ticks happened.
 #[derive(Drop)]
 struct Resumed<F: JournalFile> {
     opening: Opening<F>,
     core: Core,
+    timeline: Timeline,
 }
 
 /// A journal, and what its events lead to, or `None` if it is empty.
@@ -139,7 +141,6 @@ fn run_events<F: JournalFile, K: FileKey>(
     alloc: Global,
     config: Config,
     opening: Opening<F>,
-    timeline: &mut Timeline,
 ) -> Result<Resumed<F>, JournalFault>
 where
     F: Drop,
@@ -148,12 +149,15 @@ where
     ensures file { IfOk result (λ r. r.opening.file ≡ K.file) }
     ensures resumed { IfOk result (λ r. (rest : Option (List ℕ)) ×
         IsResumed config (text_in opening.file) rest r.core.state) }
+    ensures times { IfOk result (λ r. IfSome (text_in opening.file) (λ text. r.timeline ≡ timeline_after text)) }
 {
     let mut reading = Reading::<F, K>::new(opening);
-    match resume(alloc, config, &mut reading, timeline) {
+    let mut timeline = Timeline::new();
+    match resume(alloc, config, &mut reading, &mut timeline) {
         Ok(core) => Ok(Resumed {
             opening: reading.into_opening(),
             core,
+            timeline,
         }),
         Err(fault) => Err(fault_of(fault)),
     }
@@ -174,6 +178,7 @@ where
     ensures title { IfOk result (λ f. f.history ≡ None →
         IfSome opening.file.bytes (λ bytes. may_be_title bytes ≡ true)) }
     ensures lines { IfOk result (λ f. IsSome f.history → IfSome (text_in opening.file) (λ text. text ≢ [])) }
+    ensures times { IfOk result (λ f. IfSome f.history (λ h. KeepsTimes (Some h.timeline) (text_in opening.file))) }
     ensures sound { IfOk result (λ f. IfSome f.history (λ h. IsValidConfig h.config)) }
     ensures agrees { IfOk result (λ f. IfSome f.history (λ h. Agrees given.now wanted.now h.config)) }
     ensures titled { IfOk result (λ f. IfSome f.history (λ h.
@@ -189,14 +194,13 @@ where
         });
     };
     check_config(given, wanted, &config)?;
-    let mut timeline = Timeline::new();
-    let resumed = run_events::<F, Brand>(alloc, config, opening, &mut timeline)?;
+    let resumed = run_events::<F, Brand>(alloc, config, opening)?;
     Ok(Found {
         opening: resumed.opening,
         history: Some(History {
             config,
             core: resumed.core,
-            timeline,
+            timeline: resumed.timeline,
         }),
     })
 }

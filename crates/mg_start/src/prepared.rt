@@ -1,12 +1,13 @@
 ghost use Rattle.std.specs.Prelude.{◌≡◌, ℕ, List, Option, Some, None, IfErr, IfOk, IfSome, IsNone, IsSome, MatchResult, OnOk};
 ghost use Rattle.std.specs.Option.{option_map_or};
 ghost use Rattle.mg_engine.specs.Config.{IsValidConfig};
-ghost use Rattle.mg_core.specs.Resume.{IsResumed};
-ghost use Rattle.mg_core.specs.World.{StandsFor, start_of};
-ghost use Rattle.mg_journal.specs.Opening.{text_in};
+ghost use Rattle.mg_core.specs.aids.Resume.{IsResumed};
+ghost use Rattle.mg_core.specs.World.{start_of};
+ghost use Rattle.mg_core.specs.aids.Stands.{StandsFor};
+ghost use Rattle.mg_journal.specs.aids.Opened.{text_in};
 ghost use Rattle.mg_arguments.specs.Draws.{IsDrawn};
-ghost use Rattle.mg_start.specs.Journal.{KeepsTimes};
-ghost use Rattle.mg_start.specs.Start.{CanResume, FailsToStart, Finds, IsChosen, IsChosenBy, Opens};
+ghost use Rattle.mg_start.specs.aids.Starting.{KeepsTimes, CanResume};
+ghost use Rattle.mg_start.specs.Start.{FailsToStart, Finds, IsChosen, IsChosenBy, Opens};
 
 use crate::found_journal::FoundJournal;
 use crate::history::{Found, find};

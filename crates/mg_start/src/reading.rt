@@ -46,7 +46,7 @@ impl<F: JournalFile, K: FileKey> Reading<F, K> {
 }
 
 impl<F: JournalFile, K: FileKey> Read for Reading<F, K> {
-    ghost use Rattle.mg_journal.specs.Opening.{left_to_read};
+    ghost use Rattle.mg_journal.specs.aids.Opened.{left_to_read};
 
     ghost remaining = { λ r. left_to_read r.opening };
 

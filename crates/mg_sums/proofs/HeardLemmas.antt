@@ -10,7 +10,8 @@ use Rattle.std.proofs.lemmas.List.{get_or_past}
 use Rattle.std.proofs.lemmas.List.FromFn.{length-range_with_len, fill_by_all}
 use Rattle.std.proofs.lemmas.List.Elements.{All-head, All-tail, All-weaker}
 use Rattle.mg_sums.specs.Samples.{sample, sum_of, nearest_sample}
-use Rattle.mg_sums.specs.Sums.{SumsState, AreOfRoom, AreAllOfRoom, is_room, is_joined, is_among, left_out_by, sample_in, joined_rows, heard_rows, total_of, heard_of, mix_of}
+use Rattle.mg_sums.specs.Sums.{SumsState, AreOfRoom, AreAllOfRoom, is_room, is_joined, is_among, left_out_by, sample_in, joined_rows, heard_rows, heard_of, mix_of}
+use Rattle.mg_sums.specs.aids.Sums.{total_of}
 use Rattle.mg_sums.proofs.SumLemmas.{sum_of-filter, sum_of-plus, sum_of-near, sum_of-same, sum_of-among, sum_of-ones, sum_of-append}
 
 -- Rows that are joined are below the number of rows.

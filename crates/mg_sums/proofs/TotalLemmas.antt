@@ -14,8 +14,10 @@ use Rattle.mg_words.specs.Limits.{context_limit, termination_limit}
 use Rattle.mg_g711.specs.Frame.{IsFrame}
 use Rattle.mg_g711.proofs.Frames.{sample_fits, silence_is_frame}
 use Rattle.mg_sums.specs.Samples.{sample, sum_of, silence}
-use Rattle.mg_sums.specs.Sums.{SumsState, AreValidSums, first_sums, is_room, is_joined, room_of}
-use Rattle.mg_sums.specs.Sums.{sample_in, joined_rows, total_of}
+use Rattle.mg_sums.specs.Sums.{SumsState, is_room, is_joined}
+use Rattle.mg_sums.specs.aids.Sums.{AreValidSums, first_sums, room_of}
+use Rattle.mg_sums.specs.Sums.{sample_in, joined_rows}
+use Rattle.mg_sums.specs.aids.Sums.{total_of}
 use Rattle.mg_sums.specs.aids.Totals.{total_limit, AreTotals}
 use Rattle.mg_sums.proofs.SumLemmas.{sum_of-filter, sum_of-near, sum_of-changed, sum_of-same, sum_of-none}
 

@@ -1,12 +1,10 @@
 -- The frames of rows, the rooms that rows are joined to, and the sums of a room's frames. A total
 -- is never saturated, and a mix is saturated once: this is the project's own rule.
-use Rattle.std.specs.Prelude.{◌≡◌, ◌≢◌, ℕ, ◌+◌, ◌%◌, ◌^◌, ◌<◌, ℤ, Bool, false, not, ◌==◌, Option}
-use Rattle.std.specs.Prelude.{Some, None, List, [], ◌∷◌, length, map, filter, replicate}
-use Rattle.std.specs.Prelude.{slice_index_or, AllPairs, Contains, IsTrue, IfSome, All}
+use Rattle.std.specs.Prelude.{◌≢◌, ℕ, ℤ, Bool, false, not, ◌==◌, Option}
+use Rattle.std.specs.Prelude.{Some, None, List, [], ◌∷◌, length, map, filter}
+use Rattle.std.specs.Prelude.{slice_index_or, AllPairs, Contains, IsTrue, All}
 use Rattle.std.specs.List.{list_any, range_with_len}
-use Rattle.mg_words.specs.Limits.{context_limit, termination_limit}
-use Rattle.mg_g711.specs.Frame.{IsFrame}
-use Rattle.mg_sums.specs.Samples.{sample, sum_of, nearest_sample, silence}
+use Rattle.mg_sums.specs.Samples.{sample, sum_of, nearest_sample}
 
 -- The state: for each row, its frame and the room that it is joined to, if any; and how often a row was
 -- added or subtracted, modulo 2^32.
@@ -14,23 +12,6 @@ pub record SumsState : Type 0 where
   pub frames : List (List ℤ)
   pub rooms : List (Option ℕ)
   pub work : ℕ
-
--- a silent row for each possible termination, not joined to any room
-unfoldable pub first_sums : SumsState
-first_sums =
-    record {
-      frames = replicate termination_limit silence;
-      rooms = replicate termination_limit None;
-      work = 0;
-    }
-
--- the frame of a row
-abbrev pub frame_of_row : SumsState → ℕ → List ℤ
-frame_of_row kept row = slice_index_or kept.frames row []
-
--- the room that a row is joined to
-abbrev pub room_of : SumsState → ℕ → Option ℕ
-room_of kept row = slice_index_or kept.rooms row None
 
 -- sample i of a row's frame
 abbrev pub sample_in : List (List ℤ) → ℕ → ℕ → ℤ
@@ -47,10 +28,6 @@ is_joined rooms room row = is_room (slice_index_or rooms row None) room
 -- the rows that are joined to a room
 unfoldable pub joined_rows : List (Option ℕ) → ℕ → List ℕ
 joined_rows rooms room = filter (is_joined rooms room) (range_with_len 0 (length rooms))
-
--- sample i of a room's total: the plain sum over the rows joined to it
-abbrev pub total_of : SumsState → ℕ → ℕ → ℤ
-total_of kept room i = sum_of (sample_in kept.frames i) (joined_rows kept.rooms room)
 
 -- whether the row is in the list
 abbrev pub is_among : List ℕ → ℕ → Bool
@@ -82,19 +59,3 @@ pub record AreOfRoom (rooms : List (Option ℕ)) (room : ℕ) (rows : List ℕ) 
 pub record AreAllOfRoom (rooms : List (Option ℕ)) (room : ℕ) (rows : List ℕ) : Type 0 where
   pub are : AreOfRoom rooms room rows
   pub all : (row : ℕ) → IsTrue (is_joined rooms room row) → Contains rows row
-
--- the work counter after this many more additions and subtractions of a row
-abbrev pub work_after : ℕ → ℕ → ℕ
-work_after more work = (work + more) % 2 ^ 32
-
--- how many additions and subtractions it takes to set a row's frame: two if it is joined to a room
-abbrev pub frame_calls : Option ℕ → ℕ
-frame_calls None = 0
-frame_calls (Some room) = 2
-
--- a row for each possible termination, with a frame, and joined to at most one room
-pub record AreValidSums (kept : SumsState) : Type 0 where
-  pub frames : length kept.frames ≡ termination_limit
-  pub rooms : length kept.rooms ≡ termination_limit
-  pub whole : All IsFrame kept.frames
-  pub below : All (λ room. IfSome room (λ number. number < context_limit)) kept.rooms

@@ -6,7 +6,7 @@ ghost use Rattle.std.specs.Prelude.{◌≡◌, ℕ, ◌+◌, ◌%◌, ◌^◌, �
 ghost use Rattle.std.specs.Option.{option_copied};
 ghost use Rattle.mg_g711.specs.Frame.{IsFrame};
 ghost use Rattle.mg_sums.specs.Samples.{sample, nearest_sample, silence, frame_or_silence};
-ghost use Rattle.mg_sums.specs.Sums.{work_after};
+ghost use Rattle.mg_sums.specs.aids.Sums.{work_after};
 ghost use Rattle.mg_sums.specs.aids.Totals.{AreNear};
 
 use crate::kernels;

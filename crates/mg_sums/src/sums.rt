@@ -3,7 +3,8 @@ ghost use Rattle.std.specs.Option.{option_copied};
 ghost use Rattle.mg_words.specs.Limits.{context_limit, termination_limit};
 ghost use Rattle.mg_g711.specs.Frame.{IsFrame};
 ghost use Rattle.mg_sums.specs.Samples.{sample, sum_of, silence, frame_or_silence};
-ghost use Rattle.mg_sums.specs.Sums.{sample_in, left_out_by, work_after, frame_calls};
+ghost use Rattle.mg_sums.specs.Sums.{sample_in, left_out_by};
+ghost use Rattle.mg_sums.specs.aids.Sums.{work_after, frame_calls};
 ghost use Rattle.mg_sums.specs.aids.Totals.{total_limit, AreNear};
 
 use crate::room::Room;
@@ -44,7 +45,8 @@ impl Model for Sums {
 }
 
 impl Sums {
-    ghost use Rattle.mg_sums.specs.Sums.{first_sums, frame_of_row, room_of, total_of, mix_of, heard_of, AreOfRoom, AreValidSums};
+    ghost use Rattle.mg_sums.specs.Sums.{mix_of, heard_of, AreOfRoom};
+    ghost use Rattle.mg_sums.specs.aids.Sums.{first_sums, frame_of_row, room_of, total_of, AreValidSums};
 
     /// Creates silent rows that aren't joined to any room.
     ///

@@ -5,7 +5,8 @@
 ghost use Rattle.std.specs.Prelude.{◌≡◌, ℕ, ◌++◌, List, Option, map};
 ghost use Rattle.std.specs.List.{range_with_len};
 ghost use Rattle.mg_sums.specs.Samples.{nearest_sample, sum_of};
-ghost use Rattle.mg_sums.specs.Sums.{SumsState, AreAllOfRoom, sample_in, total_of, heard_of, left_out_by, mix_of};
+ghost use Rattle.mg_sums.specs.Sums.{SumsState, AreAllOfRoom, sample_in, heard_of, left_out_by, mix_of};
+ghost use Rattle.mg_sums.specs.aids.Sums.{total_of};
 
 /// A total does not depend on the order of the room's rows.
 pub fn order_does_not_matter()

@@ -8,7 +8,7 @@ use Rattle.mg_topology.specs.Mask.{has_seat}
 use Rattle.mg_topology.specs.Triple.{mentions, word_of}
 use Rattle.mg_topology.specs.aids.Word.{after_triple}
 use Rattle.mg_topology.specs.Edits.{TopologyEdit, Enter, Leave, Apply, is_held, last_word, allows, may_hear, apply_all}
-use Rattle.mg_topology.specs.Topology.{TopologyState, holds, hears, StandsFor}
+use Rattle.mg_topology.specs.aids.Topology.{TopologyState, holds, hears, StandsFor}
 use Rattle.mg_topology.proofs.MaskLemmas.{has_seat-inside}
 
 -- ---- seats, and rows at two held seats that differ

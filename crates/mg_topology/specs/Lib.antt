@@ -1,5 +1,4 @@
 pub mod Edits
 pub mod Mask
-pub mod Topology
 pub mod Triple
 pub mod aids

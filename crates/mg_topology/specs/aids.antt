@@ -1,2 +1,3 @@
 -- Tools for the proofs.
 pub mod Word
+pub mod Topology

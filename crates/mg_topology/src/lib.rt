@@ -20,8 +20,8 @@
 //! ```
 //!
 //! A topology keeps bits, but no history. So its contracts hold for every list of edits that it represents, before and
-//! after a call (`StandsFor` in `specs/Topology.antt`). `specs/Edits.antt` defines what a list of edits means, looking
-//! back from the newest edit. [`theorems`] states the consequences.
+//! after a call (`StandsFor` in `specs/aids/Topology.antt`). `specs/Edits.antt` defines what a list of edits means,
+//! looking back from the newest edit. [`theorems`] states the consequences.
 //!
 //! Sets of seats are bit masks. Only functions in [`mask`] touch their bits.
 #![tactic(auto)]

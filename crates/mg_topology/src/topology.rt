@@ -20,7 +20,7 @@ pub struct Topology {
 }
 
 impl Model for Topology {
-    ghost use Rattle.mg_topology.specs.Topology.{TopologyState};
+    ghost use Rattle.mg_topology.specs.aids.Topology.{TopologyState};
 
     ghost Value = { TopologyState };
 
@@ -29,7 +29,7 @@ impl Model for Topology {
 
 impl Topology {
     ghost use Rattle.mg_topology.specs.Edits.{TopologyEdit, Enter, Leave, Apply, is_held, hears_in, apply_all};
-    ghost use Rattle.mg_topology.specs.Topology.{holds, hears, StandsFor};
+    ghost use Rattle.mg_topology.specs.aids.Topology.{holds, hears, StandsFor};
 
     /// Returns the topology of a context without members.
     pub fn new() -> Self
@@ -138,7 +138,7 @@ impl Topology {
 }
 
 impl Default for Topology {
-    ghost use Rattle.mg_topology.specs.Topology.{StandsFor};
+    ghost use Rattle.mg_topology.specs.aids.Topology.{StandsFor};
 
     ghost is_default = { λ topology. StandsFor topology [] };
 

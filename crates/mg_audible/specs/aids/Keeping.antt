@@ -4,15 +4,19 @@ use Rattle.mg_engine.specs.declared.config.Config.{Config}
 use Rattle.mg_core.specs.declared.event.Event.{Event}
 use Rattle.mg_core.specs.declared.state.CoreState.{CoreState}
 use Rattle.mg_core.specs.Note.{Note, events_in}
-use Rattle.mg_core.specs.World.{StandsFor, World, start_of}
+use Rattle.mg_core.specs.World.{World, start_of}
+use Rattle.mg_core.specs.aids.Stands.{StandsFor}
+use Rattle.mg_heard.specs.declared.clock.Clock.{Clock}
 use Rattle.mg_heard.specs.declared.entry.Entry.{Entry}
 use Rattle.mg_heard.specs.declared.entry.Entry.TheVariants as entries
 use Rattle.mg_heard.specs.declared.moment.Moment.{Moment}
 use Rattle.mg_heard.specs.declared.open_flow.OpenFlow.{OpenFlow}
 use Rattle.mg_heard.specs.declared.open_interval.OpenInterval.{OpenInterval}
 use Rattle.mg_heard.specs.Intervals.{ended}
+use Rattle.mg_heard.specs.Times.{tick_count}
 use Rattle.mg_heard.specs.Told.{audible_in, intervals_in}
 use Rattle.mg_heard.specs.aids.Opening.{AreLasting}
+use Rattle.mg_heard.specs.aids.Timing.{AreBegun, IsClock, Timed}
 use Rattle.mg_audible.specs.Audible.{RunsWithout}
 use Rattle.mg_audible.specs.Without.{StepWithout}
 
@@ -55,3 +59,13 @@ pub record KeepsAudible (config : Config) (talker : ℕ) (notes : List Note)
   pub stand : StandForBoth whole without v w
   pub count : tick ≡ length past
   pub tells : TellsPast past stored Told
+
+-- The same, with the dates and gaps of the notes: the clock has passed all notes, and all stored and
+-- reported moments are before the next tick.
+pub record KeepsTimed (config : Config) (talker : ℕ) (notes : List Note)
+    (whole without : CoreState) (clock : Clock) (stored : List OpenInterval)
+    (Told : List Entry → Type 0) : Type 0 where
+  pub clock_is : IsClock (reverse notes) clock
+  pub begun : AreBegun (reverse notes) (tick_count (reverse notes)) stored
+  pub keeps : KeepsAudible config talker notes whole without clock.ticks stored
+      (Timed (reverse notes) (tick_count (reverse notes)) Told)

@@ -2,10 +2,10 @@
 
 use super::equality::assert_equal;
 use super::free_ports;
-use crate::system_host::SystemHost;
+use crate::machine::SystemHost;
 use mg_arguments::Draws;
 use mg_core::Config;
-use mg_program::{System, program};
+use mg_program::{LocalSystem, System, program};
 use std::cell::Cell;
 use std::io::{self, ErrorKind};
 use std::random::RandomSource;
@@ -73,14 +73,16 @@ fn run_with(rt: &HostRuntime, random: &Counting, words: &[&str]) -> Outcome {
     let mut reports = Vec::new(alloc);
     let system = System {
         net: rt,
-        clock: &clock,
-        random,
-        files: rt,
+        local: LocalSystem {
+            clock: &clock,
+            random,
+            files: rt,
+        },
     };
     let mut input: &[u8] = b"";
-    outcome.status = program(
+    let ended = program(
         &system,
-        &mut SystemHost::new(rt),
+        SystemHost::new(rt, &clock),
         alloc,
         words,
         &mut input,
@@ -88,6 +90,7 @@ fn run_with(rt: &HostRuntime, random: &Counting, words: &[&str]) -> Outcome {
         &mut outcome.errors,
         &mut reports,
     );
+    outcome.status = ended.status.code();
     outcome
 }
 

@@ -1,6 +1,6 @@
 //! A journal whose file another program empties.
 
-use crate::system_host::SystemHost;
+use crate::machine::SystemHost;
 use mg_host::Journals;
 use mg_journal::Opening;
 use std::fs;
@@ -19,7 +19,7 @@ fn kind<T: Drop>(outcome: io::Result<T>) -> Option<ErrorKind> {
 /// acceptance extends it.
 fn is_never_extended(rt: &HostRuntime, path: &str) -> io::Result<bool> {
     fs::write(rt, path, "one\ntw")?;
-    let mut opening = Opening::new(SystemHost::new(rt).open_journal(path)?)?;
+    let mut opening = Opening::new(SystemHost::new(rt, rt).open_journal(path)?)?;
     fs::write(rt, path, "")?;
     let mut buffer = [0; 8];
     let ended = Some(ErrorKind::UnexpectedEof);

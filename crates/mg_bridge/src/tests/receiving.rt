@@ -1,83 +1,70 @@
-//! How a gateway's ports receive.
+//! How the system's sockets receive.
 
 use super::equality::assert_equal;
 use super::{caller, free_ports, local};
-use mg_core::{Config, Peer};
-use mg_journal::{FileJournal, MemoryFile};
-use mg_ports::{PortFault, Ports};
-use mg_program::{SOCKETS, Sockets, UdpPorts};
-use mio::Events;
+use crate::machine::SystemHost;
+use mg_core::Peer;
+use mg_host::Sockets;
+use mg_ports::PortFault;
 use std::net::{SocketAddr, UdpSocket};
 use std::process::Abort;
 use std::test::Fail;
 
-/// The ports of a gateway without a journal.
-type PlainPorts<'a> = UdpPorts<'a, FileJournal<MemoryFile>, HostRuntime>;
+/// The machine.
+type Machine<'a> = SystemHost<'a, HostRuntime>;
 
 /// What a receive returned: the length of a datagram and its sender.
 type Received = Result<Option<(usize, Peer)>, PortFault>;
 
-/// Returns the configuration of a gateway with one slot.
-fn config(rt: &HostRuntime) -> Result<Config, Fail> {
-    let (base_port, control_port) = free_ports(rt)?;
-    Ok(Config {
-        control_port,
-        base_port,
-        slots: 1,
-        ..Config::default()
-    })
-}
-
-/// Binds the ports of a gateway.
-fn bind<'a>(rt: &'a HostRuntime, config: &Config) -> Result<PlainPorts<'a>, Fail> {
-    if !config.is_sound() {
-        return Err(Fail::new("bad configuration"));
+/// Binds a control socket and a media socket to 127.0.0.1.
+fn bind<'a>(rt: &'a HostRuntime, media: u16, control: u16) -> Result<Machine<'a>, Fail> {
+    let mut host = SystemHost::new(rt, rt);
+    for port in [control, media] {
+        host.bind([127, 0, 0, 1], port)?;
     }
-    let events = Events::with_capacity(rt.alloc(), SOCKETS)?;
-    Ok(UdpPorts::new(Sockets::bind(rt, config, None, events)?, None))
+    Ok(host)
 }
 
 /// Returns whether the next receive from a socket returns this.
-fn receives(
-    ports: &mut PlainPorts<'_>,
-    socket: usize,
-    buffer: &mut [u8; 4],
-    wanted: Received,
-) -> bool {
-    ports.receive(socket, buffer) == wanted
+fn receives(host: &mut Machine<'_>, socket: usize, buffer: &mut [u8; 4], wanted: Received) -> bool {
+    host.receive(socket, buffer) == wanted
 }
 
-/// A waiting datagram is received. If none is waiting, the receive returns `None`.
+/// Returns which of three sockets the next poll reports.
+fn reported(host: &mut Machine<'_>) -> Result<[bool; 3], Fail> {
+    let mut marks = [false; 3];
+    host.poll(&mut marks)?;
+    Ok(marks)
+}
+
+/// A datagram is reported once, and received if it is waiting. If none is waiting, the receive returns `None`.
 fn receive_what_waits(
     rt: &impl Abort,
-    ports: &mut PlainPorts<'_>,
+    host: &mut Machine<'_>,
     caller: &UdpSocket,
     source: Peer,
     media: SocketAddr,
 ) -> Result<(), Fail> {
     let mut buffer = [0; 4];
     assert!(rt;
-        receives(ports, 0, &mut buffer, Ok(None)) && receives(ports, 1, &mut buffer, Ok(None))
+        receives(host, 0, &mut buffer, Ok(None)) && receives(host, 1, &mut buffer, Ok(None))
     );
+    assert_equal(rt, reported(host)?, [false; 3]);
     caller.send_to(b"", media)?;
     caller.send_to(b"cut to four", media)?;
+    assert_equal(rt, reported(host)?, [false, true, false]);
     assert!(rt;
-        receives(ports, 0, &mut buffer, Ok(None))
-            && receives(ports, 1, &mut buffer, Ok(Some((0, source))))
-            && receives(ports, 1, &mut buffer, Ok(Some((4, source))))
-            && receives(ports, 1, &mut buffer, Ok(None))
+        receives(host, 1, &mut buffer, Ok(Some((0, source))))
+            && receives(host, 1, &mut buffer, Ok(Some((4, source))))
+            && receives(host, 1, &mut buffer, Ok(None))
     );
     assert_equal(rt, buffer, *b"cut ");
+    assert_equal(rt, reported(host)?, [false; 3]);
     caller.send_to(b"again", media)?;
-    assert!(rt;
-        receives(ports, 0, &mut buffer, Ok(None))
-            && receives(ports, 1, &mut buffer, Ok(Some((4, source))))
-            && receives(ports, 1, &mut buffer, Ok(None))
-    );
-    assert_equal(rt, ports.failures(), 0);
-    assert!(rt; receives(ports, 2, &mut buffer, Err(PortFault)));
-    assert_equal(rt, ports.send(2, source, b""), Err(PortFault));
-    assert_equal(rt, ports.failures(), 2);
+    assert_equal(rt, reported(host)?, [false, true, false]);
+    assert!(rt; receives(host, 1, &mut buffer, Ok(Some((4, source)))));
+    assert!(rt; receives(host, 2, &mut buffer, Err(PortFault)));
+    assert_equal(rt, host.send(2, source, b""), Err(PortFault));
     Ok(())
 }
 
@@ -88,7 +75,10 @@ fn receives_without_waiting(rt: HostRuntime) -> Result<(), Fail> {
         address: [127, 0, 0, 1],
         port,
     };
-    let config = config(&rt)?;
-    let mut ports = bind(&rt, &config)?;
-    receive_what_waits(&rt, &mut ports, &caller, source, local(config.base_port))
+    let (media, control) = free_ports(&rt)?;
+    let mut host = bind(&rt, media, control)?;
+    receive_what_waits(&rt, &mut host, &caller, source, local(media))?;
+    caller.send_to(b"", local(control))?;
+    assert_equal(&rt, reported(&mut host)?, [true, false, false]);
+    Ok(())
 }

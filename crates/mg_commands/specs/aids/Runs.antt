@@ -8,7 +8,7 @@ use Rattle.mg_reply.specs.declared.item.Item.{Item}
 use Rattle.mg_reply.specs.declared.item.Item.TheVariants.{Fault}
 use Rattle.mg_reply.specs.Reply.{Answered, after_put, after_all}
 use Rattle.mg_engine.specs.Gateway.{Gateway}
-use Rattle.mg_engine.specs.Stands.{EngineState, StandsFor}
+use Rattle.mg_engine.specs.aids.Stands.{EngineState, StandsFor}
 use Rattle.mg_engine.specs.Work.{RisesAtMost}
 use Rattle.mg_text.specs.declared.command.Command.{Command}
 use Rattle.mg_commands.specs.declared.command_parameters.CommandParameters.{CommandParameters}

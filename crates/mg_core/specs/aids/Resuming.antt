@@ -12,7 +12,7 @@ use Rattle.mg_core.specs.declared.fault.ScriptFault.TheVariants as scripts
 use Rattle.mg_core.specs.declared.state.CoreState.{CoreState}
 use Rattle.mg_core.specs.Follow.{HasRun, IsFollowed, ticks_of}
 use Rattle.mg_core.specs.Note.{Note, Happened, notes_of}
-use Rattle.mg_core.specs.Resume.{FindsBadLine}
+use Rattle.mg_core.specs.aids.Resume.{FindsBadLine}
 use Rattle.mg_core.specs.Run.{HasBadAfter}
 use Rattle.mg_core.specs.Script.{event_of}
 

@@ -26,7 +26,8 @@ use Rattle.mg_reply.specs.declared.item.Item.TheVariants as reported
 use Rattle.mg_reply.specs.Reply.{Answered}
 use Rattle.mg_reply.specs.aids.Width.{is_too_long}
 use Rattle.mg_reply.specs.Written.{reply_text}
-use Rattle.mg_core.specs.World.{World, StandsFor, capped, start_of}
+use Rattle.mg_core.specs.World.{World, capped, start_of}
+use Rattle.mg_core.specs.aids.Stands.{StandsFor}
 use Rattle.mg_lines.specs.Lines.{lines_after, lines_of}
 use Rattle.mg_lines.specs.Streams.{WritesFront}
 use Rattle.mg_core.specs.Flows.{Listener, listeners_of, changes_by}

@@ -17,7 +17,7 @@ use Rattle.mg_engine.specs.declared.taken.Taken.{Taken}
 use Rattle.mg_engine.specs.declared.taken.Taken.TheVariants.{Dropped}
 use Rattle.mg_engine.specs.Gateway.{Gateway, TerminationMedia, media_of, stats_of}
 use Rattle.mg_engine.specs.Arrival.{arrived, taken_at}
-use Rattle.mg_engine.specs.Stands.{EngineState}
+use Rattle.mg_engine.specs.aids.Stands.{EngineState}
 use Rattle.mg_engine.specs.Tick.{packet, sent_to}
 
 abbrev pub mode_or_inactive : Option Record → Mode

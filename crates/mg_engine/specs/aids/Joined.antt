@@ -6,7 +6,7 @@ use Rattle.mg_words.specs.Mode.{talks}
 use Rattle.mg_rooms.specs.declared.record.Record.{Record}
 use Rattle.mg_rooms.specs.Registry.{Registry}
 use Rattle.mg_flow.specs.declared.place.Place.{Place}
-use Rattle.mg_engine.specs.Place.{IsOnPlace}
+use Rattle.mg_engine.specs.aids.Place.{IsOnPlace}
 
 -- the room that a row is joined to
 abbrev pub room_of_row : List (Option ℕ) → ℕ → Option ℕ

@@ -7,7 +7,7 @@ use Rattle.mg_playout.specs.Playout as play_lists
 use Rattle.mg_playout.specs.Playout.{first_list}
 use Rattle.mg_engine.specs.declared.config.Config.{Config}
 use Rattle.mg_words.specs.Stats.{no_packets}
-use Rattle.mg_engine.specs.Media.{SlotMedia, timestamp_before}
+use Rattle.mg_engine.specs.aids.Media.{SlotMedia, timestamp_before}
 use Rattle.mg_words.specs.declared.stats.Stats.{Stats}
 use Rattle.mg_engine.specs.Steps.{counted_up, play_after, received, transmitted}
 use Rattle.mg_sums.specs.Samples.{frame_or_silence}

@@ -6,8 +6,8 @@ use Rattle.mg_rooms.specs.declared.record.Record.{Record}
 use Rattle.mg_rooms.specs.Registry.{Registry}
 use Rattle.mg_flow.specs.declared.place.Place.{Place}
 use Rattle.mg_flow.specs.Place.{is_same_place, are_together}
-use Rattle.mg_flow.specs.Table.{RoomFlows, holds, talks_at, listens_at, hears, SetsPlace}
-use Rattle.mg_engine.specs.Place.{IsOnPlace}
+use Rattle.mg_flow.specs.aids.Table.{RoomFlows, holds, talks_at, listens_at, hears, SetsPlace}
+use Rattle.mg_engine.specs.aids.Place.{IsOnPlace}
 
 -- a member enters at a place with a mode; it and each other member of the room hear each other
 pub record Enters (old new : List RoomFlows) (at : Place) (m : Mode) : Type 0 where

@@ -5,9 +5,9 @@ use Rattle.mg_rooms.specs.declared.record.Record.{Record}
 use Rattle.mg_rooms.specs.Registry as rooms
 use Rattle.mg_sums.specs.Samples.{silence}
 use Rattle.mg_engine.specs.Gateway.{Gateway, TerminationMedia, media_of}
-use Rattle.mg_engine.specs.Media as media
+use Rattle.mg_engine.specs.aids.Media as media
 use Rattle.mg_engine.specs.aids.MediaSteps as media_steps
-use Rattle.mg_engine.specs.Stands.{EngineState, media_at}
+use Rattle.mg_engine.specs.aids.Stands.{EngineState, media_at}
 use Rattle.mg_engine.specs.aids.Sending.{slot_sends}
 
 -- each termination has had at least one tick

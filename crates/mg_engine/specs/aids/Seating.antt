@@ -5,7 +5,7 @@ use Rattle.mg_topology.specs.Mask.{seat_limit}
 use Rattle.mg_rooms.specs.declared.record.Record.{Record}
 use Rattle.mg_rooms.specs.Registry.{Registry}
 use Rattle.mg_flow.specs.declared.place.Place.{Place}
-use Rattle.mg_engine.specs.Place.{IsOnPlace}
+use Rattle.mg_engine.specs.aids.Place.{IsOnPlace}
 
 -- the number of places in all rooms
 abbrev pub place_count : ℕ

@@ -12,7 +12,7 @@ use Rattle.mg_rooms.specs.declared.record.Record.{Record}
 use Rattle.mg_rooms.specs.Limits.{slot_port}
 use Rattle.mg_rooms.specs.Registry as rooms
 use Rattle.mg_flow.specs.declared.place.Place.{Place}
-use Rattle.mg_flow.specs.Table as flow
+use Rattle.mg_flow.specs.aids.Table as flow
 use Rattle.mg_sums.specs.Sums.{sample_in}
 use Rattle.mg_sums.specs.Samples.{sum_of, nearest_sample}
 use Rattle.mg_engine.specs.declared.datagram.Datagram.{Datagram}
@@ -21,11 +21,11 @@ use Rattle.mg_engine.specs.declared.share.Share.{Share}
 use Rattle.mg_engine.specs.declared.taken.Taken.{Taken}
 use Rattle.mg_engine.specs.declared.taken.Taken.TheVariants.{Placed, Dropped}
 use Rattle.mg_engine.specs.Arrival.{Arrived}
-use Rattle.mg_engine.specs.Media as media
+use Rattle.mg_engine.specs.aids.Media as media
 use Rattle.mg_engine.specs.aids.MediaSteps as media_steps
-use Rattle.mg_engine.specs.Place.{place_of}
+use Rattle.mg_engine.specs.aids.Place.{place_of}
 use Rattle.mg_engine.specs.Mix.{is_loopback}
-use Rattle.mg_engine.specs.Stands.{EngineState, media_at}
+use Rattle.mg_engine.specs.aids.Stands.{EngineState, media_at}
 use Rattle.mg_engine.specs.Tick.{type_of, sent_to}
 use Rattle.mg_engine.specs.aids.Found.{has_destination}
 

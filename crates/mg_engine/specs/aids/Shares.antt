@@ -14,9 +14,9 @@ use Rattle.mg_flow.specs.declared.place.Place.{Place}
 use Rattle.mg_sums.specs.Samples.{sum_of, nearest_sample}
 use Rattle.mg_engine.specs.declared.datagram.Datagram.{Datagram}
 use Rattle.mg_engine.specs.declared.share.Share.{Share}
-use Rattle.mg_engine.specs.Datagram.{blank}
-use Rattle.mg_engine.specs.Place.{place_of}
-use Rattle.mg_engine.specs.Stands.{EngineState}
+use Rattle.mg_engine.specs.aids.Datagram.{blank}
+use Rattle.mg_engine.specs.aids.Place.{place_of}
+use Rattle.mg_engine.specs.aids.Stands.{EngineState}
 use Rattle.mg_engine.specs.aids.Sending.{sample_at}
 
 abbrev pub first_share : Share

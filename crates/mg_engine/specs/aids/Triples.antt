@@ -8,7 +8,7 @@ use Rattle.mg_rooms.specs.Registry.{Registry, context_at}
 use Rattle.mg_flow.specs.declared.place.Place.{Place}
 use Rattle.mg_engine.specs.declared.topology_triple.TopologyTriple.{TopologyTriple}
 use Rattle.mg_engine.specs.Flow.{has}
-use Rattle.mg_engine.specs.Place.{IsOnPlace}
+use Rattle.mg_engine.specs.aids.Place.{IsOnPlace}
 use Rattle.mg_engine.specs.Triples.{matched}
 
 -- the context exists and has this room

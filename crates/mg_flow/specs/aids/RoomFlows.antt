@@ -2,8 +2,8 @@
 use Rattle.std.specs.Prelude.{◌≡◌, ℕ, ◌<◌, Bool, not, ◌&&◌, ◌==◌, if◌then◌else◌, List, []}
 use Rattle.std.specs.Prelude.{slice_index}
 use Rattle.mg_topology.specs.Mask.{seat_limit, has_seat, IsEmpty}
-use Rattle.mg_topology.specs.Topology.{TopologyState, holds, hears, StandsFor}
-use Rattle.mg_flow.specs.Table.{RoomFlows}
+use Rattle.mg_topology.specs.aids.Topology.{TopologyState, holds, hears, StandsFor}
+use Rattle.mg_flow.specs.aids.Table.{RoomFlows}
 
 -- nobody has entered the room
 pub record IsVacant (room : RoomFlows) : Type 0 where

@@ -3,6 +3,7 @@ use Rattle.std.specs.Prelude.{◌≡◌, ℕ, Bool, false, List, [], ◌∷◌, 
 use Rattle.mg_engine.specs.declared.config.Config.{Config}
 use Rattle.mg_core.specs.Note.{Note, events_in}
 use Rattle.mg_core.specs.World.{start_of}
+use Rattle.mg_heard.specs.declared.clock.Clock.{Clock}
 use Rattle.mg_heard.specs.declared.entry.Entry.{Entry}
 use Rattle.mg_heard.specs.declared.entry.Entry.TheVariants as entries
 use Rattle.mg_heard.specs.declared.moment.Moment.{Moment}
@@ -10,8 +11,10 @@ use Rattle.mg_heard.specs.declared.open_flow.OpenFlow.{OpenFlow}
 use Rattle.mg_heard.specs.declared.open_interval.OpenInterval.{OpenInterval}
 use Rattle.mg_heard.specs.Intervals.{ended, newest}
 use Rattle.mg_heard.specs.Moments.{AreMoments}
+use Rattle.mg_heard.specs.Times.{tick_count}
 use Rattle.mg_heard.specs.Told.{audible_in, intervals_in}
 use Rattle.mg_heard.specs.aids.Opening.{AreLasting}
+use Rattle.mg_heard.specs.aids.Timing.{AreBegun, IsClock, Timed}
 
 -- what is reported about a stored interval
 abbrev pub entry_until : Option Moment → OpenInterval → Entry
@@ -37,3 +40,17 @@ pub record KeepsOpen (config : Config) (notes : List Note) (tick : ℕ) (is_chan
   pub count : tick ≡ length past
   pub same : is_changed ≡ false → now ≡ newest past
   pub tells : TellsPast past stored Told
+
+-- The same, with the dates and gaps of the notes, which come newest first: all stored and reported
+-- moments are before this tick.
+pub record TellsTimed (older : List Note) (tick : ℕ) (past : List (List OpenFlow))
+    (stored : List OpenInterval) (Told : List Entry → Type 0) : Type 0 where
+  pub begun : AreBegun older tick stored
+  pub tells : TellsPast past stored (Timed older tick Told)
+
+pub record KeepsHeard (config : Config) (notes : List Note) (clock : Clock) (is_changed : Bool)
+    (stored : List OpenInterval) (Told : List Entry → Type 0) : Type 0 where
+  pub clock_is : IsClock (reverse notes) clock
+  pub begun : AreBegun (reverse notes) (tick_count (reverse notes)) stored
+  pub opens : KeepsOpen config notes clock.ticks is_changed stored
+      (Timed (reverse notes) (tick_count (reverse notes)) Told)

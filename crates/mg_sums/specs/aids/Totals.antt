@@ -2,7 +2,8 @@
 use Rattle.std.specs.Prelude.{◌≡◌, ℕ, ◌*◌, ◌<◌, ◌≤◌, ℤ, List, [], length, slice_index_or, unsigned_abs}
 use Rattle.mg_words.specs.Limits.{context_limit, termination_limit}
 use Rattle.mg_sums.specs.Samples.{sample}
-use Rattle.mg_sums.specs.Sums.{SumsState, AreValidSums, total_of}
+use Rattle.mg_sums.specs.Sums.{SumsState}
+use Rattle.mg_sums.specs.aids.Sums.{AreValidSums, total_of}
 
 -- the largest magnitude of a total: a sum of this many samples, each at most 32768
 abbrev pub total_limit : ℕ

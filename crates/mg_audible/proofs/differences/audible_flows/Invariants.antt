@@ -1,5 +1,6 @@
 use Rattle.std.proofs.Common.{◌≡◌, ◌≤◌, length, take}
-use Rattle.mg_core.specs.World.{World, StandsFor, packets_of, world_after_tick}
+use Rattle.mg_core.specs.World.{World, packets_of, world_after_tick}
+use Rattle.mg_core.specs.aids.Stands.{StandsFor}
 use Rattle.mg_audible.proofs.FlowLemmas.{flows_among}
 use Rattle.mg_audible.proofs.differences.audible_flows.Given as goal
 

@@ -1,7 +1,7 @@
 use Rattle.std.proofs.Common.{◌<◌, ◌^◌, ℕ, [], refl, sym, subst, ◌∙◌, arith}
 use Rattle.mg_core.specs.Headline.{IsStart}
 use Rattle.mg_audible.specs.Told.{TellsAudible}
-use Rattle.mg_audible.specs.aids.Keeping.{KeepsAudible}
+use Rattle.mg_audible.specs.aids.Keeping.{KeepsTimed}
 use Rattle.mg_audible.proofs.hearing.hear_talker.Goals as goal
 
 pub returns-in_ok-finish-in-Ok : goal.returns-in_ok-finish-in-Ok
@@ -17,8 +17,8 @@ returns-in_ok-finish-in-Ok g c = record {
       let start : IsStart config = (begun.sound, small) in
       let h = c.in-Ok.ensures.followed (
         refl,
-        subst (λ (n : ℕ). KeepsAudible config n [] first.pair.whole.state
-            first.pair.without.state first.clock.ticks first.open (g.S.Sink.told first.sink first.sink))
+        subst (λ (n : ℕ). KeepsTimed config n [] first.pair.whole.state
+            first.pair.without.state first.clock first.open (g.S.Sink.told first.sink first.sink))
             (sym begun.talker) (begun.start told),
       ) in (
         c.in-Ok.core.state,
@@ -32,8 +32,8 @@ returns-in_ok-finish-in-Ok g c = record {
             subst (λ (s : g.row.S.Denot). TellsAudible config talker h.notes (g.S.Sink.told s out)) begun.sink
                 (subst (λ (n : ℕ). TellsAudible config n h.notes (g.S.Sink.told first.sink out))
                 (h.follows.0 ∙ begun.talker) (c.in_ok-finish-in-Ok.ensures.value first.sink config h.notes start
-                (subst (λ (n : ℕ). KeepsAudible config n h.notes last.pair.whole.state last.pair.without.state
-                last.clock.ticks last.open (g.S.Sink.told first.sink last.sink)) (sym h.follows.0) h.follows.1))),
+                (subst (λ (n : ℕ). KeepsTimed config n h.notes last.pair.whole.state last.pair.without.state
+                last.clock last.open (g.S.Sink.told first.sink last.sink)) (sym h.follows.0) h.follows.1))),
             c.has_rtp-has_rtp.ensures.value config h.notes h.run,
           );
         },

@@ -1,5 +1,5 @@
 use Rattle.std.proofs.Common.{refl}
-use Rattle.mg_heard.specs.Reported.{HasReported, Reported}
+use Rattle.mg_heard.specs.aids.Reporting.{HasReported, Reported}
 use Rattle.mg_heard.proofs.ReportingLemmas.{reported_none}
 use Rattle.mg_audible.proofs.ReportLemmas.{reported_all}
 use Rattle.mg_audible.proofs.reporting.hear_report.Goals as goal

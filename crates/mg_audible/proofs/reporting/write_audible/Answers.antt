@@ -1,7 +1,8 @@
 use Rattle.std.proofs.Common.{◌≡◌, ◌∙◌, refl, rules, subst, sym}
 use Rattle.std.specs.Io.KnownBytes.{Appends}
 use Rattle.mg_heard.specs.Lines.{head_of}
-use Rattle.mg_heard.specs.Reported.{HasReported, Reported, WritesReport}
+use Rattle.mg_heard.specs.Reported.{WritesReport}
+use Rattle.mg_heard.specs.aids.Reporting.{HasReported, Reported}
 use Rattle.mg_heard.specs.declared.style.Style.{Style}
 use Rattle.mg_heard.proofs.ReportingLemmas.{if_done, reported_whole}
 use Rattle.mg_audible.proofs.ReportLemmas.{reported_all}
@@ -44,6 +45,8 @@ returns g c =
               are = h.follows.0.are;
               differ = h.follows.0.differ;
               speech = h.follows.0.speech;
+              gaps = h.follows.0.gaps;
+              dated = h.follows.0.dated;
               told = (text, are, search rules);
             },
             h.follows.1,

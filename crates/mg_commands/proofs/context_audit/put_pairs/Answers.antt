@@ -3,7 +3,7 @@ use Rattle.std.specs.Prelude.{All}
 use Rattle.std.proofs.lemmas.List.{length-map}
 use Rattle.std.proofs.lemmas.List.Elements.{All-get_or, All-drop}
 use Rattle.mg_engine.specs.declared.seated_member.SeatedMember.{SeatedMember}
-use Rattle.mg_engine.specs.Place.{IsOnSeat}
+use Rattle.mg_engine.specs.aids.Place.{IsOnSeat}
 use Rattle.mg_reply.specs.Reply.{after_all}
 use Rattle.mg_commands.specs.ContextProperties.{audit_pair}
 use Rattle.mg_commands.proofs.PutLemmas.{numbers, seated_told, members_told}

@@ -1,7 +1,7 @@
 use Rattle.std.proofs.Common.{sym, subst}
 use Rattle.std.proofs.lemmas.List.Elements.{All-get_or}
 use Rattle.mg_engine.specs.declared.seated_member.SeatedMember.{SeatedMember}
-use Rattle.mg_engine.specs.Place.{IsOnSeat}
+use Rattle.mg_engine.specs.aids.Place.{IsOnSeat}
 use Rattle.mg_commands.proofs.context_audit.put_pairs_of.Goals as goal
 
 pub audit_pair-requires-clause-second : goal.audit_pair-requires-clause-second

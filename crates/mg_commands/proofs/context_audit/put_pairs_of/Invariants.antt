@@ -1,7 +1,7 @@
 use Rattle.std.proofs.Common.{◌≡◌, map, drop}
 use Rattle.mg_reply.specs.Reply.{after_all}
 use Rattle.mg_engine.specs.Gateway.{Gateway}
-use Rattle.mg_engine.specs.Stands.{StandsFor}
+use Rattle.mg_engine.specs.aids.Stands.{StandsFor}
 use Rattle.mg_commands.specs.ContextProperties.{audit_pair}
 use Rattle.mg_commands.proofs.context_audit.put_pairs_of.Given as goal
 

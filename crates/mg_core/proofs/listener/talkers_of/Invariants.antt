@@ -1,6 +1,7 @@
 use Rattle.std.proofs.Common.{◌≡◌, filter, map, take}
 use Rattle.mg_engine.specs.Flow.{flow}
-use Rattle.mg_core.specs.World.{World, StandsFor}
+use Rattle.mg_core.specs.World.{World}
+use Rattle.mg_core.specs.aids.Stands.{StandsFor}
 use Rattle.mg_core.proofs.listener.talkers_of.Given as goal
 
 abbrev pub invariant-loop-place : goal.invariant-loop-place

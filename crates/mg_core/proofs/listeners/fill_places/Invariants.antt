@@ -1,7 +1,8 @@
 use Rattle.std.proofs.Common.{◌≡◌, length, map, take}
 use Rattle.mg_words.specs.Limits.{termination_limit}
 use Rattle.mg_core.specs.Flows.{listener_of}
-use Rattle.mg_core.specs.World.{World, StandsFor}
+use Rattle.mg_core.specs.World.{World}
+use Rattle.mg_core.specs.aids.Stands.{StandsFor}
 use Rattle.mg_core.proofs.listeners.fill_places.Given as goal
 
 abbrev pub invariant-loop-place : goal.invariant-loop-place

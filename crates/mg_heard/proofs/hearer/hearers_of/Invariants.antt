@@ -1,5 +1,6 @@
 use Rattle.std.proofs.Common.{◌≡◌, All, map, take}
-use Rattle.mg_core.specs.World.{World, StandsFor}
+use Rattle.mg_core.specs.World.{World}
+use Rattle.mg_core.specs.aids.Stands.{StandsFor}
 use Rattle.mg_heard.specs.aids.Hearers.{HearsTalkers, seated_of, seats_of}
 use Rattle.mg_heard.proofs.hearer.hearers_of.Given as goal
 

@@ -1,8 +1,8 @@
-use Rattle.std.proofs.Common.{IfOk, subst}
+use Rattle.std.proofs.Common.{◌≡◌, IfOk, subst}
 use Rattle.mg_core.specs.Follow.{IsFollowed}
 use Rattle.mg_core.specs.declared.state.CoreState.{CoreState}
 use Rattle.mg_heard.specs.Told.{TellsAll}
-use Rattle.mg_heard.specs.aids.Keeping.{KeepsOpen}
+use Rattle.mg_heard.specs.aids.Keeping.{KeepsHeard}
 use Rattle.mg_heard.proofs.KeepingLemmas.{tells_followed}
 use Rattle.mg_heard.proofs.hearing.hear.Goals as goal
 
@@ -14,10 +14,11 @@ returns-in-Ok-resume-clause-told g c told =
     let input = g.R.Read.remaining c.args.reader.now in
     let rest = g.R.Read.remaining c.resume.new.reader in
     subst (λ (s : g.row.S.Denot). IfOk c.finish.result (λ heard. (state : CoreState) ×
-    IsFollowed config input rest state (λ notes. TellsAll config notes (g.S.Sink.told s heard.0))))
+    IsFollowed config input rest state
+    (λ notes. TellsAll config notes (λ extent xs. g.S.Sink.told s heard.0 xs × (heard.1 ≡ extent)))))
     c.in-Ok.ensures.sink
     (tells_followed config input rest c.in-Ok-resume.core.state
-    (λ notes. KeepsOpen config notes last.clock.ticks last.is_changed last.open (g.S.Sink.told first.sink last.sink))
-    (g.S.Sink.told first.sink) c.finish.result
-    (c.in-Ok-resume.ensures.followed (c.in-Ok.ensures.start config told))
+    (λ notes. KeepsHeard config notes last.clock last.is_changed last.open (g.S.Sink.told first.sink last.sink))
+    (λ heard notes. TellsAll config notes (λ extent xs. g.S.Sink.told first.sink heard.0 xs × (heard.1 ≡ extent)))
+    c.finish.result (c.in-Ok-resume.ensures.followed (c.in-Ok.ensures.start config told))
     (λ notes run follows. c.finish.ensures.value first.sink config notes run follows))

@@ -1,5 +1,5 @@
-use Rattle.std.proofs.Common.{refl}
-use Rattle.mg_heard.specs.Reported.{HasReported, Reported}
+use Rattle.std.proofs.Common.{◌≡◌, refl}
+use Rattle.mg_heard.specs.aids.Reporting.{HasReported, Reported}
 use Rattle.mg_heard.proofs.ReportingLemmas.{reported_all, reported_none}
 use Rattle.mg_heard.proofs.reporting.hear_report.Goals as goal
 
@@ -12,7 +12,8 @@ returns g c =
     let now : Reported = record { style = last.lines.now; query = last.query.now; written = held last.writer.now } in
     let told = c.in_ok-report.ensures.told (refl, reported_none start) in
     record {
-      same_reference = told.1.follows.told.0;
+      same_reference = told.1.follows.told.0.0;
       reported = reported_all c.args.config (g.R.Read.remaining c.args.reader.now)
-          (g.R.Read.remaining c.hear.new.reader) _ (HasReported start now) (λ xs h. h.1) told;
+          (g.R.Read.remaining c.hear.new.reader) _ (λ extent xs. HasReported start now xs × (c.in_ok-report.extent ≡ extent))
+          (λ extent xs h. (h.0.1, h.1)) told;
     }

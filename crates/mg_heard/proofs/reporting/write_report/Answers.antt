@@ -1,10 +1,8 @@
 use Rattle.std.proofs.Common.{◌≡◌, ◌∙◌, refl, rules, subst, sym}
 use Rattle.std.specs.Io.KnownBytes.{Appends}
-use Rattle.mg_core.specs.Follow.{IsFollowed}
-use Rattle.mg_core.specs.declared.state.CoreState.{CoreState}
 use Rattle.mg_heard.specs.Lines.{head_of}
-use Rattle.mg_heard.specs.Reported.{HasReported, Reported, WritesReport}
-use Rattle.mg_heard.specs.Told.{TellsAll}
+use Rattle.mg_heard.specs.Reported.{WritesReport}
+use Rattle.mg_heard.specs.aids.Reporting.{HasReported, Reported}
 use Rattle.mg_heard.specs.declared.style.Style.{Style}
 use Rattle.mg_heard.proofs.ReportingLemmas.{if_done, reported_all, reported_whole}
 use Rattle.mg_heard.proofs.reporting.write_report.Goals as goal
@@ -24,15 +22,16 @@ returns g c =
     let begins : Appends (held first.now) begun (head_of c.args.style.format) =
     subst (λ (s : Style). Appends (held first.now) begun (head_of s.format)) c.in-Ok.ensures.value
     (if_done c.write_head.result (sym c.is_err.ensures.value ∙ c.if-is_err.false) c.write_head.ensures.value) in
-    let written : (state : CoreState) × IsFollowed c.args.config (g.R.Read.remaining c.args.reader.now)
-    (g.R.Read.remaining c.hear_report.new.reader) state (λ notes. TellsAll c.args.config notes
-    (WritesReport c.args.style c.args.query (held first.now) (held last.writer.now))) =
-    reported_all c.args.config (g.R.Read.remaining c.args.reader.now) (g.R.Read.remaining c.hear_report.new.reader)
-    (HasReported start now)
-    (WritesReport c.args.style c.args.query (held first.now) (held last.writer.now))
-    (λ xs h. reported_whole c.args.style c.args.query (held first.now) start now xs formed refl begins h) told in
-    let (state, h) = written in
-    let (text, are, bytes) = h.follows.told in
+    let (state, h) = reported_all c.args.config (g.R.Read.remaining c.args.reader.now)
+    (g.R.Read.remaining c.hear_report.new.reader)
+    (λ extent xs. HasReported start now xs × (c.in_ok-report.extent ≡ extent))
+    (λ extent xs. WritesReport c.args.style c.args.query (held first.now) (held last.writer.now) xs
+    × (c.in_ok-report.extent ≡ extent))
+    (λ extent xs h. (
+      reported_whole c.args.style c.args.query (held first.now) start now xs formed refl begins h.0,
+      h.1,
+    )) told in
+    let ((text, are, bytes), covers) = h.follows.told in
     record {
       report = (
         state,
@@ -47,7 +46,9 @@ returns g c =
             are = h.follows.are;
             no_others = h.follows.no_others;
             flow = h.follows.flow;
-            told = (text, are, search rules);
+            gaps = h.follows.gaps;
+            dated = h.follows.dated;
+            told = ((text, are, search rules), covers);
           };
         },
       );

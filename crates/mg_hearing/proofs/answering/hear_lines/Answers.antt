@@ -18,8 +18,8 @@ returns-in-Ok-print_heard g c =
     let (state, h) =
     rw (c.chain-script.ensures.bytes, c.as_slice.ensures.value) at c.in-Ok-print_heard.ensures.value in
     let printed = prints_more config _ _ state (Prints asked asked.at old new status)
-    (PrintsAs asked.style.format request asked old new status)
-    (λ xs p. as_lines asked.style.format request asked old new status xs c.requires.lines p) h in
+    (PrintsAs asked.style.format request asked (left c.args.reader.now) old new status)
+    (λ extent xs p. as_lines asked.style.format request asked (left c.args.reader.now) old new status extent xs c.requires.lines p) h in
     record {
       value = hears request asked (left c.args.reader.now) old new _ status
           (is_heard request asked config (left c.args.reader.now) (left c.read_title.new.reader) line

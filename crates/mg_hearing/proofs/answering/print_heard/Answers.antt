@@ -16,6 +16,6 @@ pub returns-in_ok-write_report-in-None : goal.returns-in_ok-write_report-in-None
 returns-in_ok-write_report-in-None g c =
     let asked = c.args.question in
     record {
-      value = prints_report asked asked.at c.args.config _ _ _ _ Done c.in-None.is refl
+      value = prints_report asked asked.at c.args.config _ _ _ _ Done _ c.in-None.is refl
           c.in_ok-write_report-in-None.ensures.report;
     }

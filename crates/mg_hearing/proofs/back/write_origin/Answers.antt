@@ -14,6 +14,7 @@ returns g c =
       c.in_ok-size-2.ensures.value,
       c.as_slice-6.ensures.value,
       c.in_ok-digest.ensures.value,
+      c.digits.ensures.value,
       c.as_slice-7.ensures.value,
       c.in_ok-covered.ensures.value,
       c.as_slice-8.ensures.value,
@@ -32,7 +33,6 @@ returns g c =
         _,
         record {
           size = c.as_bytes-2.result.now;
-          digest = c.digits.result.now;
           covered = c.as_slice.result.now;
           program = c.as_bytes-3.result.now;
           program_digest = c.match-origin.program_digest.now;

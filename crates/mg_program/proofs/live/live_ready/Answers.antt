@@ -1,11 +1,42 @@
-use Rattle.std.proofs.Common.{inl, Err}
+use Rattle.std.proofs.Common.{inl, inr, Err, refl, sym, subst, Option, List}
+use Rattle.std.specs.Option.{option_map_or}
+use Rattle.mg_journal.specs.Journal.{no_journal}
+use Rattle.mg_host.specs.declared.host_call.HostCall.{HostCall}
+use Rattle.mg_start.specs.aids.Starting.{CanStart}
+use Rattle.mg_program.proofs.PortLemmas.{fails_anyhow, not_started}
 use Rattle.mg_program.proofs.live.live_ready.Goals as goal
+
+pub returns-in-Err : goal.returns-in-Err
+returns-in-Err g c = record {
+  value = λ text found bound can binds. inr (
+    fails_anyhow c.args.ready.config c.watch_fault-status.result c.watch_fault-status.ensures.ends,
+    not_started c.args.service.now.journal text c.args.service.now.bind_address c.args.ready.config can.started.missed
+        c.args.ready.config.slots found bound (g.H.Tells.calls c.args.host) (g.H.Tells.calls c.watch.new.self) binds
+        can.started.begins c.watch.ensures.same,
+    refl,
+  );
+}
+
+pub returns-in-Err-monitor : goal.returns-in-Err-monitor
+returns-in-Err-monitor g c = record {
+  value = λ text found bound can binds. inr (
+    tt,
+    not_started c.args.service.now.journal text c.args.service.now.bind_address c.args.ready.config can.started.missed
+        c.args.ready.config.slots found bound (g.H.Tells.calls c.args.host) (g.H.Tells.calls c.watch.new.self) binds
+        can.started.begins c.watch.ensures.same,
+    refl,
+  );
+}
 
 pub returns : goal.returns
 returns g c = record {
-  value = λ text can. inl (
-    Err c.live_on_sockets-fault.result,
+  value = λ text found bound can binds. inl (
+    Err c.live_on_sockets.result.1,
+    bound,
     c.status_after.ensures.value,
-    c.live_on_sockets-fault.ensures.value text can,
+    binds,
+    c.live_on_sockets.ensures.value text bound (subst (λ (x : Option (List HostCall)).
+        CanStart c.args.service.now.journal text c.args.ready.config c.args.ready.core.state
+        (option_map_or (λ j. j) c.args.ready.journal no_journal) bound x) (sym c.watch.ensures.same) can),
   );
 }

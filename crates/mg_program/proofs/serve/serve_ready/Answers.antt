@@ -1,9 +1,21 @@
-use Rattle.std.proofs.Common.{inl}
+use Rattle.std.proofs.Common.{inl, inr, refl}
+use Rattle.mg_program.proofs.PortLemmas.{not_started}
 use Rattle.mg_program.proofs.serve.serve_ready.Goals as goal
 
+pub returns-in_default-clause-value : goal.returns-in_default-clause-value
+returns-in_default-clause-value g c = λ text found bound can binds. inr (
+  tt,
+  not_started c.args.service.now.journal text c.args.service.now.bind_address c.args.ready.config can.started.missed
+      c.args.ready.config.slots found bound (g.H.Tells.calls c.args.host) (g.H.Tells.calls c.args.host) binds
+      can.started.begins refl,
+  (refl, refl),
+)
+
 pub returns-clause-value : goal.returns-clause-value
-returns-clause-value g c = λ text can. inl (
-  c.serve_on_sockets-outcome.result,
+returns-clause-value g c = λ text found bound can binds. inl (
+  c.serve_on_sockets-host.result.1,
+  bound,
   c.status_after.ensures.value,
-  c.serve_on_sockets-outcome.ensures.value text can,
+  binds,
+  c.serve_on_sockets-host.ensures.value text bound can,
 )

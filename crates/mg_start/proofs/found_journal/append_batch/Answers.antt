@@ -11,4 +11,4 @@ append-requires g c =
 pub returns : goal.returns
 returns g c =
     let lines : c.as_flattened.result.now ≡ tick_lines c.args.ticks = c.as_flattened.ensures.value ∙ batch_lines c.args.ticks 1000 c.requires.few in
-    record { value = rw lines at c.append.ensures.value }
+    record { value = rw lines at c.append.ensures.value; logged = rw lines at c.append.ensures.logged }

@@ -1,4 +1,4 @@
-use Rattle.mg_journal.specs.Opening.{text_in}
+use Rattle.mg_journal.specs.aids.Opened.{text_in}
 use Rattle.mg_start.proofs.StartLemmas.{title_found}
 use Rattle.mg_start.proofs.history.config_in.Goals as goal
 

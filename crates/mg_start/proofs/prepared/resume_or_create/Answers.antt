@@ -1,5 +1,5 @@
 use Rattle.std.proofs.Common.{refl}
-use Rattle.mg_journal.specs.Opening.{text_in}
+use Rattle.mg_journal.specs.aids.Opened.{text_in}
 use Rattle.mg_start.proofs.ResumeLemmas.{if_ok_map, new_resumed}
 use Rattle.mg_start.proofs.StartLemmas.{agreed_chosen}
 use Rattle.mg_start.proofs.prepared.resume_or_create.Goals as goal

@@ -1,6 +1,7 @@
 use Rattle.std.proofs.Common.{◌≡◌, ℕ, ◌<◌, ◌+◌, ◌*◌, ◌-ℤ◌, take}
 use Rattle.mg_sums.specs.Samples.{sample, sum_of}
-use Rattle.mg_sums.specs.Sums.{sample_in, left_out_by, work_after}
+use Rattle.mg_sums.specs.Sums.{sample_in, left_out_by}
+use Rattle.mg_sums.specs.aids.Sums.{work_after}
 use Rattle.mg_sums.specs.aids.Totals.{total_limit, AreNear}
 use Rattle.mg_sums.proofs.sums.write_rest.Given as goal
 

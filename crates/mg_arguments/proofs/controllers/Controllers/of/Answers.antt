@@ -1,7 +1,6 @@
 use Rattle.std.proofs.Common.{◌∙◌, [], ◌∷◌, ap, arith, length, length-append, map, drop, refl, sym, ◌+◌}
 use Rattle.mg_words.specs.Address.{address_of}
-use Rattle.mg_arguments.specs.Controllers.{all_named}
-use Rattle.mg_arguments.proofs.ControllerLemmas.{next_read, none_read, then_named}
+use Rattle.mg_arguments.proofs.ControllerLemmas.{all_named, next_read, none_read, then_named}
 use Rattle.mg_arguments.proofs.controllers.Controllers.of.Goals as goal
 
 pub loop-text-init : goal.loop-text-init

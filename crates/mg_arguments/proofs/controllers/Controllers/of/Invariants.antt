@@ -1,6 +1,5 @@
 use Rattle.std.proofs.Common.{◌≡◌, drop, length, map}
-use Rattle.mg_arguments.specs.Controllers.{all_named}
-use Rattle.mg_arguments.proofs.ControllerLemmas.{then_named}
+use Rattle.mg_arguments.proofs.ControllerLemmas.{all_named, then_named}
 use Rattle.mg_arguments.proofs.controllers.Controllers.of.Given as goal
 
 abbrev pub invariant-loop-text : goal.invariant-loop-text

@@ -1,7 +1,6 @@
 use Rattle.std.proofs.Common.{◌∙◌, [], ◌∷◌, ap, arith, length, length-append, map, drop, refl, sym, ◌+◌}
 use Rattle.mg_heard.specs.Asked.{rule_by}
-use Rattle.mg_arguments.specs.Rules.{all_stated}
-use Rattle.mg_arguments.proofs.RuleLemmas.{next_read, none_read, then_stated}
+use Rattle.mg_arguments.proofs.RuleLemmas.{all_stated, next_read, none_read, then_stated}
 use Rattle.mg_arguments.proofs.rules.Rules.of.Goals as goal
 
 pub loop-text-init : goal.loop-text-init

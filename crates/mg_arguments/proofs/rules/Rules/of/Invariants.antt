@@ -1,6 +1,5 @@
 use Rattle.std.proofs.Common.{◌≡◌, drop, length, map}
-use Rattle.mg_arguments.specs.Rules.{all_stated}
-use Rattle.mg_arguments.proofs.RuleLemmas.{then_stated}
+use Rattle.mg_arguments.proofs.RuleLemmas.{all_stated, then_stated}
 use Rattle.mg_arguments.proofs.rules.Rules.of.Given as goal
 
 abbrev pub invariant-loop-text : goal.invariant-loop-text

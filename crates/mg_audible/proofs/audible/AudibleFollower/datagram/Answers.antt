@@ -1,8 +1,8 @@
-use Rattle.std.proofs.Common.{◌≡◌, ℕ, sym, subst, ap, ◌∙◌}
+use Rattle.std.proofs.Common.{◌≡◌, ℕ, reverse, sym, subst, ap, ◌∙◌}
 use Rattle.mg_core.specs.declared.event.Event.{Event}
 use Rattle.mg_core.specs.declared.event.Event.TheVariants.{Control, Media}
 use Rattle.mg_audible.specs.aids.Keeping.{LeadsBoth}
-use Rattle.mg_audible.proofs.KeepLemmas.{keeps_datagram}
+use Rattle.mg_audible.proofs.KeepLemmas.{timed_datagram}
 use Rattle.mg_audible.proofs.audible.AudibleFollower.datagram.Goals as goal
 
 pub returns-in-Ok : goal.returns-in-Ok
@@ -15,9 +15,10 @@ returns-in-Ok g c =
     record {
       value = λ start config notes h run. (
         c.control.ensures.talker ∙ h.0,
-        keeps_datagram config start.pair.talker notes c.args.event.now old.pair.whole.state old.pair.without.state
-            new.whole.state new.without.state old.clock.ticks c.pass_line.new.self.ticks old.open
-            (g.S.Sink.told start.sink old.sink) c.pass_line.ensures.ticks c.requires.datagram
+        timed_datagram config start.pair.talker notes c.args.event.now old.pair.whole.state old.pair.without.state
+            new.whole.state new.without.state old.clock c.pass_line.new.self old.open
+            (g.S.Sink.told start.sink old.sink) c.pass_line.ensures.ticks
+            (c.pass_line.ensures.value (reverse notes)) c.requires.datagram
             (subst (λ (n : ℕ). LeadsBoth n c.args.event.now old.pair.whole.state old.pair.without.state new.whole.state
             new.without.state) h.0
             (subst (λ (e : Event). LeadsBoth old.pair.talker e old.pair.whole.state old.pair.without.state
@@ -37,9 +38,10 @@ returns-in-Media g c =
     record {
       value = λ start config notes h run. (
         c.media.ensures.talker ∙ h.0,
-        keeps_datagram config start.pair.talker notes c.args.event.now old.pair.whole.state old.pair.without.state
-            new.whole.state new.without.state old.clock.ticks c.pass_line.new.self.ticks old.open
-            (g.S.Sink.told start.sink old.sink) c.pass_line.ensures.ticks c.requires.datagram
+        timed_datagram config start.pair.talker notes c.args.event.now old.pair.whole.state old.pair.without.state
+            new.whole.state new.without.state old.clock c.pass_line.new.self old.open
+            (g.S.Sink.told start.sink old.sink) c.pass_line.ensures.ticks
+            (c.pass_line.ensures.value (reverse notes)) c.requires.datagram
             (subst (λ (n : ℕ). LeadsBoth n c.args.event.now old.pair.whole.state old.pair.without.state new.whole.state
             new.without.state) h.0
             (subst (λ (e : Event). LeadsBoth old.pair.talker e old.pair.whole.state old.pair.without.state

@@ -2,7 +2,7 @@ use Rattle.std.proofs.Common.{◌≡◌, ◌++◌, List, refl, sym, subst, ◌�
 use Rattle.std.proofs.lemmas.List.{append-nil}
 use Rattle.mg_core.specs.Follow.{ticks_of}
 use Rattle.mg_core.specs.Note.{Note}
-use Rattle.mg_audible.specs.aids.Keeping.{KeepsAudible}
+use Rattle.mg_audible.specs.aids.Keeping.{KeepsTimed}
 use Rattle.mg_audible.proofs.KeepLemmas.{ticks_more}
 use Rattle.mg_audible.proofs.audible.AudibleFollower.ticks.Goals as goal
 
@@ -12,8 +12,8 @@ loop-init g c =
     record {
       talker = refl;
       keeps = λ start config notes h.
-          subst (λ (l : List Note). KeepsAudible config old.pair.talker l old.pair.whole.state old.pair.without.state
-          old.clock.ticks old.open (g.S.Sink.told start old.sink)) (sym (append-nil notes)) h;
+          subst (λ (l : List Note). KeepsTimed config old.pair.talker l old.pair.whole.state old.pair.without.state
+          old.clock old.open (g.S.Sink.told start old.sink)) (sym (append-nil notes)) h;
     }
 
 pub loop-preserved : goal.loop-preserved
@@ -26,13 +26,13 @@ loop-preserved g c =
       talker = c.in_ok-pass_tick.ensures.talker ∙ same;
       keeps = λ start config notes h.
           let Told = g.S.Sink.told start next.sink in
-          subst (λ (l : List Note). KeepsAudible config old.pair.talker l next.pair.whole.state next.pair.without.state
-          next.clock.ticks next.open Told) (ticks_more notes c.loop.counter)
-          (subst (λ (n : ℕ). KeepsAudible config n ((notes ++ ticks_of c.loop.counter) ++ ticks_of 1)
-          next.pair.whole.state next.pair.without.state next.clock.ticks next.open Told) same
+          subst (λ (l : List Note). KeepsTimed config old.pair.talker l next.pair.whole.state next.pair.without.state
+          next.clock next.open Told) (ticks_more notes c.loop.counter)
+          (subst (λ (n : ℕ). KeepsTimed config n ((notes ++ ticks_of c.loop.counter) ++ ticks_of 1)
+          next.pair.whole.state next.pair.without.state next.clock next.open Told) same
           (c.in_ok-pass_tick.ensures.value start config (notes ++ ticks_of c.loop.counter)
-          (subst (λ (n : ℕ). KeepsAudible config n (notes ++ ticks_of c.loop.counter) now.pair.whole.state
-          now.pair.without.state now.clock.ticks now.open (g.S.Sink.told start now.sink)) (sym same)
+          (subst (λ (n : ℕ). KeepsTimed config n (notes ++ ticks_of c.loop.counter) now.pair.whole.state
+          now.pair.without.state now.clock now.open (g.S.Sink.told start now.sink)) (sym same)
           (c.loop.invariant.keeps start config notes h))));
     }
 
@@ -44,13 +44,13 @@ returns g c =
       value = λ start config notes h run.
           let all : c.loop.counter ≡ c.args.count = omega arith in (
             c.loop.invariant.talker ∙ h.0,
-            subst (λ (n : ℕ). KeepsAudible config start.pair.talker (notes ++ ticks_of n) now.pair.whole.state
-                now.pair.without.state now.clock.ticks now.open (g.S.Sink.told start.sink now.sink)) all
-                (subst (λ (n : ℕ). KeepsAudible config n (notes ++ ticks_of c.loop.counter) now.pair.whole.state
-                now.pair.without.state now.clock.ticks now.open (g.S.Sink.told start.sink now.sink)) h.0
+            subst (λ (n : ℕ). KeepsTimed config start.pair.talker (notes ++ ticks_of n) now.pair.whole.state
+                now.pair.without.state now.clock now.open (g.S.Sink.told start.sink now.sink)) all
+                (subst (λ (n : ℕ). KeepsTimed config n (notes ++ ticks_of c.loop.counter) now.pair.whole.state
+                now.pair.without.state now.clock now.open (g.S.Sink.told start.sink now.sink)) h.0
                 (c.loop.invariant.keeps start.sink config notes
-                (subst (λ (n : ℕ). KeepsAudible config n notes old.pair.whole.state old.pair.without.state
-                old.clock.ticks old.open (g.S.Sink.told start.sink old.sink)) (sym h.0) h.1))),
+                (subst (λ (n : ℕ). KeepsTimed config n notes old.pair.whole.state old.pair.without.state
+                old.clock old.open (g.S.Sink.told start.sink old.sink)) (sym h.0) h.1))),
           );
       stops = tt;
     }

@@ -1,6 +1,6 @@
 use Rattle.std.proofs.Common.{◌∙◌, Ok, sym, ap}
 use Rattle.std.proofs.lemmas.Result.{err_from_is_err_and}
-use Rattle.mg_core.specs.CoreView.{CoreView}
+use Rattle.mg_core.specs.aids.CoreView.{CoreView}
 use Rattle.mg_core.specs.declared.event.Event.TheVariants.{Control, Media, Tick}
 use Rattle.mg_rooms.proofs.SoundLemmas.{sound_if}
 use Rattle.mg_core.proofs.LineLemmas.{changed_steps, cut_steps, quiet_steps, silent_steps}

@@ -1,8 +1,9 @@
 use Rattle.std.proofs.Common.{[], refl, sym, ap, subst, ◌∙◌}
-use Rattle.mg_engine.specs.Stands.{EngineState}
-use Rattle.mg_core.specs.CoreView.{CoreView}
+use Rattle.mg_engine.specs.aids.Stands.{EngineState}
+use Rattle.mg_core.specs.aids.CoreView.{CoreView}
 use Rattle.mg_core.specs.declared.event.Event.TheVariants.{Media}
-use Rattle.mg_core.specs.World.{StandsFor, with_taken}
+use Rattle.mg_core.specs.World.{with_taken}
+use Rattle.mg_core.specs.aids.Stands.{StandsFor}
 use Rattle.mg_core.proofs.HeadlineLemmas.{continues}
 use Rattle.mg_core.proofs.machine.Core.media.Goals as goal
 

@@ -2,9 +2,9 @@ use Rattle.std.proofs.Common.{ℕ, ◌*◌, sym, ap, subst}
 use Rattle.mg_scan.specs.Span.{text_of}
 use Rattle.mg_text.specs.Message.{items_of}
 use Rattle.mg_engine.specs.Work.{RisesAtMost}
-use Rattle.mg_core.specs.CoreView.{CoreView}
+use Rattle.mg_core.specs.aids.CoreView.{CoreView}
 use Rattle.mg_core.specs.Work.{edits_by_items}
-use Rattle.mg_core.specs.World.{StandsFor}
+use Rattle.mg_core.specs.aids.Stands.{StandsFor}
 use Rattle.mg_core.proofs.machine.Core.reply_to.Goals as goal
 
 pub returns-clause-work : goal.returns-clause-work

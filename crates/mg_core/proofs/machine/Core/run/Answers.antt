@@ -1,14 +1,15 @@
 use Rattle.std.proofs.Common.{ℕ, ◌*◌, refl, sym, ap, subst, ◌∙◌}
 use Rattle.mg_text.specs.MessageReading.{Read}
-use Rattle.mg_engine.specs.Stands.{EngineState}
+use Rattle.mg_engine.specs.aids.Stands.{EngineState}
 use Rattle.mg_engine.specs.Work.{RisesAtMost}
 use Rattle.mg_engine.proofs.WorkLemmas.{stays}
-use Rattle.mg_core.specs.CoreView.{CoreView}
+use Rattle.mg_core.specs.aids.CoreView.{CoreView}
 use Rattle.mg_core.specs.declared.answer.Answer.TheVariants.{Send}
 use Rattle.mg_core.specs.declared.state.CoreState.{CoreState}
 use Rattle.mg_core.specs.Step.{reported}
 use Rattle.mg_core.specs.Work.{edits_by}
-use Rattle.mg_core.specs.World.{StandsFor, with_control}
+use Rattle.mg_core.specs.World.{with_control}
+use Rattle.mg_core.specs.aids.Stands.{StandsFor}
 use Rattle.mg_core.proofs.AnswerLemmas.{refuses}
 use Rattle.mg_core.proofs.HeadlineLemmas.{continues}
 use Rattle.mg_core.proofs.machine.Core.run.Goals as goal

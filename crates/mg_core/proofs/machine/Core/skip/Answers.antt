@@ -1,7 +1,8 @@
 use Rattle.std.proofs.Common.{sym, subst}
 use Rattle.mg_engine.specs.Tick.{after_ticks, concealed_in_ticks}
-use Rattle.mg_core.specs.CoreView.{CoreView}
-use Rattle.mg_core.specs.World.{World, StandsFor}
+use Rattle.mg_core.specs.aids.CoreView.{CoreView}
+use Rattle.mg_core.specs.World.{World}
+use Rattle.mg_core.specs.aids.Stands.{StandsFor}
 use Rattle.mg_core.proofs.SkipLemmas.{extends_by_ticks, ticks_counted}
 use Rattle.mg_core.proofs.machine.Core.skip.Goals as goal
 

@@ -1,11 +1,12 @@
 use Rattle.std.proofs.Common.{ℕ, map, refl, sym, ap, subst}
-use Rattle.mg_engine.specs.Stands.{EngineState}
+use Rattle.mg_engine.specs.aids.Stands.{EngineState}
 use Rattle.mg_engine.specs.Work.{RisesAtMost, tick_work}
 use Rattle.mg_engine.specs.Tick.{after_tick}
-use Rattle.mg_core.specs.CoreView.{CoreView}
+use Rattle.mg_core.specs.aids.CoreView.{CoreView}
 use Rattle.mg_core.specs.declared.event.Event.TheVariants.{Tick}
 use Rattle.mg_core.specs.Step.{Packet}
-use Rattle.mg_core.specs.World.{StandsFor, world_after_tick, with_tick}
+use Rattle.mg_core.specs.World.{world_after_tick, with_tick}
+use Rattle.mg_core.specs.aids.Stands.{StandsFor}
 use Rattle.mg_core.proofs.HeadlineLemmas.{continues}
 use Rattle.mg_core.proofs.machine.Core.tick.Goals as goal
 

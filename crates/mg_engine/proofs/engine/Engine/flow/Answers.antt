@@ -1,5 +1,5 @@
 use Rattle.mg_engine.proofs.Common.{ℕ, IsTrue, sym, ap, subst, ◌∙◌, has_seat, Place, view, member_place}
-use Rattle.mg_flow.specs.Table as table
+use Rattle.mg_flow.specs.aids.Table as table
 use Rattle.mg_engine.proofs.FlowLemmas.{flow_places}
 use Rattle.mg_engine.proofs.PlaceLemmas.{on_its_place}
 use Rattle.mg_engine.proofs.engine.Engine.flow.Goals as goal

@@ -1,5 +1,5 @@
 use Rattle.mg_engine.proofs.Common.{ℕ, length, map, sym, ap, ◌∙◌, sound_if, place_count, SumsState, Registry, length-replicate}
-use Rattle.mg_sums.specs.Sums.{first_sums}
+use Rattle.mg_sums.specs.aids.Sums.{first_sums}
 use Rattle.mg_engine.proofs.JoinedLemmas.{joined_nowhere}
 use Rattle.mg_engine.proofs.MemberLemmas.{has_nobody, nobody_seated}
 use Rattle.mg_engine.proofs.engine.Engine.new.Goals as goal

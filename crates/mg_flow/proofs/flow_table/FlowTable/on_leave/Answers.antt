@@ -1,6 +1,6 @@
 use Rattle.std.proofs.Common.{◌≡◌, ◌∷◌, true, ap, ◌∙◌}
 use Rattle.mg_flow.specs.Edits.{Leave}
-use Rattle.mg_flow.specs.Table.{holds}
+use Rattle.mg_flow.specs.aids.Table.{holds}
 use Rattle.mg_flow.proofs.HearsLemmas.{leave_hears}
 use Rattle.mg_flow.proofs.TableLemmas.{IsRead, held_within, leave_stands, IsFlowTable-edited}
 use Rattle.mg_flow.proofs.flow_table.FlowTable.on_leave.Goals as goal

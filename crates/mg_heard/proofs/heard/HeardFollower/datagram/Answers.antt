@@ -1,14 +1,14 @@
-use Rattle.std.proofs.Common.{true}
+use Rattle.std.proofs.Common.{reverse, true}
 use Rattle.std.proofs.lemmas.Bool.{true≢false}
-use Rattle.mg_heard.proofs.KeepingLemmas.{keeps_datagram, not_control}
+use Rattle.mg_heard.proofs.KeepingLemmas.{heard_datagram, not_control}
 use Rattle.mg_heard.proofs.heard.HeardFollower.datagram.Goals as goal
 
 pub returns-in-Control-clause-value : goal.returns-in-Control-clause-value
 returns-in-Control-clause-value g c start config notes h run =
     let old = c.args.self.now in
-    keeps_datagram c.outcomes_are_unique.ensures.event c.only_control_changes_intervals.ensures.flows config notes
-    c.args.event.now old.clock.ticks c.pass_line.new.self.ticks old.is_changed true old.open
-    (g.S.Sink.told start.sink old.sink) c.args._core.now.state c.pass_line.ensures.ticks c.requires.datagram
+    heard_datagram c.outcomes_are_unique.ensures.event c.only_control_changes_flows.ensures.flows config notes
+    c.args.event.now old.clock c.pass_line.new.self old.is_changed true old.open (g.S.Sink.told start.sink old.sink)
+    c.args._core.now.state c.pass_line.ensures.ticks (c.pass_line.ensures.value (reverse notes)) c.requires.datagram
     (λ e. absurd (true≢false e)) run h
 
 pub returns-in_default : goal.returns-in_default
@@ -16,9 +16,10 @@ returns-in_default g c =
     let old = c.args.self.now in
     record {
       value = λ start config notes h run.
-          keeps_datagram c.outcomes_are_unique.ensures.event c.only_control_changes_intervals.ensures.flows config notes
-          c.args.event.now old.clock.ticks c.pass_line.new.self.ticks old.is_changed old.is_changed old.open
-          (g.S.Sink.told start.sink old.sink) c.args._core.now.state c.pass_line.ensures.ticks c.requires.datagram
+          heard_datagram c.outcomes_are_unique.ensures.event c.only_control_changes_flows.ensures.flows config notes
+          c.args.event.now old.clock c.pass_line.new.self old.is_changed old.is_changed old.open
+          (g.S.Sink.told start.sink old.sink) c.args._core.now.state c.pass_line.ensures.ticks
+          (c.pass_line.ensures.value (reverse notes)) c.requires.datagram
           (λ e. (not_control c.args.event.now c.in_default.not-Control, e)) run h;
       stops = tt;
     }

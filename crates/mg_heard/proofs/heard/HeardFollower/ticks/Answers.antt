@@ -1,6 +1,9 @@
-use Rattle.std.proofs.Common.{◌+◌, sym, ap, ◌∙◌}
+use Rattle.std.proofs.Common.{◌+◌, reverse, sym, ap, subst, ◌∙◌}
+use Rattle.mg_heard.specs.Times.{tick_count}
+use Rattle.mg_heard.specs.aids.Timing.{IsClock, Timed}
+use Rattle.mg_heard.specs.declared.clock.Clock.{Clock}
 use Rattle.mg_heard.proofs.IntervalLemmas.{equal_moments_tell_nothing}
-use Rattle.mg_heard.proofs.KeepingLemmas.{keeps_no_tick, keeps_some_ticks, now_is}
+use Rattle.mg_heard.proofs.KeepingLemmas.{heard_no_tick, heard_ticks, now_is}
 use Rattle.mg_heard.proofs.heard.HeardFollower.ticks.Goals as goal
 
 pub returns-then-count-eq0 : goal.returns-then-count-eq0
@@ -8,7 +11,7 @@ returns-then-count-eq0 g c =
     let old = c.args.self.now in
     record {
       value = λ start config notes h run.
-          keeps_no_tick config notes old.clock.ticks c.args.count old.is_changed old.open
+          heard_no_tick config notes old.clock c.args.count old.is_changed old.open
           (g.S.Sink.told start.sink old.sink) c.if-count-eq0.true h;
       stops = tt;
     }
@@ -20,12 +23,17 @@ returns-in-Ok g c =
     let mid = c.update.new.self in
     record {
       value = λ start config notes h (sent, w, (run, stands)).
+          let older = reverse notes in
           let Told = g.S.Sink.told start.sink old.sink in
-          let now = now_is one config notes old.clock.ticks old.is_changed old.open Told sent w run h in
-          keeps_some_ticks one c.only_control_changes_intervals.ensures.flows equal_moments_tell_nothing config notes
-          old.clock.ticks c.pass_ticks.new.self.ticks c.args.count old.is_changed mid.is_changed old.open mid.open Told
+          let now = now_is one config notes old.clock.ticks old.is_changed old.open (Timed older (tick_count older) Told)
+          sent w run h.opens in
+          let is : IsClock older mid.clock = subst (λ (k : Clock). IsClock older k) (sym c.update.ensures.clock) h.clock_is in
+          heard_ticks one c.only_control_changes_flows.ensures.flows equal_moments_tell_nothing config notes
+          old.clock c.pass_ticks.new.self c.args.count old.is_changed mid.is_changed old.open mid.open Told
           (g.S.Sink.told start.sink mid.sink) sent w c.if-count-eq0.false
-          (c.in-Ok.ensures.ticks ∙ ap (λ clock. clock.ticks + c.args.count) c.update.ensures.clock) run h
-          (c.in_ok-update.ensures.value w h.past start.sink stands h.count (λ e. sym now ∙ h.same e) h.tells);
+          (c.in-Ok.ensures.ticks ∙ ap (λ clock. clock.ticks + c.args.count) c.update.ensures.clock)
+          (c.in-Ok.ensures.value older is) run h
+          (c.in_ok-update.ensures.value w h.opens.past older start.sink stands h.clock_is h.opens.count
+          (λ e. sym now ∙ h.opens.same e) (record { begun = h.begun; tells = h.opens.tells }));
       stops = tt;
     }

@@ -1,14 +1,17 @@
-use Rattle.std.proofs.Common.{◌≡◌, ◌≤◌, All, List, length, map, refl, sym, ap, subst, ◌∙◌}
+use Rattle.std.proofs.Common.{◌≡◌, ◌≤◌, ◌+◌, All, List, length, map, refl, sym, ap, subst, ◌∙◌}
 use Rattle.mg_words.specs.Limits.{member_limit}
 use Rattle.mg_rooms.specs.Consistent.{IsConsistent}
 use Rattle.mg_rooms.proofs.SoundLemmas.{sound_if}
 use Rattle.mg_heard.specs.OpenFlows.{open_flows}
-use Rattle.mg_heard.specs.aids.Hearers.{AreHearers, AreRising, flows_heard, seats_of}
+use Rattle.mg_heard.specs.aids.Hearers.{AreHearers, AreRising, flows_among, flows_heard, seats_of}
 use Rattle.mg_heard.specs.aids.Opening.{beginning_at, continued, flows_of, without_flows}
+use Rattle.mg_heard.specs.Times.{tick_count}
 use Rattle.mg_heard.specs.aids.Rows.{AreRows, intervals_of}
+use Rattle.mg_heard.specs.aids.Timing.{AreBegun}
 use Rattle.mg_heard.specs.declared.hearer.Hearer.{Hearer}
 use Rattle.mg_heard.specs.declared.open_flow.OpenFlow.{OpenFlow}
 use Rattle.mg_heard.proofs.AdvanceLemmas.{advanced, new_flows}
+use Rattle.mg_heard.proofs.BegunLemmas.{begun_continued, begun_without}
 use Rattle.mg_heard.proofs.FillLemmas.{filled_rising}
 use Rattle.mg_heard.proofs.HearerLemmas.{are_flows}
 use Rattle.mg_heard.proofs.open_rows.OpenRows.advance.Goals as goal
@@ -45,4 +48,11 @@ returns c =
           ∙ ap (λ (l : List OpenFlow). without_flows l old) (sym (ap flows_of value ∙ new_flows old now next)) in
           advanced past now next old filled (intervals_of c.advance.new.self) (intervals_of c.advance.new.old) tick lasting
           refl (filled_rising w.gateway now filled consistent refl) (λ up rising. value) (λ up rising. ended);
+      begun = λ older is before.
+          let begun = subst (AreBegun older (tick_count older)) (sym same) before in (
+            subst (AreBegun older (tick_count older + 1)) (sym c.advance.ensures.value)
+                (begun_continued older now (intervals_of c.swap.new.y) (flows_among hs) is begun),
+            subst (AreBegun older (tick_count older)) (sym c.advance.ensures.ended)
+                (begun_without older (tick_count older) (flows_among hs) (intervals_of c.swap.new.y) begun),
+          );
     }

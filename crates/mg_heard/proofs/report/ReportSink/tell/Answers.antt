@@ -1,6 +1,6 @@
 use Rattle.std.proofs.Common.{sym, ◌∙◌}
 use Rattle.std.proofs.lemmas.Result.{on_ok_weaker}
-use Rattle.mg_heard.specs.Reported.{Reported}
+use Rattle.mg_heard.specs.aids.Reporting.{Reported}
 use Rattle.mg_heard.proofs.ReportLemmas.{reported_more_on}
 use Rattle.mg_heard.proofs.report.ReportSink.tell.Goals as goal
 

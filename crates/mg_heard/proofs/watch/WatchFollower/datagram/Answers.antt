@@ -8,7 +8,7 @@ pub returns-in-Control-clause-value : goal.returns-in-Control-clause-value
 returns-in-Control-clause-value c start config notes (rules, h) run =
     let old = c.args.self.now in (
       rules,
-      watches_datagram c.outcomes_are_unique.ensures.event c.only_control_changes_intervals.ensures.flows
+      watches_datagram c.outcomes_are_unique.ensures.event c.only_control_changes_flows.ensures.flows
           start.rules.now config notes c.args.event.now old.clock.ticks c.pass_line.new.self.ticks old.is_changed true
           old.violation c.args._core.now.state c.pass_line.ensures.ticks c.requires.datagram (λ e. absurd (true≢false e)) run h,
     )
@@ -19,7 +19,7 @@ returns-in_default c =
     record {
       value = λ start config notes (rules, h) run. (
         rules,
-        watches_datagram c.outcomes_are_unique.ensures.event c.only_control_changes_intervals.ensures.flows
+        watches_datagram c.outcomes_are_unique.ensures.event c.only_control_changes_flows.ensures.flows
             start.rules.now config notes c.args.event.now old.clock.ticks c.pass_line.new.self.ticks old.is_changed
             old.is_changed old.violation c.args._core.now.state c.pass_line.ensures.ticks c.requires.datagram
             (λ e. (not_control c.args.event.now c.in_default.not-Control, e)) run h,

@@ -23,7 +23,7 @@ returns-then-is_some c =
     record {
       value = λ start config notes (rules, h) (sent, w, (run, stands)). (
         c.compare.ensures.rules ∙ rules,
-        watches_some_ticks one c.only_control_changes_intervals.ensures.flows
+        watches_some_ticks one c.only_control_changes_flows.ensures.flows
             start.rules.now config notes old.clock.ticks new.clock.ticks c.args.count old.is_changed new.is_changed
             old.violation new.violation sent w c.if-count-eq0.false
             (λ none. absurd (true≢false (sym c.if-is_some.true ∙ c.is_some.ensures ∙ ap is_some none))) run h
@@ -41,7 +41,7 @@ returns-in-Ok c =
     record {
       value = λ start config notes (rules, h) (sent, w, (run, stands)). (
         c.compare.ensures.rules ∙ rules,
-        watches_some_ticks one c.only_control_changes_intervals.ensures.flows
+        watches_some_ticks one c.only_control_changes_flows.ensures.flows
             start.rules.now config notes old.clock.ticks c.pass_ticks.new.self.ticks c.args.count old.is_changed
             new.is_changed old.violation new.violation sent w c.if-count-eq0.false
             (λ none. c.in-Ok.ensures.ticks ∙ ap (λ clock. clock.ticks + c.args.count) c.compare.ensures.clock) run h

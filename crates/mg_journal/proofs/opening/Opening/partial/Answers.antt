@@ -1,6 +1,6 @@
 use Rattle.std.proofs.Common.{◌≡◌, ◌+◌, length, IfSome, subst}
 use Rattle.mg_journal.specs.Text.{whole_lines}
-use Rattle.mg_journal.specs.Opening.{OpeningState}
+use Rattle.mg_journal.specs.aids.Opened.{OpeningState}
 use Rattle.mg_journal.proofs.OpeningLemmas.{partial_of}
 use Rattle.mg_journal.proofs.opening.Opening.partial.Goals as goal
 

@@ -1,7 +1,7 @@
 use Rattle.std.proofs.Common.{ℕ, ◌++◌, List, take, drop, subst, arith, IfOk, Option}
 use Rattle.std.proofs.lemmas.List.{length-take}
 use Rattle.std.specs.Io.KnownBytes.{Consumes}
-use Rattle.mg_journal.specs.Opening.{OpeningState, text_in}
+use Rattle.mg_journal.specs.aids.Opened.{OpeningState, text_in}
 use Rattle.mg_journal.proofs.OpeningLemmas.{nothing_taken, peeked}
 use Rattle.mg_journal.proofs.opening.Opening.peek.Goals as goal
 

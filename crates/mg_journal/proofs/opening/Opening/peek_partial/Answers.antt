@@ -1,7 +1,7 @@
 use Rattle.std.proofs.Common.{◌++◌, length, take, drop, subst, arith, IfOk, IfSome}
 use Rattle.std.proofs.lemmas.List.{length-take}
 use Rattle.std.specs.Io.{StartsWith}
-use Rattle.mg_journal.specs.Opening.{OpeningState}
+use Rattle.mg_journal.specs.aids.Opened.{OpeningState}
 use Rattle.mg_journal.specs.Text.{whole_lines}
 use Rattle.mg_journal.proofs.OpeningLemmas.{peeked_partial}
 use Rattle.mg_journal.proofs.opening.Opening.peek_partial.Goals as goal

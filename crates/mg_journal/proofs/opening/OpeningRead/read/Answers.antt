@@ -2,7 +2,8 @@ use Rattle.std.proofs.Common.{ℕ, ◌+◌, ◌≤◌, List, take, drop, subst, 
 use Rattle.std.proofs.lemmas.List.{length-take, length-take-le, take-append-le}
 use Rattle.std.specs.Io.KnownBytes.{Consumes}
 use Rattle.mg_journal.specs.JournalFile.{FileState}
-use Rattle.mg_journal.specs.Opening.{IsSound, OpeningState, left_to_read}
+use Rattle.mg_journal.specs.Opening.{IsSound}
+use Rattle.mg_journal.specs.aids.Opened.{OpeningState, left_to_read}
 use Rattle.mg_journal.specs.aids.Opening.{HasExtent}
 use Rattle.mg_journal.proofs.OpeningLemmas.{consumes}
 use Rattle.mg_journal.proofs.opening.OpeningRead.read.Goals as goal

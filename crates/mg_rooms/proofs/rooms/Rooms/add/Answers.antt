@@ -1,6 +1,6 @@
 use Rattle.mg_rooms.proofs.Common.{sym, subst, ap, ℕ, Record}
 use Rattle.mg_rooms.specs.Consistent.{IsConsistent}
-use Rattle.mg_rooms.specs.Member.{ExistsAs}
+use Rattle.mg_rooms.specs.aids.Member.{ExistsAs}
 use Rattle.mg_rooms.proofs.SoundLemmas.{add_leaves, there_as}
 use Rattle.mg_rooms.proofs.rooms.Rooms.add.Goals as goal
 

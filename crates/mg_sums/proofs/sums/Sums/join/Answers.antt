@@ -1,7 +1,8 @@
 use Rattle.std.proofs.Common.{◌≡◌, ◌<◌, ◌∙◌, ◌+ℤ◌, None, ℤ, List, length, ap, arith, [], slice_index_or, get_or}
 use Rattle.std.proofs.lemmas.List.{get_or_read}
 use Rattle.mg_sums.specs.Samples.{sample}
-use Rattle.mg_sums.specs.Sums.{SumsState, room_of}
+use Rattle.mg_sums.specs.Sums.{SumsState}
+use Rattle.mg_sums.specs.aids.Sums.{room_of}
 use Rattle.mg_sums.proofs.TotalLemmas.{joined_totals, read_near}
 use Rattle.mg_sums.proofs.sums.Sums.join.Goals as goal
 

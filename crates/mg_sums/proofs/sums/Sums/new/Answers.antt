@@ -1,5 +1,5 @@
 use Rattle.std.proofs.Common.{refl, rules}
-use Rattle.mg_sums.specs.Sums.{first_sums}
+use Rattle.mg_sums.specs.aids.Sums.{first_sums}
 use Rattle.mg_sums.proofs.TotalLemmas.{first_rooms, first_totals}
 use Rattle.mg_sums.proofs.sums.Sums.new.Goals as goal
 

@@ -2,7 +2,8 @@ use Rattle.std.proofs.Common.{◌≡◌, ◌<◌, ◌∙◌, None, Some, ℤ, Li
 use Rattle.std.proofs.lemmas.Int.{ints}
 use Rattle.std.proofs.lemmas.List.{get_or_read}
 use Rattle.mg_sums.specs.Samples.{sample}
-use Rattle.mg_sums.specs.Sums.{SumsState, room_of}
+use Rattle.mg_sums.specs.Sums.{SumsState}
+use Rattle.mg_sums.specs.aids.Sums.{room_of}
 use Rattle.mg_sums.proofs.TotalLemmas.{framed_totals, reframed_totals, read_near}
 use Rattle.mg_sums.proofs.sums.Sums.set_frame.Goals.{in-Some, in_default}
 use Rattle.mg_sums.proofs.sums.Sums.set_frame.Goals as goal

@@ -1,5 +1,5 @@
 use Rattle.std.proofs.Common.{subst}
-use Rattle.mg_sums.specs.Sums.{AreValidSums}
+use Rattle.mg_sums.specs.aids.Sums.{AreValidSums}
 use Rattle.mg_sums.proofs.TotalLemmas.{total_near}
 use Rattle.mg_sums.proofs.sums.Sums.total.Goals as goal
 

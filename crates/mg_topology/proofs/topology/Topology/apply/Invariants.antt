@@ -1,6 +1,6 @@
 use Rattle.std.proofs.Common.{◌≡◌, List, take}
 use Rattle.mg_topology.specs.Edits.{TopologyEdit, apply_all}
-use Rattle.mg_topology.specs.Topology.{StandsFor}
+use Rattle.mg_topology.specs.aids.Topology.{StandsFor}
 use Rattle.mg_topology.proofs.topology.Topology.apply.Given as goal
 
 -- the topology stands for each list that it stood for, with the triples so far

@@ -1,5 +1,5 @@
 use Rattle.std.proofs.Common.{◌∙◌, ap, arith}
-use Rattle.mg_topology.specs.Topology.{holds}
+use Rattle.mg_topology.specs.aids.Topology.{holds}
 use Rattle.mg_topology.proofs.MaskLemmas.{has_seat-inside}
 use Rattle.mg_topology.proofs.topology.Topology.held.Goals as goal
 

@@ -1,7 +1,7 @@
 use Rattle.std.proofs.Common.{◌≡◌, ℕ, true, ap, ◌∙◌, arith}
 use Rattle.std.proofs.lemmas.Bool.Decides.{nat_tests}
 use Rattle.mg_topology.specs.Mask.{has_seat}
-use Rattle.mg_topology.specs.Topology.{holds, hears}
+use Rattle.mg_topology.specs.aids.Topology.{holds, hears}
 use Rattle.mg_topology.proofs.TopologyLemmas.{row_tells}
 use Rattle.mg_topology.proofs.topology.Topology.talkers.Goals as goal
 

@@ -1,0 +1,11 @@
+-- What texts mean.
+use Rattle.std.specs.Prelude.{ℕ, List, [], ◌∷◌, ok_or, Option, Result, Ok}
+use Rattle.mg_words.specs.ResultSteps.{◌>>=◌}
+
+-- what each text means, in their order, or a fault if one has no meaning
+abbrev pub all_read : {A E : Type 0} → (List ℕ → Option A) → E → List (List ℕ) → Result (List A) E
+all_read read fault [] = Ok []
+all_read read fault (text ∷ texts) = do
+  one ← ok_or (read text) fault
+  others ← all_read read fault texts
+  Ok (one ∷ others)

@@ -1,0 +1,8 @@
+//! The operating system, as a host of the program. Contracts say nothing about what it does: tests of the built program
+//! show that each method makes the system calls that it is named after.
+
+mod control_watch;
+mod disk_file;
+mod system_host;
+
+pub(crate) use crate::machine::system_host::SystemHost;

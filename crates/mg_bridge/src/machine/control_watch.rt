@@ -1,0 +1,59 @@
+use mg_clock::{ClockFailed, SystemWatch, Watch};
+use mio::{Events, Poll};
+use std::time::{Clock, Duration};
+
+/// After a message has ended a wait, the next wait looks for messages only after this many milliseconds.
+const GAP_MS: u64 = 1;
+
+/// The system's monotonic clock. A datagram at the control socket ends a wait; otherwise a wait ends up to a millisecond
+/// late.
+///
+/// The next wait doesn't look for messages during its first millisecond, so a flood of messages can end at most a
+/// thousand waits per second.
+#[derive(Drop)]
+pub struct ControlWatch<'a, C: Clock> {
+    watch: SystemWatch<'a, C>,
+    poll: Poll,
+    events: Events,
+    has_message: bool,
+}
+
+impl<'a, C: Clock> ControlWatch<'a, C> {
+    /// Creates a clock. The control socket is registered with this poll.
+    pub fn new(watch: SystemWatch<'a, C>, poll: Poll, events: Events) -> Self {
+        ControlWatch {
+            watch,
+            poll,
+            events,
+            has_message: false,
+        }
+    }
+
+    /// Waits for a datagram at the control socket, and returns whether one arrived. The system waits in whole
+    /// milliseconds, rounded up. If it can't wait for a datagram, the clock just waits.
+    fn message_within(&mut self, time: Duration) -> bool {
+        match self.poll.poll(&mut self.events, Some(time)) {
+            Ok(()) => !self.events.is_empty(),
+            Err(_) => self.watch.wait(time),
+        }
+    }
+}
+
+impl<'a, C: Clock> Watch for ControlWatch<'a, C> {
+    fn now(&mut self) -> Result<u64, ClockFailed> {
+        self.watch.now()
+    }
+
+    fn wait(&mut self, time: Duration) -> bool {
+        let gap = if self.has_message {
+            time.min(Duration::from_millis(GAP_MS))
+        } else {
+            Duration::ZERO
+        };
+        if gap > Duration::ZERO {
+            let _ = self.watch.wait(gap);
+        }
+        self.has_message = self.message_within(time.saturating_sub(gap));
+        self.has_message
+    }
+}

@@ -1,0 +1,220 @@
+ghost use Rattle.std.specs.Prelude.{◌≤◌, ℕ, length, IfOk, IfSome};
+
+use crate::machine::control_watch::ControlWatch;
+use crate::machine::disk_file::DiskFile;
+use arrayvec::ArrayVec;
+use mg_clock::SystemWatch;
+use mg_core::Peer;
+use mg_dates::Date;
+use mg_host::{Clocks, Dates, Host, Journals, Sockets, Tells, Texts, Unsent};
+use mg_ports::{AppendFault, Durability, PortFault, Timing};
+use mg_program::SOCKETS;
+use mio::net::UdpSocket;
+use mio::{Events, Interest, Poll, Token};
+use std::alloc::AllocError;
+use std::fs::{File, OpenOptions};
+use std::io::{self, ErrorKind};
+use std::net::{IpAddr, SocketAddr};
+use std::time::{Clock, Duration};
+
+/// What the system reports about sockets.
+#[derive(Drop)]
+struct Reports {
+    poll: Poll,
+    events: Events,
+}
+
+impl Reports {
+    fn new(system: &HostRuntime) -> io::Result<Self> {
+        Ok(Reports {
+            events: events(system)?,
+            poll: Poll::new(system)?,
+        })
+    }
+}
+
+/// The machine, as the operating system shows it. It logs no calls.
+#[derive(Drop)]
+pub struct SystemHost<'a, C: Clock> {
+    system: &'a HostRuntime,
+    clock: &'a C,
+    sockets: ArrayVec<Option<UdpSocket>, SOCKETS>,
+    /// `None` until the first socket is bound.
+    reports: Option<Reports>,
+}
+
+/// Creates a buffer for what the system reports.
+fn events(system: &HostRuntime) -> io::Result<Events> {
+    match Events::with_capacity(system.alloc(), SOCKETS) {
+        Ok(events) => Ok(events),
+        Err(AllocError) => Err(io::Error::from(ErrorKind::OutOfMemory)),
+    }
+}
+
+/// Returns the sender of a datagram. Fails if the sender has no IPv4 address.
+fn peer_of(address: SocketAddr) -> Result<Peer, PortFault> {
+    match address.ip() {
+        IpAddr::V4(ip) => Ok(Peer {
+            address: ip.octets(),
+            port: address.port(),
+        }),
+        IpAddr::V6(_) => Err(PortFault),
+    }
+}
+
+/// Returns the datagram that a socket received, or `None` if the receive would block.
+fn datagram_of(answer: io::Result<(usize, SocketAddr)>) -> Result<Option<(usize, Peer)>, PortFault>
+    ensures within { (limit : ℕ) → IfOk answer (λ received. received.0 ≤ limit)
+        → IfOk result (λ received. IfSome received (λ d. d.0 ≤ limit)) }
+{
+    match answer {
+        Ok((n, address)) => Ok(Some((n, peer_of(address)?))),
+        Err(error) if error.kind() == ErrorKind::WouldBlock => Ok(None),
+        Err(_) => Err(PortFault),
+    }
+}
+
+/// Receives a datagram if one is waiting.
+fn receive_from(socket: &UdpSocket, buffer: &mut [u8]) -> Result<Option<(usize, Peer)>, PortFault>
+    ensures within { IfOk result (λ received. IfSome received (λ d. d.0 ≤ length buffer.new)) }
+{
+    datagram_of(socket.recv_from(buffer))
+}
+
+impl<'a, C: Clock> SystemHost<'a, C> {
+    /// Creates a host without sockets. The clock is for [`Clocks::watch`].
+    pub fn new(system: &'a HostRuntime, clock: &'a C) -> Self {
+        SystemHost {
+            system,
+            clock,
+            sockets: ArrayVec::new(),
+            reports: None,
+        }
+    }
+
+    /// Has the system report when a datagram arrives at the next socket.
+    fn register(&mut self, socket: &mut UdpSocket) -> io::Result<()> {
+        let number = self.sockets.len();
+        if self.reports.is_none() {
+            self.reports = Some(Reports::new(self.system)?);
+        }
+        match &self.reports {
+            Some(reports) => {
+                reports
+                    .poll
+                    .registry()
+                    .register(socket, Token(number), Interest::READABLE)
+            }
+            None => Ok(()),
+        }
+    }
+}
+
+impl<'a, C: Clock> Tells for SystemHost<'a, C> {
+    fn log_append(&mut self, _: &[u8], _: Durability, _: Result<(), AppendFault>) {}
+}
+
+impl<'a, C: Clock> Journals for SystemHost<'a, C> {
+    type File = DiskFile;
+
+    fn open_journal(&mut self, path: &str) -> io::Result<DiskFile> {
+        let file = OpenOptions::new()
+            .read(true)
+            .append(true)
+            .create(true)
+            .open(self.system, path)?;
+        file.try_lock()?;
+        Ok(DiskFile::new(file))
+    }
+}
+
+impl<'a, C: Clock> Texts for SystemHost<'a, C> {
+    type Text = File;
+
+    fn open_text(&mut self, path: &str) -> io::Result<File> {
+        OpenOptions::new().read(true).open(self.system, path)
+    }
+}
+
+impl<'a, C: Clock> Sockets for SystemHost<'a, C> {
+    fn bind(&mut self, address: [u8; 4], port: u16) -> io::Result<()> {
+        let address = SocketAddr::new(IpAddr::from(address), port);
+        let mut socket = UdpSocket::bind(self.system, address)?;
+        self.register(&mut socket)?;
+        match self.sockets.try_push(Some(socket)) {
+            Ok(()) => Ok(()),
+            Err(_) => Err(io::Error::from(ErrorKind::OutOfMemory)),
+        }
+    }
+
+    fn poll(&mut self, marks: &mut [bool]) -> io::Result<()> {
+        let Some(reports) = &mut self.reports else {
+            return Ok(());
+        };
+        reports
+            .poll
+            .poll(&mut reports.events, Some(Duration::ZERO))?;
+        for event in reports.events.iter() {
+            if let Some(mark) = marks.get_mut(event.token().0) {
+                *mark = true;
+            }
+        }
+        Ok(())
+    }
+
+    fn receive(
+        &mut self,
+        socket: usize,
+        buffer: &mut [u8],
+    ) -> Result<Option<(usize, Peer)>, PortFault> {
+        match self.sockets.get(socket) {
+            Some(Some(socket)) => receive_from(socket, buffer),
+            _ => Err(PortFault),
+        }
+    }
+
+    /// Fails if only part of the datagram is sent.
+    fn send(&mut self, socket: usize, to: Peer, bytes: &[u8]) -> Result<(), PortFault> {
+        let Some(Some(socket)) = self.sockets.get(socket) else {
+            return Err(PortFault);
+        };
+        let to = SocketAddr::new(IpAddr::from(to.address), to.port);
+        match socket.send_to(bytes, to) {
+            Ok(n) if n == bytes.len() => Ok(()),
+            _ => Err(PortFault),
+        }
+    }
+
+    fn log_unreported(&mut self, _socket: usize) {}
+
+    fn log_unsent(&mut self, _socket: usize, _to: Peer, _bytes: &[u8], _cause: Unsent) {}
+
+    fn log_tick(&mut self, _timing: Timing) {}
+}
+
+impl<'a, C: Clock> Clocks for SystemHost<'a, C> {
+    type Watch = ControlWatch<'a, C>;
+
+    fn watch(&mut self) -> io::Result<ControlWatch<'a, C>> {
+        let events = events(self.system)?;
+        let poll = Poll::new(self.system)?;
+        if let Some(Some(control)) = self.sockets.get_mut(0) {
+            poll.registry()
+                .register(control, Token(0), Interest::READABLE)?;
+        }
+        Ok(ControlWatch::new(SystemWatch::new(self.clock), poll, events))
+    }
+
+    fn stop(&mut self, _watch: ControlWatch<'a, C>) {}
+}
+
+impl<'a, C: Clock> Dates for SystemHost<'a, C> {
+    fn millis(&mut self) -> Option<u64> {
+        match Date::now(self.clock) {
+            Ok(date) => Some(date.millis),
+            Err(_) => None,
+        }
+    }
+}
+
+impl<'a, C: Clock> Host for SystemHost<'a, C> {}

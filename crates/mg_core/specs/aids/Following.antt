@@ -1,0 +1,35 @@
+-- How far a follower has come that may be done before the script ends.
+use Rattle.std.specs.Prelude.{◌≡◌, ◌⊎◌, ℕ, ◌≤◌, Bool, true, false, List, [], ◌++◌, length, Option, Some}
+use Rattle.mg_engine.specs.declared.config.Config.{Config}
+use Rattle.mg_lines.specs.Lines.{lines_of}
+use Rattle.mg_core.specs.declared.state.CoreState.{CoreState}
+use Rattle.mg_core.specs.Note.{Note, notes_of}
+use Rattle.mg_core.specs.Run.{HasRead}
+use Rattle.mg_core.specs.Follow.{HasRun}
+
+-- A follower had followed the notes of all lines that end in this text, and was not done.
+pub record GoesOn {F : Type 0} (done : F → Bool) (Follows : F → List Note → Type 0) (text : List ℕ)
+    : Type 0 where
+  pub follower : F
+  pub notes : List Note
+  pub are : notes_of (lines_of false text) ≡ Some notes
+  pub follows : Follows follower notes
+  pub undone : done follower ≡ false
+
+-- The input was read to its end, or until a follower was done. The lines in its text that have ended
+-- are these notes. The state is that of a gateway at which their events arrived, and a follower has
+-- followed all the notes. At most 4096 bytes were read since the follower was last asked whether it
+-- was done.
+pub record IsFollowedUntil {F : Type 0} (config : Config) (input rest : Option (List ℕ))
+    (state : CoreState) (done : F → Bool) (Follows : F → List Note → Type 0) (last : F) : Type 0 where
+  pub front : List ℕ
+  pub piece : List ℕ
+  pub size : length piece ≤ 4096
+  pub goes_on : (front ≡ []) ⊎ GoesOn done Follows front
+  pub ended : Bool
+  pub read : HasRead input rest (front ++ piece) ended
+  pub until : done last ≡ false → ended ≡ true
+  pub notes : List Note
+  pub are : notes_of (lines_of ended (front ++ piece)) ≡ Some notes
+  pub run : HasRun config notes state
+  pub follows : Follows last notes

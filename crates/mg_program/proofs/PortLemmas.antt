@@ -1,0 +1,93 @@
+-- The calls of a session on its ports, in the log of its host.
+use Rattle.std.proofs.Common.{◌≡◌, ◌⊎◌, inl, inr, ℕ, ◌+◌, true, List, [], ◌∷◌, ◌++◌, map, Option, Some, None, refl, sym, ap, subst, ◌∙◌, append_assoc, arith}
+use Rattle.std.specs.Prelude.{unwrap_or}
+use Rattle.std.specs.List.{range_with_len}
+use Rattle.std.proofs.lemmas.List.FromFn.{map-range_with_len_more}
+use Rattle.mg_engine.specs.Config.{limits_of}
+use Rattle.mg_engine.specs.Limits.{slot_port}
+use Rattle.mg_engine.specs.declared.config.Config.{Config}
+use Rattle.mg_options.specs.declared.status.Status.{Status}
+use Rattle.mg_options.specs.declared.status.Status.TheVariants.{Failed, NoMemory}
+use Rattle.mg_start.specs.Journal.{IsQuiet, RunsNoSession}
+use Rattle.mg_start.specs.Start.{Begins, FailsToStart}
+use Rattle.mg_start.proofs.LogLemmas.{grows_none, quiet_then, writes_quiet}
+use Rattle.mg_program.specs.Serve.{first_binds}
+use Rattle.mg_ports.specs.declared.call.Call.{Call}
+use Rattle.mg_host.specs.declared.host_call.HostCall.{HostCall}
+use Rattle.mg_host.specs.declared.host_call.HostCall.TheVariants.{OpenJournal, OpenText, ReadDate, Bind, OnPorts}
+use Rattle.mg_host.specs.declared.host_call.HostCall.TheVariants.{Reported, Poll, NotReported, NotSent}
+use Rattle.mg_ports.specs.declared.call.Call.TheVariants.{Receive, Send}
+use Rattle.mg_ports.specs.declared.receipt.Receipt.TheVariants.{Nothing}
+use Rattle.mg_host.specs.HostCalls.{Grows, on_ports}
+
+pub ports_both : (p q : List HostCall) → on_ports (p ++ q) ≡ on_ports p ++ on_ports q
+ports_both [] q = refl
+ports_both (OpenJournal path bytes ∷ p) q = ports_both p q
+ports_both (OpenText path text ∷ p) q = ports_both p q
+ports_both (ReadDate millis ∷ p) q = ports_both p q
+ports_both (Bind address port bound ∷ p) q = ports_both p q
+ports_both (Reported socket ∷ p) q = ports_both p q
+ports_both (Poll polled ∷ p) q = ports_both p q
+ports_both (OnPorts call ∷ p) q = ap (λ (l : List Call). call ∷ l) (ports_both p q)
+ports_both (NotReported socket ∷ p) q = ap (λ (l : List Call). Receive socket Nothing ∷ l) (ports_both p q)
+ports_both (NotSent socket to bytes cause ∷ p) q = ap (λ (l : List Call). Send socket to bytes ∷ l) (ports_both p q)
+
+pub grows_both : (a b c : Option (List HostCall)) (p q : List HostCall) → Grows a b p → Grows b c q → Grows a c (p ++ q)
+grows_both a b None p q h k = tt
+grows_both a None (Some c) p q h k = absurd k
+grows_both None (Some b) (Some c) p q h k = absurd h
+grows_both (Some a) (Some b) (Some c) p q h k = k ∙ ap (λ (l : List HostCall). l ++ q) h ∙ append_assoc a p q
+
+pub same_grown : (a b c : Option (List HostCall)) (p : List HostCall) → Grows a b p → c ≡ b → Grows a c p
+same_grown a b c p h same = subst (λ (x : Option (List HostCall)). Grows a x p) (sym same) h
+
+-- ## Without a session
+
+pub fails_anyhow : (config : Config) (status : Status) → (status ≡ NoMemory) ⊎ (status ≡ Failed) → FailsToStart config status
+fails_anyhow config status (inl is) = subst (λ (s : Status). FailsToStart config s) (sym is) tt
+fails_anyhow config status (inr is) = subst (λ (s : Status). FailsToStart config s) (sym is) tt
+
+slots_quiet : (address : List ℕ) (port : ℕ → ℕ) (slots : List ℕ) → IsQuiet (map (λ slot. Bind address (port slot) true) slots)
+slots_quiet address port [] = tt
+slots_quiet address port (slot ∷ slots) = slots_quiet address port slots
+
+pub binds_quiet : (config : Config) (address : Option (List ℕ)) (count : ℕ) → IsQuiet (first_binds config address count)
+binds_quiet config address count =
+    slots_quiet (unwrap_or address config.address) (λ slot. slot_port (limits_of config) slot) (range_with_len 0 count)
+
+pub no_session : (a b : Option (List HostCall)) (p : List HostCall) → Grows a b p → IsQuiet p → RunsNoSession a b
+no_session a b p grows quiet = (p, grows, quiet)
+
+pub no_session_then : (a b c : Option (List HostCall)) (p : List HostCall) → Grows a b p → IsQuiet p
+    → RunsNoSession b c → RunsNoSession a c
+no_session_then a b c p grows quiet rest = quiet_then a b c (p, grows, quiet) rest
+
+-- what is done before a gateway starts
+begun_quiet : (journal text : Option (List ℕ)) (config : Config) (missed : ℕ) (a b : Option (List HostCall))
+    → Begins journal text config missed a b → RunsNoSession a b
+begun_quiet None text config missed a b same =
+    ([], subst (λ (x : Option (List HostCall)). Grows a x []) (sym same) (grows_none a), tt)
+begun_quiet (Some path) text config missed a b (millis, calls, lines, grows, writes, is) =
+    (ReadDate millis ∷ calls, grows, writes_quiet calls lines writes)
+
+-- a gateway that could start, but didn't
+pub not_started : (journal text address : Option (List ℕ)) (config : Config) (missed count : ℕ)
+    (a b c d : Option (List HostCall)) → Grows a b (first_binds config address count)
+    → Begins journal text config missed b c → d ≡ c → RunsNoSession a d
+not_started journal text address config missed count a b c d bound begins same =
+    subst (λ (x : Option (List HostCall)). RunsNoSession a x) (sym same)
+    (quiet_then a b c (first_binds config address count, bound, binds_quiet config address count)
+    (begun_quiet journal text config missed b c begins))
+
+-- one socket more
+pub binds_more : (config : Config) (address : Option (List ℕ)) (count port : ℕ) (a b c : Option (List HostCall))
+    → Grows a b (first_binds config address count) → port ≡ slot_port (limits_of config) count
+    → Grows b c (Bind (unwrap_or address config.address) port true ∷ []) → Grows a c (first_binds config address (count + 1))
+binds_more config address count port a b c before is bound =
+    let socket : ℕ → HostCall = λ slot. Bind (unwrap_or address config.address) (slot_port (limits_of config) slot) true in
+    let more : map socket (range_with_len 0 (count + 1)) ≡ map socket (range_with_len 0 count) ++ socket count ∷ [] =
+    map-range_with_len_more socket 0 count count (omega arith) in
+    subst (λ (l : List HostCall). Grows a c l)
+    (ap (λ (l : List HostCall). Bind (unwrap_or address config.control_address) config.control_port true ∷ l) (sym more))
+    (grows_both a b c (first_binds config address count) (socket count ∷ []) before
+    (subst (λ (p : ℕ). Grows b c (Bind (unwrap_or address config.address) p true ∷ [])) is bound))

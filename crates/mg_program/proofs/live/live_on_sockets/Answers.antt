@@ -1,0 +1,60 @@
+use Rattle.std.proofs.Common.{false, sym, subst, Option, List}
+use Rattle.std.specs.Prelude.{⊤}
+use Rattle.std.specs.Option.{option_map_or}
+use Rattle.mg_clock.specs.Ticks.{ClockSeen, clock_seen}
+use Rattle.mg_journal.specs.Journal.{no_journal}
+use Rattle.mg_ports.specs.Journaled.{PortsSeen, ports_seen}
+use Rattle.mg_serve.specs.Serve.{ServedByClock}
+use Rattle.mg_host.specs.declared.host_call.HostCall.{HostCall}
+use Rattle.mg_host.specs.HostCalls.{port_calls}
+use Rattle.mg_arguments.specs.Setup.{setup_of}
+use Rattle.mg_arguments.specs.Title.{title_if}
+use Rattle.mg_program.specs.Decisions.{HasDecided, knows}
+use Rattle.mg_program.proofs.FailLemmas.{fault_ran, served_any}
+use Rattle.mg_program.proofs.live.live_on_sockets.Goals as goal
+
+pub returns : goal.returns
+returns g c =
+    let config = c.args.ready.config in
+    let service = c.args.service.now in
+    let ports = c.live_on-fault.new.ports in
+    let last : Option (List HostCall) = g.H.Tells.calls c.stop.new.self in
+    let before = option_map_or (λ j. j) c.args.ready.journal no_journal in
+    let after = option_map_or (λ j. j) ports.journal no_journal in
+    let old = ports_seen (port_calls (g.H.Tells.calls c.args.host)) before in
+    let new : Option (List HostCall) → PortsSeen = λ calls. ports_seen (port_calls calls) after in
+    let unread = clock_seen (g.H.Watch.Watch.readings c.args.watch) (g.H.Watch.Watch.waits c.args.watch) in
+    let clock = clock_seen (g.H.Watch.Watch.readings c.live_on-fault.new.watch)
+    (g.H.Watch.Watch.waits c.live_on-fault.new.watch) in
+    let known = knows ports.timing ports.ready false in
+    record {
+      value = λ text bound can. record {
+        sound = c.requires.sound;
+        runs = fault_ran c.live_on-fault.result c.live_on-fault.ensures.started;
+        start = can.world;
+        before = before;
+        after = after;
+        begun = g.H.Tells.calls c.args.host;
+        started = can.started;
+        served = (
+          unread,
+          c.requires.unread,
+          subst (λ (s : ClockSeen). ServedByClock (setup_of config service) can.world (title_if service.records config)
+              c.args.late unread s ⊤ old (new last) (g.W.Write.contents c.args.output.now)
+              (g.W.Write.contents c.live_on-fault.new.output) c.live_on-fault.result) (sym c.stop.ensures.stopped)
+              (subst (λ (x : Option (List HostCall)). ServedByClock (setup_of config service) can.world
+              (title_if service.records config) c.args.late unread clock ⊤ old (new x)
+              (g.W.Write.contents c.args.output.now) (g.W.Write.contents c.live_on-fault.new.output)
+              c.live_on-fault.result) (sym c.stop.ensures.same)
+              (served_any (setup_of config service) can.world (title_if service.records config) c.args.late unread clock
+              (g.H.Watch.Watch.Fails c.live_on-fault.new.watch) old (new (g.H.Tells.calls ports.host))
+              (g.W.Write.contents c.args.output.now) (g.W.Write.contents c.live_on-fault.new.output)
+              c.live_on-fault.result (rw (c.new-ports.ensures.host, c.new-ports.ensures.journal) at
+              (c.live_on-fault.ensures.session can.world can.stands)))),
+        );
+        known = known;
+        decided = subst (λ (x : Option (List HostCall)). HasDecided x last known) (sym c.requires.begins)
+            (subst (λ (x : Option (List HostCall)). HasDecided g.L.LogKey.calls x known) (sym c.stop.ensures.same)
+            ports.decided);
+      };
+    }

@@ -1,0 +1,131 @@
+ghost use Rattle.std.specs.Prelude.{◌≡◌, false, OnErr};
+ghost use Rattle.std.specs.Option.{option_map_or};
+ghost use Rattle.mg_journal.specs.Journal.{no_journal};
+ghost use Rattle.mg_journal.specs.Text.{EndsInLineFeed};
+ghost use Rattle.mg_ports.specs.Calls.{IsCounted};
+ghost use Rattle.mg_ports.specs.Journaled.{AppendsDated};
+ghost use Rattle.mg_host.specs.HostCalls.{port_calls};
+ghost use Rattle.mg_program.specs.Decisions.{HasDecided, knows};
+
+use crate::log_key::LogKey;
+use crate::receiving::{ALL_READY, SOCKETS, receive_reported};
+use crate::sending::send_in_time;
+use mg_core::Peer;
+use mg_dates::DatedJournal;
+use mg_host::Sockets;
+use mg_journal::{AppendFault, Durability, Journal};
+use mg_ports::{FailureCauses, PortFault, Ports, Timing};
+use std::marker::PhantomData;
+use std::time::Clock;
+
+/// A gateway's ports: the sockets of its host, and its journal, if it has one.
+#[derive(Drop)]
+pub(crate) struct GatewayPorts<'a, H: Sockets, J: Journal, C: Clock, K: LogKey> {
+    pub(crate) host: H,
+    journal: Option<DatedJournal<'a, J, C>>,
+    /// Whether the current tick, whose packets are being sent, is on time.
+    timing: Timing,
+    /// At which sockets a datagram may be waiting.
+    ready: [bool; SOCKETS],
+    failures: u64,
+    causes: FailureCauses,
+    of: PhantomData<K>,
+    ghost decided: { HasDecided K.calls (H.calls host) (knows timing ready false) },
+}
+
+/// Appends lines to a journal, if there is one.
+fn append<J: Journal, C: Clock>(
+    journal: &mut Option<DatedJournal<'_, J, C>>,
+    lines: &[u8],
+    durability: Durability,
+) -> Result<(), AppendFault>
+    requires line_feed { EndsInLineFeed lines.now }
+    ensures value { AppendsDated lines.now durability (option_map_or (λ d. d) journal.old no_journal)
+        (option_map_or (λ d. d) journal.new no_journal) result }
+{
+    match journal {
+        Some(journal) => journal.append(lines, durability),
+        None => Err(AppendFault::Broken),
+    }
+}
+
+/// Counts a failure, if this result is an error.
+fn count<T>(answer: &Result<T, PortFault>, failures: &mut u64)
+    ensures fault { OnErr answer.now (IsCounted failures.old failures.new) }
+{
+    if answer.is_err() {
+        *failures = failures.saturating_add(1);
+    }
+}
+
+impl<'a, H: Sockets, J: Journal, C: Clock, K: LogKey> GatewayPorts<'a, H, J, C, K> {
+    /// Creates ports on the sockets of this host, which are bound.
+    pub(crate) fn new(host: H, journal: Option<DatedJournal<'a, J, C>>) -> Self
+        requires begins { H.calls host ≡ K.calls }
+        ensures host { result.host ≡ host }
+        ensures journal { result.journal ≡ journal.entry }
+    {
+        GatewayPorts {
+            host,
+            journal,
+            timing: Timing::OnTime,
+            ready: ALL_READY,
+            failures: 0,
+            causes: FailureCauses::default(),
+            of: PhantomData,
+        }
+    }
+}
+
+impl<'a, H: Sockets, J: Journal, C: Clock, K: LogKey> Ports for GatewayPorts<'a, H, J, C, K> {
+    ghost calls = { λ p. port_calls (H.calls p.host) };
+
+    ghost failed = { λ p. p.failures };
+
+    ghost journal = { λ p. option_map_or (λ d. d) p.journal no_journal };
+
+    fn receive(
+        &mut self,
+        socket: usize,
+        buffer: &mut [u8],
+    ) -> Result<Option<(usize, Peer)>, PortFault> {
+        let answer = receive_reported(&mut self.host, &mut self.ready, socket, buffer);
+        if answer.is_err() {
+            self.causes.receives = self.causes.receives.saturating_add(1);
+        }
+        count(&answer, &mut self.failures);
+        answer
+    }
+
+    fn send(&mut self, socket: usize, to: Peer, bytes: &[u8]) -> Result<(), PortFault> {
+        let sent = send_in_time(
+            &mut self.host,
+            self.timing,
+            socket,
+            to,
+            bytes,
+            &mut self.causes,
+        );
+        count(&sent, &mut self.failures);
+        sent
+    }
+
+    fn begin_tick(&mut self, timing: Timing) {
+        self.host.log_tick(timing);
+        self.timing = timing;
+    }
+
+    fn append(&mut self, lines: &[u8], durability: Durability) -> Result<(), AppendFault> {
+        let outcome = append(&mut self.journal, lines, durability);
+        self.host.log_append(lines, durability, outcome);
+        outcome
+    }
+
+    fn failures(&self) -> u64 {
+        self.failures
+    }
+
+    fn failure_causes(&self) -> FailureCauses {
+        self.causes
+    }
+}

@@ -1,0 +1,69 @@
+ghost use Rattle.std.specs.Prelude.{◌≡◌, ◌↔◌, false, true, [], ◌∷◌, Bool, List, ℕ, MatchOption};
+ghost use Rattle.mg_ports.specs.declared.call.Call.TheVariants.{Send};
+ghost use Rattle.mg_host.specs.declared.host_call.HostCall.TheVariants.{NotSent, OnPorts};
+ghost use Rattle.mg_program.specs.Decisions.{DoesCalls, IsUnusable, MayCall, knows};
+
+use mg_arguments::is_multicast;
+use mg_core::Peer;
+use mg_host::{Sockets, Unsent};
+use mg_ports::{FailureCauses, PortFault, Timing};
+
+/// Returns whether this is an address that no caller can have: 0.0.0.0, or a multicast, reserved or broadcast address.
+/// The address 0.0.0.0 puts a call on hold; a packet to it would reach this machine itself.
+fn is_unusable(address: [u8; 4]) -> bool
+    ensures value { (result ≡ true) ↔ IsUnusable address }
+{
+    address == [0; 4] || is_multicast(address)
+}
+
+/// Returns why a datagram isn't sent, or `None` if it is. A packet from a media socket is sent only in a tick that is on
+/// time, and only to a unicast address.
+fn unsent_cause(timing: Timing, socket: usize, to: Peer) -> Option<Unsent>
+    ensures value { (ready : List Bool) (bytes : List ℕ) → MatchOption result
+        (MayCall (knows timing ready false) (OnPorts (Send socket to bytes)))
+        (λ cause. MayCall (knows timing ready false) (NotSent socket to bytes cause)) }
+{
+    if socket == 0 {
+        return None;
+    }
+    if timing == Timing::Late {
+        return Some(Unsent::Late);
+    }
+    if is_unusable(to.address) {
+        return Some(Unsent::Held);
+    }
+    None
+}
+
+/// Counts a datagram that isn't sent, by cause.
+fn count_unsent(cause: Unsent, causes: &mut FailureCauses) {
+    match cause {
+        Unsent::Late => causes.late = causes.late.saturating_add(1),
+        Unsent::Held => causes.held = causes.held.saturating_add(1),
+    }
+}
+
+/// Sends a datagram, unless its tick is late or its destination can't be used. Counts a failure by its cause.
+pub(crate) fn send_in_time<H: Sockets>(
+    host: &mut H,
+    timing: Timing,
+    socket: usize,
+    to: Peer,
+    bytes: &[u8],
+    causes: &mut FailureCauses,
+) -> Result<(), PortFault>
+    ensures done { (ready : List Bool) →
+        DoesCalls (H.calls host.old) (H.calls host.new) (Send socket to bytes.now ∷ [])
+        (knows timing ready false) (knows timing ready false) }
+{
+    if let Some(cause) = unsent_cause(timing, socket, to) {
+        host.log_unsent(socket, to, bytes, cause);
+        count_unsent(cause, causes);
+        return Err(PortFault);
+    }
+    let sent = host.send(socket, to, bytes);
+    if sent.is_err() {
+        causes.refused = causes.refused.saturating_add(1);
+    }
+    sent
+}

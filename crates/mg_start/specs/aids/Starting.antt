@@ -1,0 +1,76 @@
+-- What the functions that start a gateway tell one another.
+use Rattle.std.specs.Prelude.{◌≡◌, ◌≢◌, ℕ, false, List, [], codes, Option, Some, None, Result, Ok, Err, IfSome, Bool, ◌||◌, nat_eq}
+use Rattle.std.specs.List.{starts_with}
+use Rattle.std.specs.Io.KnownBytes.{append_known}
+use Rattle.mg_dates.specs.declared.timeline.Timeline.{Timeline}
+use Rattle.mg_dates.specs.Times.{missed_since}
+use Rattle.mg_host.specs.HostCalls.{Grows}
+use Rattle.mg_engine.specs.declared.config.Config.{Config}
+use Rattle.mg_core.specs.declared.state.CoreState.{CoreState}
+use Rattle.mg_core.specs.World.{World, world_after_ticks}
+use Rattle.mg_core.specs.aids.Stands.{StandsFor}
+use Rattle.mg_journal.specs.Journal.{JournalState}
+use Rattle.mg_host.specs.declared.host_call.HostCall.{HostCall}
+use Rattle.mg_arguments.specs.Title.{title_line}
+use Rattle.mg_start.specs.Journal.{missed_lines, RunsNoSession, timeline_after, Writes}
+use Rattle.mg_start.specs.Start.{HasStarted, ResumesIn}
+
+-- Times are kept for a journal if and only if it has lines, as far as its text is known. They are
+-- those of its dates.
+abbrev pub KeepsTimes : Option Timeline → (found : Option (List ℕ)) → Type 0
+KeepsTimes None found = IfSome found (λ text. text ≡ [])
+KeepsTimes (Some timeline) found =
+    IfSome found (λ text. (text ≢ []) × (timeline ≡ timeline_after text))
+
+-- how many ticks a timeline misses at this date
+abbrev pub missed_by : Option Timeline → (millis : Option ℕ) → ℕ
+missed_by None millis = 0
+missed_by (Some timeline) None = 0
+missed_by (Some timeline) (Some millis) = missed_since timeline (record { millis = millis })
+
+-- the beginning of a title, or a text that begins like one
+abbrev pub may_be_title : List ℕ → Bool
+may_be_title text =
+    let start = codes "# mg_bridge replay " in
+    starts_with nat_eq text start || starts_with nat_eq start text
+
+-- A new journal, for which no times are known, begins with its title.
+abbrev pub title_before : Option Timeline → Config → List ℕ
+title_before None config = title_line config
+title_before (Some timeline) config = []
+
+-- these lines were appended to a journal
+abbrev pub HasWritten : (old new : Option (List HostCall)) → (lines : List ℕ) → Type 0
+HasWritten old new lines = (calls : List HostCall) × Grows old new calls × Writes calls lines
+
+-- These lines were appended to a journal, or this failed, perhaps after some of them.
+abbrev pub Logs : {A E : Type 0} → (old new : Option (List HostCall)) → (lines : List ℕ) → Result A E
+    → Type 0
+Logs old new lines (Ok done) = HasWritten old new lines
+Logs old new lines (Err fault) = RunsNoSession old new
+
+-- this many ticks have passed
+abbrev pub PassesTicks : ℕ → CoreState → CoreState → Type 0
+PassesTicks ticks old new =
+    (w : World) → StandsFor old w → StandsFor new (world_after_ticks ticks w)
+
+-- A journal that works, and whose text, if it is known, is the text that was found, then the title,
+-- then lines for this many missed ticks.
+pub record HasBegun (title : List ℕ) (ticks : ℕ) (found : Option (List ℕ)) (journal : JournalState)
+    : Type 0 where
+  pub works : journal.is_broken ≡ false
+  pub text : journal.text ≡ append_known (append_known found title) (missed_lines ticks)
+
+-- a core in a world in which the gateway is resumed
+pub record CanResume (journal text : Option (List ℕ)) (config : Config) (state : CoreState) : Type 0
+  where
+    pub world : World
+    pub stands : StandsFor state world
+    pub resumes : ResumesIn journal text config world
+
+-- a core in the world in which a gateway starts
+pub record CanStart (journal text : Option (List ℕ)) (config : Config) (state : CoreState)
+    (before : JournalState) (bound begun : Option (List HostCall)) : Type 0 where
+  pub world : World
+  pub stands : StandsFor state world
+  pub started : HasStarted journal text config world before bound begun

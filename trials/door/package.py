@@ -6,8 +6,8 @@ DEBIAN is a folder with a Debian system that has what the package depends on. It
 in the folder WORK. Prints one line for each check, and exits with 1 if one fails.
 """
 import re
+import socket
 import sys
-import time
 from pathlib import Path
 from types import SimpleNamespace
 
@@ -61,31 +61,52 @@ class Caller:
         self.loop.run(0.5)
 
 
-def wrong_start(system, what, script, said):
-    system.run(f"{script}; systemctl restart {UNIT} || true")
-    soon(lambda: system.show(UNIT, "ActiveState") == ["failed"], 60)
+def wrong_start(system, what, script, wanted, said):
+    done = system.tried(f"{script}; systemctl restart {UNIT}")
     state, status, restarts = system.show(UNIT, "ActiveState", "ExecMainStatus", "NRestarts")
-    told = said in system.run(f"journalctl -u {UNIT} -o cat -n 5")
-    check(f"{what}: {state}, status {status}, restarts: {restarts}; the log says so: {told}",
-          (state, status, restarts) == ("failed", "2", "0") and told)
-    system.run(f"systemctl reset-failed {UNIT}")
+    told = soon(lambda: said in system.run(f"journalctl -u {UNIT} -o cat -n 9"), 3)
+    check(f"{what}: start fails with {done.returncode}, then {state}, status {status}, restarts: {restarts}; the log says so: "
+          f"{told}", done.returncode and (state, status, restarts) == ("failed", wanted, "0") and told)
+    system.tried(f"systemctl reset-failed {UNIT}")
+
+
+def port_in_use(system):
+    """Another program has the HTTP port: the unit fails, and its keeper starts it once the port is free."""
+    with socket.create_server(("127.0.0.1", 8080)):
+        done = system.tried(f"systemctl start {UNIT}")
+        failed = soon(lambda: system.show(UNIT, "ActiveState") == ["failed"], 60)
+    serves = soon(lambda: system.show(UNIT, "ActiveState") == ["active"], 60)
+    check(f"a port in use: start fails with {done.returncode}; then failed: {failed}; once the port is free, it is active: "
+          f"{serves}", done.returncode and failed and serves)
 
 
 def install(system):
     before = system.files()
     system.run("apt-get install -y --no-install-recommends /packages/lobbysorrel_*.deb /packages/lobbysorrel-controller_*.deb")
-    done = system.tried(f"systemctl start {UNIT}")
-    state, restarts = system.show(UNIT, "ActiveState", "NRestarts")
-    check(f"installed; without a configuration, start fails with {done.returncode}, then {state}, restarts: {restarts}",
-          done.returncode and state == "inactive" and restarts == "0")
+    wrong_start(system, "installed, but without a configuration", "true", "243", "credentials")
     system.run("cd /etc/lobbysorrel; for n in 1 2; do cp $n.env.example $n.env; done; systemctl enable --now lobbysorrel@1 "
                "lobbysorrel@2")
     copy = f"install -m 600 {CONFIG}.example {CONFIG}"
-    wrong_start(system, "a configuration that is no Erlang", f"{copy}; echo '}}' >> {CONFIG}", "syntax error")
-    wrong_start(system, "a wrong value", f"{copy}; sed -i 's/returns => 1000/returns => -1/' {CONFIG}",
+    wrong_start(system, "a configuration that is no Erlang", f"{copy}; echo '}}' >> {CONFIG}", "2", "syntax error")
+    wrong_start(system, "a wrong value", f"{copy}; sed -i 's/returns => 1000/returns => -1/' {CONFIG}", "2",
                 "returns must be a whole number from 0 to 20000, not -1")
-    system.run(f"{copy}; systemctl enable --now {UNIT}")
+    token = "s|{tokens, .*}|{tokens, [{<<\"sixteen bytes or more\">>, viewer}]}|"
+    system.run(f"{copy}; sed -i '{token}' {CONFIG}; systemctl enable {UNIT}")
+    port_in_use(system)
     return before
+
+
+def status(system):
+    """What lobby-status says with both gateways, with one, and without the controller."""
+    statuses = [system.tried("lobby-status").returncode]
+    system.run("systemctl stop lobbysorrel@2; sleep 3")
+    missing = system.tried("lobby-status")
+    system.run(f"systemctl start lobbysorrel@2; systemctl stop {UNIT}")
+    statuses += [missing.returncode, system.tried("lobby-status").returncode]
+    system.run(f"systemctl start {UNIT}")
+    named = "gateway 2 at 10.0.0.10:2946: NOT in service" in missing.stdout
+    check(f"lobby-status: statuses {', '.join(map(str, statuses))}; it names the gateway that is missing: {named}",
+          statuses == [0, 1, 3] and named)
 
 
 def service(system):
@@ -130,6 +151,19 @@ def upgrade(system, version):
     caller.end()
 
 
+def upgrade_gateways(system):
+    """The gateways restart one after the other, and the call on one of them goes on."""
+    caller = Caller()
+    heard = caller.hear()
+    mains = [system.show(f"lobbysorrel@{name}", "MainPID") for name in "12"]
+    system.run("apt-get install -y --reinstall /packages/lobbysorrel_*.deb")
+    new = all(system.show(f"lobbysorrel@{name}", "MainPID") != main for name, main in zip("12", mains))
+    caller.loop.run(1)
+    check(f"upgrade of both gateways during a call: they restarted: {new}; both hear each other: {caller.hear()}; re-INVITEs: "
+          f"{caller.invited()}", heard and new and caller.hear(0.1) and caller.invited() == [0, 0])
+    caller.end()
+
+
 def remove(system, before):
     system.run(f"apt-get remove -y {UNIT}")
     running = system.tried("cat /proc/[0-9]*/comm").stdout.split().count("beam.smp")
@@ -151,8 +185,10 @@ def main():
         system.boot()
         before = install(system)
         service(system)
+        status(system)
         failures(system)
         upgrade(system, version)
+        upgrade_gateways(system)
         reboot(system)
         remove(system, before)
     finish()

@@ -33,6 +33,10 @@
 %% A caller who offers nothing yet: he is added inactive, and the gateway sends nothing to this address.
 -define(NOWHERE, {{{0, 0, 0, 0}, 9}, pcmu}).
 
+%% Why calls end.
+-define(NO_MEDIA, <<"the gateway doesn't take the caller's media">>).
+-define(BAD_MEDIA, <<"the caller doesn't take the gateway's media">>).
+
 -type state() :: starting | confirming | talking | offering | ending.
 -record(call, {id :: binary(), dialog :: lobby_dialog:dialog(),
                %% Where the last request came from.
@@ -53,6 +57,8 @@
                agreed = none :: lobby_h248:media() | none,
                %% His request whose offer the gateway hasn't taken yet.
                changing = none :: lobby_sip_message:message() | none,
+               %% For the audit log: when his call began, what it has been, and why it ends.
+               began = none :: integer() | none, seen = #{} :: lobby_audit_core:seen(), why = <<"error">> :: binary(),
                %% Whether it was logged that no packets come from him.
                is_silent = false :: boolean(),
                %% What is wanted for him. The store keeps it apart.
@@ -77,9 +83,14 @@ start_link(Room, Invite, Source) ->
 %% @doc How members name themselves.
 -spec callers([lobby_person:row()]) -> #{binary() => binary()}.
 callers(Rows) ->
-    maps:from_list([{Id, lobby_dialog:caller(Dialog)}
+    maps:from_list([{Id, lobby_dialog:caller(dialog(Kept))}
                     || #{id := Id, call := Key} <- Rows,
-                       {ok, #{call := #call{dialog = Dialog}}} <- [lobby_store:get(lobby_calls, Key)]]).
+                       {ok, Kept = #{invite := _}} <- [lobby_store:get(lobby_calls, Key)]]
+                   ++ [{Id, Name} || #{id := Id, call := {web, _}, name := Name} <- Rows]).
+
+%% Whoever isn't answered yet has only his INVITE.
+dialog(#{call := #call{dialog = Dialog}}) -> Dialog;
+dialog(#{invite := Invite}) -> lobby_dialog:new(Invite, <<>>).
 
 %% @doc The calls' processes, with where their callers' first requests came from.
 -spec sources() -> [{pid(), lobby_sip_message:target()}].
@@ -111,6 +122,7 @@ set_aside(Key) ->
         {Bye, _} = lobby_dialog:request(<<"BYE">>, {[], <<>>}, own(Call), Dialog),
         ok = to_caller(Bye, Call)
     end, [Call || #{call := Call} <- Kept]),
+    lists:foreach(fun recorded/1, [Call || #{call := Call} <- Kept]),
     Rows = [Row || #{id := Id} <- Kept, {ok, Row} <- [lobby_member:find(Id)]],
     lists:foreach(fun(Row) -> ok = leave(lobby_person:restored(Row)) end, Rows),
     lobby_store:delete(lobby_calls, Key).
@@ -132,7 +144,7 @@ init({Room, Invite, Source}) ->
             yes = lobby_registry:register_name({member, Id}, self()),
             case lobby_member:find(Id) of
                 {ok, Row} -> {ok, talking, Call#call{person = lobby_person:restored(Row)}, resumption(Call)};
-                error -> {ok, talking, Call, [{next_event, internal, bye}]}
+                error -> {ok, talking, Call, [{next_event, internal, {bye, <<"error">>}}]}
             end;
         Kept ->
             Id = case Kept of
@@ -167,8 +179,10 @@ event(_, again, Call) ->
     person(again, Call);
 event(_, What, Call) when What =:= invite; What =:= refresh ->
     invite(Call);
-event(_, What, Call) when What =:= bye; What =:= expired ->
-    bye(Call);
+event(_, {bye, Why}, Call) ->
+    bye(Why, Call);
+event(_, expired, Call) ->
+    bye(<<"the session wasn't refreshed">>, Call);
 event(info, {sip, Request = #sip{type = request, method = Method}, Source}, Call) ->
     request(Method, Request, Source, Call);
 event(info, {sip, Response = #sip{type = response}, _}, Call) ->
@@ -186,7 +200,7 @@ event(info, {answer, From, Answer}, Call) ->
     ok = lobby_member:answer(From, Answer),
     Call;
 event({call, From}, hang_up, Call) ->
-    Ended = bye(Call),
+    Ended = bye(<<"an operator hung up">>, Call),
     gen_statem:reply(From, ok),
     Ended;
 event({call, From}, _, Call = #call{state = ending}) ->
@@ -212,7 +226,7 @@ event({timeout, repeat}, {Message, Target, Interval}, Call) ->
 event({timeout, give_up}, give_up, Call = #call{state = ending}) ->
     stop(Call);
 event({timeout, give_up}, give_up, Call) ->
-    bye(Call);
+    bye(<<"the caller didn't answer">>, Call);
 event(_, _, Call) ->
     Call.
 
@@ -222,7 +236,14 @@ event(_, _, Call) ->
 person(Event, Call = #call{person = Person}) ->
     {Changed, Actions} = lobby_person:handle(Event, Person),
     Again = {{timeout, person}, case lobby_person:is_settled(Changed) of true -> infinity; false -> ?AGAIN end, again},
-    lists:foldl(fun act/2, with([Again], Call#call{person = Changed}), Actions).
+    lists:foldl(fun act/2, with([Again], seen(lobby_person:row(Changed), Call#call{person = Changed})), Actions).
+
+seen(Row, Call = #call{seen = Before}) ->
+    case lobby_audit_core:seen(Row, Before) of
+        Before -> Call;
+        Seen when Call#call.state =:= starting -> Call#call{seen = Seen};
+        Seen -> keep(Call#call{seen = Seen})
+    end.
 
 %% Nothing more happens to a call that has stopped.
 act(_, stopped) ->
@@ -240,7 +261,7 @@ act(Action, Call) ->
 -spec media(purpose(), {ok, lobby_h248:media()} | {error, term()}, #call{}) -> #call{} | stopped.
 media(invite, {ok, Local}, Call = #call{state = starting, changing = Invite}) ->
     LetIn = [{{timeout, Name}, infinity, none} || Name <- [let_in, let_in_at_all]],
-    accept(Invite, keep(with(LetIn, Call#call{local = Local, changing = none})));
+    accept(Invite, keep(began(with(LetIn, Call#call{local = Local, changing = none}))));
 media(invite, {error, no_room}, Call = #call{state = starting}) ->
     with([{{timeout, let_in}, ?RETRY, join}], Call);
 media(invite, {error, Reason}, Call = #call{state = starting}) ->
@@ -255,7 +276,7 @@ media({change, Request}, Result, Call = #call{changing = Request, state = State}
         {_, <<"UPDATE">>, _} -> updated(Request, received_at(Result, Call))
     end;
 media(answer, {error, {refused, _}}, Call) ->
-    bye(Call);
+    bye(?NO_MEDIA, Call);
 media(_, _, Call) ->
     Call.
 
@@ -273,7 +294,7 @@ reported({holds, _, Local, _}, Call = #call{local = Local}) ->
 reported({holds, _, Local, _}, Call) ->
     with([{{timeout, invite}, 0, invite}], keep(Call#call{local = Local}));
 reported({refused, _, _, none}, Call) ->
-    with([{next_event, internal, bye}], Call);
+    with([{next_event, internal, {bye, ?NO_MEDIA}}], Call);
 reported(_, Call) ->
     Call.
 
@@ -358,6 +379,23 @@ allowed(Error, _) ->
 described(#call{session = none}) -> {?NOWHERE, inactive};
 described(#call{session = Session}) -> {lobby_sdp:media(Session), lobby_sdp:direction(Session)}.
 
+%%% The audit log: a line when a call begins, and one with all that is known of it when it ends.
+
+began(Call) ->
+    Call#call{began = lobby_audit:began(record(Call))}.
+
+%% Once. Whoever was never in a room has no record.
+recorded(Call = #call{began = none}) ->
+    Call;
+recorded(Call = #call{began = Began, why = Why}) ->
+    ok = lobby_audit:ended(record(Call), Began, Why),
+    Call#call{began = none}.
+
+record(#call{id = Id, dialog = Dialog, source = Source, person = Person, seen = Seen}) ->
+    Row = case Person of none -> #{}; _ -> lobby_person:row(Person) end,
+    Caller = lobby_json:named(Row, lobby_dialog:caller(Dialog)),
+    {Id, [{from, list_to_binary(inet:ntoa(lobby_sip_message:address(Source)))} | maps:to_list(Caller)], Seen}.
+
 %%% His requests.
 
 request(Method, Request, Source, Call = #call{state = starting, changing = Invite}) ->
@@ -377,7 +415,7 @@ request(<<"ACK">>, Ack, Source, Call = #call{state = confirming, response = Resp
         {true, false} ->
             talk(with([acknowledged_soon()], agreed(Call#call{source = Source})));
         {true, {ok, Session}} -> answered(Session, agreed(Call#call{source = Source}));
-        {true, _} -> bye(Call#call{source = Source})
+        {true, _} -> bye(?BAD_MEDIA, Call#call{source = Source})
     end;
 request(<<"ACK">>, _, _, Call) ->
     Call;
@@ -394,7 +432,7 @@ in_dialog(<<"CANCEL">>, Request, Call = #call{response = Last}) ->
 in_dialog(Method, Request, Call = #call{dialog = Dialog, state = State, changing = Changing}) ->
     case {lobby_dialog:received(Request, Dialog), Method, State} of
         {old, _, _} -> answer(500, {[], <<>>}, Request, Call);
-        {_, <<"BYE">>, _} -> stop(answer(200, {[], <<>>}, Request, Call));
+        {_, <<"BYE">>, _} -> stop(answer(200, {[], <<>>}, Request, Call#call{why = <<"the caller hung up">>}));
         {repeated, <<"INVITE">>, _} -> again(Request, Call);
         {{new, D}, _, _} when Changing =/= none, Method =:= <<"INVITE">> orelse Method =:= <<"UPDATE">> ->
             answer(500, {[{'retry-after', {1, []}}], <<>>}, Request, Call#call{dialog = D});
@@ -520,9 +558,9 @@ invite(Call = #call{state = State}) when State =:= confirming; State =:= offerin
 invite(Call) ->
     Call.
 
-bye(Call = #call{state = ending}) -> Call;
-bye(Call = #call{state = starting}) -> refuse(480, [], Call);
-bye(Call) -> send(<<"BYE">>, {[], <<>>}, ending, left(Call)).
+bye(_, Call = #call{state = ending}) -> Call;
+bye(_, Call = #call{state = starting}) -> refuse(480, [], Call);
+bye(Why, Call) -> send(<<"BYE">>, {[], <<>>}, ending, recorded(left(Call#call{why = Why}))).
 
 %% His room lets him go before his call ends, and no room hears of him after that.
 left(Call = #call{person = none}) -> Call;
@@ -555,7 +593,7 @@ accepted(Response, Call = #call{source = Source}) ->
     ok = acknowledge(Response, Accepted),
     case offer(Response, Source) of
         {ok, Session} -> answered(Session, agreed(Accepted));
-        _ -> bye((agreed(Accepted))#call{state = talking})
+        _ -> bye(?BAD_MEDIA, (agreed(Accepted))#call{state = talking})
     end.
 
 agreed(Call = #call{told = Told}) ->
@@ -581,10 +619,10 @@ refused(Status, Response, Call = #call{request = Invite = #sip{hdrs = Headers}})
     Ack = Invite#sip{method = <<"ACK">>, body = <<>>, hdrs = Kept ++ [{to, lobby_sip_message:header(to, Response)}]},
     ok = to_caller(Ack, Call),
     case lobby_dialog:after_refusal(Status) of
-        ended -> stop(Call);
+        ended -> stop(Call#call{why = <<"the caller's phone has ended it">>});
         again -> with(quiet() ++ [{{timeout, invite}, 10 * rand:uniform(200), invite}], Call#call{state = talking});
         %% He doesn't send to where the gateway receives him now.
-        goes_on when Call#call.told =/= Call#call.agreed -> bye(Call#call{state = talking});
+        goes_on when Call#call.told =/= Call#call.agreed -> bye(?BAD_MEDIA, Call#call{state = talking});
         goes_on -> talk(Call)
     end.
 
@@ -603,6 +641,6 @@ keep(Call = #call{dialog = Dialog, source = Source}) ->
     Call.
 
 stop(Call = #call{dialog = Dialog}) ->
-    _ = left(Call#call{state = ending}),
+    _ = recorded(left(Call#call{state = ending})),
     ok = lobby_store:delete(lobby_calls, lobby_dialog:key(Dialog)),
     stopped.

@@ -16,7 +16,8 @@
                messages_from => {{1, 100000}, 200}, new_calls_from => {{1, 100000}, 50},
                silent_after => {{1000, 3600000}, 30000}, room_audit => {{500, 600000}, 5000},
                store => {store, memory}, pair => {{part, "the pair", ?PAIR}, none}, tls => {{part, "tls", ?TLS}, none},
-               roles => {roles, []},
+               roles => {roles, []}, audit_log => {{part, "the audit log", ?AUDIT_LOG}, none},
+               rtpengine => {address, none}, ice_servers => {ice_servers, []}, show_isolation => {boolean, false},
                http => {address, {{127, 0, 0, 1}, 8080}}, tokens => {tokens, []}}).
 -define(GATEWAY, #{name => {text, required}, address => {address, required}, here => {ip, {127, 0, 0, 1}},
                    retry => {{10, 5000}, 100}, tries => {{1, 20}, 4}, quiet => {{100, 60000}, 5000},
@@ -25,6 +26,8 @@
 
 -define(TLS, #{certificate => {path, required}, key => {path, required},
                sip => {address, none}, http => {boolean, false}}).
+
+-define(AUDIT_LOG, #{file => {file, required}, bytes => {{65536, 1 bsl 30}, 16777216}, files => {{1, 1000}, 9}}).
 
 -define(PAIR, #{self => {node, required}, peer => {node, required}, cookie => {secret, required},
                 lease => {lease, address}, ready => {file, none}, gap => {{100, 250}, 250}}).
@@ -109,7 +112,8 @@ holds(Is, Value) ->
 kind({list, _, _}) -> {"a list of at least one gateway", fun(_) -> false end};
 kind({part, _, _}) -> {"a map or none", fun is_map/1};
 kind(tokens) ->
-    {"a list of tokens such as {<<\"sixteen bytes or more\">>,operator} (or viewer)", all(fun is_token/1)};
+    {"a list of tokens such as {<<\"sixteen bytes or more\">>,operator} (or viewer; a third element names who has it)",
+     all(fun is_token/1)};
 kind(roles) ->
     {"a list such as {{user,<<\"ann\">>},<<\"coach\">>}, {{network,{{192,0,2,0},24}},<<\"agent\">>} or "
      "{header,<<\"x-role\">>,[{{192,0,2,9},32}]} (in lower case)", all(fun is_role/1)};
@@ -125,6 +129,10 @@ kind(secret) ->
 kind(lease) -> {"address or {file,\"/path\"}", fun({file, File}) -> is_path(File) end};
 kind(path) -> {"the path of a file", fun(Path) -> is_path(Path) andalso filelib:is_regular(Path) end};
 kind(file) -> {"a path such as \"/path\"", fun is_path/1};
+kind(ice_servers) ->
+    {"a list of maps such as #{urls => <<\"turn:192.0.2.9:3478\">>,username => <<\"a\">>,credential => <<\"b\">>}",
+     all(fun(Server = #{urls := _}) -> maps:keys(Server) -- [urls, username, credential] =:= []
+             andalso lists:all(fun is_text/1, maps:values(Server)) end)};
 kind(boolean) -> {"true or false", fun is_boolean/1};
 kind(share) -> {"quarter or a whole number from 1 to 100000", element(2, kind({1, 100000}))};
 kind(digest) ->
@@ -155,5 +163,7 @@ is_role({Who, Role}) ->
         {network, Network} -> is_network(Network)
     end.
 
+is_token({Token, Role, Name}) ->
+    is_text(Name) andalso byte_size(Name) =< 64 andalso is_token({Token, Role});
 is_token({Token, Role}) ->
     is_binary(Token) andalso byte_size(Token) >= 16 andalso lists:member(Role, [operator, viewer]).

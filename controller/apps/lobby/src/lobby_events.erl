@@ -8,7 +8,7 @@
 -type event() :: {room, lobby_room:name()} | {gateway, lobby_gateway:name(), serving | away | returned | lost}.
 -type counter() :: lobby_gateway_losses_total | lobby_gateway_returns_total | lobby_conferences_kept_total
                  | lobby_conferences_made_again_total | lobby_topologies_repaired_total | lobby_strays_total
-                 | lobby_set_aside_total.
+                 | lobby_set_aside_total | lobby_audit_lost_total.
 %% Who watches, by the hash of his token.
 -type watcher() :: {TokenHash :: binary(), operator | viewer}.
 %% With one token.

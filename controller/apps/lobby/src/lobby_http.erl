@@ -10,31 +10,43 @@
 -export_type([config/0]).
 
 -type config() :: #{http := {inet:ip4_address(), inet:port_number()},
-                    tokens := [{Token :: binary(), operator | viewer}], tls := lobby_socket:tls() | none}.
+                    tokens := [token()], tls := lobby_socket:tls() | none}.
+-type token() :: {Token :: binary(), operator | viewer} | {Token :: binary(), operator | viewer, Name :: binary()}.
 -type answer() :: {Status :: pos_integer(), Headers :: [{atom() | string(), string()}], lobby_json:json() | iodata()}
                 | {events, lobby_events:watcher()}.
-%% Is called with the name in the path, if it has one, and with the object in the body. May throw a reason, too.
+%% Is called with the name in the path, if it has one, and with the object in the body or the query. May throw a reason,
+%% too.
 -type handler() :: fun((binary(), #{binary() => term()}) -> ok | {ok, lobby_json:json()} | {text, iodata()}
-                                                         | {error, Reason :: term()}).
+                                                         | {csv, iodata()} | {error, Reason :: term()}).
 -type route() :: {Method :: string(), Path :: binary(), handler() | events}.
 %% What needs no token.
 -define(FILES, #{[] => {"index.html", "text/html; charset=utf-8"}, [<<"page.js">>] => {"page.js", "text/javascript"},
+                 [<<"join">>] => {"join.html", "text/html; charset=utf-8"},
+                 [<<"join.js">>] => {"join.js", "text/javascript"},
                  [<<"page.css">>] => {"page.css", "text/css"},
                  [<<"openapi.json">>] => {"openapi.json", "application/json"}}).
 -define(MAX_BODY, 65536).
+%% What only operators read, and what of a body is in the audit log.
+-define(PRIVATE, [<<"/audit">>, <<"/names">>]).
+-define(LOGGED, [<<"rules">>, <<"preset">>, <<"door">>, <<"keep">>, <<"role">>, <<"room">>, <<"listener">>,
+                 <<"name">>, <<"seconds">>, <<"revoke">>]).
 %% Milliseconds for a body, and seconds for the head of a request.
 -define(BODY, application:get_env(lobby, http_body, 10000)).
 -define(HEAD, 10).
 
 -spec start_link(config()) -> {ok, pid()} | {error, term()}.
 start_link(#{http := {Address, Port}, tokens := Tokens, tls := Tls}) ->
-    ok = persistent_term:put(?MODULE, [{hash(Token), Role} || {Token, Role} <- Tokens]),
+    ok = persistent_term:put(?MODULE, [known(Token, N) || {N, Token} <- lists:enumerate(Tokens)]),
     Root = code:priv_dir(lobby),
     Options = [{bind_address, Address}, {port, Port}, {server_name, "lobby"}, {server_root, Root},
                {document_root, Root}, {modules, [?MODULE]}, {customize, ?MODULE}, {max_body_size, ?MAX_BODY},
                {max_uri_size, 2048}, {max_clients, 1024}, {keep_alive_timeout, ?HEAD}, {server_tokens, none}
                | [{socket_type, {ssl, lobby_socket:options(Tls)}} || #{http := true} <- [Tls]]],
     lobby_socket:opened(fun() -> inets:start(httpd, Options, stand_alone) end).
+
+%% Without a name, a token has that of its role, and its place among the tokens.
+known({Token, Role, Name}, _) -> {hash(Token), Role, Name};
+known({Token, Role}, N) -> {hash(Token), Role, iolist_to_binary([atom_to_list(Role), " ", integer_to_list(N)])}.
 
 %% @doc Called by httpd for each header of a request. `Connection: refused' closes the connection.
 -spec request_header({string(), string()}) -> {true, {string(), string()}}.
@@ -72,25 +84,33 @@ do(Mod = #mod{socket = Socket, parsed_header = Headers}) ->
             ok = lobby_event_stream:run(Socket, Watcher),
             {proceed, [{response, {already_sent, 200, 0}}]};
         {Status, Headers1, Json} when Status >= 500 ->
-            Number = {"request-number", logged(Status, Json, Mod)},
-            response({Status, [Number | Headers1], maps:with([error], Json)});
+            Numbered = {_, Number} = hd([Known || Known = {"request-number", _} <- Headers1] ++ [number()]),
+            ok = logged(Number, Status, Json, Mod),
+            response({Status, [Numbered | lists:delete(Numbered, Headers1)], maps:with([error], Json)});
         Answer -> response(Answer)
     end.
 
 %% Whatever fails here is answered.
-answered(#mod{method = Method, request_uri = Uri, parsed_header = Headers, entity_body = Body}) ->
-    try
+answered(Mod = #mod{method = Method, request_uri = Uri}) ->
+    caught(fun() ->
         Path = [decoded(Part) || Part <- string:lexemes(hd(string:split(Uri, "?")), "/")],
-        answer(Method, Path, Headers, list_to_binary(Body))
+        answer(Method, Path, Mod)
+    end).
+
+caught(Answer) ->
+    try Answer()
     catch
         Class:Reason:Stack ->
             {500, [], #{error => <<"an error of the controller">>, reason => {Class, Reason, Stack}}}
     end.
 
-logged(Status, Json, #mod{method = Method, request_uri = Uri}) ->
-    Number = integer_to_list(erlang:unique_integer([positive, monotonic])),
-    logger:warning("HTTP request ~s: ~s ~0P was answered ~b: ~0P", [Number, Method, Uri, 100, Status, Json, 100]),
-    Number.
+%% Unique among all starts on this host, if they are a second apart and its clock isn't set back.
+number() ->
+    Start = erlang:convert_time_unit(erlang:system_info(start_time) + erlang:time_offset(), native, second),
+    {"request-number", integer_to_list((Start bsl 20) + erlang:unique_integer([positive, monotonic]))}.
+
+logged(Number, Status, Json, #mod{method = Method, request_uri = Uri}) ->
+    logger:warning("HTTP request ~s: ~s ~0P was answered ~b: ~0P", [Number, Method, Uri, 100, Status, Json, 100]).
 
 response({Status, Headers, Json = #{}}) ->
     response({Status, [{content_type, "application/json"} | Headers], lobby_json:encode(Json)});
@@ -106,41 +126,120 @@ decoded(Part) ->
         _ -> <<>>
     end.
 
--spec answer(string(), [binary()], [{string(), string()}], binary()) -> answer().
-answer("GET", Path, _, _) when is_map_key(Path, ?FILES) ->
+-spec answer(string(), [binary()], #mod{}) -> answer().
+answer("GET", Path, _) when is_map_key(Path, ?FILES) ->
     {File, Type} = map_get(Path, ?FILES),
     {ok, Bytes} = file:read_file(filename:join(code:priv_dir(lobby), File)),
     {200, [{content_type, Type}], Bytes};
-answer(Method, Path, Headers, Body) ->
-    Matching = [{Known, Name, Handler} || {Known, Route, Handler} <- routes(), Name <- name(Route, Path)],
-    case {watcher(Headers), Matching} of
+answer(Method, [<<"web">> | Id], Mod = #mod{parsed_header = Headers}) ->
+    case lobby_link:read(bearer(Headers)) of
+        {ok, Link} -> web(Method, Id, Link, Mod);
+        {error, Reason} -> refused(Reason)
+    end;
+answer(Method, Path, Mod = #mod{request_uri = Uri, parsed_header = Headers}) ->
+    Matching = [{Known, Name, Handler, Route} || {Known, Route, Handler} <- routes(), Name <- name(Route, Path)],
+    case {who(Headers), Matching} of
         {false, _} ->
             failure(401, [{'www-authenticate', "Bearer"}],
                     <<"a valid token is required: Authorization: Bearer TOKEN">>);
         {_, []} -> failure(404, <<"there is no such path">>);
-        {Watcher = {_, Role}, Routes} -> case lists:keyfind(Method, 1, Routes) of
-            {"GET", _, events} -> case lobby_events:subscribe(Watcher) of
-                ok -> {events, Watcher};
+        {{Hash, Role, Who}, Routes} -> case lists:keyfind(Method, 1, Routes) of
+            {"GET", _, events, _} -> case lobby_events:subscribe({Hash, Role}) of
+                ok -> {events, {Hash, Role}};
                 {error, too_many} -> failure(503, <<"too many clients are watching with this token">>)
             end;
-            {"GET", Name, Handler} -> handled(Handler, Name, <<>>);
-            {_, _, _} when Role =:= viewer -> failure(403, <<"this token can only read">>);
-            {_, Name, Handler} -> handled(Handler, Name, Body);
+            {"GET", Name, Handler, Route} ->
+                case {lists:member(Route, ?PRIVATE), Role} of
+                    {true, viewer} -> failure(403, <<"this token can't read the audit log">>);
+                    {true, operator} -> handled(Handler, Name, fun() -> query(Uri) end);
+                    {false, _} -> handled(Handler, Name, fun() -> #{} end)
+                end;
+            {_, _, _, _} when Role =:= viewer -> failure(403, <<"this token can only read">>);
+            {_, Name, Handler, Route} -> changed(Handler, Name, [Method, " ", Route], Who, Mod);
             false ->
-                Allowed = lists:append(lists:join(", ", [Known || {Known, _, _} <- Routes])),
+                Allowed = lists:append(lists:join(", ", [Known || {Known, _, _, _} <- Routes])),
                 failure(405, [{allow, Allowed}], list_to_binary(["allowed methods: ", Allowed]))
         end
+    end.
+
+%% Whoever has a link (WHIP, RFC 9725).
+web("GET", [], #{room := Room, name := Name}, _) ->
+    {200, [], #{room => Room, name => Name, ice_servers => application:get_env(lobby, ice_servers, [])}};
+web("POST", [], Link, Mod = #mod{parsed_header = Headers, entity_body = Offer}) ->
+    case proplists:get_value("content-type", Headers) of
+        "application/sdp" ->
+            try lobby_web:join(Link, list_to_binary(Offer), from(Mod)) of
+                {ok, Id, Answer} ->
+                    {201, [{content_type, "application/sdp"}, {location, "/web/" ++ binary_to_list(Id)}], Answer};
+                {error, Reason} -> refused(Reason)
+            catch throw:Reason -> refused(Reason)
+            end;
+        _ -> failure(415, <<"an offer must come as application/sdp">>)
+    end;
+web("GET", [Id], Link = #{number := Number}, _) ->
+    case lobby_web:ask(Number, {state, Id}) of
+        {ok, State} -> {200, [], maps:merge(#{state => State}, isolation(lobby_web:id(Link)))};
+        {error, Reason} -> refused(Reason)
+    end;
+web("DELETE", [Id], #{number := Number}, _) ->
+    case lobby_web:ask(Number, {leave, Id}) of ok -> {200, [], #{}}; {error, Reason} -> refused(Reason) end;
+web(_, _, _, _) ->
+    failure(405, [{allow, "GET, POST, DELETE"}], <<"allowed methods: GET, POST, DELETE">>).
+
+%% Whoever is isolated doesn't learn it, unless that is configured.
+isolation(Id) ->
+    case {application:get_env(lobby, show_isolation, false), lobby_member:find(Id)} of
+        {true, {ok, #{isolated := Is}}} -> #{isolated => Is};
+        {_, _} -> #{}
     end.
 
 failure(Status, Text) -> failure(Status, [], Text).
 
 failure(Status, Headers, Text) -> {Status, Headers, #{error => Text}}.
 
+%% It is in the audit log before it is begun, and again with its answer.
+changed(Handler, Name, Change, Who, Mod = #mod{entity_body = Body}) ->
+    try object(list_to_binary(Body)) of
+        Object ->
+            Numbered = {_, Number} = number(),
+            Entry = [{request, list_to_integer(Number)}, {by, Who}, {from, from(Mod)},
+                     {change, iolist_to_binary(Change)} | about(Name, Object)],
+            ok = lobby_audit:write([{event, change} | Entry] ++ [{body, maps:with(?LOGGED, Object)}]),
+            {Status, Headers, Json} = caught(fun() -> handled(Handler, Name, fun() -> Object end) end),
+            More = maps:to_list(maps:with([error, number], Json)),
+            ok = lobby_audit:write([{event, answer} | Entry] ++ [{status, Status} | More]),
+            {Status, [Numbered | Headers], Json}
+    catch
+        throw:Reason -> refused(Reason)
+    end.
+
+from(#mod{init_data = #init_data{peername = {_, From}}}) -> list_to_binary(From).
+
+%% The rooms and the member that a change is about.
+about(Name, Object) ->
+    To = [Room || #{<<"room">> := Room} <- [Object], is_binary(Room)],
+    case lobby_member:find(Name) of
+        {ok, Row = #{room := Room}} ->
+            Caller = lobby_json:named(Row, maps:get(Name, lobby_call:callers([Row]), <<>>)),
+            [{rooms, [Room | To]}, {member, Name} | maps:to_list(Caller)];
+        error -> [{rooms, [Name | To]}]
+    end.
+
+query(Uri) ->
+    case string:split(Uri, "?") of
+        [_, Query] -> case uri_string:dissect_query(list_to_binary(Query)) of
+            {error, _, _} -> throw({invalid, <<"the query can't be read">>});
+            Pairs -> lobby_audit_core:query(Pairs)
+        end;
+        [_] -> #{}
+    end.
+
 %% A room can wait for its gateway for long, and a call for its room.
-handled(Handler, Name, Body) ->
-    try Handler(Name, object(Body)) of
+handled(Handler, Name, Object) ->
+    try Handler(Name, Object()) of
         ok -> {200, [], #{}};
         {ok, Json} -> {200, [], Json};
+        {csv, Text} -> {200, [{content_type, "text/csv; charset=utf-8"}], Text};
         {text, Text} -> {200, [{content_type, "text/plain; version=0.0.4"}], Text};
         {error, Reason} -> refused(Reason)
     catch
@@ -153,10 +252,13 @@ object(<<>>) -> #{};
 object(Body) -> lobby_json:decode(Body).
 
 %% Who asks, by the hash of his token: so that the time says nothing of the token.
-watcher(Headers) ->
-    Token = string:prefix(proplists:get_value("authorization", Headers, ""), "Bearer "),
-    Token =/= nomatch andalso lists:keyfind(hash(unicode:characters_to_binary(string:trim(Token))), 1,
-                                            persistent_term:get(?MODULE)).
+who(Headers) -> lists:keyfind(hash(bearer(Headers)), 1, persistent_term:get(?MODULE)).
+
+bearer(Headers) ->
+    case string:prefix(proplists:get_value("authorization", Headers, ""), "Bearer ") of
+        nomatch -> <<>>;
+        Token -> unicode:characters_to_binary(string:trim(Token))
+    end.
 
 hash(Token) -> crypto:hash(sha256, Token).
 
@@ -190,9 +292,13 @@ routes() ->
       fun(Id, Object) -> lobby_member:change(Id, #{role => role(Object), waiting => false}) end},
      {"POST", <<"/members/{id}/move">>,
       fun(Id, Object) -> lobby_member:move(Id, room_name(lobby_json:text(<<"room">>, Object))) end},
-     {"POST", <<"/members/{id}/hang_up">>, fun(Id, _) -> hang_up(Id) end},
-     {"GET", <<"/gateways">>, fun(_, _) -> {ok, #{gateways => gateways()}} end},
+     {"POST", <<"/members/{id}/hang_up">>, fun hang_up/2},
+     {"GET", <<"/gateways">>, fun(_, _) -> {ok, #{gateways => gateways(), rtpengine => lobby_rtpengine:state()}} end},
      {"GET", <<"/events">>, events},
+     {"POST", <<"/links">>, fun link_to/2},
+     {"DELETE", <<"/links/{number}">>, fun unlink_from/2},
+     {"GET", <<"/audit">>, fun audit/2},
+     {"GET", <<"/names">>, fun names/2},
      {"GET", <<"/metrics">>, fun(_, _) -> {text, lobby_metrics:text()} end}].
 
 %%% Rooms and gateways.
@@ -209,10 +315,8 @@ create(Name, Object) ->
     lobby_rooms:create(room_name(Name), rules(Object), #{door => lobby_json:flag(<<"door">>, Object)}).
 
 room_name(Text) ->
-    case lobby_rooms:is_name(Text) of
-        true -> Text;
-        false -> throw({invalid, <<"a room's name must be 1 to 32 letters, digits or _.-">>})
-    end.
+    ok = lobby_rooms:check_name(Text),
+    Text.
 
 %% A rule about somebody ends with his call, so there is none about whoever hasn't called.
 rules(Object) ->
@@ -235,6 +339,29 @@ left(Name) ->
 
 gateways() -> [Load#{name => lobby_gateway:name(Handle)} || {Handle, Load} <- lobby_gateway:serving()].
 
+link_to(_, Object) ->
+    {Number, Token} = lobby_link:new(Object),
+    {ok, #{number => Number, link => Token}}.
+
+unlink_from(Number, _) ->
+    case re:run(Number, "^[0-9a-f]{16}$", [dollar_endonly]) of
+        nomatch -> {error, no_such_link};
+        _ ->
+            ok = lobby_link:revoke(Number),
+            lobby_web:hang_up(Number)
+    end.
+
+audit(_, Query) ->
+    case lobby_audit:read(Query) of
+        {ok, Lines, More} -> {ok, #{lines => Lines, more => More}};
+        Error -> Error
+    end.
+
+names(_, Query = #{gateway := _}) ->
+    case lobby_audit:names(Query) of {ok, Text} -> {csv, Text}; Error -> Error end;
+names(_, _) ->
+    throw({invalid, <<"\"gateway\" is missing">>}).
+
 %%% Members.
 
 %% If it is kept, whoever calls again under the same identity is isolated again.
@@ -256,8 +383,15 @@ room_of(Id) ->
 
 role(Object) -> lobby_json:text(<<"role">>, Object).
 
-hang_up(Id) ->
+%% He may not join again by his link.
+hang_up(Id, Object) ->
     Room = room_of(Id),
+    {ok, Row} = lobby_member:find(Id),
+    case {lobby_json:flag(<<"revoke">>, Object), Row} of
+        {true, #{call := {web, Number}}} -> ok = lobby_link:revoke(Number);
+        {true, _} -> throw({invalid, <<"the member hasn't joined by a link">>});
+        {false, _} -> ok
+    end,
     case lobby_member:hang_up(Id) of ok -> left(Room); Error -> Error end.
 
 refused({invalid, Text}) -> failure(400, Text);
@@ -266,6 +400,17 @@ refused({refused, Code}) ->
 refused(no_such_room) -> failure(404, <<"there is no such room">>);
 refused(no_member) -> failure(404, <<"there is no such member">>);
 refused(no_listener) -> failure(404, <<"the listener isn't in the member's room">>);
+refused(no_link) -> failure(401, <<"the link isn't valid">>);
+refused(link_expired) -> failure(401, <<"the link has expired">>);
+refused(link_revoked) -> failure(401, <<"the link has been revoked">>);
+refused(no_such_link) -> failure(404, <<"there can be no such link">>);
+refused(not_here) -> failure(404, <<"you aren't in the room">>);
+refused(replaced) -> failure(409, <<"somebody has joined by this link since">>);
+refused(no_relay) -> failure(503, <<"rtpengine doesn't answer">>);
+refused(no_audit_log) -> failure(404, <<"there is no audit log (audit_log)">>);
+refused(too_many_names) -> failure(409, <<"there are more than 1024 names: give a shorter time">>);
+refused({two_names, T}) ->
+    failure(409, <<"RTP/", (integer_to_binary(T))/binary, " had two members: give a shorter time">>);
 refused(same_room) -> failure(409, <<"the member is already in this room">>);
 refused(room_locked) -> failure(409, <<"the room is locked">>);
 refused(room_full) -> failure(409, <<"the room is full">>);

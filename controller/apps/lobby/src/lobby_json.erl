@@ -1,7 +1,7 @@
 %%% @doc What the HTTP interface reads and writes, as JSON terms (maps, as jiffy has them).
 -module(lobby_json).
 
--export([decode/1, encode/1, rules/1, text/2, flag/2, room/3]).
+-export([decode/1, encode/1, rules/1, text/2, number/3, flag/2, room/3, named/2]).
 -export_type([json/0]).
 
 -define(NO_RULE, <<"a rule must be {\"hears\": true or false, \"talker\": PARTY, \"listener\": PARTY}, "
@@ -12,8 +12,11 @@
 %% @doc An object, and nothing else. This and what follows throws what is wrong with a body.
 -spec decode(binary()) -> #{binary() => term()}.
 decode(Text) ->
-    try jiffy:decode(Text, [return_maps]) of
-        Object when is_map(Object) -> Object;
+    try jiffy:decode(Text) of
+        {Pairs} ->
+            Keys = [Key || {Key, _} <- Pairs],
+            _ = [invalid(<<"the body has the key \"", Key/binary, "\" twice">>) || Key <- Keys -- lists:usort(Keys)],
+            jiffy:decode(Text, [return_maps]);
         _ -> invalid(<<"the body is not a JSON object">>)
     catch
         %% jiffy's error has the position and a name.
@@ -62,6 +65,14 @@ text(Key, Object) ->
         #{} -> invalid(<<"\"", Key/binary, "\" must be a string of 1 to 32 bytes">>)
     end.
 
+%% @doc A whole number in a range under this key.
+-spec number(binary(), {integer(), integer()}, #{binary() => term()}) -> integer().
+number(Key, {Min, Max}, Object) ->
+    case Object of
+        #{Key := Number} when is_integer(Number), Number >= Min, Number =< Max -> Number;
+        #{} -> invalid(iolist_to_binary(io_lib:format("\"~s\" must be a whole number from ~b to ~b", [Key, Min, Max])))
+    end.
+
 %% @doc Whether something is wanted; without the key it isn't.
 -spec flag(binary(), #{binary() => term()}) -> boolean().
 flag(Key, Object) ->
@@ -74,22 +85,26 @@ flag(Key, Object) ->
 -spec room(lobby_room:name(), lobby_room_core:description(), #{lobby_rules:id() => binary()}) -> json().
 room(Name, Description, Callers) ->
     #{members := Members, rules := Rules, flows := Flows, gateway := Gateway, context := Context,
-      settings := Settings} = Description,
+      settings := Settings, sends := Sends} = Description,
     #{name => Name, gateway => or_null(Gateway), context => or_null(Context),
       locked => maps:get(locked, Settings, false), door => maps:get(door, Settings, false),
       rules => [written(Rule) || Rule <- Rules],
-      members => [member(Row, Termination, Callers) || {Row, Termination} <- lists:sort(Members)],
+      members => [(member(Row, Termination, Callers))#{sends => maps:get(Id, Sends, null)}
+                  || {Row = #{id := Id}, Termination} <- lists:sort(Members)],
       flows => [#{talker => Talker, listener => Listener} || {Talker, Listener} <- Flows]}.
 
 member(Row = #{id := Id}, Termination, Callers) ->
-    Shown = maps:with([id, role, muted, isolated, waiting, direction], Row),
+    Shown = (maps:with([id, role, muted, isolated, waiting, direction], Row))#{link => is_by_link(Row)},
     With = case Termination of none -> Shown; _ -> Shown#{termination => Termination} end,
-    %% Anybody can call himself anything. A name that was proved or that a trusted proxy asserts comes first.
-    Says = maps:get(Id, Callers, <<>>),
-    case Row of
-        #{name := Name} -> With#{caller => Name, says => Says, proved => true};
-        #{} -> With#{caller => Says, says => Says, proved => false}
-    end.
+    maps:merge(With, named(Row, maps:get(Id, Callers, <<>>))).
+
+is_by_link(#{call := {web, _}}) -> true;
+is_by_link(_) -> false.
+
+%% @doc Anybody can call himself anything. A name that was proved or that a trusted proxy asserts comes first.
+-spec named(lobby_person:row() | #{}, Says :: binary()) -> #{caller := binary(), says := binary(), proved := boolean()}.
+named(#{name := Name}, Says) -> #{caller => Name, says => Says, proved => true};
+named(_, Says) -> #{caller => Says, says => Says, proved => false}.
 
 or_null(Atom) when is_atom(Atom) -> null;
 or_null(Value) -> Value.

@@ -52,6 +52,8 @@ is_kept(call, Key) -> lobby_store:has(lobby_calls, Key).
 
 start(room, Name) ->
     lobby_registry:whereis_name({room, Name}) =/= undefined orelse lobby_rooms:start(Name);
+start(call, Key = {web, _}) ->
+    lobby_web:find(Key);
 start(call, Key) ->
     lobby_call:find(Key).
 

@@ -9,7 +9,7 @@
 %%% go, the row says where he comes `from', and the next one doesn't add him. Moves follow one another.
 -module(lobby_person).
 
--export([new/1, restored/1, handle/2, row/1, is_settled/1]).
+-export([new/1, restored/1, handle/2, row/1, is_joining/1, is_settled/1]).
 -export_type([person/0, row/0, change/0, event/0, action/0, tag/0, report/0]).
 
 -type id() :: lobby_rules:id().
@@ -56,6 +56,10 @@ restored(Row) ->
 
 -spec row(person()) -> row().
 row(#person{row = Row}) -> Row.
+
+%% @doc Whether his room hasn't admitted him yet.
+-spec is_joining(person()) -> boolean().
+is_joining(#person{phase = Phase}) -> Phase =:= joining.
 
 %% @doc Whether nobody waits, and the room has reported all. Otherwise, `again' is to be handled now and then: whoever
 %% was told may have failed.

@@ -47,7 +47,7 @@ handle_continue(start, State = #state{name = Name}) ->
 
 -spec handle_call(request(), gen_server:from(), #state{}) ->
           {reply, term(), #state{}} | {noreply, #state{}} | {stop, normal, #state{}}.
-handle_call(describe, _, State = #state{core = Core}) -> {reply, lobby_room_core:describe(Core), State};
+handle_call(describe, _, State = #state{core = Core}) -> {reply, lobby_room_core:describe(now_ms(), Core), State};
 handle_call(agrees, _, State = #state{core = Core}) -> {reply, lobby_room_core:agrees(Core), State};
 handle_call({rules, How, Rules}, From, State) -> handled({rules, From, How, Rules, #{}}, State);
 handle_call({create, Rules, Settings}, From, State) ->
@@ -87,9 +87,29 @@ others(Holdings) ->
 audit_interval() ->
     application:get_env(lobby, room_audit, 5000).
 
-handled(Event, State = #state{core = Core}) ->
+handled(Event, State = #state{name = Name, core = Core}) ->
     {Changed, Actions} = lobby_room_core:handle(Event, now_ms(), Core),
+    ok = case lobby_audit:is_on() of true -> recorded(Core, Changed, Name); false -> ok end,
     acted(Actions, State#state{core = Changed}).
+
+%% For the audit log: packets, and who has taken or left a termination.
+recorded(Before, Now, Name) ->
+    {Old, New} = {lobby_room_core:seats(Before), lobby_room_core:seats(Now)},
+    _ = [lobby_audit:received(Id, map_get(Id, New), Count)
+         || {Id, Count} <- lobby_room_core:received(Before, Now), is_map_key(Id, New)],
+    {Left, Taken} = lobby_audit_core:seats(Old, New),
+    lists:foreach(fun(Id) -> lobby_audit:note([{event, left} | seat(Id, Old, Name)]) end, Left),
+    Rows = [Row || Taken =/= [], {Row = #{id := Id}, _} <- maps:get(members, lobby_room_core:describe(now_ms(), Now)),
+                   lists:member(Id, Taken)],
+    Callers = lobby_call:callers(Rows),
+    lists:foreach(fun(Row = #{id := Id, role := Role}) ->
+        Caller = lobby_json:named(Row, maps:get(Id, Callers, <<>>)),
+        lobby_audit:note([{event, seat}, {role, Role} | seat(Id, New, Name)] ++ maps:to_list(Caller))
+    end, Rows).
+
+seat(Id, Seats, Name) ->
+    #{Id := {Gateway, Context, T}} = Seats,
+    [{rooms, [Name]}, {member, Id}, {gateway, Gateway}, {context, Context}, {termination, T}].
 
 acted([], State) ->
     {noreply, State};

@@ -5,12 +5,14 @@
 %%% repeated under its reference until it is answered, and a member's row is reported until he has it.
 -module(lobby_room_core).
 
--export([new/1, handle/3, describe/1, agrees/1, named/1]).
+-export([new/1, handle/3, describe/2, agrees/1, named/1, seats/1, received/2]).
 -export_type([room/0, event/0, action/0, error/0, description/0, kept/0, settings/0]).
 
 %% Requests that fail one after the other until the room waits for a while.
 -define(PATIENCE, 3).
 -define(MAX_MEMBERS, 64).
+%% Milliseconds without packets until somebody isn't shown to send any.
+-define(LATELY, 1500).
 
 -type name() :: lobby_room:name().
 -type id() :: lobby_rules:id().
@@ -48,7 +50,7 @@
                 | published | stop.
 -type description() :: #{members := [{row(), lobby_h248:termination() | none}], rules := [lobby_rules:rule()],
                          flows := [lobby_rules:flow()], gateway := lobby_gateway:name() | none,
-                         context := lobby_h248:context() | new, settings := settings()}.
+                         context := lobby_h248:context() | new, settings := settings(), sends := #{id() => boolean()}}.
 
 -record(room, {name :: name(), run :: term(), conference = lobby_conference:new() :: lobby_conference:conference(),
                gateway = none :: handle() | none, settings = #{} :: settings(), stale = #{} :: stale(),
@@ -460,8 +462,25 @@ agrees(#room{busy = none, stale = Stale, gateway = Gateway, conference = C}) whe
         andalso element(1, lobby_conference:next(C)) =:= settled;
 agrees(_) -> false.
 
--spec describe(room()) -> description().
-describe(#room{conference = C, gateway = Gateway, settings = Settings}) ->
-    #{members => found(C), rules => lobby_conference:rules(C), settings => Settings,
+%% @doc Who has which termination.
+-spec seats(room()) -> lobby_audit_core:seats().
+seats(#room{gateway = none}) ->
+    #{};
+seats(#room{gateway = Gateway, conference = C}) ->
+    maps:from_list([{Id, {lobby_gateway:name(Gateway), lobby_conference:context(C), T}}
+                    || {#{id := Id}, T} <- found(C), T =/= none]).
+
+%% @doc The packets that the gateway has received of each member, if it has said so since.
+-spec received(Before :: room(), Now :: room()) -> [{id(), non_neg_integer()}].
+received(#room{packets = Packets}, #room{packets = Packets}) -> [];
+received(_, #room{packets = Packets, conference = C}) ->
+    [{Id, Count} || {#{id := Id}, T} <- found(C), #{T := {Count, _}} <- [Packets]].
+
+%% @doc What there is at a time. `sends': whether packets of a member were counted lately, if any were ever counted.
+-spec describe(Now :: integer(), room()) -> description().
+describe(Now, #room{conference = C, gateway = Gateway, settings = Settings, packets = Packets}) ->
+    #{sends => maps:from_list([{Id, Count > 0 andalso Now - Since < ?LATELY}
+                               || {#{id := Id}, T} <- found(C), #{T := {Count, Since}} <- [Packets]]),
+      members => found(C), rules => lobby_conference:rules(C), settings => Settings,
       flows => lists:sort(sets:to_list(lobby_conference:flows(C))), context => lobby_conference:context(C),
       gateway => case Gateway of none -> none; _ -> lobby_gateway:name(Gateway) end}.

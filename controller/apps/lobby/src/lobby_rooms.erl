@@ -2,8 +2,8 @@
 %%% was kept.
 -module(lobby_rooms).
 
--export([is_name/1, create/3, call/2, tell/2, notify/2, gateway/1, has_door/1, names/0, exists/1, start/1]).
--export([set_aside/1]).
+-export([is_name/1, check_name/1, create/3, call/2, tell/2, notify/2, gateway/1, has_door/1, names/0, exists/1]).
+-export([start/1, set_aside/1]).
 -export_type([error/0]).
 
 -define(MAX_ROOMS, 10000).
@@ -15,6 +15,12 @@
 -spec is_name(binary()) -> boolean().
 is_name(Text) ->
     re:run(Text, "^[A-Za-z0-9_.-]{1,32}$", [dollar_endonly]) =/= nomatch.
+
+%% @doc Throws what is wrong with a name.
+-spec check_name(binary()) -> ok.
+check_name(Text) ->
+    _ = [throw({invalid, <<"a room's name must be 1 to 32 letters, digits or _.-">>}) || not is_name(Text)],
+    ok.
 
 %% @doc A room that stays when its last member leaves.
 -spec create(lobby_room:name(), [lobby_rules:rule()], lobby_room_core:settings()) -> ok | {error, error()}.

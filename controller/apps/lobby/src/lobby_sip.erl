@@ -5,7 +5,7 @@
 
 -include_lib("p1_sip/include/esip.hrl").
 
--export([start_link/1, received/2, send/2, answer/4, own/1, own_tag/1]).
+-export([start_link/1, received/2, send/2, answer/4, own/1, own_tag/1, secret/0]).
 -export([init/1, handle_call/3, handle_cast/2, handle_info/2]).
 -export_type([config/0]).
 
@@ -82,7 +82,8 @@ init(Config = #{sip := Own, digest := Algorithms, tls := Tls}) ->
 open({Address, Port}) ->
     gen_udp:open(Port, [binary, {ip, Address}, {active, 100}, {recbuf, 1048576}, {buffer, 65536}]).
 
-%% It is kept, so that tags stay as they are when this process is started again, or a node takes over.
+%% @doc It is kept, so that tags stay as they are when this process is started again, or a node takes over.
+-spec secret() -> binary().
 secret() ->
     case lobby_store:get(lobby_settings, secret) of
         {ok, Secret} -> Secret;

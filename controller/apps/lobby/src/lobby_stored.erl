@@ -5,7 +5,7 @@
 -export([pack/1, unpack/2]).
 -export_type([error/0]).
 
--define(VERSION, 2).
+-define(VERSION, 3).
 
 -type error() :: {unknown_version, lobby_store:table()}.
 

@@ -6,11 +6,11 @@
 -export([start_link/1, start_link/2, init/1]).
 
 %% Names of what lobby_serving starts. `lobby' is pg's.
--define(SERVING, [lobby, lobby_registry, lobby_gateway_sup, lobby_room_sup, lobby_room_keeper, lobby_call_sup,
-                  lobby_call_keeper, lobby_sip, lobby_tcp_sup, lobby_connections]).
+-define(SERVING, [lobby, lobby_aside_sup, lobby_registry, lobby_gateway_sup, lobby_room_sup, lobby_room_keeper,
+                  lobby_call_sup, lobby_web_sup, lobby_call_keeper, lobby_sip, lobby_tcp_sup, lobby_connections]).
 
--type children() :: {serving, lobby_config:config()} | {gateways, [lobby_gateway:config()]} | {tcp, lobby_sip:config()}
-                  | {many, module()}.
+-type children() :: {serving | aside, lobby_config:config()} | {gateways, [lobby_gateway:config()]}
+                  | {tcp, lobby_sip:config()} | {many, module()}.
 
 -spec start_link(lobby_config:config()) -> supervisor:startlink_ret().
 start_link(Config) ->
@@ -27,6 +27,7 @@ left_over({serving, _}) -> ?SERVING;
 left_over({gateways, _}) -> lobby_registry:processes(gateway);
 left_over({many, lobby_room}) -> lobby_registry:processes(room);
 left_over({many, lobby_call}) -> lobby_registry:processes(call);
+left_over({many, lobby_web}) -> [Pid || {{web, _}, Pid} <- lobby_registry:names(call)];
 left_over(_) -> [].
 
 await_end(Name) ->
@@ -41,18 +42,24 @@ init({top, Config = #{pair := Pair}}) ->
     in_order([child(lobby_store, [maps:with([store, pair], Config)]),
               case Pair of none -> Serving; #{} -> child(lobby_lease, [maps:with([pair, sip], Config), Serving]) end]);
 init({serving, Config = #{gateways := Gateways}}) ->
-    Sip = maps:without([gateways, store, pair, http, tokens], Config),
+    Sip = maps:without([gateways, store, pair, http, tokens, audit_log, rtpengine, ice_servers], Config),
     in_order([#{id => pg, start => {pg, start_link, [lobby]}},
+              sup(lobby_aside_sup, {aside, Config}),
               child(lobby_registry, []),
               sup(lobby_gateway_sup, {gateways, Gateways}),
               child(lobby_placement, []),
               sup(lobby_room_sup, {many, lobby_room}),
               (child(lobby_keeper, [room]))#{id := lobby_room_keeper},
               sup(lobby_call_sup, {many, lobby_call}),
+              sup(lobby_web_sup, {many, lobby_web}),
               child(lobby_sip, [Sip]),
               (child(lobby_keeper, [call]))#{id := lobby_call_keeper},
               sup(lobby_tcp_sup, {tcp, Sip}),
               (child(lobby_http, [maps:with([http, tokens, tls], Config)]))#{type => supervisor}]);
+%% Nothing else fails with it.
+init({aside, #{audit_log := Audit, rtpengine := Rtpengine}}) ->
+    {ok, {#{strategy => one_for_one, intensity => 20, period => 10},
+          [child(lobby_audit, [Audit]), child(lobby_rtpengine, [Rtpengine])]}};
 init({gateways, Gateways}) ->
     ok = lobby_gateway:new_loads(),
     {ok, {#{strategy => one_for_one, intensity => 20, period => 10},

@@ -22,13 +22,21 @@ top_test_() ->
             [{"the configuration has the unknown key port", {port, 1}},
              {"callers must be a list of networks such as {{192,0,2,0},24}, not [{{192,0,2,0},33}]", {callers, [{{192, 0, 2, 0}, 33}]}},
              {"users must be a map from names to passwords, all of them non-empty binaries, not #{<<\"a\">> => <<>>}", {users, #{<<"a">> => <<>>}}},
-             {"tokens must be a list of tokens such as {<<\"sixteen bytes or more\">>,operator} (or viewer), not [{<<\"short\">>,viewer}]",
-              {tokens, [{<<"short">>, viewer}]}},
+             {"tokens must be a list of tokens such as {<<\"sixteen bytes or more\">>,operator} (or viewer; a third element names who has it), "
+              "not [{<<\"short\">>,viewer}]", {tokens, [{<<"short">>, viewer}]}},
+             {"tokens must be a list of tokens such as {<<\"sixteen bytes or more\">>,operator} (or viewer; a third element names who has it), "
+              "not [{<<\"0123456789abcdef\">>,viewer,<<>>}]", {tokens, [{<<"0123456789abcdef">>, viewer, <<>>}]}},
+             {"the audit log must have the key file", {audit_log, #{}}},
+             {"the audit log has the unknown key size", {audit_log, #{file => "/tmp/log", size => 1}}},
+             {"bytes must be a whole number from 65536 to 1073741824, not 1", {audit_log, #{file => "/tmp/log", bytes => 1}}},
+             {"files must be a whole number from 1 to 1000, not 0", {audit_log, #{file => "/tmp/log", files => 0}}},
              {"max_calls must be a whole number from 1 to 100000, not 0", {max_calls, 0}},
              {"max_rooms_from must be quarter or a whole number from 1 to 100000, not half", {max_rooms_from, half}},
              {"digest must be a list of md5 and sha256, not []", {digest, []}}]]
     ++ [?_assertMatch({ok, #{callers := [_], users := #{}, tokens := [_]}},
-                      lobby_config:check([Gateways, {callers, [{{10, 0, 0, 0}, 8}]}, {tokens, [{<<"0123456789abcdef">>, viewer}]}]))].
+                      lobby_config:check([Gateways, {callers, [{{10, 0, 0, 0}, 8}]}, {tokens, [{<<"0123456789abcdef">>, viewer}]}])),
+        ?_assertMatch({ok, #{tokens := [{_, operator, <<"Ann">>}], audit_log := #{bytes := 16777216, files := 9}}},
+                      lobby_config:check([Gateways, {tokens, [{<<"0123456789abcdef">>, operator, <<"Ann">>}]}, {audit_log, #{file => "/tmp/log"}}]))].
 
 %% A quarter of what the gateways have, or what is said.
 shares_test() ->

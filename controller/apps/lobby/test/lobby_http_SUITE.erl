@@ -12,7 +12,7 @@
 suite() -> [{timetrap, {seconds, 120}}].
 
 all() ->
-    [a_room_is_steered, rooms_are_created_and_closed, tokens, errors, what_the_gateway_says, what_the_gateway_refuses, what_takes_too_long, metrics, the_page, everything_is_described, events, watchers_are_limited, a_watcher_that_does_not_read, supervisors_fail, anything,
+    [a_room_is_steered, rooms_are_created_and_closed, tokens, errors, what_the_gateway_says, what_the_gateway_refuses, what_takes_too_long, metrics, who_did_what, a_change_without_an_answer, the_page, everything_is_described, events, watchers_are_limited, a_watcher_that_does_not_read, supervisors_fail, anything,
      every_error_is_json, bodies_are_limited, half_a_request, failures_are_logged, pages_are_closed_to_others, over_tls].
 
 init_per_testcase(Case, Config) ->
@@ -33,7 +33,13 @@ init_per_testcase(Case, Config) ->
 env(over_tls, Config) ->
     {Certificate, Key} = certificate:new("first", proplists:get_value(priv_dir, Config)),
     [{tls, #{certificate => Certificate, key => Key, http => true}}];
+%% Each case has a log of its own.
+env(Case, Config) when Case =:= who_did_what; Case =:= a_change_without_an_answer; Case =:= everything_is_described ->
+    _ = file:delete(audit_file(Config)),
+    [{audit_log, #{file => audit_file(Config), bytes => 65536, files => 9}}];
 env(_, _) -> [].
+
+audit_file(Config) -> filename:join(proplists:get_value(priv_dir, Config), "audit.jsonl").
 
 serving(Tries) when Tries > 0 ->
     case lobby_gateway:serving() of
@@ -261,6 +267,75 @@ metrics(Config) ->
      || Line <- [<<"lobby_gateway_losses_total{gateway=\"a\"} 2\n">>, <<"lobby_gateway_losses_total{gateway=\"b\\\"\\\\\\n\"} 1\n">>,
                  <<"lobby_rooms 1\n">>, <<"lobby_calls 1\n">>, <<"lobby_gateways_serving 1\n">>, <<"lobby_gateway_terminations{gateway=\"a\"} 2\n">>]].
 
+%% Lines of the audit log, without those that aren't asked for.
+lines(Query, Config) ->
+    {200, #{<<"lines">> := Lines, <<"more">> := false}} = ask(get, "/audit" ++ Query, Config),
+    Lines.
+
+with(Event, Lines) -> [Line || Line = #{<<"event">> := Of} <- Lines, Of =:= Event].
+
+%% Each change with who asked for it and its answer, each call, and who had which termination. Nothing secret is there.
+who_did_what(Config) ->
+    Phones = [call("100", Config) || _ <- [1, 2]],
+    [A, B] = members("100", Config),
+    Member = "/members/" ++ binary_to_list(A),
+    {ok, {{_, 200, _}, Headers, _}} = httpc:request(post, {url(Member ++ "/isolate", Config), auth(?OPERATOR), "application/json",
+                                                           "{\"keep\": true, \"token\": \"" ++ ?OPERATOR ++ "\"}"}, [], []),
+    {403, _} = ask(post, Member ++ "/mute", "", ?VIEWER, Config),
+    {404, _} = ask(post, "/members/none/mute", "", Config),
+    {200, _} = ask(post, Member ++ "/move", "{\"room\": \"200\"}", Config),
+    {200, _} = ask(post, Member ++ "/role", "{\"role\": \"coach\"}", Config),
+    {200, _} = ask(post, Member ++ "/hang_up", "", Config),
+    [phone:close(Phone) || Phone <- Phones],
+    lobby_case:until(fun() -> length(with(<<"ended">>, lines("", Config))) =:= 1 end),
+    All = lines("", Config),
+    ?assertEqual(lists:seq(1, length(All)), [N || #{<<"n">> := N} <- All]),
+    Number = list_to_integer(proplists:get_value("request-number", Headers)),
+    Isolated = #{<<"request">> => Number, <<"by">> => <<"operator 1">>, <<"from">> => <<"127.0.0.1">>, <<"rooms">> => [<<"100">>],
+                 <<"change">> => <<"POST /members/{id}/isolate">>, <<"member">> => A, <<"caller">> => <<"Test">>, <<"says">> => <<"Test">>,
+                 <<"proved">> => false},
+    ?assertEqual([Isolated#{<<"event">> => <<"change">>, <<"body">> => #{<<"keep">> => true}}, Isolated#{<<"event">> => <<"answer">>, <<"status">> => 200}],
+                 [maps:without([<<"n">>, <<"at">>], Line) || Line = #{<<"request">> := Of} <- All, Of =:= Number]),
+    ?assertMatch([#{<<"status">> := 200}, #{<<"status">> := 404, <<"error">> := <<"there is no such member">>}, #{<<"rooms">> := [<<"100">>, <<"200">>]},
+                  #{<<"rooms">> := [<<"200">>]}, #{<<"status">> := 200}], with(<<"answer">>, All)),
+    ?assertMatch([#{<<"member">> := A, <<"rooms">> := [<<"100">>, <<"200">>], <<"roles">> := [<<"member">>, <<"coach">>], <<"codecs">> := [<<"PCMU">>],
+                    <<"from">> := <<"127.0.0.1">>, <<"packets">> := 0, <<"why">> := <<"an operator hung up">>}], with(<<"ended">>, All)),
+    ?assertEqual(lists:sort([A, B]), lists:sort([Id || #{<<"member">> := Id} <- with(<<"began">>, All)])),
+    %% By room and time.
+    ?assertMatch([#{<<"member">> := A}], with(<<"seat">>, lines("?room=200", Config))),
+    [#{<<"at">> := From}, #{<<"at">> := To}] = [Line || Line = #{<<"request">> := Of} <- All, Of =:= Number],
+    ?assertEqual(2, length([1 || #{<<"request">> := Of} <- lines(["?from=", From, "&to=", To, "&room=100"], Config), Of =:= Number])),
+    ?assertEqual([], lines(["?room=200&to=", From], Config)),
+    %% For `heard --names'.
+    {200, "text/csv; charset=utf-8", Names} = ask(get, "/names?gateway=a", Config),
+    Seats = lists:usort([{T, Id} || #{<<"member">> := Id, <<"termination">> := T} <- with(<<"seat">>, All)]),
+    ?assertEqual(iolist_to_binary([["RTP/", integer_to_list(T), ",\"Test (", Id, ")\"\n"] || {T, Id} <- Seats]), Names),
+    [?assertMatch({Path, {Status, #{<<"error">> := Text}}}, {Path, ask(get, Path, "", Token, Config)})
+     || {Status, Text, Token, Path} <- [{403, <<"this token can't read the audit log">>, ?VIEWER, "/audit"},
+                                        {403, <<"this token can't read the audit log">>, ?VIEWER, "/names?gateway=a"},
+                                        {400, <<"\"gateway\" is missing">>, ?OPERATOR, "/names"},
+                                        {400, <<"\"room\" is given twice">>, ?OPERATOR, "/audit?room=1&room=2"}]],
+    [?assertMatch({Query, "HTTP/1.1 400 " ++ _}, {Query, raw(request("GET", "/audit?" ++ Query, [], ""), Config)}) || Query <- ["room=%zz", "room=%ff", "%ff=1"]],
+    {ok, File} = file:read_file(audit_file(Config)),
+    [?assertEqual(nomatch, binary:match(File, Secret)) || Secret <- [<<?OPERATOR>>, <<?VIEWER>>, <<"token">>]].
+
+%% If the controller ends in between, the change has no answer.
+a_change_without_an_answer(Config) ->
+    call("100", Config),
+    [Id] = members("100", Config),
+    ok = sys:suspend(lobby_registry:whereis_name({room, <<"100">>})),
+    _ = spawn(fun() -> ask(post, "/members/" ++ binary_to_list(Id) ++ "/mute", "", Config) end),
+    lobby_case:until(fun() -> length(with(<<"change">>, element(2, lobby_audit:read(#{})))) =:= 1 end),
+    ok = supervisor:terminate_child(lobby_serving, lobby_http),
+    exit(whereis(lobby_audit), kill),
+    {ok, _} = supervisor:restart_child(lobby_serving, lobby_http),
+    lobby_case:until(fun() -> whereis(lobby_audit) =/= undefined end),
+    {ok, Lines, false} = lobby_audit:read(#{}),
+    ?assertEqual({1, 0}, {length(with(<<"change">>, Lines)), length(with(<<"answer">>, Lines))}),
+    {200, _} = ask(put, "/rooms/200", "{\"preset\": \"plain\"}", Config),
+    ?assertMatch([#{<<"rooms">> := [<<"200">>]}], with(<<"answer">>, lines("", Config))),
+    ?assertEqual(lists:seq(1, length(lines("", Config))), [N || #{<<"n">> := N} <- lines("", Config)]).
+
 the_page(Config) ->
     {200, "text/html; charset=utf-8", Page} = ask(get, "/", "", none, Config),
     ?assertNotEqual(nomatch, binary:match(Page, <<"<title>Lobby</title>">>)).
@@ -273,8 +348,9 @@ everything_is_described(Config) ->
     [begin
          [call("100", Config) || _ <- [1, 2]],
          [Id, Other] = members("100", Config),
-         Filled = string:replace(string:replace(Path, "{name}", "100"), "{id}", Id),
-         Answer = ask(list_to_atom(string:lowercase(Method)), binary_to_list(iolist_to_binary(Filled)), body(Path, Other), Config),
+         Filled = string:replace(string:replace(string:replace(Path, "{name}", "100"), "{id}", Id), "{number}", "0123456789abcdef"),
+         Query = case Path of <<"/names">> -> "?gateway=a"; _ -> "" end,
+         Answer = ask(list_to_atom(string:lowercase(Method)), binary_to_list(iolist_to_binary([Filled, Query])), body(Path, Other), Config),
          ?assertMatch({_, _, 200}, {Method, Path, element(1, Answer)}),
          ask(delete, "/rooms/100", Config),
          ask(delete, "/rooms/200", Config)
@@ -287,6 +363,8 @@ everything_is_described(Config) ->
 
 body(<<"/members/{id}/oneway">>, Other) -> "{\"listener\": \"" ++ binary_to_list(Other) ++ "\"}";
 body(<<"/members/{id}/role">>, _) -> "{\"role\": \"x\"}";
+body(<<"/links">>, _) -> "{\"room\": \"100\", \"role\": \"x\", \"name\": \"x\", \"seconds\": 60}";
+body(<<"/members/{id}/hang_up">>, _) -> "";
 body(<<"/members/{id}/let_in">>, _) -> "{\"role\": \"agent\"}";
 body(<<"/members/{id}/move">>, _) -> "{\"room\": \"200\"}";
 body(_, _) -> "{\"rules\": []}".
@@ -503,7 +581,7 @@ pages_are_closed_to_others(Config) ->
          ?assertMatch("default-src 'none'; script-src 'self';" ++ _, proplists:get_value("content-security-policy", Headers))
      end || {Path, Status} <- [{"/", 200}, {"/page.js", 200}, {"/page.css", 200}, {"/openapi.json", 200}, {"/rooms", 401}, {"/nothing", 401}]],
     {200, _, Page} = ask(get, "/", "", none, Config),
-    ?assertEqual(nomatch, re:run(Page, "<script>|<style>|on[a-z]+=|location")).
+    ?assertEqual(nomatch, re:run(Page, "<script>|<style>|\\bon[a-z]+=|location")).
 
 %% With the operator's certificate, and with another one when that has changed. What is answered is the same.
 over_tls(Config) ->

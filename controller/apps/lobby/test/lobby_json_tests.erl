@@ -5,6 +5,7 @@
 objects_test() ->
     ?assertEqual(#{<<"a">> => 1}, lobby_json:decode(<<"{\"a\": 1}">>)),
     ?assertThrow({invalid, <<"the body is not a JSON object">>}, lobby_json:decode(<<"[1]">>)),
+    ?assertThrow({invalid, <<"the body has the key \"a\" twice">>}, lobby_json:decode(<<"{\"a\": 1, \"b\": {}, \"a\": 1}">>)),
     ?assertThrow({invalid, <<"the body is not JSON: ", _/binary>>}, lobby_json:decode(<<"{">>)),
     ?assertThrow({invalid, <<"the body is not JSON: ", _/binary>>}, lobby_json:decode(<<"{\"a\": \"", 255, "\"}">>)).
 
@@ -34,7 +35,7 @@ flags_test() ->
 %% One caller's name must not break the list for all.
 names_need_not_be_utf8_test() ->
     Room = lobby_json:room(<<"100">>, #{members => [{#{id => <<"x">>, role => <<"member">>, muted => false, direction => sendrecv}, none}],
-                                        rules => [], flows => [], gateway => none, context => new, settings => #{}},
+                                        rules => [], flows => [], gateway => none, context => new, settings => #{}, sends => #{}},
                            #{<<"x">> => <<"Ren", 233>>}),
     #{<<"members">> := [#{<<"id">> := <<"x">>, <<"muted">> := false}], <<"gateway">> := null, <<"context">> := null} =
         jiffy:decode(lobby_json:encode(Room), [return_maps]).

@@ -119,11 +119,11 @@ set_rules(Room, Rules) -> lobby_rooms:call(Room, {rules, set, Rules}).
 audit(Room) -> lobby_rooms:call(Room, audit).
 agrees(Room) -> lobby_rooms:call(Room, agrees).
 
-%% With the members by id.
+%% With the members by id, and without whose packets came lately.
 describe(Room) ->
     case lobby_rooms:call(Room, describe) of
         About = #{members := Members} ->
-            About#{members := maps:from_list([{Id, case T of none -> Row; _ -> Row#{termination => T} end} || {Row = #{id := Id}, T} <- Members])};
+            (maps:remove(sends, About))#{members := maps:from_list([{Id, case T of none -> Row; _ -> Row#{termination => T} end} || {Row = #{id := Id}, T} <- Members])};
         Error -> Error
     end.
 

@@ -1,9 +1,9 @@
 #!/bin/sh
-# Checks the units, what they do at a stop, the firewall rules, the alert rules and the Debian package. Prints one line
-# for each check.
+# Checks the units, the programs that they run, the firewall rules, the alert rules and the Debian package. Prints one
+# line for each check.
 # usage: check.sh [--missing]
-# It needs python3 and dpkg-deb. It skips a check whose program is missing: systemd-analyze, erl, nft, promtool, lintian,
-# man, or bash. With --missing, it only prints the Debian packages that have those programs and aren't installed.
+# It needs python3 and dpkg-deb. It skips a check whose program is missing: systemd-analyze, erl, rebar3, nft, promtool,
+# lintian, man, or bash. With --missing, it only prints the Debian packages that have those programs and aren't installed.
 set -eu
 here=$(CDPATH='' cd -- "$(dirname -- "$0")" && pwd)
 
@@ -31,8 +31,9 @@ fail() {
     exit 1
 }
 
-# verify UNIT: checks a unit's syntax and that its programs exist.
+# verify UNIT [FILE]: checks a unit's syntax and that its programs exist. The package need not be installed here.
 verify() {
+    sed "s|=/usr/lib/lobbysorrel\(-controller\)\{0,1\}/|=$here/|" "$here/${2:-$1}" > "$work/$1"
     systemd-analyze verify --man=no "$work/$1" 2> "$work/said" || true
     [ ! -s "$work/said" ] || fail "systemd-analyze verify: $(cat "$work/said")"
 }
@@ -42,20 +43,23 @@ rules() {
     promtool "$1" rules "$here/prometheus/$2" > "$work/said" 2>&1 || fail "promtool $1 rules $2: $(cat "$work/said")"
 }
 
+# exposure UNIT FILE: verifies a unit, and fails if its exposure is above 1.5.
+exposure() {
+    verify "$1" "$2"
+    security=$(systemd-analyze security --no-pager --offline=true --threshold=15 "$work/$1") ||
+        fail "$2: systemd-analyze security reports an exposure above 1.5"
+    echo "$2: valid, $(echo "$security" | sed -n 's/.*\(exposure level\).*: \([0-9.]*\) .*/\1 \2/p')"
+}
+
 if has systemd-analyze 'the units'; then
-    # The package's program need not be installed here.
-    sed "s|=/usr/bin/mg_bridge|=$here/../dist/mg_bridge|" "$here/lobbysorrel@.service" > "$work/lobbysorrel@1.service"
-    verify lobbysorrel@1.service
-    security=$(systemd-analyze security --no-pager --offline=true --threshold=15 "$work/lobbysorrel@1.service") ||
-        fail 'lobbysorrel@.service: systemd-analyze security reports an exposure above 1.5'
-    echo "lobbysorrel@.service: valid, $(echo "$security" | sed -n 's/.*\(exposure level\).*: \([0-9.]*\) .*/\1 \2/p')"
+    cp "$here/lobbysorrel-keeper@.service" "$work/lobbysorrel-keeper@1.service"
+    exposure lobbysorrel@1.service lobbysorrel@.service
+    exposure lobbysorrel-keeper@1.service lobbysorrel-keeper@.service
 fi
 if has systemd-analyze "the controller's unit" && has erl "the controller's unit"; then
-    cp "$here/lobbysorrel-controller.service" "$work"
-    verify lobbysorrel-controller.service
-    security=$(systemd-analyze security --no-pager --offline=true --threshold=15 "$work/lobbysorrel-controller.service") ||
-        fail 'lobbysorrel-controller.service: systemd-analyze security reports an exposure above 1.5'
-    echo "lobbysorrel-controller.service: valid, $(echo "$security" | sed -n 's/.*\(exposure level\).*: \([0-9.]*\) .*/\1 \2/p')"
+    cp "$here/lobbysorrel-controller-keeper.service" "$work"
+    exposure lobbysorrel-controller.service lobbysorrel-controller.service
+    exposure lobbysorrel-controller-keeper.service lobbysorrel-controller-keeper.service
 fi
 if has nft 'the firewall rules'; then
     if nft -c -f "$here/gateway.nft" > "$work/said" 2>&1; then
@@ -66,7 +70,6 @@ if has nft 'the firewall rules'; then
         fail "gateway.nft: $(cat "$work/said")"
     fi
     if has systemd-analyze 'the unit that loads them'; then
-        cp "$here/lobbysorrel-firewall.service" "$work"
         verify lobbysorrel-firewall.service
         echo 'lobbysorrel-firewall.service: valid'
     fi
@@ -99,10 +102,12 @@ drains 2 'drain: there is no file metrics'
 metrics 0
 drains 0 'metrics: 0 terminations'
 metrics 1
-drains 1 'metrics: 1 termination
+drains 1 'metrics: waiting up to 1 s for calls to end; new ones are still accepted
+metrics: 1 termination
 drain: 1 termination left: RTP/7 (port 30002)' 1
 (sleep 1.5; metrics 0) &
-drains 0 'metrics: 1 termination
+drains 0 'metrics: waiting up to 10 s for calls to end; new ones are still accepted
+metrics: 1 termination
 metrics: 0 terminations' 10
 wait
 for text in '' 0x0 -1 1.5 'a b' 99999999999999999999; do
@@ -122,7 +127,7 @@ echo 'drain: as expected'
 
 # stops WANTED [VARIABLE=VALUE]..: all that the unit's ExecStop must print in this environment.
 command=$(sed -n "s|^ExecStop=-/bin/sh -c '\(.*\)'$|\1|p" "$here/lobbysorrel@.service" |
-    sed "s|/usr/lib/lobbysorrel|$here|; s|/run/lobbysorrel/%i/gateway.prom|$work/metrics|")
+    sed "s|/usr/lib/lobbysorrel|$here|; s|/run/lobbysorrel/%i/gateway.prom|$work/metrics|; s|/run/|$work/|")
 stops() {
     wanted=$1
     shift
@@ -137,10 +142,17 @@ stops '' DRAIN=60
 stops "$left" MAINPID=1
 stops "$left" MAINPID=1 DRAIN=0
 (sleep 1.5; metrics 0) &
-stops 'metrics: 1 termination
+stops 'metrics: waiting up to 60 s for calls to end; new ones are still accepted
+metrics: 1 termination
 metrics: 0 terminations' MAINPID=1 DRAIN=60
 wait
+metrics 1
+touch "$work/lobbysorrel-upgrade"
+stops "$left" MAINPID=1 DRAIN=60
 echo 'ExecStop: as expected'
+
+python3 -B -m unittest discover -s "$here/tests" > "$work/said" 2>&1 || fail "the tests: $(cat "$work/said")"
+echo "$(sed -n 's/^Ran \([0-9]*\) tests.*/\1/p' "$work/said") tests of the programs: passed"
 
 package=$("$here/package.sh" "$work")
 again=$("$here/package.sh" "$work/again")
@@ -148,8 +160,13 @@ cmp "$package" "$again" || fail 'two builds of the package differ'
 dpkg-deb -x "$package" "$work/root"
 echo "$(basename "$package"): two builds have the same bytes"
 
-if has lintian 'the package'; then
-    lintian --allow-root --fail-on error,warning "$package"
+if has rebar3 "the controller's package"; then
+    controller=$("$here/controller-package.sh" "$work")
+    echo "$(basename "$controller"): built"
+fi
+if has lintian 'the packages'; then
+    # shellcheck disable=SC2086
+    lintian --allow-root --fail-on error,warning "$package" ${controller:-}
     echo 'lintian: no errors or warnings'
 fi
 if has man 'the manual pages'; then

@@ -29,8 +29,11 @@ install_in() {
 }
 install_in "usr/lib/erlang/lib/lobby-$version/ebin" "$built"/ebin/*
 install_in "usr/lib/erlang/lib/lobby-$version/priv" "$top"/controller/apps/lobby/priv/*
-install_in usr/lib/systemd/system "$here/lobbysorrel-controller.service"
-install_in usr/share/doc/lobbysorrel-controller "$top/controller/README.md" "$top/controller/page.png" "$here/debian/copyright"
+chmod 755 "$root/usr/lib/erlang/lib/lobby-$version/priv/ready"
+install_in usr/lib/systemd/system "$here/lobbysorrel-controller.service" "$here/lobbysorrel-controller-keeper.service"
+install -D -m 755 -t "$root/usr/lib/lobbysorrel-controller" "$here/keeper" "$here/listens"
+install_in usr/share/doc/lobbysorrel-controller "$top/controller/README.md" "$top/controller/page.png" "$top/controller/page-phone.png" \
+    "$here/debian/copyright"
 install_in usr/share/doc/lobbysorrel-controller/pair "$here/pair/keepalived.conf" "$here/pair/lobby.config"
 install_in etc/lobbysorrel "$here/lobby.config"
 mv "$root/etc/lobbysorrel/lobby.config" "$root/etc/lobbysorrel/lobby.config.example"
@@ -41,6 +44,11 @@ mv "$root/etc/lobbysorrel/lobby.config" "$root/etc/lobbysorrel/lobby.config.exam
 } > "$work/changelog"
 gzip -9n "$work/changelog"
 install_in usr/share/doc/lobbysorrel-controller "$work/changelog.gz"
+
+install -D -m 755 "$here/lobby-status" "$root/usr/bin/lobby-status"
+sed "s/@VERSION@/$version/; s/@DATE@/$(date -u -d "@$SOURCE_DATE_EPOCH" +%F)/" "$here/lobby-status.1" > "$work/lobby-status.1"
+gzip -9n "$work/lobby-status.1"
+install_in usr/share/man/man1 "$work/lobby-status.1.gz"
 
 mkdir "$root/DEBIAN" && chmod 755 "$root/DEBIAN" "$root"
 echo /etc/lobbysorrel/lobby.config.example > "$root/DEBIAN/conffiles"

@@ -18,6 +18,7 @@ FILES = {
     "/etc/lobbysorrel/NAME.env": "Options of the gateway that the unit `lobbysorrel@NAME` runs (`mg_bridge live`).",
     "/etc/lobbysorrel/*.example": "Examples of options and firewall rules.",
     "/run/lobbysorrel/NAME/gateway.prom": "Metrics of the gateway that the unit `lobbysorrel@NAME` runs.",
+    "/run/lobbysorrel-keeper/NAME/unit.prom": "Metrics of the unit `lobbysorrel@NAME` itself.",
     "/var/lib/lobbysorrel/NAME/journal.txt": "Journal of the gateway that the unit `lobbysorrel@NAME` runs.",
     "/usr/share/doc/lobbysorrel/OPERATING.md": "How to install, secure and monitor a gateway.",
 }

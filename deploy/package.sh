@@ -54,8 +54,9 @@ put_compressed() {
 }
 
 put 755 usr/bin/ "$top/dist/mg_bridge" "$top/dist/mg_pace"
-put 755 usr/lib/lobbysorrel/ "$here/drain" "$here/new-journal"
-put 644 usr/lib/systemd/system/ "$here/lobbysorrel@.service" "$here/lobbysorrel-firewall.service"
+put 755 usr/lib/lobbysorrel/ "$here/drain" "$here/firewall" "$here/keeper" "$here/new-journal" "$here/run" "$here/started"
+put 644 usr/lib/systemd/system/ "$here/lobbysorrel@.service" "$here/lobbysorrel-keeper@.service" \
+    "$here/lobbysorrel-firewall.service"
 for program in mg_bridge mg_pace; do
     put_compressed usr/share/man/man1/ "$derived/$program.1"
     put 644 "usr/share/bash-completion/completions/$program" "$derived/$program.bash"

@@ -281,7 +281,14 @@ def ended(prometheus, gateway):
     alert(prometheus, {"LobbysorrelNoTicks"}, {("LobbysorrelNoTicks", gateway.name)}, "gateway")
     gateway.file.unlink()
     alert(prometheus, {"LobbysorrelGone"}, {("LobbysorrelGone", gateway.name)}, "gateway")
+    # For the link without a file.
+    alert(prometheus, {"LobbysorrelNotScraped"}, {("LobbysorrelNotScraped",)})
     alert(prometheus, {"LobbysorrelFileStale", "LobbysorrelNoTicks"}, set(), "gateway")
+    # Longer than what the rules look back for.
+    time.sleep(70)
+    alert(prometheus, {"LobbysorrelGone"}, {("LobbysorrelGone", gateway.name)}, "gateway")
+    gateway.link.unlink()
+    alert(prometheus, {"LobbysorrelGone", "LobbysorrelNotScraped"}, set())
 
 
 def trial(folder, log):
@@ -322,7 +329,7 @@ def trial(folder, log):
         results(second)
         falling(prometheus)
         ended(prometheus, first)
-        others = {one for one in prometheus.firing("gateway") if one[0] not in (*MACHINE, "LobbysorrelGone")}
+        others = {one for one in prometheus.firing("gateway") if one[0] not in MACHINE}
         check("other alerts at the end", not others, str(sorted(others)) if others else "none")
 
 

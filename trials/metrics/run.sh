@@ -3,7 +3,7 @@
 # alerts fire.
 # usage: run.sh [--gateway PATH]
 # It needs python3 and Debian's packages prometheus and prometheus-node-exporter. It tests the program in dist/, or the
-# one at PATH, and takes a minute and a half.
+# one at PATH, and takes three minutes.
 set -eu
 here=$(CDPATH= cd -- "$(dirname -- "$0")" && pwd)
 . "$here/../gateway_option.sh"

@@ -11,7 +11,7 @@ import sys
 import time
 from pathlib import Path
 
-from gateways import HEARTBEAT, PORTS, STRANGER, Call, alive, ask, both_alive, soon
+from gateways import CONTROL, HEARTBEAT, PORTS, STRANGER, Call, alive, ask, both_alive, soon
 from loopback import end_on_signals
 from system import System, ran
 
@@ -66,11 +66,7 @@ def install(system, command):
     pages = [system.tried(f"man --warnings {program} | wc -l") for program in ("mg_bridge", "mg_pace")]
     check(f"manual pages: {pages[0].stdout.strip()} and {pages[1].stdout.strip()} lines",
           all(re.fullmatch(r"\d\d+\n", page.stdout) for page in pages))
-    done = system.tried("systemctl start lobbysorrel@1")
-    time.sleep(0.5)
-    state, restarts = system.show("lobbysorrel@1", "ActiveState", "NRestarts")
-    check(f"without options: start fails with {done.returncode}, then {state}, restarts: {restarts}",
-          done.returncode and state == "inactive" and restarts == "0")
+    wrong_start(system, "without options", "1", None, "2", "there is no file /etc/lobbysorrel/1.env")
     return before
 
 
@@ -103,27 +99,141 @@ def firewall(system):
     dropped = re.findall(r"counter packets (\d+)", system.run("nft list chain inet lobbysorrel input"))
     check(f"a stranger: {'answer' if answer else 'no answer'}; the firewall dropped {dropped[0]} message",
           answer is None and dropped[0] == "1")
+    check_it = f"mg_bridge check {CONTROL}:{PORTS['1']}"
+    checks = [system.tried(f"{who}{check_it}").returncode == 0 for who in ("", "setpriv --reuid=65534 ")]
+    check(f"checks from the gateway's host: by root: {checks[0]}; by others: {checks[1]}", checks == [True, False])
     kept = []
     for action in ("reload", "restart"):
         system.run(f"systemctl {action} nftables")
         kept.append(soon(system.rules))
     check(f"after a reload and a restart of nftables.service, the rules are loaded: {kept[0]}, {kept[1]}", all(kept))
+    file, kept = "/etc/lobbysorrel/gateway.nft", []
+    rules = system.run("nft -s list table inet lobbysorrel")
+    system.run(f"cp {file} /tmp/rules; echo broken >> {file}")
+    done = system.tried("systemctl restart lobbysorrel-firewall")
+    kept.append(system.tried("nft -s list table inet lobbysorrel").stdout.strip() == rules)
+    system.run("systemctl restart nftables")
+    kept.append(soon(lambda: system.tried("nft -s list table inet lobbysorrel").stdout.strip() == rules))
+    check(f"a restart with a broken file fails with {done.returncode}; the rules are as before: {kept[0]}, also after a "
+          f"restart of nftables.service: {kept[1]}", done.returncode and all(kept))
+    system.run(f"cp /tmp/rules {file}; systemctl restart lobbysorrel-firewall")
 
 
-def wrong_start(system, what, script, wanted):
-    """Starts a third gateway after a script. It must end with this status, and not be started again."""
-    system.run(f"{script}; systemctl start lobbysorrel@3; sleep 1")
-    state, status, restarts = system.show("lobbysorrel@3", "ActiveState", "ExecMainStatus", "NRestarts")
-    check(f"{what}: {state}, status {status}, restarts: {restarts}", (state, status, restarts) == ("failed", wanted, "0"))
-    system.run("systemctl reset-failed lobbysorrel@3")
+def logged(system, unit, *texts):
+    """Whether the last lines of a unit's log have these texts, or will soon."""
+    def holds():
+        said = system.run(f"journalctl -u {unit} -o cat -n 12")
+        return all(text in said for text in texts)
+    return soon(holds, 3)
+
+
+def wrong_start(system, what, name, options, status, said):
+    """Starts a gateway with wrong options. The start has to fail, the unit to be failed, and its log to say why."""
+    unit = f"lobbysorrel@{name}"
+    if options is not None:
+        system.run(f"echo '{options}' > /etc/lobbysorrel/{name}.env")
+    done = system.tried(f"systemctl start {unit}")
+    listed = unit in system.run("systemctl --failed --plain --no-legend")
+    found, restarts = system.show(unit, "ExecMainStatus", "NRestarts")
+    told = logged(system, unit, said)
+    check(f"{what}: start fails with {done.returncode}; among the failed units: {listed}; status {found}; restarts: "
+          f"{restarts}; the log says why: {told}",
+          done.returncode and listed and found == status and restarts == "0" and told)
+    system.tried(f"systemctl stop {unit}; systemctl reset-failed {unit}")
+
+
+def lines(system, name):
+    """How many lines the log has of a unit and its keeper."""
+    return int(system.run(f"journalctl -u lobbysorrel@{name} -u lobbysorrel-keeper@{name} -o cat | wc -l"))
 
 
 def wrong_starts(system):
-    options = "/etc/lobbysorrel/3.env"
-    wrong_start(system, "a wrong option", f"echo 'OPTIONS=--slots 0' > {options}", "2")
-    journal = "/var/lib/lobbysorrel/3/journal.txt"
-    wrong_start(system, "a wrong journal", f"echo 'OPTIONS=--control-port 2948' > {options}; echo hello > {journal}", "6")
-    system.run(f"rm {options}")
+    ports = "--control-port 2948 --base-port 32000"
+    wrong_start(system, "a wrong option", "3", "OPTIONS=--slots 0", "2", "bad configuration: --slots")
+    wrong_start(system, "a misspelt name", "3", f"OPTION={ports}", "2", "line 1 sets neither OPTIONS nor DRAIN")
+    wrong_start(system, "an address of another host", "3", f"OPTIONS={ports} --address 192.0.2.77", "5", "cannot bind")
+    wrong_start(system, "a control port in use", "3", "OPTIONS=--control-address 10.0.0.10", "5", "already in use")
+    wrong_start(system, "a media port in use", "3", "OPTIONS=--control-port 2948 --address 192.0.2.10", "5", "already in use")
+    system.run("echo hello > /var/lib/lobbysorrel/3/journal.txt")
+    wrong_start(system, "a wrong journal", "3", f"OPTIONS={ports}", "6", "isn't the title of a journal")
+    system.run("rm /var/lib/lobbysorrel/3/journal.txt")
+
+
+def tried_again(system):
+    """A unit whose address is missing is started again after growing pauses, and serves once the address is there."""
+    system.run("echo 'OPTIONS=--address 192.0.2.77 --control-port 2948 --base-port 32000' > /etc/lobbysorrel/3.env")
+    before = lines(system, "3")
+    system.tried("systemctl start lobbysorrel@3")
+    time.sleep(25)
+    said = system.run("journalctl -u lobbysorrel-keeper@3 -o cat -n 99")
+    pauses = [int(pause) for pause in re.findall(r"it is started again in (\d+) s", said)][-5:]
+    many = lines(system, "3") - before
+    check(f"an address that is missing: pauses of {', '.join(map(str, pauses))} s; {many} lines in 25 s",
+          pauses[:4] == [1, 2, 4, 8] and many < 80)
+    system.run("ip address add 192.0.2.77 dev lo")
+    serves = soon(lambda: system.show("lobbysorrel@3", "ActiveState") == ["active"], 20)
+    check(f"once the address is there: it serves: {serves}", serves)
+    system.run("systemctl stop lobbysorrel@3; ip address del 192.0.2.77 dev lo; rm /etc/lobbysorrel/3.env")
+    keeper, = system.show("lobbysorrel-keeper@3", "ActiveState")
+    check(f"after a stop, its keeper is {keeper}", keeper == "inactive")
+
+
+def full_disk(system):
+    """A gateway whose disk is full goes on; one that can't start because of it is started when there is space."""
+    folder, space = "/var/lib/private/lobbysorrel/3", "dd if=/dev/zero of=/var/lib/private/lobbysorrel/3/fill bs=1k"
+    system.run("echo 'OPTIONS=--control-port 2948 --base-port 32000' > /etc/lobbysorrel/3.env")
+    system.run(f"mkdir -p {folder}; mount -t tmpfs -o size=64k tmpfs {folder}; systemctl start lobbysorrel@3")
+    main = system.show("lobbysorrel@3", "MainPID")
+    system.tried(space)
+    time.sleep(25)
+    fails = system.tried("! grep -q '^lobbysorrel_journal_appends_failed_total.* 0$' /run/lobbysorrel/3/gateway.prom").returncode == 0
+    same = system.show("lobbysorrel@3", "MainPID") == main
+    check(f"with a full disk for 25 s: appends fail: {fails}; it still runs: {same}", fails and same)
+    done = system.tried("systemctl restart lobbysorrel@3")
+    state, status = system.show("lobbysorrel@3", "ActiveState", "ExecMainStatus")
+    system.run(f"rm {folder}/fill")
+    serves = soon(lambda: system.show("lobbysorrel@3", "ActiveState") == ["active"], 20)
+    check(f"a restart then fails with {done.returncode}: {state}, status {status}; once there is space, it serves: {serves}",
+          done.returncode and (state, status) == ("failed", "6") and serves)
+    system.run(f"systemctl stop lobbysorrel@3; umount {folder}; rm /etc/lobbysorrel/3.env")
+
+
+def moved(system):
+    """The keeper's metrics say if the journal was moved."""
+    metric = "grep -q '_age_seconds.* +Inf$' /run/lobbysorrel-keeper/1/unit.prom"
+    system.run(f"mv {STATE}/journal.txt {STATE}/moved.txt")
+    seen = soon(lambda: system.tried(metric).returncode == 0, 10)
+    system.run(f"mv {STATE}/moved.txt {STATE}/journal.txt")
+    gone = soon(lambda: system.tried(metric).returncode != 0, 10)
+    check(f"a journal that was moved: the keeper's metrics say so: {seen}; and no longer, once it is back: {gone}",
+          seen and gone)
+
+
+def hang(system):
+    """A gateway that hangs is killed and started again."""
+    call = Call()
+    main, = system.show("lobbysorrel@1", "MainPID")
+    system.run(f"kill -STOP {main}")
+    start = time.monotonic()
+    again = soon(lambda: system.show("lobbysorrel@1", "MainPID")[0] not in ("0", main), 40)
+    took, lives = time.monotonic() - start, soon(lambda: alive(PORTS["1"], 0.1))
+    changed = call.changed()
+    check(f"a gateway that hangs: it is started again after {took:.0f} s: {again}; answers: {lives}; changed in the call: "
+          f"{changed}", again and lives and took < 25 and changed == "nothing")
+    call.end()
+
+
+def crashes(system):
+    """A gateway that ends again and again fails, and is started again later."""
+    for _ in range(8):
+        main, = system.show("lobbysorrel@2", "MainPID")
+        if main != "0":
+            system.run(f"kill -KILL {main}")
+        time.sleep(0.4)
+    failed = logged(system, "lobbysorrel-keeper@2", "has failed: it is started again in")
+    serves = soon(lambda: alive(PORTS["2"], 0.1), 20)
+    check(f"a gateway that is killed 8 times in 3 s: it fails, and its keeper starts it later: {failed}; it serves again: "
+          f"{serves}", failed and serves)
 
 
 def revive(system, what, script):
@@ -170,8 +280,8 @@ def drain(system):
     counted(system, 2)
     start = time.monotonic()
     system.run("systemctl stop lobbysorrel@1")
-    took, said = time.monotonic() - start, system.run("journalctl -u lobbysorrel@1 -o cat -n 5")
-    named = all(f"RTP/{call.termination} " in said for call in calls) and "2 terminations left" in said
+    took = time.monotonic() - start
+    named = logged(system, "lobbysorrel@1", "2 terminations left", *(f"RTP/{call.termination} " for call in calls))
     check(f"a stop with two terminations took {took:.1f} s; the log names them: {named}", took < 2 and named)
     system.run(f"echo DRAIN=60 >> {options}; systemctl start lobbysorrel@1")
     soon(lambda: alive(PORTS["1"], 0.1))
@@ -216,18 +326,26 @@ def new_journal(system):
 
 
 def upgrade(system, version):
-    system.run("echo '# mine' >> /etc/lobbysorrel/1.env; systemctl stop lobbysorrel@2")
+    system.run("echo 'DRAIN=600' >> /etc/lobbysorrel/1.env; systemctl restart lobbysorrel@1; systemctl stop lobbysorrel@2")
     files = "md5sum /etc/lobbysorrel/*.env /etc/lobbysorrel/*.nft"
     kept = system.run(files)
     main, = system.show("lobbysorrel@1", "MainPID")
-    revive(system, "upgrade", f"apt-get install -y /packages/{version}.deb")
+    took = revive(system, "upgrade with DRAIN=600", f"apt-get install -y /packages/{version}.deb")
     now = system.run("dpkg-query -W -f '${Version}' lobbysorrel")
     new, = system.show("lobbysorrel@1", "MainPID")
     other, = system.show("lobbysorrel@2", "ActiveState")
     same, restarted = system.run(files) == kept, new not in ("0", main)
     check(f"upgrade to {now}: options and rules kept: {same}; the running gateway restarted: {restarted}; the stopped "
-          f"one is {other}", now == version and same and restarted and other == "inactive")
-    system.run("systemctl start lobbysorrel@2")
+          f"one is {other}", now == version and same and restarted and other == "inactive" and took < 60)
+    options = "/etc/lobbysorrel/1.env"
+    system.run(f"sed -i '/^DRAIN=/d' {options}; systemctl restart lobbysorrel@1; systemctl start lobbysorrel@2")
+    system.run(f"cp {options} /tmp/1.env; echo 'WRONG=1' >> {options}")
+    main = system.show("lobbysorrel@2", "MainPID")
+    done = system.tried(f"apt-get install -y --reinstall /packages/{version}.deb")
+    state, same = *system.show("lobbysorrel@1", "ActiveState"), system.show("lobbysorrel@2", "MainPID") == main
+    check(f"an upgrade after which the first gateway can't start: status {done.returncode}; the gateway: {state}; the other "
+          f"one still runs: {same}", done.returncode == 0 and state == "failed" and same)
+    system.run(f"cp /tmp/1.env {options}; systemctl restart lobbysorrel@1")
 
 
 def remove(system, before):
@@ -236,7 +354,7 @@ def remove(system, before):
     units = system.run("systemctl list-units --plain --no-legend 'lobbysorrel*.service'")
     running = system.tried("cat /proc/[0-9]*/comm").stdout.split().count("mg_bridge")
     kept = [path for path in left if path.startswith("/etc/")]
-    state = [path for path in left if re.match("/var/lib/(private/)?lobbysorrel(/|$)", path)]
+    state = [path for path in left if re.match("/var/lib/(private/)?lobbysorrel(-firewall)?(/|$)", path)]
     rules = system.rules()
     check(f"removed: {running} gateways run; the rules are loaded: {rules}; kept in /etc: {' '.join(kept)}; kept of the "
           f"state: {len(state)} files and folders; others: {len(left) - len(kept) - len(state)}",
@@ -262,11 +380,16 @@ def main():
         service(system, start_commands)
         firewall(system)
         wrong_starts(system)
+        tried_again(system)
         kill(system)
+        hang(system)
+        full_disk(system)
+        moved(system)
         reboot(system)
         drain(system)
         new_journal(system)
         upgrade(system, version)
+        crashes(system)
         remove(system, before)
     sys.exit(bool(failed))
 

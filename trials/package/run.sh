@@ -3,7 +3,7 @@
 # usage: run.sh [FOLDER]
 # It needs root, python3, and the Debian packages debootstrap, lintian and systemd-container, which it doesn't install.
 # It downloads Debian 12 (100 MB, two minutes) into FOLDER/debian, unless it is there already, and leaves it unchanged.
-# Without FOLDER, the trial deletes the download afterwards. The trial takes a minute and a half.
+# Without FOLDER, the trial deletes the download afterwards. The trial takes three and a half minutes.
 set -eu
 here=$(CDPATH='' cd -- "$(dirname -- "$0")" && pwd)
 [ $# -le 1 ] || { echo 'usage: run.sh [FOLDER]' >&2; exit 2; }

@@ -72,6 +72,7 @@ find(Key = {web, Number}) ->
 %% from, and sends nothing to where an offer says.
 -spec offer(binary()) -> binary().
 offer(Text) ->
+    _ = [throw({invalid, <<"the offer isn't UTF-8">>}) || unicode:characters_to_binary(Text) =/= Text],
     Lines = [re:replace(Line, "\r$", "", [{return, binary}])
              || Line <- binary:split(Text, <<"\n">>, [global, trim_all])],
     Is = fun(Pattern) -> [Line || Line <- Lines, re:run(Line, Pattern) =/= nomatch] end,

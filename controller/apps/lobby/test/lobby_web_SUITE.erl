@@ -234,7 +234,8 @@ bad_offers(Config) ->
     [?assertMatch({Bad, {400, _}}, {Bad, post(Token, Bad, Config)})
      || Bad <- [<<>>, <<"x">>, rand:bytes(1000), Without("a=fingerprint.*\r\n"), Without("a=ice-ufrag.*\r\n"), Without("m=.*\r\n"),
                 binary:replace(Offer, <<"UDP/TLS/RTP/SAVPF">>, <<"RTP/AVP">>), binary:replace(Offer, <<"UDP/TLS/RTP/SAVPF">>, <<"RTP/SAVP">>),
-                <<Offer/binary, "m=audio 9 RTP/AVP 0\r\n">>, <<Offer/binary, "m=video 9 RTP/AVP 0\r\n">>]],
+                <<Offer/binary, "m=audio 9 RTP/AVP 0\r\n">>, <<Offer/binary, "m=video 9 RTP/AVP 0\r\n">>,
+                <<Offer/binary, "a=", 255, "\r\n">>]],
     ?assertEqual([], rtpengine:offers(Relay)),
     ?assertMatch({415, _}, request(post, "/web", Token, "text/plain", Offer, Config)),
     ok = rtpengine:be(refusing, Relay),

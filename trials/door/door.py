@@ -141,6 +141,25 @@ class Gateway:
         return found
 
 
+class Relay:
+    """rtpengine."""
+
+    def __init__(self, folder, port):
+        self.words = ["rtpengine", "--foreground", "--log-stderr", "--config-file=none", f"--pidfile={folder}/pid", "--interface=inside/127.0.0.1",
+                      "--interface=outside/127.0.0.2", f"--listen-ng=127.0.0.1:{port}", "--table=-1", "--delete-delay=0", "--log-level=4"]
+        self.log = open(folder / "rtpengine.log", "a")
+        self.start()
+
+    def start(self):
+        self.process = subprocess.Popen(self.words, stdin=subprocess.DEVNULL, stderr=self.log)
+
+    def kill(self):
+        self.process.kill()
+        self.process.wait()
+
+    close = kill
+
+
 class Door:
     """Gateways and a controller."""
     host = "127.0.0.1"

@@ -43,9 +43,22 @@ def sip(door):
 
 
 def http():
-    method, path = random.choice(["GET", "PUT", "POST", "DELETE", "HEAD", "X"]), random.choice(["/", "/rooms", "/rooms/%41", "/events", "/metrics"])
-    body = random.choice(['{"rules": []}', '{"rules": [{"hears": 1}]}', "{", "[" * 5000])
-    return (f"{method} {path} HTTP/1.1\r\nHost: x\r\nAuthorization: Bearer {random.choice([TOKEN, 'x'])}\r\n"
+    method = random.choice(["GET", "PUT", "POST", "DELETE", "HEAD", "X"])
+    path = random.choice(["/", "/rooms", "/rooms/%41", "/events", "/metrics", "/links", "/links/0", "/web", "/web/0", "/audit"])
+    body = random.choice(['{"rules": []}', '{"rules": [{"hears": 1}]}', "{", "[" * 5000, '{"room": "A", "role": "b", "name": "c", "seconds": 9}'])
+    return request(method, path, random.choice([TOKEN, "x"]), "application/json", body)
+
+
+def joining(link):
+    """A browser's offer, by a link."""
+    body = ("v=0\r\no=- 1 1 IN IP4 127.0.0.1\r\ns=-\r\nt=0 0\r\na=group:BUNDLE 0\r\nm=audio 9 UDP/TLS/RTP/SAVPF 0 8\r\n"
+            "c=IN IP4 0.0.0.0\r\na=ice-ufrag:abcd\r\na=ice-pwd:abcdefghijklmnopqrstuvwx\r\n"
+            f"a=fingerprint:sha-256 {':'.join(['AB'] * 32)}\r\na=setup:actpass\r\na=mid:0\r\na=sendrecv\r\na=rtcp-mux\r\n")
+    return request("POST", "/web", link, "application/sdp", body)
+
+
+def request(method, path, token, form, body):
+    return (f"{method} {path} HTTP/1.1\r\nHost: x\r\nAuthorization: Bearer {token}\r\nContent-Type: {form}\r\n"
             f"Content-Length: {len(body)}\r\n\r\n{body}").encode()
 
 

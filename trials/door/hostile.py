@@ -1,9 +1,10 @@
 """Hostile senders beside 200 calls: mutated messages of all kinds at 2,000 a second, messages that take long to read,
-connections over TCP, TLS and HTTP that say nothing, half of something or garbage, and floods of new ones. They come from 20
-addresses that may call. Meanwhile callers talk, call and hang up: none of them loses a packet or waits for longer than 200 ms.
+connections over TCP, TLS and HTTP that say nothing, half of something or garbage, and floods of new ones, among them offers
+of browsers by a link. They come from 20 addresses that may call. Meanwhile callers talk, call and hang up: none of them loses
+a packet or waits for longer than 200 ms.
 
 usage: hostile.py [MINUTES]
-The default is 60. It needs openssl.
+The default is 60. It needs openssl and rtpengine.
 """
 import contextlib
 import os
@@ -14,8 +15,8 @@ import subprocess
 import sys
 import time
 
-from door import Door, Phone, Phones, check, finish, free_addresses, spread
-from garbage import changed, http, sip, size
+from door import Door, Phone, Phones, Relay, check, finish, free_addresses, spread
+from garbage import changed, http, joining, sip, size
 from loopback import end_on_signals
 
 HOSTILE = [f"127.0.0.{n}" for n in range(2, 22)]
@@ -78,8 +79,8 @@ class Counted(Phones):
 class Target:
     """What the senders need to know of a controller."""
 
-    def __init__(self, sip, tls, http):
-        self.sip, self.tls, self.http = sip, tls, http
+    def __init__(self, sip, tls, http, link):
+        self.sip, self.tls, self.http, self.link = int(sip), int(tls), int(http), link
 
 
 def bomb(target):
@@ -104,7 +105,7 @@ def connection(target):
         one.connect_ex(("127.0.0.1", port))
     except OSError:
         pass
-    text = http() if port == target.http else sip(target)
+    text = sip(target) if port != target.http else http() if random.random() < 0.5 else joining(target.link)
     return one, random.choice([b"", text[:random.randint(1, len(text))], changed(text), random.randbytes(300), text,
                                b"PUT /rooms/x HTTP/1.1\r\nHost: x\r\nTransfer-Encoding: chunked\r\n\r\nfffffff\r\n" + bytes(20000)])
 
@@ -142,9 +143,9 @@ def attack(target):
 
 
 @contextlib.contextmanager
-def attacker(door):
+def attacker(door, link):
     """A program that attacks, with less priority than whatever it attacks."""
-    process = subprocess.Popen([sys.executable, __file__, "attack", str(door.sip), str(door.tls), str(door.http)],
+    process = subprocess.Popen([sys.executable, __file__, "attack", str(door.sip), str(door.tls), str(door.http), link],
                                stdout=open(door.folder / "sent", "w"),
                                preexec_fn=lambda: os.sched_setscheduler(0, os.SCHED_OTHER, os.sched_param(0)))
     try:
@@ -180,11 +181,13 @@ class Watch:
 def main():
     end_on_signals()
     if sys.argv[1:2] == ["attack"]:
-        attack(Target(*map(int, sys.argv[2:])))
+        attack(Target(*sys.argv[2:]))
     minutes = float(sys.argv[1]) if len(sys.argv) > 1 else 60
-    with Guarded(gateways=3, slots=100) as door:
+    port, = free_addresses(1)
+    with Guarded(gateways=3, slots=100, rtpengine=f"{{{{127,0,0,1}},{port}}}") as door, contextlib.closing(Relay(door.folder, port)):
         # Its httpd can fail when it is asked before it has started.
         before = (door.folder / "log").stat().st_size
+        link = door.ask("POST", "/links", {"room": "joined", "role": "participant", "name": "x", "seconds": 86400})["link"]
         if os.sched_getscheduler(0) == os.SCHED_FIFO:
             # Above the controller, so that the trial isn't what is late.
             os.sched_setscheduler(0, os.SCHED_FIFO, os.sched_param(os.sched_getparam(0).sched_priority + 1))
@@ -199,12 +202,12 @@ def main():
             watch.once()
         loop.run(5)
         # What is only loaded once is loaded now.
-        with attacker(door):
+        with attacker(door, link):
             loop.run(10)
         # Calls that nobody acknowledged end after 32 s.
         loop.run(45)
         sizes = [size(door)]
-        with attacker(door):
+        with attacker(door, link):
             start = time.monotonic()
             while time.monotonic() - start < 60 * minutes:
                 since = time.monotonic()

@@ -19,7 +19,7 @@ from selenium.webdriver.chrome.service import Service
 from selenium.webdriver.common.action_chains import ActionChains
 from selenium.webdriver.common.keys import Keys
 
-from door import Door, Gateway, Phone, Phones, check, finish, free_addresses, loudness, until
+from door import Door, Gateway, Phone, Phones, Relay, check, finish, free_addresses, loudness, until
 from loopback import end_on_signals
 
 FIRST, SECOND, COACH, CUSTOMER, GUEST = PITCHES = (400, 1600, 1000, 2200, 2800)
@@ -104,23 +104,6 @@ class Symmetric(Gateway):
 class Site(Door):
     def gateway(self, number, slots, journal):
         return Symmetric(self.folder, f"g{number}", slots, journal)
-
-
-class Relay:
-    """rtpengine."""
-
-    def __init__(self, folder, port):
-        self.words = ["rtpengine", "--foreground", "--log-stderr", "--config-file=none", f"--pidfile={folder}/pid", "--interface=inside/127.0.0.1",
-                      "--interface=outside/127.0.0.2", f"--listen-ng=127.0.0.1:{port}", "--table=-1", "--delete-delay=0"]
-        self.log = open(folder / "rtpengine.log", "a")
-        self.start()
-
-    def start(self):
-        self.process = subprocess.Popen(self.words, stdin=subprocess.DEVNULL, stderr=self.log)
-
-    def kill(self):
-        self.process.kill()
-        self.process.wait()
 
 
 def block(action):

@@ -251,6 +251,8 @@ what_takes_too_long(Config) ->
     Member = "/members/" ++ binary_to_list(Id),
     ok = sys:suspend(lobby_registry:whereis_name({room, <<"100">>})),
     Parent = self(),
+    %% Each by a connection of its own, not one after the other.
+    ok = httpc:set_options([{max_keep_alive_length, 0}]),
     Requests = [{get, "/rooms/100", ""}, {put, "/rooms/100", "{\"rules\": []}"}, {post, Member ++ "/mute", ""},
                 {post, Member ++ "/move", "{\"room\": \"200\"}"}],
     [spawn_link(fun() -> Parent ! {Request, ask(Method, Path, Body, Config)} end) || Request = {Method, Path, Body} <- Requests],

@@ -104,12 +104,18 @@ send(Text, #phone{socket = Socket, to = {Address, Port}}) -> ok = gen_udp:send(S
 
 recv(P) -> recv(P, 2000).
 
-%% But for what only says that an answer takes a while.
+%% But for what only says that an answer takes a while, and for repetitions of what was answered, which are answered again.
 recv(P, Timeout) ->
     case received(P, Timeout) of
         "SIP/2.0 100" ++ _ -> recv(P, Timeout);
-        Text -> Text
+        Text when is_list(Text) -> case get(transaction(Text, P)) of
+            undefined -> Text;
+            Answer -> send(Answer, P), recv(P, Timeout)
+        end;
+        Nothing -> Nothing
     end.
+
+transaction(Request, #phone{socket = Socket}) -> {Socket, [header(Name, Request) || Name <- ["Via", "From", "CSeq"]]}.
 
 received(P = #phone{transport = Transport, socket = Socket}, Timeout) when Transport =/= "UDP" ->
     Module = case Transport of "TCP" -> gen_tcp; "TLS" -> ssl end,
@@ -177,6 +183,8 @@ answer(Status, Request, P) -> answer(Status, Request, "", P).
 
 %% A response to a request.
 answer(Status, Request, Body, P = #phone{port = Port}) ->
-    send(io_lib:format("SIP/2.0 ~b Text\r\nVia: ~s\r\nFrom: ~s\r\nTo: ~s\r\nCall-ID: ~s\r\nCSeq: ~s\r\nContact: <sip:test@127.0.0.1:~b>\r\n"
-                       "Content-Length: ~b\r\n\r\n~s",
-                       [Status | [header(Name, Request) || Name <- ["Via", "From", "To", "Call-ID", "CSeq"]]] ++ [Port, length(Body), Body]), P).
+    Answer = io_lib:format("SIP/2.0 ~b Text\r\nVia: ~s\r\nFrom: ~s\r\nTo: ~s\r\nCall-ID: ~s\r\nCSeq: ~s\r\nContact: <sip:test@127.0.0.1:~b>\r\n"
+                           "Content-Length: ~b\r\n\r\n~s",
+                           [Status | [header(Name, Request) || Name <- ["Via", "From", "To", "Call-ID", "CSeq"]]] ++ [Port, length(Body), Body]),
+    put(transaction(Request, P), Answer),
+    send(Answer, P).

@@ -23,6 +23,8 @@ def heard_again(phones, isolated, killed):
     for phone in others:
         wanted = [other.pitch for other in others if other is not phone]
         after = [(when, payload) for when, payload in phone.heard if when > killed + 0.06]
+        if not after:
+            return None
         low, high = 0, len(after) - 1
         while low < high:
             middle = (low + high) // 2

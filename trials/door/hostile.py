@@ -142,12 +142,18 @@ def attack(target):
         time.sleep(TICK)
 
 
+def below():
+    """With less priority than whatever is attacked. Above other programs, so that nothing is sent in bursts."""
+    fifo = os.sched_getscheduler(0) == os.SCHED_FIFO
+    os.sched_setscheduler(0, os.SCHED_FIFO if fifo else os.SCHED_OTHER, os.sched_param(int(fifo)))
+
+
 @contextlib.contextmanager
 def attacker(door, link):
-    """A program that attacks, with less priority than whatever it attacks."""
+    """A program that attacks."""
     process = subprocess.Popen([sys.executable, __file__, "attack", str(door.sip), str(door.tls), str(door.http), link],
                                stdout=open(door.folder / "sent", "w"),
-                               preexec_fn=lambda: os.sched_setscheduler(0, os.SCHED_OTHER, os.sched_param(0)))
+                               preexec_fn=below)
     try:
         yield
     finally:

@@ -2,15 +2,15 @@
 use Rattle.std.proofs.Common.{◌≡◌, ◌≢◌, ◌⊎◌, inl, inr, ℕ, ◌-◌, ◌<◌, true, false, List, [], ◌∷◌, ◌++◌, length, take, drop, Option, Some, None, refl, sym, ap, subst, ◌∙◌, append_assoc, append-nil, take-append-drop}
 use Rattle.std.proofs.lemmas.List.{take-append-le}
 use Rattle.std.proofs.KnownBytes.{starts_with_rest}
-use Rattle.mg_outlet.specs.Passing.{AreOldest, Asked, Called, Passes, PipeCall, TookNone, TookSome, Wrote, taken_in}
+use Rattle.mg_outlet.specs.Passing.{AreOldest, Asked, Continues, Passes, PipeCall, TookNone, TookSome, Wrote, taken_in}
 
 -- ## Calls
 
-pub called_none : (a : Option (List PipeCall)) → Called a a []
+pub called_none : (a : Option (List PipeCall)) → Continues a a []
 called_none None = tt
 called_none (Some a) = sym (append-nil a)
 
-pub called_both : (a b c : Option (List PipeCall)) (p q : List PipeCall) → Called a b p → Called b c q → Called a c (p ++ q)
+pub called_both : (a b c : Option (List PipeCall)) (p q : List PipeCall) → Continues a b p → Continues b c q → Continues a c (p ++ q)
 called_both a b None p q h k = tt
 called_both a None (Some c) p q h k = absurd k
 called_both None (Some b) (Some c) p q h k = absurd h
@@ -44,10 +44,10 @@ some_taken queue rest offered taken (starts, small, some) (n, is, more, fits, le
 
 -- what was called so far passed on all but this
 abbrev pub Drained : (old rest : List ℕ) → (a b : Option (List PipeCall)) → Type 0
-Drained old rest a b = (calls : List PipeCall) × Called a b calls × (old ≡ taken_in calls ++ rest)
+Drained old rest a b = (calls : List PipeCall) × Continues a b calls × (old ≡ taken_in calls ++ rest)
 
 drained_by : (old queue rest offered : List ℕ) (taken : Option ℕ) (a b c : Option (List PipeCall)) → Drained old queue a b
-    → Called b c (Wrote offered taken ∷ []) → queue ≡ taken_in (Wrote offered taken ∷ []) ++ rest → Drained old rest a c
+    → Continues b c (Wrote offered taken ∷ []) → queue ≡ taken_in (Wrote offered taken ∷ []) ++ rest → Drained old rest a c
 drained_by old queue rest offered taken a b c (calls, called, all) wrote split =
     let one : List PipeCall = Wrote offered taken ∷ [] in (
       calls ++ one,
@@ -57,12 +57,12 @@ drained_by old queue rest offered taken a b c (calls, called, all) wrote split =
     )
 
 pub drained_more : (old queue rest offered : List ℕ) (taken : Option ℕ) (a b c : Option (List PipeCall)) → Drained old queue a b
-    → Called b c (Wrote offered taken ∷ []) → AreOldest queue offered → TookSome queue rest offered taken → Drained old rest a c
+    → Continues b c (Wrote offered taken ∷ []) → AreOldest queue offered → TookSome queue rest offered taken → Drained old rest a c
 drained_more old queue rest offered taken a b c drained wrote oldest took =
     drained_by old queue rest offered taken a b c drained wrote (some_taken queue rest offered taken oldest took)
 
 pub drained_refused : (old queue rest offered : List ℕ) (taken : Option ℕ) (a b c : Option (List PipeCall))
-    → Drained old queue a b → Called b c (Wrote offered taken ∷ []) → TookNone taken → rest ≡ queue → Drained old rest a c
+    → Drained old queue a b → Continues b c (Wrote offered taken ∷ []) → TookNone taken → rest ≡ queue → Drained old rest a c
 drained_refused old queue rest offered taken a b c drained wrote none same =
     drained_by old queue rest offered taken a b c drained wrote
     (sym same ∙ ap (λ (l : List ℕ). l ++ rest) (sym (none_taken offered taken none)))
@@ -77,7 +77,7 @@ Leads most left old queue made =
 -- the calls so far, and the calls that are left
 pub record Led (most left : ℕ) (old queue : List ℕ) (a b : Option (List PipeCall)) : Type 0 where
   pub made : List PipeCall
-  pub called : Called a b made
+  pub called : Continues a b made
   pub leads : Leads most left old queue made
 
 pub led_none : (most left : ℕ) (queue : List ℕ) (a : Option (List PipeCall)) → left ≡ most → Led most left queue queue a a
@@ -89,8 +89,8 @@ led_none most left queue a is = record {
 
 -- one chunk more
 pub led_more : (most left next : ℕ) (old queue mid offered : List ℕ) (taken : Option ℕ) (a b c d : Option (List PipeCall))
-    → Led most left old queue a b → 0 < left → next ≡ left - 1 → queue ≢ [] → Called b c (Asked true ∷ [])
-    → Called c d (Wrote offered taken ∷ []) → AreOldest queue offered → TookSome queue mid offered taken
+    → Led most left old queue a b → 0 < left → next ≡ left - 1 → queue ≢ [] → Continues b c (Asked true ∷ [])
+    → Continues c d (Wrote offered taken ∷ []) → AreOldest queue offered → TookSome queue mid offered taken
     → Led most next old mid a d
 led_more most left next old queue mid offered taken a b c d led some is more asked wrote oldest took =
     let two : List PipeCall = Asked true ∷ Wrote offered taken ∷ [] in
@@ -108,10 +108,10 @@ led_more most left next old queue mid offered taken a b c d led some is more ask
     }
 
 abbrev pub Passed : (most : ℕ) → (old rest : List ℕ) → (a b : Option (List PipeCall)) → Type 0
-Passed most old rest a b = (calls : List PipeCall) × Called a b calls × Passes most old rest calls
+Passed most old rest a b = (calls : List PipeCall) × Continues a b calls × Passes most old rest calls
 
 led_end : (most left : ℕ) (old queue rest : List ℕ) (a b c : Option (List PipeCall)) (more : List PipeCall)
-    → Led most left old queue a b → Called b c more → Passes left queue rest more → Passed most old rest a c
+    → Led most left old queue a b → Continues b c more → Passes left queue rest more → Passed most old rest a c
 led_end most left old queue rest a b c more led called passes =
     (led.made ++ more, called_both a b c led.made more led.called called, led.leads rest more passes)
 
@@ -122,14 +122,14 @@ led_over most left old queue a b led over = led_end most left old queue queue a 
 
 -- the pipe isn't ready
 pub led_unready : (most left : ℕ) (old queue : List ℕ) (a b c : Option (List PipeCall)) → Led most left old queue a b
-    → 0 < left → queue ≢ [] → Called b c (Asked false ∷ []) → Passed most old queue a c
+    → 0 < left → queue ≢ [] → Continues b c (Asked false ∷ []) → Passed most old queue a c
 led_unready most left old queue a b c led some more asked =
     led_end most left old queue queue a b c (Asked false ∷ []) led asked (some, more, refl)
 
 -- the pipe took nothing
 pub led_refused : (most left : ℕ) (old queue rest offered : List ℕ) (taken : Option ℕ) (a b c d : Option (List PipeCall))
-    → Led most left old queue a b → 0 < left → queue ≢ [] → Called b c (Asked true ∷ [])
-    → Called c d (Wrote offered taken ∷ []) → AreOldest queue offered → TookNone taken → rest ≡ queue
+    → Led most left old queue a b → 0 < left → queue ≢ [] → Continues b c (Asked true ∷ [])
+    → Continues c d (Wrote offered taken ∷ []) → AreOldest queue offered → TookNone taken → rest ≡ queue
     → Passed most old rest a d
 led_refused most left old queue rest offered taken a b c d led some more asked wrote oldest none same =
     led_end most left old queue rest a b d (Asked true ∷ Wrote offered taken ∷ []) led

@@ -3,15 +3,15 @@ use Rattle.std.proofs.Common.{◌≡◌, ℕ, ◌+◌, ◌-◌, ◌^◌, ◌<◌
 use Rattle.std.specs.Prelude.{IfSome, if◌then◌else◌}
 use Rattle.std.specs.Option.{option_map, option_map_or}
 use Rattle.std.proofs.lemmas.Bool.Decides.{nat_tests}
-use Rattle.mg_outlet.specs.Passing.{Called, Passes, PipeCall, taken_in}
-use Rattle.mg_outlet.specs.Outlet.{BeginsWithStream, Continues, IsFlushed, IsWritten, PassesOn, drops, dropped, ends, failure, overflow, pipe, queued, stream}
+use Rattle.mg_outlet.specs.Passing.{Continues, Passes, PipeCall, taken_in}
+use Rattle.mg_outlet.specs.Outlet.{BeginsWithStream, IsFlushed, IsWritten, PassesOn, drops, dropped, ends, failure, overflow, pipe, queued, stream}
 use Rattle.mg_outlet.specs.declared.outlet.Outlet.{Outlet}
 use Rattle.mg_outlet.specs.declared.overflow.Overflow.{Overflow}
 use Rattle.mg_outlet.specs.declared.overflow.Overflow.TheVariants.{End}
 use Rattle.mg_outlet.proofs.PassingLemmas.{passes_taken, taken_both}
 
 -- The stream stays where bytes move; then it grows by what joins the queue.
-stream_moves : (left : ℕ) (queue rest text : List ℕ) (calls : List PipeCall) (a b : Option (List PipeCall)) → Called a b calls
+stream_moves : (left : ℕ) (queue rest text : List ℕ) (calls : List PipeCall) (a b : Option (List PipeCall)) → Continues a b calls
     → Passes left queue rest calls
     → Continues (option_map (λ made. taken_in made ++ queue) a) (option_map (λ made. taken_in made ++ (rest ++ text)) b) text
 stream_moves left queue rest text calls a None called passes = tt

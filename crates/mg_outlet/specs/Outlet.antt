@@ -4,16 +4,10 @@ use Rattle.std.specs.Prelude.{List, [], ◌++◌, length, Option, Some, None, If
 use Rattle.std.specs.declared.io.Error.{Error}
 use Rattle.std.specs.Option.{option_map, option_map_or}
 use Rattle.circular_buffer.specs.Buffer.{buffer}
-use Rattle.mg_outlet.specs.Passing.{Called, Passes, PipeCall, taken_in}
+use Rattle.mg_outlet.specs.Passing.{Continues, Passes, PipeCall, taken_in}
 use Rattle.mg_outlet.specs.declared.outlet.Outlet.{Outlet}
 use Rattle.mg_outlet.specs.declared.overflow.Overflow.{Overflow}
 use Rattle.mg_outlet.specs.declared.overflow.Overflow.TheVariants.{End, Skip}
-
--- known bytes grew by these, if they are still known
-abbrev pub Continues : Option (List ℕ) → Option (List ℕ) → List ℕ → Type 0
-Continues old None bytes = Unit {0}
-Continues None (Some all) bytes = ⊥
-Continues (Some before) (Some all) bytes = all ≡ before ++ bytes
 
 -- whether all later text is dropped once a text didn't fit
 abbrev pub ends : Overflow → Bool
@@ -85,7 +79,7 @@ module _ {P : Type 0} where
     -- failed passes on nothing.
     pub record PassesOn (most : ℕ) (rest : List ℕ) (old new : Outlet P) : Type 0 where
       pub made : List PipeCall
-      pub called : Called (calls (pipe old)) (calls (pipe new)) made
+      pub called : Continues (calls (pipe old)) (calls (pipe new)) made
       pub passes : Passes (option_map_or (λ error. 0) (failure old) most) (queued old) rest made
 
     -- the queue was passed on, by at most this many writes, and nothing else changed

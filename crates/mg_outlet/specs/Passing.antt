@@ -9,12 +9,12 @@ pub data PipeCall : Type 0 where
   Asked : (ready : Bool) → PipeCall
   Wrote : (offered : List ℕ) (taken : Option ℕ) → PipeCall
 
--- The log grows by these calls. A pipe may lose its log; if it still has one at the end, it had it
--- all along.
-abbrev pub Called : Option (List PipeCall) → Option (List PipeCall) → List PipeCall → Type 0
-Called old None calls = Unit {0}
-Called None (Some all) calls = ⊥
-Called (Some before) (Some all) calls = all ≡ before ++ calls
+-- A log or a text grows by these. It may be lost; if it is still known at the end, it was known all
+-- along.
+abbrev pub Continues : {X : Type 0} → Option (List X) → Option (List X) → List X → Type 0
+Continues old None more = Unit {0}
+Continues None (Some all) more = ⊥
+Continues (Some before) (Some all) more = all ≡ before ++ more
 
 -- how many bytes a write took
 abbrev pub taken_by : {E : Type 0} → Result ℕ E → Option ℕ

@@ -1,7 +1,7 @@
 ghost use Rattle.std.specs.Prelude.{◌≡◌, ◌++◌, [], length, List, Some, None, Err, IfErr, IfOk, IfSome, OnErr, OnOk};
 ghost use Rattle.std.specs.Io.{WritesAtMost};
 ghost use Rattle.std.specs.Io.KnownBytes.{Keeps, WriteAppends};
-ghost use Rattle.mg_outlet.specs.Passing.{Called, PipeCall, taken_in};
+ghost use Rattle.mg_outlet.specs.Passing.{Continues, PipeCall, taken_in};
 ghost use Rattle.mg_outlet.specs.Outlet.{queued, dropped, failure, pipe, has_ended, new_outlet, drops, flush_limit, write_limit};
 ghost use Rattle.mg_outlet.specs.Outlet.{IsFlushed, IsWritten};
 
@@ -110,7 +110,7 @@ impl<P: Pipe> Outlet<P> {
     /// Passes on everything in the queue. Unlike the other calls, this one waits for the reader, so use it at the end
     /// of the program.
     pub fn finish(&mut self) -> io::Result<()>
-        ensures passed { (calls : List PipeCall) × Called (P.calls (pipe self.old)) (P.calls (pipe self.new)) calls
+        ensures passed { (calls : List PipeCall) × Continues (P.calls (pipe self.old)) (P.calls (pipe self.new)) calls
             × (queued self.old ≡ taken_in calls ++ queued self.new) }
         ensures empty { OnOk result (queued self.new ≡ []) }
         ensures count { dropped self.new ≡ dropped self.old }

@@ -1,5 +1,5 @@
 ghost use Rattle.std.specs.Prelude.{◌≡◌, [], ◌∷◌, ◌++◌, ℕ, List, Option, MatchResult, OnOk};
-ghost use Rattle.mg_outlet.specs.Passing.{AreOldest, Called, PipeCall, Passes, TookNone, TookSome, Wrote, taken_in};
+ghost use Rattle.mg_outlet.specs.Passing.{AreOldest, Continues, PipeCall, Passes, TookNone, TookSome, Wrote, taken_in};
 
 use crate::pipe::Pipe;
 use circular_buffer::HeapCircularBuffer;
@@ -14,7 +14,7 @@ pub(crate) fn pass_on<P: Pipe>(
     pipe: &mut P,
     chunks: u16,
 ) -> io::Result<()>
-    ensures passes { (calls : List PipeCall) × Called (P.calls pipe.old) (P.calls pipe.new) calls
+    ensures passes { (calls : List PipeCall) × Continues (P.calls pipe.old) (P.calls pipe.new) calls
         × Passes chunks queue.old.items queue.new.items calls }
     ensures limit { queue.new.capacity ≡ queue.old.capacity }
 {
@@ -41,7 +41,7 @@ fn is_later(error: &io::Error) -> bool {
 
 /// Passes on a whole queue. Waits for the reader if necessary.
 pub(crate) fn pass_all<P: Pipe>(queue: &mut HeapCircularBuffer<u8>, pipe: &mut P) -> io::Result<()>
-    ensures passes { (calls : List PipeCall) × Called (P.calls pipe.old) (P.calls pipe.new) calls
+    ensures passes { (calls : List PipeCall) × Continues (P.calls pipe.old) (P.calls pipe.new) calls
         × (queue.old.items ≡ taken_in calls ++ queue.new.items) }
     ensures empty { OnOk result (queue.new.items ≡ []) }
     ensures limit { queue.new.capacity ≡ queue.old.capacity }
@@ -63,7 +63,7 @@ pub(crate) fn pass_all<P: Pipe>(queue: &mut HeapCircularBuffer<u8>, pipe: &mut P
 /// failed.
 fn pass_chunk<P: Pipe>(queue: &mut HeapCircularBuffer<u8>, pipe: &mut P) -> io::Result<()>
     ensures wrote { (offered : List ℕ) × (taken : Option ℕ)
-        × Called (P.calls pipe.old) (P.calls pipe.new) (Wrote offered taken ∷ []) × AreOldest queue.old.items offered
+        × Continues (P.calls pipe.old) (P.calls pipe.new) (Wrote offered taken ∷ []) × AreOldest queue.old.items offered
         × MatchResult result (λ _. TookSome queue.old.items queue.new.items offered taken)
         (λ _. TookNone taken × (queue.new.items ≡ queue.old.items)) }
     ensures limit { queue.new.capacity ≡ queue.old.capacity }

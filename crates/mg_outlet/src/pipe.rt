@@ -1,5 +1,5 @@
 ghost use Rattle.std.specs.Prelude.{◌≤◌, [], ◌∷◌, length, List, Option, None, IfOk};
-ghost use Rattle.mg_outlet.specs.Passing.{Asked, Called, PipeCall, Wrote, taken_by};
+ghost use Rattle.mg_outlet.specs.Passing.{Asked, Continues, PipeCall, Wrote, taken_by};
 
 use std::io;
 
@@ -10,10 +10,10 @@ pub trait Pipe {
 
     /// Returns whether 4,096 bytes can be written now without waiting.
     fn is_ready(&mut self) -> bool
-        ensures asked { Called (calls self.old) (calls self.new) (Asked result ∷ []) };
+        ensures asked { Continues (calls self.old) (calls self.new) (Asked result ∷ []) };
 
     /// Writes these bytes, or the first ones of them, and returns how many were written.
     fn write(&mut self, bytes: &[u8]) -> io::Result<usize>
         ensures within { IfOk result (λ n. n ≤ length bytes.now) }
-        ensures wrote { Called (calls self.old) (calls self.new) (Wrote bytes.now (taken_by result) ∷ []) };
+        ensures wrote { Continues (calls self.old) (calls self.new) (Wrote bytes.now (taken_by result) ∷ []) };
 }

@@ -4,7 +4,8 @@
 //! the queue.
 
 ghost use Rattle.std.specs.Prelude.{◌≡◌, ℕ, List, [], ◌++◌, if◌then◌else◌};
-ghost use Rattle.mg_outlet.specs.Outlet.{BeginsWithStream, Continues, IsFlushed, IsWritten, drops, overflow, stream};
+ghost use Rattle.mg_outlet.specs.Passing.{Continues};
+ghost use Rattle.mg_outlet.specs.Outlet.{BeginsWithStream, IsFlushed, IsWritten, drops, overflow, stream};
 
 use crate::outlet::Outlet;
 use crate::overflow::Overflow;

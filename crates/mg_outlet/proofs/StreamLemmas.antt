@@ -81,7 +81,7 @@ module _ {P : Type 0} (calls : P → Option (List PipeCall)) where
     missing = begins.missing ++ [];
     parts = rw (append-nil all) at (begins_still all begins.missing [] (stream calls before) (stream calls after)
         (flush_keeps most before after flushed) begins.parts);
-    whole = λ e. append-nil begins.missing ∙ begins.whole (rw (← flushed.same_overflow, ← flushed.count) e);
+    whole = λ e. append-nil begins.missing ∙ begins.whole (rw (← flushed.passed.same_overflow, ← flushed.count) e);
   }
 
   written_as : (all text : List ℕ) (before after : Outlet P) (dropped : Bool)
@@ -95,7 +95,7 @@ module _ {P : Type 0} (calls : P → Option (List PipeCall)) where
             (written_grows text before after true written is) begins.parts;
         whole = λ e. absurd (cc (
           e,
-          ended_true (overflow after) (dropped after) (written.same_overflow ∙ end)
+          ended_true (overflow after) (dropped after) (written.passed.same_overflow ∙ end)
               (omega (arith, count)),
         ));
       }

@@ -14,10 +14,6 @@ abbrev pub ends : Overflow → Bool
 ends End = true
 ends Skip = false
 
--- how many writes to the pipe a flush makes at most
-abbrev pub flush_limit : ℕ
-flush_limit = 256
-
 module _ {P : Type 0} where
   -- the queued bytes, oldest first
   abbrev pub queued : Outlet P → List ℕ
@@ -76,18 +72,18 @@ module _ {P : Type 0} where
       pub whole : has_ended o ≡ false → missing ≡ []
 
     -- The queue was passed on, by at most this many writes, which left `rest`. An outlet that has
-    -- failed passes on nothing.
+    -- failed passes on nothing. The outlet still drops what it would have dropped.
     pub record PassesOn (most : ℕ) (rest : List ℕ) (old new : Outlet P) : Type 0 where
       pub made : List PipeCall
       pub called : Continues (calls (pipe old)) (calls (pipe new)) made
       pub passes : Passes (option_map_or (λ error. 0) (failure old) most) (queued old) rest made
+      pub same_limit : limit new ≡ limit old
+      pub same_overflow : overflow new ≡ overflow old
 
     -- the queue was passed on, by at most this many writes, and nothing else changed
     pub record IsFlushed (most : ℕ) (old new : Outlet P) : Type 0 where
       pub passed : PassesOn most (queued new) old new
       pub count : dropped new ≡ dropped old
-      pub same_limit : limit new ≡ limit old
-      pub same_overflow : overflow new ≡ overflow old
 
     -- If many bytes were queued, some were passed on, which left `rest`. Then a text joined the
     -- queue, or the whole text was dropped and counted.
@@ -97,5 +93,3 @@ module _ {P : Type 0} where
       pub queue : queued new ≡ (if drops old rest text then rest else rest ++ text)
       pub count : dropped new ≡
           (if drops old rest text then min (dropped old + 1) (2 ^ 64 - 1) else dropped old)
-      pub same_limit : limit new ≡ limit old
-      pub same_overflow : overflow new ≡ overflow old

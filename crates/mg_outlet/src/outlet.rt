@@ -2,7 +2,7 @@ ghost use Rattle.std.specs.Prelude.{◌≡◌, ◌++◌, [], length, List, Some,
 ghost use Rattle.std.specs.Io.{WritesAtMost};
 ghost use Rattle.std.specs.Io.KnownBytes.{Keeps, WriteAppends};
 ghost use Rattle.mg_outlet.specs.Passing.{Continues, PipeCall, taken_in};
-ghost use Rattle.mg_outlet.specs.Outlet.{queued, dropped, failure, pipe, has_ended, new_outlet, drops, flush_limit, write_limit};
+ghost use Rattle.mg_outlet.specs.Outlet.{queued, dropped, failure, pipe, has_ended, new_outlet, drops, write_limit};
 ghost use Rattle.mg_outlet.specs.Outlet.{IsFlushed, IsWritten};
 
 use crate::outlet_fault::OutletFault;
@@ -197,7 +197,7 @@ impl<P: Pipe> Write for Outlet<P> {
     /// Passes on queued bytes, at most 1 MiB, as long as the pipe is ready.
     fn flush(&mut self) -> io::Result<()>
         ensures bytes { Keeps None None }
-        ensures flushed { IsFlushed P.calls flush_limit self.old self.new }
+        ensures flushed { IsFlushed P.calls 256 self.old self.new }
         ensures fails { IfErr result (λ e. failure self.new ≡ Some e) }
         ensures works { OnOk result (failure self.new ≡ None) }
         ensures sticks { IfSome (failure self.old) (λ e. (result ≡ Err e) × (self.new ≡ self.old)) }

@@ -42,10 +42,9 @@ Waits p t d = IsTimeTo p.polls (steps_past p) t d
 -- a last reading at which the run ends.
 abbrev pub Paces : Pace → List ℕ → List ℕ → Pace → Type 0
 Paces p [] [] q = q ≡ p
-Paces p [] (d ∷ ds) q = ⊥
 Paces p (t ∷ []) [] q = Advances p t q
-Paces p (t ∷ u ∷ ts) [] q = ⊥
 Paces p (t ∷ ts) (d ∷ ds) q = (m : Pace) × Advances p t m × Waits m t d × Paces m ts ds q
+Paces p readings waits q = ⊥
 
 -- the latest of the readings
 abbrev pub latest : List ℕ → ℕ

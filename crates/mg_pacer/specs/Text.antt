@@ -3,13 +3,8 @@ use Rattle.std.specs.Prelude.{ℕ, ◌*◌, nat_le, List, ◌++◌, codes, if◌
 use Rattle.mg_clock.specs.Text.{text}
 use Rattle.mg_pacer.specs.Pace.{Pace}
 
--- the line that ends a run
-abbrev pub quit_line : List ℕ
-quit_line = codes "quit\n"
-
--- The lines that are written up to a pace. The line that ends the run follows the last requested
--- tick.
+-- The lines that are written up to a pace. A line that ends the run follows the last requested tick.
 abbrev pub text_by : ℕ → Pace → List ℕ
 text_by wanted p =
-    if nat_le (wanted * p.polls) p.steps then text p.polls (wanted * p.polls) ++ quit_line
+    if nat_le (wanted * p.polls) p.steps then text p.polls (wanted * p.polls) ++ codes "quit\n"
     else text p.polls p.steps

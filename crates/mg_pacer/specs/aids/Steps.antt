@@ -1,12 +1,16 @@
 -- The steps of a run: what is written for several steps, and at one reading.
-use Rattle.std.specs.Prelude.{◌≡◌, ℕ, ◌*◌, Bool, nat_le, List, ◌++◌}
+use Rattle.std.specs.Prelude.{◌≡◌, ℕ, ◌*◌, Bool, nat_le, List, ◌++◌, codes}
 use Rattle.std.specs.Prelude.{Option, Result, Ok, Err}
 use Rattle.std.specs.Io.KnownBytes.{Appends}
 use Rattle.mg_lines.specs.declared.write_failed.WriteFailed.{WriteFailed}
 use Rattle.mg_lines.specs.Streams.{Writes, WritesFront}
 use Rattle.mg_pacer.specs.Pace.{Pace}
 use Rattle.mg_clock.specs.Text.{text}
-use Rattle.mg_pacer.specs.Text.{text_by, quit_line}
+use Rattle.mg_pacer.specs.Text.{text_by}
+
+-- the line that ends a run
+abbrev pub quit_line : List ℕ
+quit_line = codes "quit\n"
 
 -- The lines of the steps after `from`, up to `to`, were written, whatever lines precede them.
 abbrev pub WritesSteps : ℕ → ℕ → ℕ → Option (List ℕ) → Option (List ℕ)

@@ -1,6 +1,6 @@
 -- How bytes move from a queue to a pipe.
 use Rattle.std.specs.Prelude.{◌≡◌, ◌≢◌, ◌⊎◌, ℕ, ◌-◌, ◌<◌, ◌≤◌, Bool, true, false, List, [], ◌∷◌, ◌++◌}
-use Rattle.std.specs.Prelude.{length, take, drop, Option, Some, None, Result, Ok, Err}
+use Rattle.std.specs.Prelude.{length, take, drop, Option, Some, None}
 use Rattle.std.specs.Io.{StartsWith}
 
 -- A call on a pipe: whether it was ready, or which bytes were offered to it, and how many of them it
@@ -15,11 +15,6 @@ abbrev pub Continues : {X : Type 0} → Option (List X) → Option (List X) → 
 Continues old None more = Unit {0}
 Continues None (Some all) more = ⊥
 Continues (Some before) (Some all) more = all ≡ before ++ more
-
--- how many bytes a write took
-abbrev pub taken_by : {E : Type 0} → Result ℕ E → Option ℕ
-taken_by (Ok n) = Some n
-taken_by (Err error) = None
 
 -- all bytes that a pipe took
 abbrev pub taken_in : List PipeCall → List ℕ

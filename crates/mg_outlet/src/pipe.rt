@@ -1,5 +1,6 @@
 ghost use Rattle.std.specs.Prelude.{◌≤◌, [], ◌∷◌, length, List, Option, None, IfOk};
-ghost use Rattle.mg_outlet.specs.Passing.{Asked, Continues, PipeCall, Wrote, taken_by};
+ghost use Rattle.std.specs.Result.{result_ok};
+ghost use Rattle.mg_outlet.specs.Passing.{Asked, Continues, PipeCall, Wrote};
 
 use std::io;
 
@@ -15,5 +16,5 @@ pub trait Pipe {
     /// Writes these bytes, or the first ones of them, and returns how many were written.
     fn write(&mut self, bytes: &[u8]) -> io::Result<usize>
         ensures within { IfOk result (λ n. n ≤ length bytes.now) }
-        ensures wrote { Continues (calls self.old) (calls self.new) (Wrote bytes.now (taken_by result) ∷ []) };
+        ensures wrote { Continues (calls self.old) (calls self.new) (Wrote bytes.now (result_ok result) ∷ []) };
 }

@@ -1,6 +1,7 @@
 -- Names: the line that names a termination, and the keys of a name; and rules, one after another.
 use Rattle.std.proofs.Common.{◌≡◌, ◌∙◌, ◌+◌, ◌<◌, ◌≤◌, ℕ, Bool, true, false, cond, List, [], ◌∷◌, ◌++◌, Option, Some, Result, Ok, Err, is_err, is_ok, ap, drop, filter, get_or, length, map}
 use Rattle.std.specs.Prelude.{find}
+use Rattle.std.specs.List.{AllZip}
 use Rattle.std.specs.Option.{option_map_or}
 use Rattle.std.specs.Str.{bytes_eq}
 use Rattle.std.proofs.lemmas.List.{at_drop_more, drop_all}
@@ -9,7 +10,7 @@ use Rattle.mg_heard.specs.declared.asked_rule.AskedRule.{AskedRule}
 use Rattle.mg_heard.specs.declared.named.Named.{Named}
 use Rattle.mg_heard.specs.declared.party_name.PartyName.{PartyName}
 use Rattle.mg_heard.specs.declared.rule.Rule.{Rule}
-use Rattle.mg_heard.specs.Asked.{AreRules, IsRule}
+use Rattle.mg_heard.specs.Asked.{IsRule}
 use Rattle.mg_heard.specs.Names.{keys_with, name_of}
 use Rattle.mg_heard.specs.Query.{is_named}
 
@@ -71,7 +72,8 @@ pushed (Ok done) old new rule e ok = e
 pushed (Err error) old new rule e ok = absurd cc
 
 pub rules_more : (lines : List Named) (asked : List AskedRule) (rules : List Rule) (one : AskedRule) (rule : Rule) →
-    AreRules lines asked rules → IsRule lines one rule → AreRules lines (asked ++ one ∷ []) (rules ++ rule ∷ [])
+    AllZip (IsRule lines) asked rules → IsRule lines one rule →
+    AllZip (IsRule lines) (asked ++ one ∷ []) (rules ++ rule ∷ [])
 rules_more lines [] [] one rule none is = (is, none)
 rules_more lines [] (first ∷ rules) one rule none is = elim none [ ]
 rules_more lines (asked ∷ others) [] one rule none is = elim none [ ]

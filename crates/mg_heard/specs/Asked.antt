@@ -1,7 +1,6 @@
 -- How questions name terminations, and which terminations they are about.
 use Rattle.std.specs.Prelude.{◌≡◌, ℕ, ◌<◌, ◌-◌, ◌&&◌, Bool, List, [], ◌∷◌, length, take, drop, Option}
 use Rattle.std.specs.Prelude.{Some, None, codes, if◌then◌else◌}
-use Rattle.std.specs.List.{AllZip}
 use Rattle.std.specs.Option.{option_map, option_or}
 use Rattle.std.specs.Str.{bytes_eq}
 use Rattle.mg_words.specs.Cut.{cut}
@@ -67,7 +66,3 @@ pub record IsQuery (lines : List Named) (asked : AskedQuery) (query : Query) : T
 pub record IsRule (lines : List Named) (asked : AskedRule) (rule : Rule) : Type 0 where
   pub talker : AreKeys lines asked.talker rule.talker
   pub listener : AreKeys lines asked.listener rule.listener
-
--- a rule for each one that is asked for, in the same order
-abbrev pub AreRules : List Named → List AskedRule → List Rule → Type 0
-AreRules lines asked rules = AllZip (IsRule lines) asked rules

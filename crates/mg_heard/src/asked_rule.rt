@@ -1,5 +1,6 @@
 ghost use Rattle.std.specs.Prelude.{◌≡◌, IfOk, None, Some, MatchOption};
-ghost use Rattle.mg_heard.specs.Asked.{AreRules, IsRule, around_arrow, pattern_by, rule_by};
+ghost use Rattle.std.specs.List.{AllZip};
+ghost use Rattle.mg_heard.specs.Asked.{IsRule, around_arrow, pattern_by, rule_by};
 
 use crate::asked::Asked;
 use crate::keys::keys_for;
@@ -63,7 +64,7 @@ impl AskedRule {
 
 /// Returns the rules, with the keys of the names that they give.
 pub fn rules_of(alloc: Global, asked: &[AskedRule], names: &Names) -> Result<Vec<Rule>, NameFault>
-    ensures value { IfOk result (λ rules. AreRules names.now asked.now rules.items) }
+    ensures value { IfOk result (λ rules. AllZip (IsRule names.now) asked.now rules.items) }
 {
     let mut rules = Vec::new(alloc);
     for one in asked {

@@ -1,9 +1,10 @@
 -- What `mg_bridge heard --never` prints, and what its exit status answers.
 use Rattle.std.specs.Prelude.{◌≡◌, ℕ, List, Option, Some, None, IfSome}
 use Rattle.std.specs.Io.{StartsWith}
+use Rattle.std.specs.List.{AllZip}
 use Rattle.mg_engine.specs.declared.config.Config.{Config}
 use Rattle.mg_heard.specs.declared.violation.Violation.{Violation}
-use Rattle.mg_heard.specs.Asked.{AreRules}
+use Rattle.mg_heard.specs.Asked.{IsRule}
 use Rattle.mg_heard.specs.Never.{IsWatched, WritesViolation}
 use Rattle.mg_options.specs.declared.status.Status.{Status}
 use Rattle.mg_options.specs.declared.status.Status.TheVariants.{Done, RuleBroken}
@@ -35,7 +36,7 @@ pub record IsAnswered (alarm : Alarm) (script old new : Option (List ℕ)) (stat
 -- request, and each of these names is in the file.
 pub record IsSet (request : WatchRequest) (alarm : Alarm) : Type 0 where
   pub style : IsStyle request.printing alarm.style
-  pub rules : AreRules alarm.style.names request.rules alarm.rules.items
+  pub rules : AllZip (IsRule alarm.style.names) request.rules alarm.rules.items
 
 -- What is answered about the script in a file, or in the input.
 abbrev pub IsAnsweredFrom : WatchRequest → (before after : Option (List HostCall))

@@ -56,9 +56,8 @@ intervals_tell_the_flow one config events ys (moments, are, e) past future sent 
     )
 
 pub intervals_tell_the_truth : OneOutcome → IntervalsTellTheTruth
-intervals_tell_the_truth one config past future w ys y h told lies =
-    let (moments, are, e) = h.told in
-    let is = moment_of one (start_of config) w past future h.sent moments h.run h.tick are in
+intervals_tell_the_truth one config past future sent w ys y (moments, are, e) run tick told lies =
+    let is = moment_of one (start_of config) w past future sent moments run tick are in
     (open_in_world w moments (count_by is_tick past) y is
     (subst (λ (l : List Interval). In y l) e (in_from_at y ys told)) lies).is
 

@@ -34,15 +34,6 @@ abbrev pub IsAtTick : List Event → Type 0
 IsAtTick [] = Unit {0}
 IsAtTick (event ∷ later) = is_tick event ≡ true
 
--- Some events led to this world, a tick or the end comes next, and these are the intervals of all
--- events.
-pub record HasIntervals (config : Config) (past future : List Event) (w : World)
-    (ys : List Interval) : Type 0 where
-  pub sent : List Sent
-  pub run : Run (start_of config) past sent w
-  pub tick : IsAtTick future
-  pub told : AreIntervals config (past ++ future) ys
-
 -- one of the intervals contains this tick for this pair
 abbrev pub IsToldAt : ℕ → ℕ → ℕ → List Interval → Type 0
 IsToldAt tick talker listener ys =
@@ -62,8 +53,10 @@ TellsTheFlow config events ys =
 -- each tick that the interval contains.
 abbrev pub IntervalsTellTheTruth : Type 0
 IntervalsTellTheTruth =
-    (config : Config) (past future : List Event) (w : World) (ys : List Interval) (y : Interval)
-    → HasIntervals config past future w ys → Contains ys y → LiesIn (count_by is_tick past) y
+    (config : Config) (past future : List Event) (sent : List Sent) (w : World)
+    (ys : List Interval) (y : Interval) → AreIntervals config (past ++ future) ys
+    → Run (start_of config) past sent w → IsAtTick future → Contains ys y
+    → LiesIn (count_by is_tick past) y
     → y.flow ≡ open_flow w.gateway y.flow.listener y.flow.talker
 
 -- ## Each pair

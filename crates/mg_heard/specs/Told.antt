@@ -24,8 +24,7 @@ without_dates x = record {
 abbrev pub heard_in : List Entry → List DatedInterval
 heard_in [] = []
 heard_in (entries.Interval x ∷ xs) = x ∷ heard_in xs
-heard_in (entries.Gap gap ∷ xs) = heard_in xs
-heard_in (entries.Audible x ∷ xs) = heard_in xs
+heard_in (_ ∷ xs) = heard_in xs
 
 abbrev pub intervals_in : List Entry → List Interval
 intervals_in xs = map without_dates (heard_in xs)
@@ -33,16 +32,14 @@ intervals_in xs = map without_dates (heard_in xs)
 -- the intervals among the entries in which a talker was audible, in order, without their dates
 abbrev pub audible_in : List Entry → List Interval
 audible_in [] = []
-audible_in (entries.Interval x ∷ xs) = audible_in xs
-audible_in (entries.Gap gap ∷ xs) = audible_in xs
 audible_in (entries.Audible x ∷ xs) = without_dates x ∷ audible_in xs
+audible_in (_ ∷ xs) = audible_in xs
 
 -- the gaps among the entries, in order
 abbrev pub gaps_in : List Entry → List Gap
 gaps_in [] = []
-gaps_in (entries.Interval x ∷ xs) = gaps_in xs
 gaps_in (entries.Gap gap ∷ xs) = gap ∷ gaps_in xs
-gaps_in (entries.Audible x ∷ xs) = gaps_in xs
+gaps_in (_ ∷ xs) = gaps_in xs
 
 -- a moment has the date of its tick
 abbrev pub IsDated : List Note → Moment → Type 0

@@ -43,37 +43,33 @@ is_named (Remote remote) number (Some peer) = is_same_peer peer remote
 abbrev pub is_asked : Option (List PartyName) → ℕ → Option Peer → Bool
 is_asked keys number at = option_map_or (list_any (λ k. is_named k number at)) keys true
 
--- without a date, a moment may precede any time
-abbrev pub may_precede : Moment → Date → Bool
-may_precede x time = option_map_or (λ date. nat_lt date.millis time.millis) x.date true
+-- The moment is before the time, at or before it, or after it. Without a date, that is `unknown`.
+abbrev pub is_before : (unknown : Bool) → Moment → Date → Bool
+is_before unknown m time = option_map_or (λ date. nat_lt date.millis time.millis) m.date unknown
 
--- without a date, a moment may follow any time
-abbrev pub may_follow : Moment → Date → Bool
-may_follow x time = option_map_or (λ date. nat_lt time.millis date.millis) x.date true
+abbrev pub is_past : (unknown : Bool) → Moment → Date → Bool
+is_past unknown m time = option_map_or (λ date. nat_le date.millis time.millis) m.date unknown
 
--- a period, perhaps without an end, may overlap the times asked about
+abbrev pub is_future : (unknown : Bool) → Moment → Date → Bool
+is_future unknown m time = option_map_or (λ date. nat_lt time.millis date.millis) m.date unknown
+
+-- A period, perhaps without an end, may overlap the times asked about. A moment without a date may
+-- be before any time and after any time.
 abbrev pub may_overlap : Query → (first : Moment) → (end : Option Moment) → Bool
 may_overlap q first end =
-    option_map_or (λ time. option_map_or (λ x. may_follow x time) end true) q.from true
-    && option_map_or (may_precede first) q.until true
+    option_map_or (λ time. option_map_or (λ m. is_future true m time) end true) q.from true
+    && option_map_or (is_before true first) q.until true
 
 abbrev pub selects : Query → Interval → Bool
 selects q x =
     is_asked q.listener x.flow.listener x.flow.listener_at
     && (is_asked q.talker x.flow.talker x.flow.talker_at && may_overlap q x.first x.end)
 
--- without a date, an interval began before the script's first date
-abbrev pub has_begun : Interval → Date → Bool
-has_begun x time = option_map_or (λ date. nat_le date.millis time.millis) x.first.date true
-
--- without an end, an interval lasts; an end without a date precedes the script's first date
-abbrev pub lasts_beyond : Interval → Date → Bool
-lasts_beyond x time = option_map_or
-    (λ end. option_map_or (λ date. nat_lt time.millis date.millis) end.date false) x.end true
-
--- a time that the script covers lies in the interval
+-- A time that the script covers lies in the interval. Moments without a date precede the script's
+-- first date. Without an end, an interval lasts.
 abbrev pub covers : Interval → Date → Bool
-covers x time = has_begun x time && lasts_beyond x time
+covers x time =
+    is_past true x.first time && option_map_or (λ end. is_future false end time) x.end true
 
 -- a gap is asked for by its time alone
 abbrev pub selects_entry : Query → Entry → Bool

@@ -1,5 +1,5 @@
 -- Who could hear whom at a given time.
-use Rattle.std.specs.Prelude.{◌&&◌, ◌||◌, not, Bool, false, List, find, nat_le, nat_lt, Option}
+use Rattle.std.specs.Prelude.{◌&&◌, ◌||◌, not, Bool, false, List, find, Option}
 use Rattle.std.specs.Prelude.{is_some, if◌then◌else◌}
 use Rattle.std.specs.Option.{option_map_or}
 use Rattle.mg_dates.specs.declared.date.Date.{Date}
@@ -7,27 +7,19 @@ use Rattle.mg_heard.specs.declared.entry.Entry.{Entry}
 use Rattle.mg_heard.specs.declared.extent.Extent.{Extent}
 use Rattle.mg_heard.specs.declared.gap.Gap.{Gap}
 use Rattle.mg_heard.specs.declared.interval.Interval.{Interval}
-use Rattle.mg_heard.specs.declared.moment.Moment.{Moment}
 use Rattle.mg_heard.specs.declared.query.Query.{Query}
 use Rattle.mg_heard.specs.declared.verdict.Verdict.{Verdict}
 use Rattle.mg_heard.specs.declared.verdict.Verdict.TheVariants.{CouldHear, CouldNotHear, Unknown}
-use Rattle.mg_heard.specs.Query.{covers, selects}
+use Rattle.mg_heard.specs.Query.{covers, is_future, is_past, selects}
 use Rattle.mg_heard.specs.Told.{gaps_in, heard_in}
 
 -- the first interval that the query selects and that contains the time
 abbrev pub heard_at : Query → Date → List Entry → Option Interval
 heard_at query time xs = find (λ x. selects query x && covers x time) (heard_in xs)
 
--- the moment is known to be at or before this time
-abbrev pub is_past : Moment → Date → Bool
-is_past m time = option_map_or (λ date. nat_le date.millis time.millis) m.date false
-
--- the moment is known to be after this time
-abbrev pub is_future : Moment → Date → Bool
-is_future m time = option_map_or (λ date. nat_lt time.millis date.millis) m.date false
-
+-- the gap is known to contain the time
 abbrev pub is_in_gap : Gap → Date → Bool
-is_in_gap gap time = is_past gap.first time && is_future gap.end time
+is_in_gap gap time = is_past false gap.first time && is_future false gap.end time
 
 -- the first gap that contains the time
 abbrev pub gap_at : Date → List Entry → Option Gap
@@ -36,7 +28,8 @@ gap_at time xs = find (λ gap. is_in_gap gap time) (gaps_in xs)
 -- the script covers this time: it is not before the first date, and it is before the end
 abbrev pub is_within : Extent → Date → Bool
 is_within extent time =
-    option_map_or (λ first. is_past first time) extent.first false && is_future extent.end time
+    option_map_or (λ first. is_past false first time) extent.first false
+    && is_future false extent.end time
 
 -- The answer, given the interval and the gap that contain the time, if any. The script doesn't say
 -- who could hear whom in a gap, or outside the time that it covers.

@@ -1,5 +1,5 @@
-ghost use Rattle.std.specs.Prelude.{◌≡◌};
-ghost use Rattle.mg_heard.specs.Verdict.{is_future, is_past};
+ghost use Rattle.std.specs.Prelude.{◌≡◌, false};
+ghost use Rattle.mg_heard.specs.Query.{is_future, is_past};
 
 use mg_dates::Date;
 
@@ -15,7 +15,7 @@ pub struct Moment {
 impl Moment {
     /// Returns whether the tick is known to have happened at or before a time.
     pub(crate) fn is_past(&self, time: Date) -> bool
-        ensures value { result ≡ is_past self.now time }
+        ensures value { result ≡ is_past false self.now time }
     {
         match self.date {
             Some(date) => date.millis <= time.millis,
@@ -25,7 +25,7 @@ impl Moment {
 
     /// Returns whether the tick is known to have happened after a time.
     pub(crate) fn is_future(&self, time: Date) -> bool
-        ensures value { result ≡ is_future self.now time }
+        ensures value { result ≡ is_future false self.now time }
     {
         match self.date {
             Some(date) => time.millis < date.millis,

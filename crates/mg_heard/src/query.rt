@@ -1,6 +1,6 @@
-ghost use Rattle.std.specs.Prelude.{◌≡◌, ◌&&◌, None, true};
+ghost use Rattle.std.specs.Prelude.{◌≡◌, ◌&&◌, None, false, true};
 ghost use Rattle.std.specs.Option.{option_map_or};
-ghost use Rattle.mg_heard.specs.Query.{covers, has_begun, is_asked, lasts_beyond, may_follow, may_overlap, may_precede, selects, selects_entry};
+ghost use Rattle.mg_heard.specs.Query.{covers, is_asked, is_before, is_future, is_past, may_overlap, selects, selects_entry};
 
 use crate::entry::Entry;
 use crate::interval::Interval;
@@ -34,7 +34,7 @@ pub(crate) fn is_asked(keys: &Option<Keys>, number: u32, at: Option<Peer>) -> bo
 
 /// Returns whether a moment may precede a time: a moment without a date may precede any time.
 fn may_precede(moment: Moment, time: Date) -> bool
-    ensures value { result ≡ may_precede moment time }
+    ensures value { result ≡ is_before true moment time }
 {
     match moment.date {
         Some(date) => date.millis < time.millis,
@@ -44,7 +44,7 @@ fn may_precede(moment: Moment, time: Date) -> bool
 
 /// Returns whether a moment may follow a time: a moment without a date may follow any time.
 fn may_follow(moment: Moment, time: Date) -> bool
-    ensures value { result ≡ may_follow moment time }
+    ensures value { result ≡ is_future true moment time }
 {
     match moment.date {
         Some(date) => time.millis < date.millis,
@@ -54,7 +54,7 @@ fn may_follow(moment: Moment, time: Date) -> bool
 
 /// Returns whether a period may last beyond the time `from`, or true if `from` is `None`. A period without an end lasts.
 fn lasts_beyond_from(end: Option<Moment>, from: Option<Date>) -> bool
-    ensures value { result ≡ option_map_or (λ time. option_map_or (λ x. may_follow x time) end true) from true }
+    ensures value { result ≡ option_map_or (λ time. option_map_or (λ m. is_future true m time) end true) from true }
 {
     let (Some(moment), Some(time)) = (end, from) else {
         return true;
@@ -64,7 +64,7 @@ fn lasts_beyond_from(end: Option<Moment>, from: Option<Date>) -> bool
 
 /// Returns whether a period may begin before the time `until`, or true if `until` is `None`.
 fn begins_before_until(first: Moment, until: Option<Date>) -> bool
-    ensures value { result ≡ option_map_or (may_precede first) until true }
+    ensures value { result ≡ option_map_or (is_before true first) until true }
 {
     match until {
         Some(time) => may_precede(first, time),
@@ -125,7 +125,7 @@ impl Query {
 /// Returns whether an interval has begun by a time. An interval whose beginning has no date began before the script's
 /// first date.
 fn has_begun(interval: &Interval, time: Date) -> bool
-    ensures value { result ≡ has_begun interval.now time }
+    ensures value { result ≡ is_past true interval.now.first time }
 {
     match interval.first.date {
         Some(date) => date.millis <= time.millis,
@@ -136,7 +136,7 @@ fn has_begun(interval: &Interval, time: Date) -> bool
 /// Returns whether an interval ends after a time or has no end. An interval whose end has no date ended before the
 /// script's first date.
 fn lasts_beyond(interval: &Interval, time: Date) -> bool
-    ensures value { result ≡ lasts_beyond interval.now time }
+    ensures value { result ≡ option_map_or (λ end. is_future false end time) interval.now.end true }
 {
     let Some(end) = interval.end else {
         return true;

@@ -1,6 +1,6 @@
 -- Which intervals a question asks for.
 use Rattle.std.specs.Prelude.{ℕ, ◌==◌, ◌&&◌, Bool, true, false, nat_eq, nat_le, nat_lt, List, Option}
-use Rattle.std.specs.Prelude.{Some, None, codes, drop, if◌then◌else◌}
+use Rattle.std.specs.Prelude.{Some, codes, drop, if◌then◌else◌}
 use Rattle.std.specs.List.{list_any, starts_with}
 use Rattle.std.specs.Option.{option_map, option_map_or, option_or}
 use Rattle.std.specs.Str.{bytes_eq}
@@ -34,10 +34,9 @@ party_name_text (Remote remote) = peer_text remote
 -- the key applies to a termination with this number and this Remote
 abbrev pub is_named : PartyName → ℕ → Option Peer → Bool
 is_named (Termination n) number at = n == number
-is_named (Address address) number None = false
-is_named (Address address) number (Some peer) = bytes_eq peer.address address
-is_named (Remote remote) number None = false
-is_named (Remote remote) number (Some peer) = is_same_peer peer remote
+is_named (Address address) number at =
+    option_map_or (λ peer. bytes_eq peer.address address) at false
+is_named (Remote remote) number at = option_map_or (λ peer. is_same_peer peer remote) at false
 
 -- a question with these keys asks about this termination; without keys, it asks about all of them
 abbrev pub is_asked : Option (List PartyName) → ℕ → Option Peer → Bool

@@ -23,10 +23,10 @@ use Rattle.mg_heard.specs.declared.violation.Violation.{Violation}
 use Rattle.mg_heard.specs.declared.watch.Watch.{Watch}
 use Rattle.mg_heard.specs.aids.Changes.{OnlyControlChangesFlows}
 use Rattle.mg_heard.specs.Moments.{AreMoments}
-use Rattle.mg_heard.specs.Never.{IsKept, IsWatched, first_forbidden, forbidden_in, is_forbidden, without_date}
+use Rattle.mg_heard.specs.Never.{IsKept, IsWatched, first_forbidden, is_forbidden, without_date}
 use Rattle.mg_heard.specs.OpenFlows.{open_flows}
 use Rattle.mg_heard.specs.aids.Opening.{beginning_at, flows_of}
-use Rattle.mg_heard.specs.aids.Watching.{KeepsRules, forbidden_at}
+use Rattle.mg_heard.specs.aids.Watching.{KeepsRules, forbidden_at, forbidden_in}
 use Rattle.mg_heard.proofs.KeepingLemmas.{back_to_front, events_in_both, events_with_ticks, extends, one_moment, same_reversed, split, tick_moments}
 use Rattle.mg_heard.proofs.MomentLemmas.{OneOutcome}
 

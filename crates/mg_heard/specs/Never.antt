@@ -23,25 +23,20 @@ use Rattle.mg_heard.specs.Query.{is_asked}
 
 -- ## Rules
 
-abbrev pub forbids : Rule → OpenFlow → Bool
-forbids rule x =
-    is_asked rule.talker x.talker x.talker_at && is_asked rule.listener x.listener x.listener_at
-
+-- one of the rules forbids the flow
 abbrev pub is_forbidden : List Rule → OpenFlow → Bool
-is_forbidden rules x = list_any (λ rule. forbids rule x) rules
+is_forbidden rules x = list_any (λ rule. is_asked rule.talker x.talker x.talker_at
+    && is_asked rule.listener x.listener x.listener_at) rules
 
 -- ## Violations
 
--- the first forbidden flow that is open in a moment, in order of listeners and then of talkers
-abbrev pub forbidden_in : List Rule → List OpenFlow → Option OpenFlow
-forbidden_in rules flows = find (is_forbidden rules) flows
-
--- the first forbidden flow in some moments, of which the oldest comes first, with its moment's tick;
--- the oldest moment is the one before the tick `from`
+-- The first forbidden flow in some moments, of which the oldest comes first, with its moment's tick.
+-- The oldest moment is the one before the tick `from`. The flows of a moment are in order of
+-- listeners and then of talkers.
 abbrev pub first_forbidden : List Rule → (from : ℕ) → List (List OpenFlow) → Option (ℕ × OpenFlow)
 first_forbidden rules from [] = None
 first_forbidden rules from (flows ∷ later) =
-    option_map_or (λ x. Some (from, x)) (forbidden_in rules flows)
+    option_map_or (λ x. Some (from, x)) (find (is_forbidden rules) flows)
     (first_forbidden rules (from + 1) later)
 
 abbrev pub without_date : Violation → ℕ × OpenFlow

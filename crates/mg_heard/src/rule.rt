@@ -1,5 +1,6 @@
 ghost use Rattle.std.specs.Prelude.{◌≡◌};
-ghost use Rattle.mg_heard.specs.Never.{forbids, is_forbidden};
+ghost use Rattle.mg_heard.specs.Never.{is_forbidden};
+ghost use Rattle.mg_heard.specs.aids.Watching.{forbids};
 
 use crate::keys::Keys;
 use crate::open_flow::OpenFlow;

@@ -3,10 +3,10 @@ ghost use Rattle.std.specs.Option.{option_map, option_or};
 ghost use Rattle.mg_engine.specs.declared.config.Config.{Config};
 ghost use Rattle.mg_core.specs.World.{World};
 ghost use Rattle.mg_core.specs.aids.Stands.{StandsFor};
-ghost use Rattle.mg_heard.specs.Never.{forbidden_in, without_date};
+ghost use Rattle.mg_heard.specs.Never.{without_date};
 ghost use Rattle.mg_heard.specs.OpenFlows.{open_flows};
 ghost use Rattle.mg_heard.specs.aids.Opening.{flows_of};
-ghost use Rattle.mg_heard.specs.aids.Watching.{KeepsRules, forbidden_at};
+ghost use Rattle.mg_heard.specs.aids.Watching.{KeepsRules, forbidden_at, forbidden_in};
 
 use crate::changes::only_control_changes_flows;
 use crate::clock::Clock;

@@ -1,5 +1,5 @@
 -- What a watch keeps while a script is run.
-use Rattle.std.specs.Prelude.{◌≡◌, ℕ, Bool, false, List, ◌∷◌, length, reverse, Option, None}
+use Rattle.std.specs.Prelude.{◌≡◌, ◌&&◌, ℕ, Bool, false, List, ◌∷◌, find, length, reverse, Option, None}
 use Rattle.std.specs.Option.{option_map}
 use Rattle.mg_engine.specs.declared.config.Config.{Config}
 use Rattle.mg_core.specs.Note.{Note, events_in}
@@ -8,7 +8,16 @@ use Rattle.mg_heard.specs.declared.open_flow.OpenFlow.{OpenFlow}
 use Rattle.mg_heard.specs.declared.rule.Rule.{Rule}
 use Rattle.mg_heard.specs.declared.violation.Violation.{Violation}
 use Rattle.mg_heard.specs.Moments.{AreMoments}
-use Rattle.mg_heard.specs.Never.{first_forbidden, forbidden_in, without_date}
+use Rattle.mg_heard.specs.Query.{is_asked}
+use Rattle.mg_heard.specs.Never.{first_forbidden, is_forbidden, without_date}
+
+abbrev pub forbids : Rule → OpenFlow → Bool
+forbids rule x =
+    is_asked rule.talker x.talker x.talker_at && is_asked rule.listener x.listener x.listener_at
+
+-- the first forbidden flow that is open in a moment
+abbrev pub forbidden_in : List Rule → List OpenFlow → Option OpenFlow
+forbidden_in rules flows = find (is_forbidden rules) flows
 
 -- the forbidden flow of the moment before this tick
 abbrev pub forbidden_at : ℕ → List Rule → List OpenFlow → Option (ℕ × OpenFlow)

@@ -1,5 +1,5 @@
 use Rattle.std.proofs.Common.{◌≡◌, drop}
-use Rattle.mg_heard.specs.Never.{forbidden_in}
+use Rattle.mg_heard.specs.aids.Watching.{forbidden_in}
 use Rattle.mg_heard.specs.aids.Opening.{flows_of}
 use Rattle.mg_heard.proofs.watch.forbidden_among.Given as goal
 

@@ -21,5 +21,6 @@ pub mod FindingLemmas
 pub mod NameLemmas
 pub mod EscapedLemmas
 pub mod LineLemmas
+pub mod ShapeLemmas
 pub mod ReportLemmas
 pub mod ReportingLemmas

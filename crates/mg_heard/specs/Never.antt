@@ -1,6 +1,6 @@
 -- Rules: a talker must never be heard by a listener. And the first flow of a script that breaks one.
 use Rattle.std.specs.Prelude.{◌≡◌, ◌⊎◌, ℕ, ◌+◌, ◌<◌, ◌≤◌, ◌&&◌, Bool, false, List, [], ◌∷◌, ◌++◌, length, find}
-use Rattle.std.specs.Prelude.{Option, Some, None, IsSomeAnd, codes, decimal}
+use Rattle.std.specs.Prelude.{Option, Some, None, IsSomeAnd, codes}
 use Rattle.std.specs.Io.KnownBytes.{Appends}
 use Rattle.std.specs.List.{list_any}
 use Rattle.std.specs.Option.{option_map, option_map_or}
@@ -9,15 +9,13 @@ use Rattle.mg_lines.specs.Lines.{lines_of}
 use Rattle.mg_core.specs.Note.{Note, events_in, notes_of}
 use Rattle.mg_core.specs.Run.{HasRead}
 use Rattle.mg_core.specs.World.{start_of}
-use Rattle.mg_heard.specs.declared.claim.Claim.TheVariants.{CouldHear}
 use Rattle.mg_heard.specs.declared.format.Format.{Format}
-use Rattle.mg_heard.specs.declared.format.Format.TheVariants.{Text, Csv, Json, Page}
 use Rattle.mg_heard.specs.declared.open_flow.OpenFlow.{OpenFlow}
 use Rattle.mg_heard.specs.declared.named.Named.{Named}
 use Rattle.mg_heard.specs.declared.rule.Rule.{Rule}
 use Rattle.mg_heard.specs.declared.style.Style.{Style}
 use Rattle.mg_heard.specs.declared.violation.Violation.{Violation}
-use Rattle.mg_heard.specs.Lines.{moment_text, object_of, party_text, row_of}
+use Rattle.mg_heard.specs.Lines.{flow_text, interval_values, line_in, moment_text}
 use Rattle.mg_heard.specs.Moments.{AreMoments}
 use Rattle.mg_heard.specs.Query.{is_asked}
 
@@ -72,22 +70,14 @@ pub record IsWatched (rules : List Rule) (config : Config) (input rest : Option 
 
 -- ## The line
 
--- the sentence for a violation, with some text for its date
-abbrev pub violation_sentence : List ℕ → List Named → Violation → List ℕ
-violation_sentence time names v =
-    party_text names v.flow.listener v.flow.listener_at ++ (codes " could hear "
-    ++ (party_text names v.flow.talker v.flow.talker_at ++ (codes " in context "
-    ++ (decimal v.flow.context ++ (codes " from "
-    ++ (moment_text time v.at.tick v.at.date ++ codes "\n"))))))
-
--- the line of a violation: a sentence, or that of an interval whose end is not known
-abbrev pub violation_line : Format → List ℕ → List Named → Violation → List ℕ
-violation_line Text time names v = violation_sentence time names v
-violation_line Page time names v = violation_sentence time names v
-violation_line Csv time names v =
-    row_of CouldHear time [] names (record { flow = v.flow; first = v.at; end = None })
-violation_line Json time names v =
-    object_of CouldHear time [] names (record { flow = v.flow; first = v.at; end = None })
+-- A violation, with some text for its date: a sentence, or the row or object of an interval whose
+-- end is not known.
+unfoldable pub violation_line : Format → List ℕ → List Named → Violation → List ℕ
+violation_line format time names v =
+    let sentence = flow_text (codes " could hear ") names v.flow
+    ++ (codes " from " ++ (moment_text time v.at.tick v.at.date ++ codes "\n")) in
+    line_in format sentence sentence (interval_values (codes "heard") time [] names
+    (record { flow = v.flow; first = v.at; end = None }))
 
 -- a writer has received the line of a violation, if there is one
 abbrev pub WritesViolation : Style → Option Violation → (old new : Option (List ℕ)) → Type 0

@@ -8,3 +8,4 @@ pub mod Finding
 pub mod Timing
 pub mod Changes
 pub mod Reporting
+pub mod Shapes

@@ -1,5 +1,5 @@
 ghost use Rattle.std.specs.Prelude.{◌≡◌, ◌≤◌, length};
-ghost use Rattle.mg_heard.specs.Lines.{kind_of, verb_of};
+ghost use Rattle.mg_heard.specs.aids.Shapes.{kind_of, verb_of};
 
 /// What a line says about a listener and a talker.
 #[derive(Clone, Copy, Debug, PartialEq, Eq)]

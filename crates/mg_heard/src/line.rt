@@ -4,8 +4,9 @@ ghost use Rattle.std.specs.Prelude.{◌≡◌, ◌≤◌, ◌+◌, ◌*◌, ◌+
 ghost use Rattle.mg_words.specs.Term.{rtp_name};
 ghost use Rattle.mg_core.specs.Peer.{peer_text};
 ghost use Rattle.mg_reply.specs.Bytes.{appended};
-ghost use Rattle.mg_heard.specs.Lines.{at_text, bar_end, bar_of, called_text, comma_text, date_of_end, end_text, extent_cells, extent_columns, extent_members, extent_text, gap_line, head_of, interval_line, line_of, moment_text, name_column, name_columns, name_members, name_value, not_heard_line, object_of, party_text, peer_column, peer_value, row_of, sentence_of, shown_party, shown_text, table_row_of, tick_column, tick_value, time_column, time_value, unknown_line};
-ghost use Rattle.mg_heard.specs.Never.{violation_line, violation_sentence};
+ghost use Rattle.mg_heard.specs.Lines.{answer_line, end_text, extent_text, head_of, line_of, moment_text};
+ghost use Rattle.mg_heard.specs.Never.{violation_line};
+ghost use Rattle.mg_heard.specs.aids.Shapes.{at_text, bar_end, bar_of, called_party, called_text, comma_text, date_of_end, extent_cells, extent_columns, extent_members, gap_shape, interval_object, interval_row, interval_shape, name_column, name_columns, name_member, name_members, peer_column, peer_member, sentence_of, shown_party, shown_text, table_row_shape, tick_column, tick_member, time_column, time_member, violation_sentence, violation_shape};
 ghost use Rattle.mg_heard.specs.declared.format.Format.TheVariants.{Page};
 
 use crate::claim::Claim;
@@ -161,8 +162,8 @@ fn push_called(name: &[u8], number: u32, at: Option<Peer>, out: &mut Bytes)
 /// Writes a termination, with its name and its Remote if it has them.
 fn push_party(names: &Names, number: u32, at: Option<Peer>, out: &mut Bytes)
     requires room { PARTY_LIMIT ≤ out.old.room }
-    ensures value { out.new ≡ appended out.old (party_text names.now number at) }
-    ensures short { length (party_text names.now number at) ≤ PARTY_LIMIT }
+    ensures value { out.new ≡ appended out.old (called_party names.now number at) }
+    ensures short { length (called_party names.now number at) ≤ PARTY_LIMIT }
 {
     push_called(names.name_of(number, at), number, at, out);
 }
@@ -356,8 +357,8 @@ fn push_row(
     requires from { length from.now ≤ TIME_LIMIT }
     requires until { length until.now ≤ TIME_LIMIT }
     requires room { LINE_LIMIT ≤ out.old.room }
-    ensures value { out.new ≡ appended out.old (row_of claim from.now until.now names.now interval.now) }
-    ensures short { length (row_of claim from.now until.now names.now interval.now) ≤ LINE_LIMIT }
+    ensures value { out.new ≡ appended out.old (interval_row claim from.now until.now names.now interval.now) }
+    ensures short { length (interval_row claim from.now until.now names.now interval.now) ≤ LINE_LIMIT }
 {
     let flow = &interval.flow;
     out.push(claim.kind());
@@ -382,8 +383,8 @@ fn push_row(
 #[tactic(auto, using(crate::proofs::LineLemmas::steps))]
 fn push_peer_value(peer: Option<Peer>, out: &mut Bytes)
     requires room { 2 + PEER_LIMIT ≤ out.old.room }
-    ensures value { out.new ≡ appended out.old (peer_value peer) }
-    ensures short { length (peer_value peer) ≤ 2 + PEER_LIMIT }
+    ensures value { out.new ≡ appended out.old (peer_member peer) }
+    ensures short { length (peer_member peer) ≤ 2 + PEER_LIMIT }
 {
     match peer {
         Some(peer) => {
@@ -398,8 +399,8 @@ fn push_peer_value(peer: Option<Peer>, out: &mut Bytes)
 /// Writes the tick at which an interval or a gap ends, or `null` if it has no end.
 fn push_tick_value(end: Option<Moment>, out: &mut Bytes)
     requires room { NUMBER_LIMIT ≤ out.old.room }
-    ensures value { out.new ≡ appended out.old (tick_value end) }
-    ensures short { length (tick_value end) ≤ NUMBER_LIMIT }
+    ensures value { out.new ≡ appended out.old (tick_member end) }
+    ensures short { length (tick_member end) ≤ NUMBER_LIMIT }
 {
     match end {
         Some(end) => push_number(end.tick, out),
@@ -412,8 +413,8 @@ fn push_tick_value(end: Option<Moment>, out: &mut Bytes)
 fn push_time_value(time: &[u8], date: Option<Date>, out: &mut Bytes)
     requires time { length time.now ≤ TIME_LIMIT }
     requires room { 2 + TIME_LIMIT ≤ out.old.room }
-    ensures value { out.new ≡ appended out.old (time_value time.now date) }
-    ensures short { length (time_value time.now date) ≤ 2 + TIME_LIMIT }
+    ensures value { out.new ≡ appended out.old (time_member time.now date) }
+    ensures short { length (time_member time.now date) ≤ 2 + TIME_LIMIT }
 {
     match date {
         Some(_) => {
@@ -455,8 +456,8 @@ fn push_extent_members(
 fn push_name_value(name: &[u8], out: &mut Bytes)
     requires name { length name.now ≤ NAME_ROOM }
     requires room { 2 + NAME_ROOM ≤ out.old.room }
-    ensures value { out.new ≡ appended out.old (name_value name.now) }
-    ensures short { length (name_value name.now) ≤ 2 + NAME_ROOM }
+    ensures value { out.new ≡ appended out.old (name_member name.now) }
+    ensures short { length (name_member name.now) ≤ 2 + NAME_ROOM }
 {
     if name.is_empty() {
         out.push(b"null");
@@ -494,8 +495,8 @@ fn push_object(
     requires from { length from.now ≤ TIME_LIMIT }
     requires until { length until.now ≤ TIME_LIMIT }
     requires room { LINE_LIMIT ≤ out.old.room }
-    ensures value { out.new ≡ appended out.old (object_of claim from.now until.now names.now interval.now) }
-    ensures short { length (object_of claim from.now until.now names.now interval.now) ≤ LINE_LIMIT }
+    ensures value { out.new ≡ appended out.old (interval_object claim from.now until.now names.now interval.now) }
+    ensures short { length (interval_object claim from.now until.now names.now interval.now) ≤ LINE_LIMIT }
 {
     let flow = &interval.flow;
     out.push(b"{\"kind\":\"");
@@ -594,8 +595,8 @@ fn push_table_row(from: &[u8], until: &[u8], names: &Names, interval: &Interval,
     requires from { length from.now ≤ TIME_LIMIT }
     requires until { length until.now ≤ TIME_LIMIT }
     requires room { LINE_LIMIT ≤ out.old.room }
-    ensures value { out.new ≡ appended out.old (table_row_of from.now until.now names.now interval.now) }
-    ensures short { length (table_row_of from.now until.now names.now interval.now) ≤ LINE_LIMIT }
+    ensures value { out.new ≡ appended out.old (table_row_shape from.now until.now names.now interval.now) }
+    ensures short { length (table_row_shape from.now until.now names.now interval.now) ≤ LINE_LIMIT }
 {
     let flow = &interval.flow;
     out.push(b"<tr ");
@@ -616,8 +617,8 @@ fn push_gap_row(from: &[u8], until: &[u8], gap: &Gap, out: &mut Bytes)
     requires from { length from.now ≤ TIME_LIMIT }
     requires until { length until.now ≤ TIME_LIMIT }
     requires room { LINE_LIMIT ≤ out.old.room }
-    ensures value { out.new ≡ appended out.old (gap_line Page from.now until.now gap.now.first gap.now.end) }
-    ensures short { length (gap_line Page from.now until.now gap.now.first gap.now.end) ≤ LINE_LIMIT }
+    ensures value { out.new ≡ appended out.old (gap_shape Page from.now until.now gap.now.first gap.now.end) }
+    ensures short { length (gap_shape Page from.now until.now gap.now.first gap.now.end) ≤ LINE_LIMIT }
 {
     out.push(b"<tr class=\"gap\" ");
     push_bar(gap.first, Some(gap.end), out);
@@ -671,8 +672,8 @@ fn push_interval(
     requires from { length from.now ≤ TIME_LIMIT }
     requires until { length until.now ≤ TIME_LIMIT }
     requires room { LINE_LIMIT ≤ out.old.room }
-    ensures value { out.new ≡ appended out.old (interval_line claim style.now.format from.now until.now style.now.names interval.now) }
-    ensures short { length (interval_line claim style.now.format from.now until.now style.now.names interval.now) ≤ LINE_LIMIT }
+    ensures value { out.new ≡ appended out.old (interval_shape claim style.now.format from.now until.now style.now.names interval.now) }
+    ensures short { length (interval_shape claim style.now.format from.now until.now style.now.names interval.now) ≤ LINE_LIMIT }
 {
     let names = &style.names;
     match style.format {
@@ -689,8 +690,8 @@ fn push_gap(format: Format, from: &[u8], until: &[u8], gap: &Gap, out: &mut Byte
     requires from { length from.now ≤ TIME_LIMIT }
     requires until { length until.now ≤ TIME_LIMIT }
     requires room { LINE_LIMIT ≤ out.old.room }
-    ensures value { out.new ≡ appended out.old (gap_line format from.now until.now gap.now.first gap.now.end) }
-    ensures short { length (gap_line format from.now until.now gap.now.first gap.now.end) ≤ LINE_LIMIT }
+    ensures value { out.new ≡ appended out.old (gap_shape format from.now until.now gap.now.first gap.now.end) }
+    ensures short { length (gap_shape format from.now until.now gap.now.first gap.now.end) ≤ LINE_LIMIT }
 {
     match format {
         Format::Text => {
@@ -732,7 +733,7 @@ pub(crate) fn push_entry(style: &Style, from: &[u8], until: &[u8], entry: &Entry
 
 /// Returns the line that says that a talker could not be heard at a given time.
 pub(crate) fn not_heard_line(format: Format) -> &'static [u8]
-    ensures value { result.now ≡ not_heard_line format }
+    ensures value { result.now ≡ answer_line format (codes "could not hear\n") (codes "not heard") }
 {
     match format {
         Format::Text | Format::Page => b"could not hear\n",
@@ -743,7 +744,7 @@ pub(crate) fn not_heard_line(format: Format) -> &'static [u8]
 
 /// Returns the line that says that a script doesn't answer a question about a given time.
 pub(crate) fn unknown_line(format: Format) -> &'static [u8]
-    ensures value { result.now ≡ unknown_line format }
+    ensures value { result.now ≡ answer_line format (codes "not known\n") (codes "not known") }
 {
     match format {
         Format::Text | Format::Page => b"not known\n",

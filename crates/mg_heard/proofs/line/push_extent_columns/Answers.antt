@@ -1,7 +1,7 @@
 use Rattle.std.proofs.Common.{ap, ◌∙◌}
 use Rattle.mg_reply.specs.Bytes.{appended}
 use Rattle.mg_reply.proofs.WrittenLemmas.{after}
-use Rattle.mg_heard.specs.Lines.{time_column}
+use Rattle.mg_heard.specs.aids.Shapes.{time_column}
 use Rattle.mg_heard.proofs.line.push_extent_columns.Goals as goal
 
 pub returns-clause-value : goal.returns-clause-value

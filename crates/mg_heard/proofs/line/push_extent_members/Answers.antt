@@ -1,7 +1,7 @@
 use Rattle.std.proofs.Common.{ap, ◌∙◌}
 use Rattle.mg_reply.specs.Bytes.{appended}
 use Rattle.mg_reply.proofs.WrittenLemmas.{after}
-use Rattle.mg_heard.specs.Lines.{time_value}
+use Rattle.mg_heard.specs.aids.Shapes.{time_member}
 use Rattle.mg_heard.proofs.line.push_extent_members.Goals as goal
 
 pub returns-clause-value : goal.returns-clause-value
@@ -14,4 +14,4 @@ returns-clause-value c =
     (after c.push-3.new.self c.push_time_value.new.out c.push_time_value-2.new.out _ _ c.push_time_value.ensures.value
     (after c.push_time_value.new.out c.push-4.new.self c.push_time_value-2.new.out _ _ c.push-4.ensures.value
     (c.push_time_value-2.ensures.value
-    ∙ ap (λ d. appended c.push-4.new.self (time_value c.args.until.now d)) c.date_of_end.ensures.value)))))))
+    ∙ ap (λ d. appended c.push-4.new.self (time_member c.args.until.now d)) c.date_of_end.ensures.value)))))))

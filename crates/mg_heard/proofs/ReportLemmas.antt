@@ -1,8 +1,10 @@
 -- One more entry in a report.
-use Rattle.std.proofs.Common.{◌≡◌, ℕ, Bool, true, false, cond, List, [], ◌∷◌, ◌++◌, Option, Result, Ok, Err, OnOk, append_assoc, filter, refl, sym, ap, subst, ◌∙◌}
+use Rattle.std.proofs.Common.{◌≡◌, ℕ, Bool, true, false, cond, List, [], ◌∷◌, ◌++◌, Option, Result, Ok, Err, OnOk, filter, refl, sym, ap, subst, ◌∙◌}
 use Rattle.std.specs.Io.KnownBytes.{Appends}
 use Rattle.std.proofs.KnownBytes.{Appends-trans}
 use Rattle.std.proofs.lemmas.List.{append-nil}
+use Rattle.std.proofs.lemmas.List.Folds.{concat-append}
+use Rattle.std.specs.List.{AllZip, concat}
 use Rattle.mg_heard.specs.declared.entry.Entry.{Entry}
 use Rattle.mg_heard.specs.declared.style.Style.{Style}
 use Rattle.mg_heard.specs.declared.query.Query.{Query}
@@ -10,16 +12,21 @@ use Rattle.mg_heard.specs.Lines.{AreLines, IsLine}
 use Rattle.mg_heard.specs.Query.{selects_entry}
 use Rattle.mg_heard.specs.aids.Reporting.{HasReported, Reported}
 
+lines_zipped : (style : Style) (xs : List Entry) (x : Entry) (lines : List (List ℕ)) (line : List ℕ) →
+    AllZip (IsLine style) xs lines → IsLine style x line → AllZip (IsLine style) (xs ++ x ∷ []) (lines ++ line ∷ [])
+lines_zipped style [] x [] line h is = (is, tt)
+lines_zipped style [] x (first ∷ lines) line h is = absurd h
+lines_zipped style (y ∷ xs) x [] line h is = absurd h
+lines_zipped style (y ∷ xs) x (first ∷ lines) line h is = (h.0, lines_zipped style xs x lines line h.1 is)
+
 -- lines and one more
 lines_more : (style : Style) (xs : List Entry) (x : Entry) (text line : List ℕ) → AreLines style xs text →
     IsLine style x line → AreLines style (xs ++ x ∷ []) (text ++ line)
-lines_more style [] x text line e is = (line, [], is, refl, ap (λ (l : List ℕ). l ++ line) e ∙ sym (append-nil line))
-lines_more style (y ∷ xs) x text line (first, others, one, rest, e) is = (
-  first,
-  others ++ line,
-  one,
-  lines_more style xs x others line rest is,
-  ap (λ (l : List ℕ). l ++ line) e ∙ append_assoc first others line,
+lines_more style xs x text line (lines, zipped, e) is = (
+  lines ++ line ∷ [],
+  lines_zipped style xs x lines line zipped is,
+  ap (λ (l : List ℕ). l ++ line) e ∙ ap (λ (l : List ℕ). concat lines ++ l) (sym (append-nil line))
+      ∙ sym (concat-append lines (line ∷ [])),
 )
 
 cond_first : (b : Bool) (y : Entry) (all before more : List Entry) → all ≡ before ++ more →

@@ -27,7 +27,7 @@ pub reported_none : (start : Reported) → HasReported start start []
 reported_none start = record {
   style = refl;
   query = refl;
-  lines = ([], refl, Appends-nil start.written);
+  lines = ([], ([], tt, refl), Appends-nil start.written);
 }
 
 -- the head and the lines are the report

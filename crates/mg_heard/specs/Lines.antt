@@ -4,7 +4,7 @@
 use Rattle.std.specs.Prelude.{◌≡◌, ℕ, ◌∷◌, ◌++◌, List, [], Option, Some, None, codes, map, replicate}
 use Rattle.std.specs.Prelude.{decimal, length, ◌==◌, if◌then◌else◌}
 use Rattle.std.specs.Prelude.{option_and_then, option_to_list}
-use Rattle.std.specs.List.{concat, filter_map, join_by, join_with_byte, zip}
+use Rattle.std.specs.List.{AllZip, concat, filter_map, join_by, join_with_byte, zip}
 use Rattle.std.specs.Option.{option_map, option_map_or}
 use Rattle.mg_words.specs.Term.{rtp_name}
 use Rattle.mg_words.specs.declared.peer.Peer.{Peer}
@@ -204,7 +204,5 @@ IsVerdictLine style Unknown line =
 
 -- a line for each entry, in order
 abbrev pub AreLines : Style → List Entry → List ℕ → Type 0
-AreLines style [] text = text ≡ []
-AreLines style (x ∷ xs) text =
-    (line : List ℕ) × (others : List ℕ) × IsLine style x line × AreLines style xs others
-    × (text ≡ line ++ others)
+AreLines style xs text =
+    (lines : List (List ℕ)) × AllZip (IsLine style) xs lines × (text ≡ concat lines)

@@ -113,8 +113,31 @@ not_other v w r e =
 
 -- ## Differences are speech
 
+record DiffersBy (config : Config) (talker listener : ℕ) (past : List Event) : Type 0 where
+  moments : List (List OpenFlow)
+  whole : World
+  without : World
+  runs : RunsWithout talker (start_of config) (start_of config) past moments whole without
+  r : Record
+  among : Contains whole.gateway.rooms.terminations r
+  number : r.number ≡ listener
+  other : is_sent_other whole without r ≡ true
+
+opened : (config : Config) (talker listener : ℕ) (past : List Event) → Differs config talker listener past →
+    DiffersBy config talker listener past
+opened config talker listener past (moments, whole, without, runs, (k, r, within, is, (number, other))) = record {
+  moments = moments;
+  whole = whole;
+  without = without;
+  runs = runs;
+  r = r;
+  among = (k, within, is);
+  number = number;
+  other = other;
+}
+
 reaches_first : WorldsAreConsistent → UnheardChangesNothing → (config : Config) (talker listener : ℕ)
-    (past : List Event) → IsStart config → (d : Differs config talker listener past) → (b : Bool) →
+    (past : List Event) → IsStart config → (d : DiffersBy config talker listener past) → (b : Bool) →
     reaches d.whole.gateway talker d.r.number ≡ b → b ≡ true
 reaches_first consistent unheard config talker listener past start d true e = refl
 reaches_first consistent unheard config talker listener past start d false e =
@@ -131,7 +154,8 @@ OneRun = (w : World) (events : List Event) (a b : List Sent) (x y : World) →
     Run w events a x → Run w events b y → (a ≡ b) × (x ≡ y)
 
 pub differences_are_speech : OneRun → WorldsAreConsistent → UnheardChangesNothing → DifferencesAreSpeech
-differences_are_speech one consistent unheard config talker listener past sent w start d run =
+differences_are_speech one consistent unheard config talker listener past sent w start differs run =
+    let d = opened config talker listener past differs in
     let (also, first) = first_run talker (start_of config) (start_of config) d.whole d.without past d.moments d.runs in
     let same = (one (start_of config) past also sent d.whole w first run).1 in
     ap (λ (n : ℕ). reaches w.gateway talker n) (sym d.number)
@@ -186,23 +210,16 @@ told_differs config talker listener past moments t told =
     let (r, j, k) = from_map (λ r. open_flow t.v.gateway r.number talker) y.flow (filter (is_sent_other t.v t.w) ts)
     among in
     let (one, sent) = from_filter (is_sent_other t.v t.w) r ts j in
-    record {
-      moments = t.before;
-      whole = t.v;
-      without = t.w;
-      runs = t.runs;
-      r = r;
-      among = at_from_in r ts one;
-      number = sym (ap (λ (x : OpenFlow). x.listener) k) ∙ pair.1;
-      other = sent;
-    }
+    let (index, within, is) = at_from_in r ts one in
+    (t.before, t.v, t.w, t.runs, (index, r, within, is, (sym (ap (λ (x : OpenFlow). x.listener) k) ∙ pair.1, sent)))
 
 -- what differs is told
 differs_told : OneOutcome → (config : Config) (talker listener : ℕ) (past : List Event)
     (moments : List (List OpenFlow)) → AtTick talker (start_of config) past moments →
     Differs config talker listener past →
     IsToldAt (count_by is_tick past) talker listener (intervals (reverse moments))
-differs_told one config talker listener past moments t d =
+differs_told one config talker listener past moments t differs =
+    let d = opened config talker listener past differs in
     let start = start_of config in
     let n = count_by is_tick past in
     let ts = t.v.gateway.rooms.terminations in

@@ -1,7 +1,6 @@
 -- What an audible interval says about each of its ticks.
 use Rattle.std.specs.Prelude.{◌≡◌, ◌↔◌, ℕ, ◌==◌, ◌&&◌, ◌||◌, Bool, true, List, ◌∷◌, ◌++◌}
-use Rattle.std.specs.Prelude.{count_by, Contains}
-use Rattle.mg_rooms.specs.declared.record.Record.{Record}
+use Rattle.std.specs.Prelude.{count_by, Any}
 use Rattle.mg_engine.specs.declared.config.Config.{Config}
 use Rattle.mg_engine.specs.Flow.{flow}
 use Rattle.mg_engine.specs.Gateway.{Gateway}
@@ -21,15 +20,12 @@ use Rattle.mg_audible.specs.Audible.{RunsWithout, is_sent_other}
 
 -- Two gateways with this configuration have received these events, the second without the talker's
 -- speech. In the next tick, they send this listener different bytes.
-pub record Differs (config : Config) (talker listener : ℕ) (past : List Event) : Type 0 where
-  pub moments : List (List OpenFlow)
-  pub whole : World
-  pub without : World
-  pub runs : RunsWithout talker (start_of config) (start_of config) past moments whole without
-  pub r : Record
-  pub among : Contains whole.gateway.rooms.terminations r
-  pub number : r.number ≡ listener
-  pub other : is_sent_other whole without r ≡ true
+abbrev pub Differs : Config → (talker listener : ℕ) → (past : List Event) → Type 0
+Differs config talker listener past =
+    (moments : List (List OpenFlow)) × (whole : World) × (without : World)
+    × RunsWithout talker (start_of config) (start_of config) past moments whole without
+    × Any (λ r. (r.number ≡ listener) × (is_sent_other whole without r ≡ true))
+    whole.gateway.rooms.terminations
 
 -- One of the intervals contains a tick for a listener if and only if the bytes of that tick differ.
 abbrev pub TellsDifferences : Config → ℕ → List Event → List Interval → Type 0

@@ -1,5 +1,5 @@
 -- What is printed about a talker.
-use Rattle.std.proofs.Common.{◌≡◌, ◌∙◌, ℕ, Bool, true, List, Option, Some, subst, sym}
+use Rattle.std.proofs.Common.{◌≡◌, ◌∙◌, ℕ, Bool, true, List, Option, Some, inl, inr}
 use Rattle.std.specs.Fmt.{option_append}
 use Rattle.std.specs.Io.KnownBytes.{Consumes}
 use Rattle.std.specs.List.{list_any}
@@ -12,7 +12,6 @@ use Rattle.mg_heard.specs.Reported.{WritesReport}
 use Rattle.mg_host.specs.declared.host_call.HostCall.{HostCall}
 use Rattle.mg_host.specs.HostCalls.{ReadsFrom}
 use Rattle.mg_options.specs.declared.status.Status.{Status}
-use Rattle.mg_options.specs.declared.status.Status.TheVariants as statuses
 use Rattle.mg_arguments.specs.declared.audible_request.AudibleRequest.{AudibleRequest}
 use Rattle.mg_arguments.specs.Title.{title_line}
 use Rattle.mg_audible.specs.Told.{TellsAudible}
@@ -43,9 +42,6 @@ is_audible talker asked config old mid rest front held written has_rtp silent st
   };
 }
 
-pub reports : (heard : Type 0) (status : Status) → status ≡ statuses.Done → heard → Reports heard status
-reports heard status is h = subst (λ (s : Status). Reports heard s) (sym is) h
-
 more_audible : (talker : ℕ) (asked : Question) (script old new : Option (List ℕ)) (silent quiet : Type 0) →
     (silent → quiet) → IsAudible talker asked script old new silent → IsAudible talker asked script old new quiet
 more_audible talker asked script old new silent quiet more h = record {
@@ -64,17 +60,8 @@ more_audible talker asked script old new silent quiet more h = record {
 }
 
 reports_more : (heard more : Type 0) (status : Status) → (heard → more) → Reports heard status → Reports more status
-reports_more heard more statuses.Done f h = f h
-reports_more heard more statuses.CouldNotHear f h = h
-reports_more heard more statuses.Unknown f h = h
-reports_more heard more statuses.RuleBroken f h = h
-reports_more heard more statuses.Failed f h = h
-reports_more heard more statuses.NoMemory f h = h
-reports_more heard more statuses.BadJournal f h = h
-reports_more heard more statuses.BadLine f h = h
-reports_more heard more statuses.Usage f h = h
-reports_more heard more statuses.NoAnswer f h = h
-reports_more heard more statuses.NoPort f h = h
+reports_more heard more status f (inl fault) = inl fault
+reports_more heard more status f (inr (done, h)) = inr (done, f h)
 
 -- what a request asks for, of what its question's answer is
 pub audible_from : (request : AudibleRequest) (asked : Question) (before after : Option (List HostCall))

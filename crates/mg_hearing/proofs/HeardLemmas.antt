@@ -1,5 +1,5 @@
--- Reading the first line of a script, and then the script; and what an exit status answers.
-use Rattle.std.proofs.Common.{◌≡◌, ◌⊎◌, ◌∙◌, ℕ, Bool, true, List, ◌++◌, Option, Some, None, ap, append_assoc, codes, inl, inr, refl, reverse, subst, sym}
+-- Reading the first line of a script, and then the script; and what is printed about it.
+use Rattle.std.proofs.Common.{◌≡◌, ◌∙◌, ℕ, Bool, true, List, ◌++◌, Option, Some, None, ap, append_assoc, codes, inl, inr, reverse, subst, sym}
 use Rattle.std.proofs.Math.Seq.{take-append_seam}
 use Rattle.std.specs.Prelude.{IfSome}
 use Rattle.std.specs.Io.{StartsWith}
@@ -12,22 +12,17 @@ use Rattle.mg_core.specs.Run.{HasRead}
 use Rattle.mg_dates.specs.declared.date.Date.{Date}
 use Rattle.mg_heard.specs.declared.entry.Entry.{Entry}
 use Rattle.mg_heard.specs.declared.extent.Extent.{Extent}
-use Rattle.mg_heard.specs.declared.format.Format.{Format}
-use Rattle.mg_heard.specs.declared.format.Format.TheVariants as formats
 use Rattle.mg_heard.specs.declared.verdict.Verdict.{Verdict}
-use Rattle.mg_heard.specs.declared.verdict.Verdict.TheVariants.{CouldHear}
-use Rattle.mg_heard.specs.declared.verdict.Verdict.TheVariants as verdicts
 use Rattle.mg_heard.specs.Reported.{WritesReport, WritesVerdict}
 use Rattle.mg_heard.specs.Times.{extent_of}
 use Rattle.mg_heard.specs.Told.{TellsAll}
 use Rattle.mg_heard.specs.Verdict.{verdict_at}
 use Rattle.mg_heard.proofs.KeepingLemmas.{tells_weaker}
 use Rattle.mg_options.specs.declared.status.Status.{Status}
-use Rattle.mg_options.specs.declared.status.Status.TheVariants.{Done, CouldNotHear, Unknown}
-use Rattle.mg_options.specs.declared.status.Status.TheVariants.{Failed, NoMemory, BadJournal}
-use Rattle.mg_options.specs.declared.status.Status.TheVariants as statuses
+use Rattle.mg_options.specs.declared.status.Status.TheVariants.{Done}
 use Rattle.mg_hearing.specs.declared.question.Question.{Question}
-use Rattle.mg_hearing.specs.Heard.{Hears, IsHeard, Prints, PrintsAs, status_for}
+use Rattle.mg_hearing.specs.Heard.{Hears, IsHeard, Prints, status_for}
+use Rattle.mg_hearing.specs.aids.Forms.{PrintsLines}
 use Rattle.mg_arguments.specs.declared.heard_request.HeardRequest.{HeardRequest}
 use Rattle.mg_arguments.specs.Title.{title_line}
 use Rattle.mg_arguments.specs.Title.{title_text}
@@ -68,38 +63,6 @@ title_is line text title (Some config) fed marked is =
     fed ∙ ap (λ (l : List ℕ). l ++ codes "\n") (marked ∙ ap (λ (l : List ℕ). codes "# " ++ l) is)
     ∙ append_assoc (codes "# ") (title_text config) (codes "\n")
 
--- ## The answer
-
-abbrev pub IsAnswer : Status → Type 0
-IsAnswer status = (status ≡ Done) ⊎ (status ≡ CouldNotHear) ⊎ (status ≡ Unknown)
-
-answers_by : (verdict : Verdict) → IsAnswer (status_for verdict)
-answers_by (CouldHear x) = inl refl
-answers_by verdicts.CouldNotHear = inr (inl refl)
-answers_by verdicts.Unknown = inr (inr refl)
-
-answers : (asked : Question) (time : Option Date) (old new : Option (List ℕ)) (status : Status)
-    (extent : Extent) (xs : List Entry) → Prints asked time old new status extent xs → IsAnswer status
-answers asked None old new status extent xs h = inl h.1
-answers asked (Some time) old new status extent xs (line, is) =
-    subst IsAnswer (sym is) (answers_by (verdict_at asked.query time extent xs))
-
-answers_as : (format : Format) (request : HeardRequest) (asked : Question) (script old new : Option (List ℕ))
-    (status : Status) (extent : Extent) (xs : List Entry) →
-    PrintsAs format request asked script old new status extent xs → IsAnswer status
-answers_as formats.Page request asked script old new status extent xs h = inl h.1
-answers_as formats.Text request asked script old new status extent xs h =
-    answers asked asked.at old new status extent xs h
-answers_as formats.Csv request asked script old new status extent xs h =
-    answers asked asked.at old new status extent xs h
-answers_as formats.Json request asked script old new status extent xs h =
-    answers asked asked.at old new status extent xs h
-
-hears_of : (heard silent : Type 0) (status : Status) → IsAnswer status → heard × silent → Hears heard silent status
-hears_of heard silent status (inl is) h = subst (λ (s : Status). Hears heard silent s) (sym is) h
-hears_of heard silent status (inr (inl is)) h = subst (λ (s : Status). Hears heard silent s) (sym is) h
-hears_of heard silent status (inr (inr is)) h = subst (λ (s : Status). Hears heard silent s) (sym is) h
-
 -- ## What is printed
 
 pub prints_more : (config : Config) (input rest : Option (List ℕ)) (state : CoreState)
@@ -122,13 +85,13 @@ pub prints_answer : (asked : Question) (at : Option Date) (time : Date) (config 
     ((state : CoreState) × IsFollowed config input rest state
     (λ notes. TellsAll config notes (λ extent xs. verdict ≡ verdict_at asked.query time extent xs))) →
     (state : CoreState) × IsFollowed config input rest state
-    (λ notes. TellsAll config notes (Prints asked at old new status))
+    (λ notes. TellsAll config notes (PrintsLines asked at old new status))
 prints_answer asked at time config input rest old new verdict status timed written is (state, h) = (
   state,
   prints_more config input rest state (λ extent xs. verdict ≡ verdict_at asked.query time extent xs)
-      (Prints asked at old new status)
+      (PrintsLines asked at old new status)
       (λ (extent : Extent) (xs : List Entry) (e : verdict ≡ verdict_at asked.query time extent xs).
-      subst (λ (t : Option Date). Prints asked t old new status extent xs) (sym timed) (
+      subst (λ (t : Option Date). PrintsLines asked t old new status extent xs) (sym timed) (
         subst (λ (v : Verdict). WritesVerdict asked.style v old new) e written,
         is ∙ ap (λ (v : Verdict). status_for v) e,
       )) h,
@@ -140,21 +103,21 @@ pub prints_report : (asked : Question) (at : Option Date) (config : Config)
     ((state : CoreState) × IsFollowed config input rest state (λ notes. TellsAll config notes (λ extent xs.
     WritesReport asked.style asked.query old new xs × (covered ≡ extent)))) →
     (state : CoreState) × IsFollowed config input rest state
-    (λ notes. TellsAll config notes (Prints asked at old new status))
+    (λ notes. TellsAll config notes (PrintsLines asked at old new status))
 prints_report asked at config input rest old new status covered timed is (state, h) = (
   state,
   prints_more config input rest state
       (λ extent xs. WritesReport asked.style asked.query old new xs × (covered ≡ extent))
-      (Prints asked at old new status)
+      (PrintsLines asked at old new status)
       (λ (extent : Extent) (xs : List Entry) (h : WritesReport asked.style asked.query old new xs × (covered ≡ extent)).
-      subst (λ (t : Option Date). Prints asked t old new status extent xs) (sym timed) (h.0, is)) h,
+      subst (λ (t : Option Date). PrintsLines asked t old new status extent xs) (sym timed) (h.0, is)) h,
 )
 
 -- a script with its first line in front
 pub is_heard : (request : HeardRequest) (asked : Question) (config : Config) (old mid : Option (List ℕ)) (front : List ℕ)
     (held written : Option (List ℕ)) (status : Status) → Consumes old mid front → front ≡ title_line config →
     ((rest : Option (List ℕ)) × (state : CoreState) × IsFollowed config (option_append (Some front) mid) rest state
-    (λ notes. TellsAll config notes (PrintsAs asked.style.format request asked old held written status))) →
+    (λ notes. TellsAll config notes (Prints asked.style.format asked.at request asked old held written status))) →
     IsHeard request asked old held written status
 is_heard request asked config old mid front held written status first is (rest, state, h) = record {
   config = config;
@@ -171,32 +134,8 @@ is_heard request asked config old mid front held written status first is (rest, 
   };
 }
 
-pub hears : (request : HeardRequest) (asked : Question) (script old new : Option (List ℕ)) (silent : Type 0)
-    (status : Status) → IsHeard request asked script old new status → silent →
-    Hears (IsHeard request asked script old new status) silent status
-hears request asked script old new silent status h quiet =
-    hears_of (IsHeard request asked script old new status) silent status
-    (answers_as asked.style.format request asked script old new status (extent_of (reverse h.prints.notes)) h.prints.follows.xs
-    h.prints.follows.told) (h, quiet)
-
 -- what follows from what a run did, is true after it
 pub hears_more : (heard more silent quiet : Type 0) (status : Status) → (heard → more) → (silent → quiet) →
     Hears heard silent status → Hears more quiet status
-hears_more heard more silent quiet Done f g (h, s) = (f h, g s)
-hears_more heard more silent quiet CouldNotHear f g (h, s) = (f h, g s)
-hears_more heard more silent quiet Unknown f g (h, s) = (f h, g s)
-hears_more heard more silent quiet statuses.RuleBroken f g (h, s) = (f h, g s)
-hears_more heard more silent quiet Failed f g h = h
-hears_more heard more silent quiet NoMemory f g h = h
-hears_more heard more silent quiet BadJournal f g h = h
-hears_more heard more silent quiet statuses.BadLine f g h = h
-hears_more heard more silent quiet statuses.Usage f g h = h
-hears_more heard more silent quiet statuses.NoAnswer f g h = h
-hears_more heard more silent quiet statuses.NoPort f g h = h
-
--- a fault is no answer, and nothing is promised
-pub hears_fault : (heard silent : Type 0) (status : Status) →
-    (status ≡ Failed) ⊎ (status ≡ NoMemory) ⊎ (status ≡ BadJournal) → Hears heard silent status
-hears_fault heard silent status (inl is) = subst (λ (s : Status). Hears heard silent s) (sym is) tt
-hears_fault heard silent status (inr (inl is)) = subst (λ (s : Status). Hears heard silent s) (sym is) tt
-hears_fault heard silent status (inr (inr is)) = subst (λ (s : Status). Hears heard silent s) (sym is) tt
+hears_more heard more silent quiet status f g (inl fault) = inl fault
+hears_more heard more silent quiet status f g (inr (h, s)) = inr (f h, g s)

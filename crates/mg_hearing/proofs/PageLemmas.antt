@@ -1,5 +1,5 @@
 -- Texts in pieces, and what is printed as a page.
-use Rattle.std.proofs.Common.{◌≡◌, ◌∙◌, ◌+◌, ◌<◌, ℕ, true, false, List, ◌++◌, Option, Result, Ok, Err, append_assoc, drop, get_or, length, refl, sym}
+use Rattle.std.proofs.Common.{◌≡◌, ◌∙◌, ◌+◌, ◌<◌, ℕ, true, false, List, ◌++◌, None, Option, Result, Ok, Err, Some, append_assoc, drop, get_or, length, refl, sym}
 use Rattle.std.proofs.KnownBytes.{Appends-trans}
 use Rattle.std.proofs.lemmas.List.{at_drop_more}
 use Rattle.std.specs.Prelude.{IfOk}
@@ -8,6 +8,7 @@ use Rattle.std.specs.Io.KnownBytes.{Appends}
 use Rattle.mg_engine.specs.declared.config.Config.{Config}
 use Rattle.mg_core.specs.declared.state.CoreState.{CoreState}
 use Rattle.mg_core.specs.Follow.{IsFollowed}
+use Rattle.mg_dates.specs.declared.date.Date.{Date}
 use Rattle.mg_heard.specs.declared.entry.Entry.{Entry}
 use Rattle.mg_heard.specs.declared.extent.Extent.{Extent}
 use Rattle.mg_heard.specs.declared.format.Format.{Format}
@@ -19,9 +20,9 @@ use Rattle.mg_options.specs.declared.status.Status.{Status}
 use Rattle.mg_options.specs.declared.status.Status.TheVariants.{Done}
 use Rattle.mg_arguments.specs.declared.heard_request.HeardRequest.{HeardRequest}
 use Rattle.mg_hearing.specs.declared.question.Question.{Question}
-use Rattle.mg_hearing.specs.Heard.{Prints, PrintsAs}
+use Rattle.mg_hearing.specs.Heard.{Prints}
 use Rattle.mg_hearing.specs.Page.{IsDigest, IsFront, IsOrigin, IsScale, WritesPage, WritesTable}
-use Rattle.mg_hearing.specs.aids.Forms.{is_page}
+use Rattle.mg_hearing.specs.aids.Forms.{PrintsLines, is_page}
 use Rattle.mg_hearing.proofs.HeardLemmas.{prints_more}
 
 -- one piece more: what was written, and what is left
@@ -33,29 +34,32 @@ piece_more f xs i d before whole lt is =
     sym (at_drop_more (λ rest. before ++ flat_map f rest) xs i d lt) ∙ is
 
 -- what isn't a page is printed in lines
-pub as_lines : (format : Format) (request : HeardRequest) (asked : Question) (script old new : Option (List ℕ)) (status : Status) (extent : Extent)
-    (xs : List Entry) → is_page format ≡ false → Prints asked asked.at old new status extent xs →
-    PrintsAs format request asked script old new status extent xs
-as_lines formats.Text request asked script old new status extent xs other h = h
-as_lines formats.Csv request asked script old new status extent xs other h = h
-as_lines formats.Json request asked script old new status extent xs other h = h
-as_lines formats.Page request asked script old new status extent xs other h = absurd cc
+pub as_lines : (format : Format) (at : Option Date) (request : HeardRequest) (asked : Question) (script old new : Option (List ℕ)) (status : Status)
+    (extent : Extent) (xs : List Entry) → is_page format ≡ false → PrintsLines asked at old new status extent xs →
+    Prints format at request asked script old new status extent xs
+as_lines formats.Text None request asked script old new status extent xs other h = h
+as_lines formats.Text (Some time) request asked script old new status extent xs other h = h
+as_lines formats.Csv None request asked script old new status extent xs other h = h
+as_lines formats.Csv (Some time) request asked script old new status extent xs other h = h
+as_lines formats.Json None request asked script old new status extent xs other h = h
+as_lines formats.Json (Some time) request asked script old new status extent xs other h = h
+as_lines formats.Page at request asked script old new status extent xs other h = absurd cc
 
-as_form : (format : Format) (request : HeardRequest) (asked : Question) (script old new : Option (List ℕ)) (extent : Extent)
+as_form : (format : Format) (at : Option Date) (request : HeardRequest) (asked : Question) (script old new : Option (List ℕ)) (extent : Extent)
     (xs : List Entry) → is_page format ≡ true → WritesPage request asked script old new xs →
-    PrintsAs format request asked script old new Done extent xs
-as_form formats.Text request asked script old new extent xs page h = absurd cc
-as_form formats.Csv request asked script old new extent xs page h = absurd cc
-as_form formats.Json request asked script old new extent xs page h = absurd cc
-as_form formats.Page request asked script old new extent xs page h = (h, refl)
+    Prints format at request asked script old new Done extent xs
+as_form formats.Text at request asked script old new extent xs page h = absurd cc
+as_form formats.Csv at request asked script old new extent xs page h = absurd cc
+as_form formats.Json at request asked script old new extent xs page h = absurd cc
+as_form formats.Page at request asked script old new extent xs page h = (h, refl)
 
 -- a table, and what follows it
 pub as_page : (request : HeardRequest) (asked : Question) (script old mid new : Option (List ℕ))
     (scale digest origin : List ℕ) (extent : Extent) (xs : List Entry) → is_page asked.style.format ≡ true →
     IsScale scale → IsDigest script digest → IsOrigin request.file digest origin → Appends mid new (scale ++ origin) →
-    WritesTable request asked old mid xs → PrintsAs asked.style.format request asked script old new Done extent xs
+    WritesTable request asked old mid xs → Prints asked.style.format asked.at request asked script old new Done extent xs
 as_page request asked script old mid new scale digest origin extent xs page scaled hashed is writes h =
-    as_form asked.style.format request asked script old new extent xs page
+    as_form asked.style.format asked.at request asked script old new extent xs page
     (mid, scale, digest, origin, h, scaled, hashed, is, writes)
 
 -- a front, and rows after it

@@ -1,5 +1,5 @@
--- What is printed about rules, and what an exit status answers.
-use Rattle.std.proofs.Common.{◌≡◌, ◌++◌, List, ℕ, Option, Some, None, subst, sym}
+-- What is printed about rules.
+use Rattle.std.proofs.Common.{◌≡◌, ◌++◌, List, ℕ, Option, Some}
 use Rattle.std.specs.Fmt.{option_append}
 use Rattle.std.specs.Io.KnownBytes.{Consumes}
 use Rattle.mg_engine.specs.declared.config.Config.{Config}
@@ -43,11 +43,6 @@ is_answered alarm config old mid rest front held written found status first is h
   written = line;
   status_is = status_is;
 }
-
-pub answers : (answered silent : Type 0) (found : Option Violation) (status : Status) → status ≡ status_for found →
-    answered → silent → Hears answered silent status
-answers answered silent None status is h quiet = subst (λ (s : Status). Hears answered silent s) (sym is) (h, quiet)
-answers answered silent (Some v) status is h quiet = subst (λ (s : Status). Hears answered silent s) (sym is) (h, quiet)
 
 -- what a request asks for, of what its alarm did
 pub answered_from : (request : WatchRequest) (alarm : Alarm) (before after : Option (List HostCall))

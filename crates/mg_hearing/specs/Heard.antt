@@ -1,9 +1,10 @@
 -- What `mg_bridge heard` prints, and what its exit status answers.
-use Rattle.std.specs.Prelude.{◌≡◌, ℕ, ⊤, List, [], Option, Some, None, IfSome}
+use Rattle.std.specs.Prelude.{◌≡◌, ◌⊎◌, ℕ, List, [], Option, Some, None, IfSome}
 use Rattle.std.specs.Io.{StartsWith}
 use Rattle.mg_engine.specs.declared.config.Config.{Config}
 use Rattle.mg_core.specs.declared.state.CoreState.{CoreState}
 use Rattle.mg_core.specs.Follow.{IsFollowed}
+use Rattle.mg_core.specs.Note.{Note}
 use Rattle.mg_dates.specs.declared.date.Date.{Date}
 use Rattle.mg_heard.specs.declared.entry.Entry.{Entry}
 use Rattle.mg_heard.specs.declared.extent.Extent.{Extent}
@@ -18,7 +19,7 @@ use Rattle.mg_heard.specs.Reported.{WritesReport, WritesVerdict}
 use Rattle.mg_heard.specs.Told.{TellsAll}
 use Rattle.mg_heard.specs.Verdict.{verdict_at}
 use Rattle.mg_options.specs.declared.status.Status.{Status}
-use Rattle.mg_options.specs.declared.status.Status.TheVariants.{Done, CouldNotHear, Unknown, RuleBroken}
+use Rattle.mg_options.specs.declared.status.Status.TheVariants.{Done, CouldNotHear, Unknown}
 use Rattle.mg_options.specs.declared.status.Status.TheVariants.{Failed, NoMemory, BadJournal}
 use Rattle.mg_arguments.specs.declared.heard_request.HeardRequest.{HeardRequest}
 use Rattle.mg_arguments.specs.declared.printing.Printing.{Printing}
@@ -34,35 +35,32 @@ status_for (CouldHear x) = Done
 status_for verdicts.CouldNotHear = CouldNotHear
 status_for verdicts.Unknown = Unknown
 
--- What is printed about the intervals and gaps of a script, and the time that it covers. Without a
--- time, it is a line for each that is asked for. With one, it is the line of the answer that follows
--- from them, and the status answers too.
-abbrev pub Prints : Question → Option Date → (old new : Option (List ℕ)) → Status → Extent
-    → List Entry → Type 0
-Prints asked None old new status extent xs =
+-- What is printed about the intervals and gaps of a script, and the time that it covers: a page; or,
+-- without a time, a line for each that is asked for; or, with a time, the line of the answer that
+-- follows from them, and the status answers too.
+abbrev pub Prints : Format → Option Date → HeardRequest → Question
+    → (script old new : Option (List ℕ)) → Status → Extent → List Entry → Type 0
+Prints formats.Page at request asked script old new status extent xs =
+    WritesPage request asked script old new xs × (status ≡ Done)
+Prints format None request asked script old new status extent xs =
     WritesReport asked.style asked.query old new xs × (status ≡ Done)
-Prints asked (Some time) old new status extent xs =
+Prints format (Some time) request asked script old new status extent xs =
     WritesVerdict asked.style (verdict_at asked.query time extent xs) old new
     × (status ≡ status_for (verdict_at asked.query time extent xs))
 
--- what is printed in a format: a page, or what the request asks for in lines
-abbrev pub PrintsAs : Format → HeardRequest → Question → (script old new : Option (List ℕ))
-    → Status → Extent → List Entry → Type 0
-PrintsAs formats.Page request asked script old new status extent xs =
-    WritesPage request asked script old new xs × (status ≡ Done)
-PrintsAs _ request asked script old new status extent xs =
-    Prints asked asked.at old new status extent xs
-
 -- A script was read to its end. It begins with the title of the configuration with which it is run,
--- and what is printed is about all its intervals.
-pub record IsHeard (request : HeardRequest) (asked : Question)
-    (script old new : Option (List ℕ)) (status : Status) : Type 0 where
+-- and this is true of its notes.
+pub record IsRead (script : Option (List ℕ)) (Told : Config → List Note → Type 0) : Type 0 where
   pub config : Config
   pub titled : IfSome script (λ text. StartsWith text (title_line config))
   pub rest : Option (List ℕ)
   pub state : CoreState
-  pub prints : IsFollowed config script rest state
-      (λ notes. TellsAll config notes (PrintsAs asked.style.format request asked script old new status))
+  pub prints : IsFollowed config script rest state (Told config)
+
+-- A script was read, and what is printed is about all its intervals.
+abbrev pub IsHeard : HeardRequest → Question → (script old new : Option (List ℕ)) → Status → Type 0
+IsHeard request asked script old new status = IsRead script (λ config notes. TellsAll config notes
+    (Prints asked.style.format asked.at request asked script old new status))
 
 -- How an answer is written, as a request asks: in its format; and without a file of names, nothing
 -- has a name. (No contract says what a file contains, or which time zones the system has.)
@@ -85,14 +83,11 @@ IsHeardFrom request before after input old new status =
     × ReadsFrom request.file before after input script
     × IsAsked request asked × IsHeard request asked script old new status
 
--- What is true after a run, given its status. The statuses of answers aren't those of faults: a
--- read or a write failed, memory ran out, or the script can't be used.
+-- the statuses of faults: a read or a write failed, memory ran out, or the script can't be used
+abbrev pub IsFault : Status → Type 0
+IsFault status = (status ≡ Failed) ⊎ (status ≡ NoMemory) ⊎ (status ≡ BadJournal)
+
+-- What is true after a run. Unless there was a fault, something was heard, which determines the
+-- status, and no error is printed.
 abbrev pub Hears : (heard silent : Type 0) → Status → Type 0
-Hears heard silent Done = heard × silent
-Hears heard silent CouldNotHear = heard × silent
-Hears heard silent Unknown = heard × silent
-Hears heard silent RuleBroken = heard × silent
-Hears heard silent Failed = ⊤
-Hears heard silent NoMemory = ⊤
-Hears heard silent BadJournal = ⊤
-Hears heard silent status = ⊥
+Hears heard silent status = IsFault status ⊎ (heard × silent)

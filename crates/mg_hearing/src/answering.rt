@@ -2,8 +2,8 @@ ghost use Rattle.std.specs.Prelude.{◌≡◌, ◌⊎◌, IfErr, IfOk, IsSome, O
 ghost use Rattle.mg_core.specs.Follow.{IsFollowed};
 ghost use Rattle.mg_core.specs.declared.state.CoreState.{CoreState};
 ghost use Rattle.mg_heard.specs.Told.{TellsAll};
-ghost use Rattle.mg_hearing.specs.Heard.{Hears, IsAsked, IsHeard, IsHeardFrom, Prints, status_for};
-ghost use Rattle.mg_hearing.specs.aids.Forms.{is_page};
+ghost use Rattle.mg_hearing.specs.Heard.{Hears, IsAsked, IsHeard, IsHeardFrom, status_for};
+ghost use Rattle.mg_hearing.specs.aids.Forms.{PrintsLines, is_page};
 
 use crate::asking::Asking;
 use crate::faults::report_fault;
@@ -43,7 +43,7 @@ fn print_heard<R: Read, W: Write>(
     ensures value { IfOk result (λ status. (state : CoreState) ×
         IsFollowed config (R.remaining reader.old) (R.remaining reader.new) state
         (λ notes. TellsAll config notes
-        (Prints question question.at (W.contents output.old) (W.contents output.new) status))) }
+        (PrintsLines question question.at (W.contents output.old) (W.contents output.new) status))) }
 {
     let Question { style, query, at } = question;
     match at {

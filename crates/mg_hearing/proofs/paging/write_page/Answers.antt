@@ -1,6 +1,6 @@
-use Rattle.std.proofs.Common.{List, Option, refl, subst, sym, take, ℕ}
+use Rattle.std.proofs.Common.{List, Option, inr, refl, subst, sym, take, ℕ}
 use Rattle.mg_options.specs.declared.status.Status.TheVariants.{Done}
-use Rattle.mg_hearing.specs.Heard.{PrintsAs}
+use Rattle.mg_hearing.specs.Heard.{Prints}
 use Rattle.mg_hearing.specs.Page.{IsDigest, WritesTable}
 use Rattle.mg_hearing.proofs.HashLemmas.{known_text, second_at_end}
 use Rattle.mg_hearing.proofs.HeardLemmas.{is_heard, prints_more}
@@ -32,11 +32,11 @@ returns-in-Ok-write_back g c =
     let hashed = subst (λ (t : Option (List ℕ)). IsDigest t (take 64 c.of-origin.result.script.end)) (sym c.requires.text)
     (c.of-origin.ensures.script (rw c.into_inner-hashed.ensures.second ended)) in
     let printed = prints_more config _ _ state (λ _. WritesTable request asked old mid)
-    (PrintsAs asked.style.format request asked script old new Done)
+    (Prints asked.style.format asked.at request asked script old new Done)
     (λ extent xs t. as_page request asked script old mid new scale _ origin extent xs c.requires.page scaled hashed from
     writes t) h in
     record {
-      value = (
+      value = inr (
         is_heard request asked config script _ line old new Done first is (_, state, printed),
         c.in-Ok.ensures.silent,
       );

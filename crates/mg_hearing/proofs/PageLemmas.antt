@@ -1,9 +1,9 @@
 -- Texts in pieces, and what is printed as a page.
-use Rattle.std.proofs.Common.{◌≡◌, ◌∙◌, ◌+◌, ◌<◌, ℕ, true, false, List, ◌++◌, None, Option, Result, Ok, Err, Some, append_assoc, drop, get_or, length, refl, sym}
+use Rattle.std.proofs.Common.{◌≡◌, ◌∙◌, ◌+◌, ◌<◌, ℕ, true, false, List, [], ◌∷◌, ◌++◌, None, Option, Result, Ok, Err, Some, ap, append_assoc, drop, get_or, length, refl, subst, sym}
 use Rattle.std.proofs.KnownBytes.{Appends-trans}
 use Rattle.std.proofs.lemmas.List.{at_drop_more}
-use Rattle.std.specs.Prelude.{IfOk}
-use Rattle.std.specs.List.{flat_map}
+use Rattle.std.specs.Prelude.{IfOk, IfSome}
+use Rattle.std.specs.List.{AllZip, flat_map}
 use Rattle.std.specs.Io.KnownBytes.{Appends}
 use Rattle.mg_engine.specs.declared.config.Config.{Config}
 use Rattle.mg_core.specs.declared.state.CoreState.{CoreState}
@@ -13,6 +13,7 @@ use Rattle.mg_heard.specs.declared.entry.Entry.{Entry}
 use Rattle.mg_heard.specs.declared.extent.Extent.{Extent}
 use Rattle.mg_heard.specs.declared.format.Format.{Format}
 use Rattle.mg_heard.specs.declared.format.Format.TheVariants as formats
+use Rattle.mg_heard.specs.Escaped.{escaped}
 use Rattle.mg_heard.specs.Lines.{head_of}
 use Rattle.mg_heard.specs.Reported.{WritesReport}
 use Rattle.mg_heard.specs.Told.{TellsAll}
@@ -20,8 +21,10 @@ use Rattle.mg_options.specs.declared.status.Status.{Status}
 use Rattle.mg_options.specs.declared.status.Status.TheVariants.{Done}
 use Rattle.mg_arguments.specs.declared.heard_request.HeardRequest.{HeardRequest}
 use Rattle.mg_hearing.specs.declared.question.Question.{Question}
+use Rattle.mg_hearing.specs.declared.page_text.TheConstants.{COMMAND, HASH, PROGRAM, PROGRAM_HASH, SIZE, SOURCE, TABLE_END, TICKS, TIME, TRUST, WHOLE}
 use Rattle.mg_hearing.specs.Heard.{Prints}
-use Rattle.mg_hearing.specs.Page.{IsDigest, IsFront, IsOrigin, IsScale, WritesPage, WritesTable}
+use Rattle.mg_hearing.specs.Page.{IsDigest, IsFilled, WritesPage, back_parts, front_parts, last_words, party_word, script_name}
+use Rattle.mg_hearing.specs.aids.Parts.{IsFront, IsOrigin, IsScale, WritesTable}
 use Rattle.mg_hearing.specs.aids.Forms.{PrintsLines, is_page}
 use Rattle.mg_hearing.proofs.HeardLemmas.{prints_more}
 
@@ -53,14 +56,86 @@ as_form formats.Csv at request asked script old new extent xs page h = absurd cc
 as_form formats.Json at request asked script old new extent xs page h = absurd cc
 as_form formats.Page at request asked script old new extent xs page h = (h, refl)
 
+-- ## Parts
+
+filled_with : List (List ℕ × Option (List ℕ)) → List (List ℕ) → List ℕ
+filled_with (part ∷ parts) (shown ∷ more) = part.0 ++ (escaped shown ++ filled_with parts more)
+filled_with parts shown = []
+
+IsGiven : List ℕ × Option (List ℕ) → List ℕ → Type 0
+IsGiven part shown = IfSome part.1 (λ given. shown ≡ given)
+
+-- parts with these texts
+filled : (parts : List (List ℕ × Option (List ℕ))) (shown : List (List ℕ)) → AllZip IsGiven parts shown →
+    IsFilled parts (filled_with parts shown)
+unfolding IsGiven filled_with
+filled [] [] h = refl
+filled [] (shown ∷ more) h = absurd h
+filled (part ∷ parts) [] h = absurd h
+filled (part ∷ parts) (shown ∷ more) h = (shown, filled_with parts more, h.0, filled parts more h.1, refl)
+
+-- parts after parts
+filled_both : (parts more : List (List ℕ × Option (List ℕ))) (a b : List ℕ) → IsFilled parts a → IsFilled more b →
+    IsFilled (parts ++ more) (a ++ b)
+filled_both [] more a b h k = subst (λ (t : List ℕ). IsFilled more (t ++ b)) (sym h) k
+filled_both (part ∷ parts) more a b (shown, others, given, rest, is) k = (
+  shown,
+  others ++ b,
+  given,
+  filled_both parts more others b rest k,
+  ap (λ (t : List ℕ). t ++ b) is ∙ append_assoc part.0 (escaped shown ++ others) b
+      ∙ ap (λ (t : List ℕ). part.0 ++ t) (append_assoc (escaped shown) others b),
+)
+
+front_filled : (request : HeardRequest) (front : List ℕ) → IsFront request front → IsFilled (front_parts request) front
+unfolding IsGiven filled_with
+front_filled request front h =
+    let name = script_name request.file in
+    subst (λ (t : List ℕ). IsFilled (front_parts request) t) (sym h.is)
+    (filled (front_parts request) (name ∷ name ∷ party_word request.query.listener ∷ party_word request.query.talker
+    ∷ h.from ∷ h.until ∷ [] ∷ []) (refl, (refl, (refl, (refl, (tt, (tt, (refl, tt))))))))
+
+scale_parts : List (List ℕ × Option (List ℕ))
+scale_parts = (TABLE_END.now, None) ∷ (TICKS.now, None) ∷ (WHOLE.now, Some []) ∷ []
+
+origin_parts : (file : Option (List ℕ)) → (digest : List ℕ) → List (List ℕ × Option (List ℕ))
+origin_parts file digest = (SOURCE.now, Some (script_name file)) ∷ (SIZE.now, None) ∷ (HASH.now, Some digest)
+    ∷ (TIME.now, None) ∷ (PROGRAM.now, None) ∷ (PROGRAM_HASH.now, None) ∷ (COMMAND.now, None)
+    ∷ ([], Some (last_words file)) ∷ (TRUST.now, Some []) ∷ []
+
+back_filled : (file : Option (List ℕ)) (digest scale origin : List ℕ) → IsScale scale → IsOrigin file digest origin →
+    IsFilled (back_parts file digest) (scale ++ origin)
+unfolding IsGiven filled_with scale_parts origin_parts
+back_filled file digest scale origin h k =
+    let first : IsFilled scale_parts scale = subst (λ (t : List ℕ). IsFilled scale_parts t) (sym h.is)
+    (filled scale_parts (h.scale ∷ h.ticks ∷ [] ∷ []) (tt, (tt, (refl, tt)))) in
+    let second : IsFilled (origin_parts file digest) origin =
+    subst (λ (t : List ℕ). IsFilled (origin_parts file digest) t) (sym k.is)
+    (filled (origin_parts file digest) (script_name file ∷ k.size ∷ digest ∷ k.covered ∷ k.program ∷ k.program_digest
+    ∷ k.options ∷ last_words file ∷ [] ∷ []) (refl, (tt, (refl, (tt, (tt, (tt, (tt, (refl, (refl, tt)))))))))) in
+    filled_both scale_parts (origin_parts file digest) scale origin first second
+
 -- a table, and what follows it
 pub as_page : (request : HeardRequest) (asked : Question) (script old mid new : Option (List ℕ))
     (scale digest origin : List ℕ) (extent : Extent) (xs : List Entry) → is_page asked.style.format ≡ true →
     IsScale scale → IsDigest script digest → IsOrigin request.file digest origin → Appends mid new (scale ++ origin) →
     WritesTable request asked old mid xs → Prints asked.style.format asked.at request asked script old new Done extent xs
 as_page request asked script old mid new scale digest origin extent xs page scaled hashed is writes h =
-    as_form asked.style.format asked.at request asked script old new extent xs page
-    (mid, scale, digest, origin, h, scaled, hashed, is, writes)
+    let (front, rows, begins, lines, table) = h in
+    let head = head_of asked.style.format in
+    as_form asked.style.format asked.at request asked script old new extent xs page (
+      front,
+      rows,
+      digest,
+      scale ++ origin,
+      front_filled request front begins,
+      hashed,
+      lines,
+      back_filled request.file digest scale origin scaled is,
+      subst (λ (t : List ℕ). Appends old new t) (append_assoc front (head ++ rows) (scale ++ origin)
+          ∙ ap (λ (t : List ℕ). front ++ t) (append_assoc head rows (scale ++ origin)))
+          (Appends-trans old mid new (front ++ (head ++ rows)) (scale ++ origin) table writes),
+    )
 
 -- a front, and rows after it
 pub as_table : {S E : Type 0} (request : HeardRequest) (asked : Question) (config : Config) (input rest old mid new : Option (List ℕ))

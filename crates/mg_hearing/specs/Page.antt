@@ -3,7 +3,7 @@
 use Rattle.std.specs.Prelude.{◌≡◌, ℕ, ◌==◌, List, [], ◌∷◌, ◌++◌}
 use Rattle.std.specs.Prelude.{Option, Some, None, codes, filter, unwrap_or, IfSome, if◌then◌else◌}
 use Rattle.std.specs.Io.KnownBytes.{Appends}
-use Rattle.std.specs.List.{concat, flat_map}
+use Rattle.std.specs.List.{flat_map}
 use Rattle.hex.specs.Hex.{encode_lower}
 use Rattle.sha2.specs.Sha256.{sha256}
 use Rattle.mg_heard.specs.declared.entry.Entry.{Entry}
@@ -41,63 +41,50 @@ party_word (Some (Name name)) = name
 abbrev pub script_name : Option (List ℕ) → List ℕ
 script_name file = unwrap_or file (codes "standard input")
 
--- a page up to its table, with some texts for the two times
-pub record IsFront (request : HeardRequest) (front : List ℕ) : Type 0 where
-  pub from : List ℕ
-  pub until : List ℕ
-  pub is : front ≡ concat (
-      TITLE.now ∷ escaped (script_name request.file) ∷ ASKED.now
-      ∷ escaped (script_name request.file) ∷ LISTENER.now
-      ∷ escaped (party_word request.query.listener) ∷ TALKER.now
-      ∷ escaped (party_word request.query.talker) ∷ FROM.now ∷ escaped from ∷ UNTIL.now
-      ∷ escaped until ∷ ANSWER.now ∷ [])
+-- ## The page
 
--- ## The origin
+-- A part of a page: fixed texts, and after each an escaped text, which is the given one, or any.
+abbrev pub IsFilled : List (List ℕ × Option (List ℕ)) → List ℕ → Type 0
+IsFilled [] text = text ≡ []
+IsFilled (part ∷ parts) text =
+    (shown : List ℕ) × (others : List ℕ) × IfSome part.1 (λ given. shown ≡ given)
+    × IsFilled parts others × (text ≡ part.0 ++ (escaped shown ++ others))
 
--- the end of a table, and the scale of its timeline
-pub record IsScale (text : List ℕ) : Type 0 where
-  pub scale : List ℕ
-  pub ticks : List ℕ
-  pub is : text ≡ concat (
-      TABLE_END.now ∷ escaped scale ∷ TICKS.now ∷ escaped ticks ∷ WHOLE.now ∷ [])
+-- what precedes the table
+abbrev pub front_parts : HeardRequest → List (List ℕ × Option (List ℕ))
+front_parts request =
+    (TITLE.now, Some (script_name request.file)) ∷ (ASKED.now, Some (script_name request.file))
+    ∷ (LISTENER.now, Some (party_word request.query.listener))
+    ∷ (TALKER.now, Some (party_word request.query.talker)) ∷ (FROM.now, None) ∷ (UNTIL.now, None)
+    ∷ (ANSWER.now, Some []) ∷ []
 
 -- the end of a command about a file, or about the input, which has no name
 abbrev pub last_words : Option (List ℕ) → List ℕ
 last_words None = codes " < FILE"
 last_words (Some name) = codes " -- " ++ quoted name
 
--- the end of a page: what was read, with this digest, which program wrote the page, and the command
--- that it ran
-pub record IsOrigin (file : Option (List ℕ)) (digest text : List ℕ) : Type 0 where
-  pub size : List ℕ
-  pub covered : List ℕ
-  pub program : List ℕ
-  pub program_digest : List ℕ
-  pub options : List ℕ
-  pub is : text ≡ concat (
-      SOURCE.now ∷ escaped (script_name file) ∷ SIZE.now ∷ escaped size ∷ HASH.now
-      ∷ escaped digest ∷ TIME.now ∷ escaped covered ∷ PROGRAM.now ∷ escaped program
-      ∷ PROGRAM_HASH.now ∷ escaped program_digest ∷ COMMAND.now ∷ escaped options
-      ∷ escaped (last_words file) ∷ TRUST.now ∷ [])
-
--- ## The page
-
--- a writer has received the front of a page and a row for each entry that is asked for
-abbrev pub WritesTable : HeardRequest → Question → (old new : Option (List ℕ)) → List Entry → Type 0
-WritesTable request asked old new xs =
-    (front : List ℕ) × (rows : List ℕ) × IsFront request front
-    × AreLines asked.style (filter (selects_entry asked.query) xs) rows
-    × Appends old new (front ++ (head_of asked.style.format ++ rows))
+-- the end of the table and the scale of its timeline, what was read, with this digest, which program
+-- wrote the page, and the command that it ran
+abbrev pub back_parts : (file : Option (List ℕ)) → (digest : List ℕ)
+    → List (List ℕ × Option (List ℕ))
+back_parts file digest =
+    (TABLE_END.now, None) ∷ (TICKS.now, None) ∷ (WHOLE.now, Some [])
+    ∷ (SOURCE.now, Some (script_name file)) ∷ (SIZE.now, None) ∷ (HASH.now, Some digest)
+    ∷ (TIME.now, None) ∷ (PROGRAM.now, None) ∷ (PROGRAM_HASH.now, None) ∷ (COMMAND.now, None)
+    ∷ ([], Some (last_words file)) ∷ (TRUST.now, Some []) ∷ []
 
 -- the SHA-256 of a text, if the text is known, in lower-case hexadecimal digits
 abbrev pub IsDigest : Option (List ℕ) → List ℕ → Type 0
 IsDigest text digest = IfSome text (λ t. digest ≡ encode_lower (sha256 t))
 
--- A writer has received a page about these entries of a script, with the script's digest. (No
--- contract says that the timeline's scale, times, the program's hash and options are right.)
+-- A writer has received a page with a row for each of these entries of a script that is asked for,
+-- and with the script's digest. (No contract says that the timeline's scale, times, the program's
+-- hash and options are right.)
 abbrev pub WritesPage : HeardRequest → Question → (script old new : Option (List ℕ)) → List Entry
     → Type 0
 WritesPage request asked script old new xs =
-    (mid : Option (List ℕ)) × (scale : List ℕ) × (digest : List ℕ) × (origin : List ℕ)
-    × WritesTable request asked old mid xs × IsScale scale × IsDigest script digest
-    × IsOrigin request.file digest origin × Appends mid new (scale ++ origin)
+    (front : List ℕ) × (rows : List ℕ) × (digest : List ℕ) × (back : List ℕ)
+    × IsFilled (front_parts request) front × IsDigest script digest
+    × AreLines asked.style (filter (selects_entry asked.query) xs) rows
+    × IsFilled (back_parts request.file digest) back
+    × Appends old new (front ++ (head_of asked.style.format ++ (rows ++ back)))

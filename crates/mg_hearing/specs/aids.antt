@@ -1,2 +1,3 @@
 pub mod Forms
 pub mod Hashing
+pub mod Parts

@@ -1,6 +1,6 @@
 ghost use Rattle.std.specs.Prelude.{◌++◌, take, List, OnOk, ℕ};
 ghost use Rattle.std.specs.Io.KnownBytes.{Appends};
-ghost use Rattle.mg_hearing.specs.Page.{IsOrigin, IsScale};
+ghost use Rattle.mg_hearing.specs.aids.Parts.{IsOrigin, IsScale};
 
 use crate::escaping::escaped;
 use crate::origin::Origin;

@@ -1,6 +1,6 @@
 ghost use Rattle.std.specs.Prelude.{List, OnOk, ℕ};
 ghost use Rattle.std.specs.Io.KnownBytes.{Appends};
-ghost use Rattle.mg_hearing.specs.Page.{IsFront};
+ghost use Rattle.mg_hearing.specs.aids.Parts.{IsFront};
 
 use crate::escaping::escaped;
 use crate::page_text::{ANSWER, ASKED, FROM, LISTENER, TALKER, TITLE, UNTIL};

@@ -3,7 +3,7 @@ ghost use Rattle.mg_core.specs.Follow.{IsFollowed};
 ghost use Rattle.mg_core.specs.declared.state.CoreState.{CoreState};
 ghost use Rattle.mg_heard.specs.Told.{TellsAll};
 ghost use Rattle.mg_hearing.specs.Heard.{Hears, IsHeard};
-ghost use Rattle.mg_hearing.specs.Page.{WritesTable};
+ghost use Rattle.mg_hearing.specs.aids.Parts.{WritesTable};
 ghost use Rattle.mg_hearing.specs.aids.Forms.{is_page};
 
 use crate::asking::Asking;

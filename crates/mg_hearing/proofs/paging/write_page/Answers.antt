@@ -1,7 +1,8 @@
 use Rattle.std.proofs.Common.{List, Option, inr, refl, subst, sym, take, ℕ}
 use Rattle.mg_options.specs.declared.status.Status.TheVariants.{Done}
 use Rattle.mg_hearing.specs.Heard.{Prints}
-use Rattle.mg_hearing.specs.Page.{IsDigest, WritesTable}
+use Rattle.mg_hearing.specs.Page.{IsDigest}
+use Rattle.mg_hearing.specs.aids.Parts.{WritesTable}
 use Rattle.mg_hearing.proofs.HashLemmas.{known_text, second_at_end}
 use Rattle.mg_hearing.proofs.HeardLemmas.{is_heard, prints_more}
 use Rattle.mg_hearing.proofs.PageLemmas.{as_page}

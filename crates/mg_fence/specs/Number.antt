@@ -1,0 +1,22 @@
+-- The number in the name of a message's sender, such as 17 in MEGACO/1 <17.lobby.example>.
+use Rattle.std.specs.Prelude.{◌≡◌, ℕ, ◌==◌, ◌&&◌, List, drop, slice_index_or, Option, None}
+use Rattle.std.specs.Prelude.{option_and_then, if◌then◌else◌}
+use Rattle.std.specs.Char.{is_ascii_alphabetic}
+use Rattle.mg_words.specs.Cut.{cut}
+use Rattle.mg_words.specs.Numbers.{number_of}
+use Rattle.mg_scan.specs.Span.{text_of}
+use Rattle.mg_core.specs.declared.parsed.Parsed.{Parsed}
+use Rattle.mg_core.specs.declared.parsed.Parsed.TheVariants.{Message, Refused}
+use Rattle.mg_core.specs.Parsed.{IsReadingOf}
+
+-- The sender is cut at its first dot. There is a number if the part before the dot is an angle
+-- bracket, as in a domain name, and a number, and if a letter follows the dot. A datagram that is
+-- refused as a whole has none.
+abbrev pub number_in : List ℕ → Parsed → Option ℕ
+number_in bytes (Message m) = option_and_then (λ p.
+    if slice_index_or p.0 0 0 == 60 && is_ascii_alphabetic (slice_index_or p.1 0 0)
+    then number_of (drop 1 p.0) else None) (cut 46 (text_of bytes m.sender))
+number_in bytes (Refused fault) = None
+
+abbrev pub HasNumber : List ℕ → Option ℕ → Type 0
+HasNumber bytes n = (parsed : Parsed) × IsReadingOf bytes parsed × (n ≡ number_in bytes parsed)

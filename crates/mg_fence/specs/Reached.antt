@@ -1,0 +1,20 @@
+-- The number that a journal has reached: where a fence begins when a gateway resumes.
+use Rattle.std.specs.Prelude.{◌≡◌, ℕ, max, List, [], ◌∷◌, codes, take, drop, Option, None, unwrap_or}
+use Rattle.std.specs.Prelude.{if◌then◌else◌}
+use Rattle.std.specs.Str.{bytes_eq}
+use Rattle.mg_words.specs.Numbers.{number_of}
+use Rattle.mg_core.specs.declared.event.Event.TheVariants.{Control}
+use Rattle.mg_core.specs.Note.{Note, Comment, Happened}
+use Rattle.mg_fence.specs.Number.{HasNumber}
+
+-- the number in a comment such as `# fence 17`, with which an operator set the fence
+abbrev pub number_set : List ℕ → Option ℕ
+number_set line = if bytes_eq (take 8 line) (codes "# fence ") then number_of (drop 8 line) else None
+
+-- The highest number of the messages of these notes, since an operator last set it.
+abbrev pub Reaches : (from : ℕ) → List Note → (last : ℕ) → Type 0
+Reaches from [] last = last ≡ from
+Reaches from (Comment line ∷ notes) last = Reaches (unwrap_or (number_set line) from) notes last
+Reaches from (Happened (Control source bytes) ∷ notes) last =
+    (n : Option ℕ) × HasNumber bytes n × Reaches (max from (unwrap_or n 0)) notes last
+Reaches from (note ∷ notes) last = Reaches from notes last

@@ -1,0 +1,23 @@
+//! Fencing tokens: a controller that another one has replaced can't command any more.
+//!
+//! The name of a message's sender may begin with a number, as in `MEGACO/1 <17.lobby.example>`. A [`Fence`] remembers
+//! the highest number of the messages that have been run:
+//!
+//! ```rust
+//! let number = number_in(bytes, &parsed);
+//! if fence.passes(bytes, number) {
+//!     // The message is run.
+//!     fence = fence.raised_by(number);
+//! }
+//! ```
+//!
+//! A [`FenceReader`] reads the number that a journal has reached.
+#![tactic(auto)]
+
+mod fence;
+mod fence_reader;
+mod number;
+
+pub use crate::fence::{ACKNOWLEDGEMENT, Fence, HEARTBEAT};
+pub use crate::fence_reader::FenceReader;
+pub use crate::number::number_in;

@@ -169,64 +169,6 @@ run_is name rows address control service config run named commanded served confi
     (ap (λ (r : Result Service Kinds). r >>= with_service name rows address control) served ∙
     rw (is, configured) refl)
 
--- the options of a gateway on sockets, with these controllers, this address to bind to and these files
-abbrev with_durability : List Row → List (List ℕ) → (bound metrics journal : Option (List ℕ)) → Durability
-    → Result Service Kinds
-with_durability rows controllers bound metrics journal durability = Ok (record {
-  controllers = controllers;
-  bind_address = bound;
-  report = number_or 65536 (codes "report") 0 rows;
-  records = is_set (codes "record") rows;
-  symmetric_rtp = is_set (codes "symmetric-rtp") rows;
-  metrics = metrics;
-  journal = journal;
-  durability = durability;
-  given = given_in rows;
-})
-
-abbrev with_journal : List Row → List (List ℕ) → (bound metrics journal : Option (List ℕ)) → Result Service Kinds
-with_journal rows controllers bound metrics journal =
-    durability_in journal rows >>= with_durability rows controllers bound metrics journal
-
-abbrev with_metrics : List Row → List (List ℕ) → (bound metrics : Option (List ℕ)) → Result Service Kinds
-with_metrics rows controllers bound metrics =
-    valid (file_in (codes "journal") rows) >>= with_journal rows controllers bound metrics
-
-abbrev with_bound : List Row → List (List ℕ) → Option (List ℕ) → Result Service Kinds
-with_bound rows controllers bound =
-    valid (file_in (codes "metrics") rows) >>= with_metrics rows controllers bound
-
-abbrev with_controllers : List Row → List (List ℕ) → Result Service Kinds
-with_controllers rows controllers = valid (bind_address_in rows) >>= with_bound rows controllers
-
--- the first options, up to the file for metrics
-at_metrics : (rows : List Row) (controllers : List (List ℕ)) (bound metrics : Option (List ℕ)) →
-    Ok controllers ≡ controllers_in rows → Ok bound ≡ bind_address_in rows →
-    Ok metrics ≡ file_in (codes "metrics") rows → service_in rows ≡ with_metrics rows controllers bound metrics
-at_metrics rows controllers bound metrics listed named written =
-    continues controllers (controllers_in rows) (with_controllers rows) listed ∙
-    (continues bound (bind_address_in rows) (with_bound rows controllers) named ∙
-    continues metrics (file_in (codes "metrics") rows) (with_metrics rows controllers bound) written)
-
-at_journal : (rows : List Row) (controllers : List (List ℕ)) (bound metrics journal : Option (List ℕ)) →
-    Ok controllers ≡ controllers_in rows → Ok bound ≡ bind_address_in rows →
-    Ok metrics ≡ file_in (codes "metrics") rows → Ok journal ≡ file_in (codes "journal") rows →
-    service_in rows ≡ with_journal rows controllers bound metrics journal
-at_journal rows controllers bound metrics journal listed named written journaled =
-    at_metrics rows controllers bound metrics listed named written ∙
-    continues journal (file_in (codes "journal") rows) (with_journal rows controllers bound metrics) journaled
-
-pub service_is : (rows : List Row) (controllers : List (List ℕ)) (bound metrics journal : Option (List ℕ))
-    (durability : Durability) (service : Service) →
-    Ok controllers ≡ controllers_in rows → Ok bound ≡ bind_address_in rows →
-    Ok metrics ≡ file_in (codes "metrics") rows → Ok journal ≡ file_in (codes "journal") rows →
-    durability_in journal rows ≡ Ok durability →
-    Ok service ≡ with_durability rows controllers bound metrics journal durability → service_in rows ≡ Ok service
-service_is rows controllers bound metrics journal durability service listed named written journaled durable is =
-    at_journal rows controllers bound metrics journal listed named written journaled ∙
-    (ap (λ (r : Result Durability Kinds). r >>= with_durability rows controllers bound metrics journal) durable ∙
-    sym is)
-
 -- there is none at a text that names no address
 pub refuses_address : (name : Text) (rows : List Row) (fault : AddressFault) →
     Err fault ≡ address_in (codes "address") standard.address rows → gateway_in name rows ≡ Err (ValueValidation ∷ [])
@@ -240,45 +182,6 @@ pub refuses_control : (name : Text) (rows : List Row) (address : List ℕ) (faul
 refuses_control name rows address fault named commanded =
     at_address name rows address named ∙
     stops fault (address_in (codes "control-address") address rows) (with_control name rows address) commanded
-
--- none under texts that name no controllers
-pub refuses_controllers : (rows : List Row) (fault : ControllerFault) → Err fault ≡ controllers_in rows →
-    service_in rows ≡ Err (ValueValidation ∷ [])
-refuses_controllers rows fault listed = stops fault (controllers_in rows) (with_controllers rows) listed
-
--- none at a text that names no address to bind to
-pub refuses_bind_address : (rows : List Row) (controllers : List (List ℕ)) (fault : BindAddressFault) →
-    Ok controllers ≡ controllers_in rows → Err fault ≡ bind_address_in rows →
-    service_in rows ≡ Err (ValueValidation ∷ [])
-refuses_bind_address rows controllers fault listed named =
-    continues controllers (controllers_in rows) (with_controllers rows) listed ∙
-    stops fault (bind_address_in rows) (with_bound rows controllers) named
-
--- none at a text that is no path
-pub refuses_metrics : (rows : List Row) (controllers : List (List ℕ)) (bound : Option (List ℕ)) (fault : FilePathFault) →
-    Ok controllers ≡ controllers_in rows → Ok bound ≡ bind_address_in rows →
-    Err fault ≡ file_in (codes "metrics") rows → service_in rows ≡ Err (ValueValidation ∷ [])
-refuses_metrics rows controllers bound fault listed named written =
-    continues controllers (controllers_in rows) (with_controllers rows) listed ∙
-    (continues bound (bind_address_in rows) (with_bound rows controllers) named ∙
-    stops fault (file_in (codes "metrics") rows) (with_metrics rows controllers bound) written)
-
-pub refuses_journal : (rows : List Row) (controllers : List (List ℕ)) (bound metrics : Option (List ℕ))
-    (fault : FilePathFault) → Ok controllers ≡ controllers_in rows → Ok bound ≡ bind_address_in rows →
-    Ok metrics ≡ file_in (codes "metrics") rows → Err fault ≡ file_in (codes "journal") rows →
-    service_in rows ≡ Err (ValueValidation ∷ [])
-refuses_journal rows controllers bound metrics fault listed named written journaled =
-    at_metrics rows controllers bound metrics listed named written ∙
-    stops fault (file_in (codes "journal") rows) (with_journal rows controllers bound metrics) journaled
-
--- none if there is no journal to sync
-pub refuses_sync : (rows : List Row) (controllers : List (List ℕ)) (bound metrics journal : Option (List ℕ)) →
-    Ok controllers ≡ controllers_in rows → Ok bound ≡ bind_address_in rows →
-    Ok metrics ≡ file_in (codes "metrics") rows → Ok journal ≡ file_in (codes "journal") rows →
-    durability_in journal rows ≡ Err (ValueValidation ∷ []) → service_in rows ≡ Err (ValueValidation ∷ [])
-refuses_sync rows controllers bound metrics journal listed named written journaled refused =
-    at_journal rows controllers bound metrics journal listed named written journaled ∙
-    ap (λ (r : Result Durability Kinds). r >>= with_durability rows controllers bound metrics journal) refused
 
 -- and none with faulty options of a gateway on sockets
 pub refuses_service : (name : Text) (rows : List Row) (address control : List ℕ) →

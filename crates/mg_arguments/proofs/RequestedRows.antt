@@ -1,5 +1,5 @@
 -- What some lines of arguments ask for.
-use Rattle.std.proofs.Common.{◌≡◌, ℕ, true, false, List, [], ◌∷◌, Some, None, Ok, Err, refl, codes}
+use Rattle.std.proofs.Common.{◌≡◌, ℕ, Bool, true, false, List, [], ◌∷◌, Option, Some, None, Ok, Err, refl, codes}
 use Rattle.clap.proofs.OnLiterals.{clap_on_literals}
 use Rattle.clap.specs.Walk.{Text}
 use Rattle.clap.specs.declared.error.kind.ErrorKind.TheVariants as kind
@@ -45,6 +45,8 @@ anybody report = record {
   metrics = None;
   journal = None;
   durability = Written;
+  fence = None;
+  fence_from = None;
   given = none_given;
 }
 
@@ -120,6 +122,32 @@ serve_syncs = refl
 sync_without_a_journal : requested (codes "live" ∷ codes "--sync" ∷ []) ≡ Err (kind.ValueValidation ∷ [])
 unfolding requested command_line options config_at clap_on_literals
 sync_without_a_journal = refl
+
+-- under the control of 10.0.0.1 alone
+abbrev fenced : (strict : Bool) → (from : Option ℕ) → Service
+fenced strict from = record (anybody 0) {
+  controllers = (10 ∷ 0 ∷ 0 ∷ 1 ∷ []) ∷ [];
+  fence = Some strict;
+  fence_from = from;
+}
+
+live_behind_a_fence : requested (codes "live" ∷ codes "--fence" ∷ codes "--controller=10.0.0.1" ∷ []) ≡
+    Ok (Live standard (fenced false None) all_drawn 5)
+unfolding requested command_line options config_at address_of clap_on_literals
+live_behind_a_fence = refl
+
+serve_behind_a_strict_fence : requested (codes "serve" ∷ codes "--controller=10.0.0.1" ∷ codes "--fence-strict"
+    ∷ codes "--fence-from" ∷ codes "17" ∷ []) ≡ Ok (Serve standard (fenced true (Some 17)))
+unfolding requested command_line options config_at address_of clap_on_literals
+serve_behind_a_strict_fence = refl
+
+fence_without_controllers : requested (codes "live" ∷ codes "--fence" ∷ []) ≡ Err (kind.ValueValidation ∷ [])
+unfolding requested command_line options config_at clap_on_literals
+fence_without_controllers = refl
+
+fence_from_without_controllers : requested (codes "live" ∷ codes "--fence-from=1" ∷ []) ≡ Err (kind.ValueValidation ∷ [])
+unfolding requested command_line options config_at clap_on_literals
+fence_from_without_controllers = refl
 
 journal_without_a_path : requested (codes "serve" ∷ codes "--journal=" ∷ []) ≡ Err (kind.ValueValidation ∷ [])
 unfolding requested command_line options config_at clap_on_literals

@@ -1,7 +1,7 @@
 -- The command line, as its parser sees it, and what the arguments request.
 use Rattle.std.specs.Prelude.{ℕ, Bool, true, false, if◌then◌else◌, List, [], ◌∷◌, Option, Some}
 use Rattle.std.specs.Prelude.{None, is_none, is_some, unwrap_or, option_and_then, Result, Ok, Err, codes}
-use Rattle.std.specs.Prelude.{fold, ◌||◌, ◌&&◌}
+use Rattle.std.specs.Prelude.{fold, length, ◌||◌, ◌&&◌, ◌==◌}
 use Rattle.std.specs.Option.{option_map_or}
 use Rattle.std.specs.Str.{bytes_eq}
 use Rattle.clap.specs.Walk.{Row, Rule, Text, all_of, first_of}
@@ -80,7 +80,8 @@ sockets_line name =
     fold with_rule (subcommand_line name) (text_rule (codes "bind-address") ∷ repeated_rule (codes "controller")
     ∷ number_rule (codes "report") 0 65535 ∷ flag_rule (codes "record")
     ∷ flag_rule (codes "symmetric-rtp") ∷ text_rule (codes "journal") ∷ flag_rule (codes "sync")
-    ∷ [])
+    ∷ flag_rule (codes "fence") ∷ flag_rule (codes "fence-strict")
+    ∷ number_rule (codes "fence-from") 0 4294967295 ∷ [])
 
 -- the subcommand that runs a script
 abbrev pub replay_line : App
@@ -182,6 +183,13 @@ durability_in journal found =
 abbrev pub is_given : Text → List Row → Bool
 is_given name found = is_some (first_of name found)
 
+-- whether there is a fence, and if so, whether it is strict; it needs a list of controllers
+abbrev pub fence_in : (listed : List (List ℕ)) → List Row → Result (Option Bool) Kinds
+fence_in listed found =
+    let strict = is_set (codes "fence-strict") found in
+    if strict || (is_set (codes "fence") found || is_given (codes "fence-from") found)
+    then (if length listed == 0 then Err (ValueValidation ∷ []) else Ok (Some strict)) else Ok None
+
 -- which options of the configuration are given
 abbrev pub given_in : List Row → Given
 given_in found = record {
@@ -212,6 +220,7 @@ service_in found = do
   metrics ← valid (file_in (codes "metrics") found)
   journal ← valid (file_in (codes "journal") found)
   durability ← durability_in journal found
+  fence ← fence_in controllers found
   Ok (record {
     controllers = controllers;
     bind_address = bound;
@@ -221,6 +230,8 @@ service_in found = do
     metrics = metrics;
     journal = journal;
     durability = durability;
+    fence = fence;
+    fence_from = number_given 4294967296 (codes "fence-from") found;
     given = given_in found;
   })
 

@@ -1,14 +1,18 @@
 -- The setup of a session.
+use Rattle.std.specs.Prelude.{ℕ, unwrap_or}
 use Rattle.std.specs.Option.{option_map}
 use Rattle.mg_engine.specs.declared.config.Config.{Config}
 use Rattle.mg_serve.specs.Setup.{Setup}
 use Rattle.mg_arguments.specs.declared.service.Service.{Service}
 
--- the setup of a session, as the program creates it
-abbrev pub setup_of : Config → Service → Setup
-setup_of config service = record {
+-- The setup of a session, as the program creates it. A fence begins at the number that an operator
+-- sets, or else at the one that the journal has reached.
+abbrev pub setup_of : Config → (reached : ℕ) → Service → Setup
+setup_of config reached service = record {
   config = config;
   controllers = service.controllers;
   symmetric_rtp = service.symmetric_rtp;
   journal = option_map (λ path. service.durability) service.journal;
+  fence = option_map (λ strict.
+      record { reached = unwrap_or service.fence_from reached; strict = strict }) service.fence;
 }

@@ -6,7 +6,7 @@ ghost use Rattle.mg_options.specs.Line.{text_rule};
 ghost use Rattle.mg_options.specs.Numbers.{number_or};
 ghost use Rattle.mg_arguments.specs.Options.{address_in, requested, command_line, config_at, controllers_in, repeated_rule};
 ghost use Rattle.mg_arguments.specs.Options.{bind_address_in, check_in, check_line, draws_of, flag_rule, is_set, live_line, options, replay_line, run_of};
-ghost use Rattle.mg_arguments.specs.Options.{durability_in, file_in, gateway_in, gateway_rule, given_in, is_given, run_in, service_in, sockets_line, subcommand_line};
+ghost use Rattle.mg_arguments.specs.Options.{durability_in, fence_in, file_in, gateway_in, gateway_rule, given_in, is_given, run_in, service_in, sockets_line, subcommand_line};
 
 use crate::address::{AddressFault, bind_address, own_address};
 use crate::bind_address_fault::BindAddressFault;
@@ -34,6 +34,9 @@ const NO_GATEWAY: &str =
 
 /// The error message if there is no journal to sync.
 const NO_JOURNAL: &str = "'--sync' needs '--journal <FILE>'";
+
+/// The error message if anybody may send messages through a fence.
+const NO_CONTROLLER: &str = "a fence needs '--controller <ADDRESS>'";
 
 /// Creates an option that takes an IPv4 address. Its parser accepts any text.
 fn address_option<'a>(alloc: Global, name: &'a str) -> Arg<'a>
@@ -134,7 +137,16 @@ fn on_sockets<'a>(alloc: Global, name: &'a str, about: &'a str) -> Result<Comman
         .arg(file_option(alloc, "journal").help(
             "File for a journal of messages and ticks, from which a restarted gateway continues",
         ))?
-        .arg(flag(alloc, "sync").help("Sync each message to disk before answering it"))?;
+        .arg(flag(alloc, "sync").help("Sync each message to disk before answering it"))?
+        .arg(flag(alloc, "fence").help(
+            "Drop messages whose sender's number, as in <17.lobby.example>, is below the highest one",
+        ))?
+        .arg(flag(alloc, "fence-strict").help(
+            "The same, and also drop messages without a number, except for those of check",
+        ))?
+        .arg(long_number(alloc, "fence-from").help(
+            "The same as --fence, but begin at this number, 0–4294967295, and not where the journal ends",
+        ))?;
     Ok(command)
 }
 
@@ -352,6 +364,25 @@ fn durability_of(
     }
 }
 
+/// Returns whether the fence is strict, if there is to be one. Without controllers, returns the error message.
+fn fence_of(
+    controllers: &Controllers,
+    matches: &ArgMatches<'_>,
+) -> Result<Option<bool>, &'static str>
+    ensures value { IfOk result (λ fence. fence_in controllers.now (rows_of (found_of matches.now)) ≡ Ok fence) }
+    ensures refused { IfErr result (λ _.
+        fence_in controllers.now (rows_of (found_of matches.now)) ≡ Err (ValueValidation ∷ [])) }
+{
+    let is_strict = is_set("fence-strict", matches);
+    if !(is_strict || is_set("fence", matches) || is_given("fence-from", matches)) {
+        return Ok(None);
+    }
+    if controllers.as_slice().is_empty() {
+        return Err(NO_CONTROLLER);
+    }
+    Ok(Some(is_strict))
+}
+
 /// Returns whether an option is given.
 pub(crate) fn is_given(name: &str, matches: &ArgMatches<'_>) -> bool
     ensures value { result ≡ is_given name.now (rows_of (found_of matches.now)) }
@@ -402,6 +433,7 @@ fn service_of(matches: &ArgMatches<'_>) -> Result<Service, &'static str>
         Err(fault) => return Err(fault.journal_message()),
     };
     let durability = durability_of(&journal, matches)?;
+    let fence = fence_of(&controllers, matches)?;
     Ok(Service {
         controllers,
         bind_address,
@@ -411,6 +443,8 @@ fn service_of(matches: &ArgMatches<'_>) -> Result<Service, &'static str>
         metrics,
         journal,
         durability,
+        fence,
+        fence_from: long_value(matches, "fence-from"),
         given: given_of(matches),
     })
 }

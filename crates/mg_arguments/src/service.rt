@@ -7,6 +7,7 @@ use crate::controllers::Controllers;
 use crate::file_path::FilePath;
 use crate::given::Given;
 use mg_core::Config;
+use mg_fence::Fence;
 use mg_journal::Durability;
 use mg_serve::Setup;
 
@@ -29,21 +30,33 @@ pub struct Service {
     pub journal: Option<FilePath>,
     /// How durably messages are appended to the journal.
     pub durability: Durability,
+    /// Whether the fence is strict, if there is one.
+    pub fence: Option<bool>,
+    /// The number at which an operator lets the fence begin. Otherwise, it begins where the journal ends.
+    pub fence_from: Option<u32>,
     /// Which options of the configuration are given. With a journal, the others come from the journal's title.
     pub given: Given,
 }
 
 impl Service {
-    /// Returns the setup of a session with this configuration.
-    pub fn setup(&self, config: Config) -> Setup<'_>
-        ensures value { result ≡ setup_of config self.now }
+    /// Returns the setup of a session with this configuration. The journal has reached this number.
+    pub fn setup(&self, config: Config, reached: u32) -> Setup<'_>
+        ensures value { result ≡ setup_of config reached self.now }
     {
         let journal = self.journal.as_ref().map(|_| self.durability);
+        let fence = match self.fence {
+            Some(strict) => Some(Fence {
+                reached: self.fence_from.unwrap_or(reached),
+                strict,
+            }),
+            None => None,
+        };
         Setup::new(
             config,
             self.controllers.as_slice(),
             self.symmetric_rtp,
             journal,
+            fence,
         )
     }
 

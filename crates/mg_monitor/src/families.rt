@@ -90,7 +90,19 @@ fn put_messages<W: Write>(report: &TickReport<'_>, page: &mut Page<'_, W>) -> io
     let help = "Messages accepted from controllers";
     page.counter("control_messages_total", help, report.counts.control)?;
     let help = "Messages dropped for lack of memory";
-    page.counter("control_messages_unread_total", help, report.unread)
+    page.counter("control_messages_unread_total", help, report.unread)?;
+    put_fence(report, page)
+}
+
+/// Writes the fence, if there is one, and how many messages didn't pass it.
+fn put_fence<W: Write>(report: &TickReport<'_>, page: &mut Page<'_, W>) -> io::Result<()> {
+    let Some(fence) = report.fence else {
+        return Ok(());
+    };
+    let help = "Highest number of a message that has been run";
+    page.gauge("fence_number", help, &fence.reached)?;
+    let help = "Messages dropped because they didn't pass the fence";
+    page.counter("control_messages_stale_total", help, report.stale)
 }
 
 /// Writes the counts of answers and packets.

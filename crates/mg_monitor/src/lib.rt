@@ -25,6 +25,7 @@ mod port_totals;
 mod reports;
 mod seconds;
 mod sink;
+mod stale_watch;
 
 pub use crate::both::Both;
 pub use crate::loss::Loss;

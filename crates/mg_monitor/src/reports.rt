@@ -1,8 +1,10 @@
 use crate::journal_watch::JournalWatch;
 use crate::port_counts::PortCounts;
+use crate::stale_watch::StaleWatch;
 use arrayvec::ArrayVec;
 use mg_clock::Timing;
 use mg_core::{Core, Counts, Record, TERMINATIONS, Taken};
+use mg_fence::Fence;
 use mg_serve::{JournalReport, Monitor, TickReport};
 use mg_words::mode_talks;
 use std::alloc::{AllocError, Global};
@@ -18,7 +20,8 @@ type Text = ArrayVec<u8, 512>;
 ///
 /// At the given interval, it prints the totals since the start, and a line for each media port that has had trouble
 /// since the last report. After a stall, it prints how many packets were too late to be sent. When appends to the
-/// journal begin to fail, or work again, it says so at once. It skips what it can't print.
+/// journal begin to fail, or work again, it says so at once. At most once a second, it says how many messages didn't
+/// pass the fence. It skips what it can't print.
 #[derive(Drop)]
 pub struct Reports<'a, E: Write> {
     every: u64,
@@ -29,6 +32,7 @@ pub struct Reports<'a, E: Write> {
     /// Datagrams that were dropped because of their sender.
     strangers: u64,
     journal: JournalWatch,
+    stale: StaleWatch,
     ports: Vec<PortCounts>,
     writer: &'a mut E,
 }
@@ -42,6 +46,7 @@ impl<'a, E: Write> Reports<'a, E> {
             late: 0,
             strangers: 0,
             journal: JournalWatch::new(),
+            stale: StaleWatch::new(),
             ports: vec![in alloc; PortCounts::new(); TERMINATIONS]?,
             writer,
         })
@@ -76,6 +81,24 @@ impl<'a, E: Write> Reports<'a, E> {
         let _ = self.writer.flush();
     }
 
+    /// Prints a line if messages didn't pass the fence.
+    fn watch_fence(&mut self, report: &TickReport<'_>) {
+        let Some(fence) = report.fence else {
+            return;
+        };
+        let Some(messages) = self.stale.take(report.stale, report.counts.ticks) else {
+            return;
+        };
+        let mut line = Text::new();
+        let _ = writeln!(
+            line,
+            "{messages} messages were stale: the fence is at {}",
+            fence.reached
+        );
+        write_line(&line, self.writer);
+        let _ = self.writer.flush();
+    }
+
     /// Returns whether a report is due.
     fn is_due(&self) -> bool {
         self.every > 0 && self.ticks % self.every == 0
@@ -84,6 +107,7 @@ impl<'a, E: Write> Reports<'a, E> {
     /// Prints a report.
     fn print(&mut self, report: &TickReport<'_>) {
         print_totals(&report.counts, self.strangers, self.writer);
+        print_fence(report.fence, report.stale, self.writer);
         for slot in 0..=u8::MAX {
             self.print_slot(report, slot);
         }
@@ -147,6 +171,7 @@ impl<'a, E: Write> Monitor for Reports<'a, E> {
         self.ticks = report.counts.ticks;
         self.count_late(report.timing, report.core.outbox().len() as u64);
         self.watch_journal(&report.journal);
+        self.watch_fence(report);
         if self.is_due() {
             self.print(report);
         }
@@ -187,6 +212,16 @@ fn print_totals<E: Write>(counts: &Counts, strangers: u64, writer: &mut E) {
         line,
         "totals control={control} media={media} ticks={ticks} sent={sent} failed={failed} strangers={strangers} started={started} placed={in_turn} pushed={pushed} again={again} late={late} dropped={a},{b},{c},{d},{e},{f} concealed={concealed}"
     );
+    write_line(&line, writer);
+}
+
+/// Prints the fence, if there is one, and how many messages didn't pass it since the start.
+fn print_fence<E: Write>(fence: Option<Fence>, stale: u64, writer: &mut E) {
+    let Some(fence) = fence else {
+        return;
+    };
+    let mut line = Text::new();
+    let _ = writeln!(line, "fence number={} stale={stale}", fence.reached);
     write_line(&line, writer);
 }
 

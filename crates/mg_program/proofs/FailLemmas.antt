@@ -51,6 +51,7 @@ served_any setup w title allowed clock later fails old new held written fault h 
   lacks = h.lacks;
   untried = h.untried;
   tries = h.tries;
+  fenced = h.fenced;
   journaled = h.journaled;
   printed = h.printed;
   counts = h.counts;

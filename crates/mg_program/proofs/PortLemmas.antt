@@ -63,21 +63,21 @@ pub no_session_then : (a b c : Option (List HostCall)) (p : List HostCall) → G
 no_session_then a b c p grows quiet rest = quiet_then a b c (p, grows, quiet) rest
 
 -- what is done before a gateway starts
-begun_quiet : (journal text : Option (List ℕ)) (config : Config) (missed : ℕ) (a b : Option (List HostCall))
-    → Begins journal text config missed a b → RunsNoSession a b
-begun_quiet None text config missed a b same =
+begun_quiet : (journal text : Option (List ℕ)) (config : Config) (missed : ℕ) (fence : Option ℕ)
+    (a b : Option (List HostCall)) → Begins journal text config missed fence a b → RunsNoSession a b
+begun_quiet None text config missed fence a b same =
     ([], subst (λ (x : Option (List HostCall)). Grows a x []) (sym same) (grows_none a), tt)
-begun_quiet (Some path) text config missed a b (millis, calls, lines, grows, writes, is) =
+begun_quiet (Some path) text config missed fence a b (millis, calls, lines, grows, writes, is) =
     (ReadDate millis ∷ calls, grows, writes_quiet calls lines writes)
 
 -- a gateway that could start, but didn't
-pub not_started : (journal text address : Option (List ℕ)) (config : Config) (missed count : ℕ)
-    (a b c d : Option (List HostCall)) → Grows a b (first_binds config address count)
-    → Begins journal text config missed b c → d ≡ c → RunsNoSession a d
-not_started journal text address config missed count a b c d bound begins same =
+pub not_started : (journal text address : Option (List ℕ)) (config : Config) (missed : ℕ) (fence : Option ℕ)
+    (count : ℕ) (a b c d : Option (List HostCall)) → Grows a b (first_binds config address count)
+    → Begins journal text config missed fence b c → d ≡ c → RunsNoSession a d
+not_started journal text address config missed fence count a b c d bound begins same =
     subst (λ (x : Option (List HostCall)). RunsNoSession a x) (sym same)
     (quiet_then a b c (first_binds config address count, bound, binds_quiet config address count)
-    (begun_quiet journal text config missed b c begins))
+    (begun_quiet journal text config missed fence b c begins))
 
 -- one socket more
 pub binds_more : (config : Config) (address : Option (List ℕ)) (count port : ℕ) (a b c : Option (List HostCall))

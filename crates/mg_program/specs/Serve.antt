@@ -46,16 +46,16 @@ pub data Drive : Type 0 where
 
 -- A session that was driven so, and how it ended. A clock drives it until a fault. It is the host's,
 -- which nothing has read before.
-abbrev pub RunsSession : Drive → Config → Service → World → (begun : Option (List HostCall))
-    → (old new : PortsSeen) → Result Counts RunFault → Type 0
-RunsSession (ByLines input rest held written) config service start begun old new outcome =
-    ServedSession (setup_of config service) start (title_if service.records config) input rest old new
-    held written outcome
-RunsSession (ByClock late clock held written) config service start begun old new (Ok counts) = ⊥
-RunsSession (ByClock late clock held written) config service start begun old new (Err fault) =
+abbrev pub RunsSession : Drive → Config → Service → World → (reached : ℕ)
+    → (begun : Option (List HostCall)) → (old new : PortsSeen) → Result Counts RunFault → Type 0
+RunsSession (ByLines input rest held written) config service start reached begun old new outcome =
+    ServedSession (setup_of config reached service) start (title_if service.records config) input
+    rest old new held written outcome
+RunsSession (ByClock late clock held written) config service start reached begun old new (Ok counts) = ⊥
+RunsSession (ByClock late clock held written) config service start reached begun old new (Err fault) =
     (unread : ClockSeen) × IsUnread begun unread
-    × ServedByClock (setup_of config service) start (title_if service.records config) late unread
-    clock ⊤ old new held written fault
+    × ServedByClock (setup_of config reached service) start (title_if service.records config) late
+    unread clock ⊤ old new held written fault
 
 -- The ports were bound, and a gateway ran with this outcome. It started from its journal's text, as
 -- far as that is known, after it had appended to the journal. The output is a recording if that was
@@ -67,12 +67,14 @@ pub record ServesOnPorts (drive : Drive) (config : Config) (service : Service)
   pub sound : IsValidConfig config
   pub runs : outcome ≢ Err faults.BadConfig
   pub start : World
+  pub reached : ℕ
   pub before : JournalState
   pub after : JournalState
   pub begun : Option (List HostCall)
-  pub started : HasStarted service.journal text config start before bound begun
-  pub served : RunsSession drive config service start begun (ports_seen (port_calls begun) before)
-      (ports_seen (port_calls last) after) outcome
+  pub started : HasStarted service.journal text service.fence_from config start reached before bound
+      begun
+  pub served : RunsSession drive config service start reached begun
+      (ports_seen (port_calls begun) before) (ports_seen (port_calls last) after) outcome
   pub known : Knows
   pub decided : HasDecided begun last known
 

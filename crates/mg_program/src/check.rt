@@ -2,17 +2,12 @@ ghost use Rattle.std.specs.Prelude.{◌≡◌, ◌≢◌};
 ghost use Rattle.mg_program.specs.Program.{Checks};
 
 use mg_core::Peer;
+use mg_fence::{ACKNOWLEDGEMENT, HEARTBEAT};
 use mg_options::Status;
 use std::io;
 use std::io::{ErrorKind, Write};
 use std::net::{Ipv4Addr, Net, SocketAddrV4, UdpSocket};
 use std::time::{Clock, Duration};
-
-/// The heartbeat: an audit of ROOT in the null context (RFC 3525, section 7.2.5).
-const HEARTBEAT: &[u8] = b"MEGACO/1 <check>\nTransaction=1{Context=-{AuditValue=ROOT}}";
-
-/// Acknowledges the heartbeat's reply, so that the gateway does not keep it.
-const ACKNOWLEDGEMENT: &[u8] = b"MEGACO/1 <check>\nTransactionResponseAck{1}";
 
 /// The part of the heartbeat's reply that follows the sender.
 const REPLY: &[u8] = b"\nReply=1{Context=-{AuditValue=ROOT}}";

@@ -44,6 +44,7 @@ fn live_on<P: Ports, K: Watch, W: Write, M: Monitor>(
     alloc: Global,
     config: Config,
     core: Core,
+    reached: u32,
     service: &Service,
     ports: &mut P,
     watch: &mut K,
@@ -53,7 +54,7 @@ fn live_on<P: Ports, K: Watch, W: Write, M: Monitor>(
 ) -> RunFault
     requires sound { IsValidConfig config }
     ensures session { (w : World) → StandsFor core.state w →
-        ServedByClock (setup_of config service.now) w (title_if service.now.records config) late
+        ServedByClock (setup_of config reached service.now) w (title_if service.now.records config) late
         (clock_seen (K.readings watch.old) (K.waits watch.old)) (clock_seen (K.readings watch.new) (K.waits watch.new))
         (K.Fails watch.new)
         (ports_seen (P.calls ports.old) (P.journal ports.old)) (ports_seen (P.calls ports.new) (P.journal ports.new))
@@ -63,7 +64,7 @@ fn live_on<P: Ports, K: Watch, W: Write, M: Monitor>(
     let title = title_of(&config);
     mg_serve::serve_by_clock(
         alloc,
-        &service.setup(config),
+        &service.setup(config, reached),
         core,
         service.title(title.as_slice()),
         ports,
@@ -89,7 +90,8 @@ fn live_on_sockets<L: LogKey, H: Host + Drop, J: Journal + Drop, C: Clock, W: Wr
     requires begins { H.calls host ≡ L.calls }
     requires unread { IsUnread (H.calls host) (clock_seen (H.Watch.readings watch) (H.Watch.waits watch)) }
     ensures value { (text : Option (List ℕ)) (bound : Option (List HostCall)) →
-        CanStart service.now.journal text ready.entry.config ready.entry.core.state
+        CanStart service.now.journal text service.now.fence_from ready.entry.config ready.entry.core.state
+        ready.entry.reached
         (option_map_or (λ j. j) ready.entry.journal no_journal) bound (H.calls host) →
         ServesOnPorts (ByClock late (H.stopped result.0) (W.contents output.old) (W.contents output.new))
         ready.entry.config service.now text bound (H.calls result.0) (Err result.1) }
@@ -100,6 +102,7 @@ fn live_on_sockets<L: LogKey, H: Host + Drop, J: Journal + Drop, C: Clock, W: Wr
         alloc,
         ready.config,
         ready.core,
+        ready.reached,
         service,
         &mut ports,
         &mut watch,
@@ -174,7 +177,7 @@ fn live_prepared<
     reports: &mut T,
 ) -> Ended<H>
     requires resumed { CanResume service.now.journal (option_map_or (λ j. text_in j.opening.file) prepared.journal None)
-        prepared.config prepared.core.state }
+        prepared.config prepared.core.state prepared.reached }
     requires found { IsSome service.now.journal → IsSome prepared.journal }
     requires times { IfSome prepared.journal (λ j. KeepsTimes j.timeline (text_in j.opening.file)) }
     ensures value { ServesChosen (ByClock late (H.stopped result.host) (W.contents output.old) (W.contents output.new))
@@ -215,7 +218,8 @@ fn live_ready<
 ) -> Ended<H>
     requires sound { IsValidConfig ready.config }
     ensures value { (text : Option (List ℕ)) (found bound : Option (List HostCall)) →
-        CanStart service.now.journal text ready.entry.config ready.entry.core.state
+        CanStart service.now.journal text service.now.fence_from ready.entry.config ready.entry.core.state
+        ready.entry.reached
         (option_map_or (λ j. j) ready.entry.journal no_journal) bound (H.calls host) →
         Grows found bound (binds_of ready.entry.config service.now.bind_address) →
         ServesChosen (ByClock late (H.stopped result.host) (W.contents output.old) (W.contents output.new))

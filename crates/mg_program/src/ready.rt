@@ -31,6 +31,8 @@ use std::time::Clock;
 pub struct Ready<'a, J: Journal, C: Clock> {
     pub config: Config,
     pub core: Core,
+    /// The number that the journal has reached.
+    pub reached: u32,
     pub journal: Option<DatedJournal<'a, J, C>>,
 }
 
@@ -84,7 +86,7 @@ pub fn make_ready<
     errors: &mut E,
 ) -> Result<Ready<'a, FileJournal<J>, C>, Status>
     requires resumed { CanResume service.now.journal (option_map_or (λ j. text_in j.opening.file) prepared.journal None)
-        prepared.config prepared.core.state }
+        prepared.config prepared.core.state prepared.reached }
     requires found { IsSome service.now.journal → IsSome prepared.journal }
     requires times { IfSome prepared.journal (λ j. KeepsTimes j.timeline (text_in j.opening.file)) }
     ensures fails { OnErr result (RunsNoSession (H.calls host.old) (H.calls host.new)) }
@@ -92,13 +94,14 @@ pub fn make_ready<
     ensures sound { IfOk result (λ r. IsValidConfig r.config) }
     ensures start { IfOk result (λ r. (bound : Option (List HostCall)) ×
         Grows (H.calls host.old) bound (binds_of prepared.config service.now.bind_address) ×
-        CanStart service.now.journal (option_map_or (λ j. text_in j.opening.file) prepared.journal None) r.config
-        r.core.state (option_map_or (λ j. j) r.journal no_journal) bound (H.calls host.new)) }
+        CanStart service.now.journal (option_map_or (λ j. text_in j.opening.file) prepared.journal None)
+        service.now.fence_from r.config r.core.state r.reached (option_map_or (λ j. j) r.journal no_journal) bound (H.calls host.new)) }
     ensures quiet { OnOk result (errors.new ≡ errors.old) }
     ensures ends { IfErr result (FailsToStart prepared.config) }
 {
     let config = prepared.config;
     let mut core = prepared.core;
+    let reached = prepared.reached;
     if let Err(status) = bind(host, &config, service.bind_address, errors) {
         return Err(status);
     }
@@ -113,11 +116,13 @@ pub fn make_ready<
         system.clock,
         prepared.journal,
         &mut core,
+        reached,
         errors,
     ) {
         Ok(journal) => Ok(Ready {
             config,
             core,
+            reached,
             journal,
         }),
         Err(status) => Err(status),

@@ -43,6 +43,7 @@ fn serve_on<P: Ports, R: Read, W: Write, M: Monitor>(
     alloc: Global,
     config: Config,
     core: Core,
+    reached: u32,
     service: &Service,
     ports: &mut P,
     input: &mut R,
@@ -51,7 +52,7 @@ fn serve_on<P: Ports, R: Read, W: Write, M: Monitor>(
 ) -> Result<Counts, RunFault>
     requires sound { IsValidConfig config }
     ensures session { (w : World) → StandsFor core.state w →
-        ServedSession (setup_of config service.now) w (title_if service.now.records config)
+        ServedSession (setup_of config reached service.now) w (title_if service.now.records config)
         (R.remaining input.old) (R.remaining input.new)
         (ports_seen (P.calls ports.old) (P.journal ports.old)) (ports_seen (P.calls ports.new) (P.journal ports.new))
         (W.contents output.old) (W.contents output.new) result }
@@ -60,7 +61,7 @@ fn serve_on<P: Ports, R: Read, W: Write, M: Monitor>(
     let title = title_of(&config);
     mg_serve::serve(
         alloc,
-        &service.setup(config),
+        &service.setup(config, reached),
         core,
         service.title(title.as_slice()),
         ports,
@@ -91,7 +92,8 @@ fn serve_on_sockets<
     requires sound { IsValidConfig ready.config }
     requires begins { H.calls host ≡ L.calls }
     ensures value { (text : Option (List ℕ)) (bound : Option (List HostCall)) →
-        CanStart service.now.journal text ready.entry.config ready.entry.core.state
+        CanStart service.now.journal text service.now.fence_from ready.entry.config ready.entry.core.state
+        ready.entry.reached
         (option_map_or (λ j. j) ready.entry.journal no_journal) bound (H.calls host) →
         ServesOnPorts (ByLines (R.remaining input.old) (R.remaining input.new) (W.contents output.old)
         (W.contents output.new)) ready.entry.config service.now text bound (H.calls result.0) result.1 }
@@ -101,6 +103,7 @@ fn serve_on_sockets<
         alloc,
         ready.config,
         ready.core,
+        ready.reached,
         service,
         &mut ports,
         input,
@@ -180,7 +183,7 @@ fn serve_prepared<
     reports: &mut T,
 ) -> Ended<H>
     requires resumed { CanResume service.now.journal (option_map_or (λ j. text_in j.opening.file) prepared.journal None)
-        prepared.config prepared.core.state }
+        prepared.config prepared.core.state prepared.reached }
     requires found { IsSome service.now.journal → IsSome prepared.journal }
     requires times { IfSome prepared.journal (λ j. KeepsTimes j.timeline (text_in j.opening.file)) }
     ensures value { ServesChosen (ByLines (R.remaining input.old) (R.remaining input.new) (W.contents output.old)
@@ -218,7 +221,8 @@ fn serve_ready<
 ) -> Ended<H>
     requires sound { IsValidConfig ready.config }
     ensures value { (text : Option (List ℕ)) (found bound : Option (List HostCall)) →
-        CanStart service.now.journal text ready.entry.config ready.entry.core.state
+        CanStart service.now.journal text service.now.fence_from ready.entry.config ready.entry.core.state
+        ready.entry.reached
         (option_map_or (λ j. j) ready.entry.journal no_journal) bound (H.calls host) →
         Grows found bound (binds_of ready.entry.config service.now.bind_address) →
         ServesChosen (ByLines (R.remaining input.old) (R.remaining input.new) (W.contents output.old)

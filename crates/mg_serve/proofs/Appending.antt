@@ -2,6 +2,7 @@
 use Rattle.std.proofs.Common.{◌≡◌, ℕ, false, is_some, zero, suc, ◌+◌, ◌-◌, ◌<◌, ◌≤◌, min, inl, inr, List, [], ◌∷◌, ◌++◌, IsSome, take, replicate, flat_map, Option, Some, None, Result, Ok, Err, refl, sym, ap, subst, ◌∙◌, append_assoc, arith, codes}
 use Rattle.std.proofs.lemmas.List.{append-nil}
 use Rattle.std.proofs.lemmas.List.Elements.{All-nil, All-cons, All-append}
+use Rattle.mg_fence.specs.declared.fence.Fence.{Fence}
 use Rattle.mg_journal.specs.declared.append_fault.AppendFault.{AppendFault}
 use Rattle.mg_journal.specs.declared.durability.Durability.{Durability}
 use Rattle.mg_journal.specs.declared.durability.Durability.TheVariants.{Written}
@@ -84,6 +85,7 @@ batch_fails fault before after j k ticks some few is logged dated =
       ticks = ticks;
       logs = record { logged = logged; journaled = (after.journal, dated, refl) };
       durability = refl;
+      fence = refl;
       lacks = batch_refused fault j.durability j.lacking ticks (j.lacking - ticks) some (omega (arith, few)) few;
       tries = append_tried j.durability j.untried 0 (tick_lines ticks) Written (Err fault) some refl;
     })
@@ -99,6 +101,7 @@ batch_works before after j k ticks some few is logged dated =
       ticks = ticks;
       logs = record { logged = logged; journaled = (after.journal, dated, refl) };
       durability = refl;
+      fence = refl;
       lacks = batch_done j.durability j.lacking ticks (j.lacking - ticks) some (omega (arith, few)) few;
       tries = append_tried j.durability j.untried 0 (tick_lines ticks) Written (Ok tt) some refl;
     })
@@ -111,6 +114,7 @@ nothing_appended seen j = record {
   are = All-nil IsAppended;
   logs = record { logged = told_none seen.calls; journaled = refl };
   durability = refl;
+  fence = refl;
   lacks = nothing_journaled j.durability j.lacking;
   tries = nothing_tried j.durability j.untried;
 }
@@ -153,6 +157,7 @@ batch_more (Ok done) a b c j k m h more =
           (All-cons IsAppended (Called (Append (tick_lines more.ticks) Written (Ok tt))) [] tt (All-nil IsAppended));
       logs = logs_both a b c h.trace last h.logs more.logs;
       durability = more.durability ∙ h.durability;
+      fence = more.fence ∙ h.fence;
       lacks = subst (λ (l : List TraceEntry). IsJournaled j.durability j.lacking l m.lacking)
           (sym (append-nil (h.trace ++ last))) (then_journaled a b j k m.lacking last h more.lacks);
       tries = subst (λ (l : List TraceEntry). IsTried j.durability j.untried l m.untried)
@@ -165,6 +170,7 @@ batch_more (Err fault) a b c j k m h more =
       are = (h.trace, tick_lines more.ticks, Written, refl, h.are, inl (more.ticks, refl));
       logs = logs_both a b c h.trace last h.logs more.logs;
       durability = more.durability ∙ h.durability;
+      fence = more.fence ∙ h.fence;
       lacks = subst (λ (l : List TraceEntry). IsJournaled j.durability j.lacking l m.lacking)
           (sym (append-nil (h.trace ++ last))) (then_journaled a b j k m.lacking last h more.lacks);
       tries = subst (λ (l : List TraceEntry). IsTried j.durability j.untried l m.untried)
@@ -212,6 +218,7 @@ announces (Ok done) durable source bytes a b c j k m h is none at fits logged da
       logs = logs_both a b c h.trace (Called append ∷ []) h.logs
           (record { logged = logged; journaled = (c.journal, dated, refl) });
       durability = h.durability;
+      fence = h.fence;
       lacks = subst (λ (l : List TraceEntry). IsJournaled j.durability j.lacking l k.lacking)
           (sym (append_assoc h.trace (Called append ∷ []) happened))
           (then_journaled a b j k k.lacking (Called append ∷ happened) h
@@ -231,6 +238,7 @@ announces (Err fault) durable source bytes a b c j k m h is none at fits logged 
       logs = logs_both a b c h.trace (Called append ∷ []) h.logs
           (record { logged = logged; journaled = (c.journal, dated, refl) });
       durability = h.durability;
+      fence = h.fence;
       lacks = subst (λ (l : List TraceEntry). IsJournaled j.durability j.lacking l k.lacking)
           (sym (append-nil (h.trace ++ Called append ∷ [])))
           (then_journaled a b j k k.lacking (Called append ∷ []) h
@@ -256,6 +264,7 @@ not_announced followed fault a b j k h = record {
   are = refused_before followed fault h.trace h.are;
   logs = h.logs;
   durability = h.durability;
+  fence = h.fence;
   lacks = h.lacks;
   tries = h.tries;
 }
@@ -268,6 +277,7 @@ nothing_announced source bytes seen j none = record {
   are = All-nil IsAppended;
   logs = record { logged = told_none seen.calls; journaled = refl };
   durability = refl;
+  fence = refl;
   lacks = subst (λ (d : Option Durability).
       IsJournaled d j.lacking (Happened (events.Control source bytes) ∷ []) j.lacking) (sym none) (refl, refl);
   tries = subst (λ (d : Option Durability).
@@ -293,6 +303,7 @@ tick_then_batch result before after j i k few is h =
       may = inr (tick_lines h.ticks, Written, result, refl);
       logs = h.logs;
       durability = h.durability ∙ view;
+      fence = h.fence ∙ ap (λ (v : JournalView). v.fence) is;
       lacks = subst (λ (v : JournalView).
           IsJournaled v.durability v.lacking (Called (Append (tick_lines h.ticks) Written result) ∷ []) k.lacking) is h.lacks;
       in_time = few;
@@ -312,19 +323,21 @@ tick_alone seen j k few is = subst (λ (v : JournalView). EndsTick seen seen j v
   may = inl refl;
   logs = record { logged = told_none seen.calls; journaled = refl };
   durability = refl;
+  fence = refl;
   lacks = nothing_journaled j.durability (after_one_tick j.durability j.lacking);
   in_time = few;
   tries = nothing_tried j.durability (after_one_tick j.durability j.untried);
 })
 
-without : (d : Option Durability) (lacking untried : ℕ) → is_some d ≡ false →
-    record { durability = d; lacking = lacking; untried = untried } ≡ with_tick (record { durability = d; lacking = lacking; untried = untried })
-without None lacking untried none = refl
-without (Some durable) lacking untried none = absurd cc
+without : (d : Option Durability) (lacking untried : ℕ) (fence : Option Fence) → is_some d ≡ false →
+    record { durability = d; lacking = lacking; untried = untried; fence = fence }
+    ≡ with_tick (record { durability = d; lacking = lacking; untried = untried; fence = fence })
+without None lacking untried fence none = refl
+without (Some durable) lacking untried fence none = absurd cc
 
 -- without a journal, no tick counts for it
 pub without_journal : (j : JournalView) → is_some j.durability ≡ false → j ≡ with_tick j
-without_journal j none = without j.durability j.lacking j.untried none
+without_journal j none = without j.durability j.lacking j.untried j.fence none
 
 -- with a journal, each tick does
 pub tick_counted : (j : JournalView) → IsSome j.durability →

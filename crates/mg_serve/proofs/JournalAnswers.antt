@@ -23,7 +23,7 @@ use Rattle.mg_serve.specs.Journaled.{Progress, Lacks, Announces, Advances, IsJou
 use Rattle.mg_serve.specs.JournalLaws.{IsKept, IsMoment, NothingAnsweredIsForgotten, TellsEvents}
 use Rattle.mg_serve.specs.Session.{Each, Becomes, EndsTurn, HandlesDatagram, HandlesEvent, IsAppended, LacksJournal, MayAppend, Performs, ReceivesDatagram, Session, SocketTurn, event_at, sends_of}
 use Rattle.mg_serve.specs.Setup.{Setup, is_admitted}
-use Rattle.mg_serve.specs.Trace.{TraceEntry, Called, Happened, Printed, Noted, calls_of, events_of_trace}
+use Rattle.mg_serve.specs.Trace.{TraceEntry, Called, Happened, Printed, Noted, Stale, calls_of, events_of_trace}
 use Rattle.mg_serve.proofs.JournalSteps.{Holds, after_parts, journals_parts, quiet_both, start_holds, trace_holds}
 use Rattle.mg_serve.proofs.Printing.{calls_both}
 
@@ -48,6 +48,7 @@ whoever due (Happened (Media port source bytes) ∷ trace) h = h
 whoever due (Happened Tick ∷ trace) h = h
 whoever due (Printed text ∷ trace) h = h
 whoever due (Noted text ∷ trace) h = h
+whoever due (Stale source bytes ∷ trace) h = h
 
 both : (due : Option Peer) (p q : List TraceEntry) → AnswersFollow due p → AnswersFollow None q → AnswersFollow due (p ++ q)
 both due [] q h k = whoever due q k
@@ -61,6 +62,7 @@ both due (Happened (Media port source bytes) ∷ p) q h k = both None p q h k
 both due (Happened Tick ∷ p) q h k = both None p q h k
 both due (Printed text ∷ p) q h k = both None p q h k
 both due (Noted text ∷ p) q h k = both None p q h k
+both due (Stale source bytes ∷ p) q h k = both None p q h k
 
 abbrev Follow : List TraceEntry → Type 0
 Follow trace = AnswersFollow None trace
@@ -108,6 +110,7 @@ appended_follow (Called (BeginTick timing) ∷ p) h = absurd (All-head IsAppende
 appended_follow (Happened event ∷ p) h = absurd (All-head IsAppended _ p h)
 appended_follow (Printed text ∷ p) h = absurd (All-head IsAppended _ p h)
 appended_follow (Noted text ∷ p) h = absurd (All-head IsAppended _ p h)
+appended_follow (Stale source bytes ∷ p) h = absurd (All-head IsAppended _ p h)
 
 handled_follows : (setup : Setup) (event : Event) (w next : World) (p : List TraceEntry)
     → HandlesEvent setup event w p next ⊎ LacksJournal event w p next → Follow p
@@ -126,8 +129,10 @@ become_follows : (admitted : Bool) (setup : Setup) (socket : ℕ) (datagram : Pe
     → Becomes admitted setup socket datagram w p next → Follow p
 become_follows true setup socket datagram w next p (inl h) =
     datagram_follows setup socket (event_at setup socket datagram.0 datagram.1) w next p h
-become_follows true setup socket datagram w next p (inr (control, (is, same))) =
+become_follows true setup socket datagram w next p (inr (control, inl (is, same))) =
     follow_as p (Noted (codes "no memory for a control datagram") ∷ []) is tt
+become_follows true setup socket datagram w next p (inr (control, inr (is, same))) =
+    follow_as p (Stale datagram.0 datagram.1 ∷ []) is tt
 become_follows false setup socket datagram w next p h = follow_as p [] h.0 tt
 
 comes_follow : (setup : Setup) (socket : ℕ) (datagram : Peer × List ℕ) (w next : World) (p : List TraceEntry)
@@ -208,6 +213,7 @@ answer_at due (Happened (Media port source bytes) ∷ front) to text rest h = la
 answer_at due (Happened Tick ∷ front) to text rest h = later due _ front to (answer_at None front to text rest h)
 answer_at due (Printed more ∷ front) to text rest h = later due _ front to (answer_at None front to text rest h)
 answer_at due (Noted more ∷ front) to text rest h = later due _ front to (answer_at None front to text rest h)
+answer_at due (Stale source bytes ∷ front) to text rest h = later due _ front to (answer_at None front to text rest h)
 
 -- ## The law
 

@@ -12,7 +12,7 @@ use Rattle.mg_core.specs.World.{World, start_of}
 use Rattle.mg_serve.specs.JournalLaws.{AnyCutIsAMoment, CutsResumeAMoment, IsMoment, IsScriptOf, LosesTicks, ResumesAt, WereTold}
 use Rattle.mg_serve.specs.Setup.{Setup}
 use Rattle.mg_serve.specs.Theorems.{SessionsAreRuns}
-use Rattle.mg_serve.specs.Trace.{TraceEntry, Called, Happened, Printed, Noted, events_of_trace}
+use Rattle.mg_serve.specs.Trace.{TraceEntry, Called, Happened, Printed, Noted, Stale, events_of_trace}
 use Rattle.mg_serve.proofs.JournalCrashes.{front_run, moment_told, resumed_as, split_run}
 use Rattle.mg_serve.proofs.ReadBack.{OneOutcome}
 use Rattle.mg_serve.proofs.Runs.{events_both}
@@ -87,6 +87,8 @@ past_of (Printed text ∷ front) (e ∷ events) rest is =
     after_quiet (Printed text) front (e ∷ events) (λ past. refl) (past_of front (e ∷ events) rest is)
 past_of (Noted text ∷ front) (e ∷ events) rest is =
     after_quiet (Noted text) front (e ∷ events) (λ past. refl) (past_of front (e ∷ events) rest is)
+past_of (Stale source bytes ∷ front) (e ∷ events) rest is =
+    after_quiet (Stale source bytes) front (e ∷ events) (λ past. refl) (past_of front (e ∷ events) rest is)
 
 -- ## The law
 

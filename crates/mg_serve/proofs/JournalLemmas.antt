@@ -15,7 +15,7 @@ use Rattle.mg_serve.specs.declared.form.Form.{Form}
 use Rattle.mg_serve.specs.declared.form.Form.TheVariants.{Plain, Recording}
 use Rattle.mg_serve.specs.Journaled.{Progress, Lacks, Advances, IsJournaled, IsTried, Journals, Tries, is_append}
 use Rattle.mg_serve.specs.Session.{IsAppended, MayAppend}
-use Rattle.mg_serve.specs.Trace.{TraceEntry, Called, Happened, Printed, Noted, calls_of, output_of}
+use Rattle.mg_serve.specs.Trace.{TraceEntry, Called, Happened, Printed, Noted, Stale, calls_of, output_of}
 use Rattle.mg_serve.specs.aids.Journaling.{AreAppends, after_one_tick}
 use Rattle.mg_serve.proofs.Printing.{calls_both, output_both}
 
@@ -53,7 +53,7 @@ journaled_both None a b c p q h k = (
 )
 journaled_both (Some durable) a b c p q h k = journals_both durable (Lacks a) (Lacks b) (Lacks c) p q h k
 
--- an entry that changes nothing for the journal
+-- an entry that changes nothing for the journal and for the fence
 abbrev pub IsIdle : TraceEntry → Type 0
 IsIdle (Called call) = is_append call ≡ false
 IsIdle (Happened (events.Control source bytes)) = ⊥
@@ -61,6 +61,7 @@ IsIdle (Happened (events.Media port source bytes)) = Unit {0}
 IsIdle (Happened events.Tick) = ⊥
 IsIdle (Printed text) = Unit {0}
 IsIdle (Noted text) = Unit {0}
+IsIdle (Stale source bytes) = ⊥
 
 advances_idle : (durable : Durability) (n : ℕ) (entry : TraceEntry) → IsIdle entry →
     Advances durable (Lacks n) entry (Lacks n)
@@ -73,6 +74,7 @@ advances_idle durable n (Happened (events.Media port source bytes)) idle = refl
 advances_idle durable n (Happened events.Tick) idle = absurd idle
 advances_idle durable n (Printed text) idle = refl
 advances_idle durable n (Noted text) idle = refl
+advances_idle durable n (Stale source bytes) idle = absurd idle
 
 appends_none : (entry : TraceEntry) → IsIdle entry → list_any is_append (calls_of (entry ∷ [])) ≡ false
 appends_none (Called (Receive socket receipt)) idle = refl
@@ -82,6 +84,7 @@ appends_none (Called (Append lines durability result)) idle = absurd cc
 appends_none (Happened event) idle = refl
 appends_none (Printed text) idle = refl
 appends_none (Noted text) idle = refl
+appends_none (Stale source bytes) idle = absurd idle
 
 pub nothing_journaled : (d : Option Durability) (n : ℕ) → IsJournaled d n [] n
 nothing_journaled None n = (refl, refl)
@@ -91,6 +94,11 @@ pub idle_journaled : (d : Option Durability) (n : ℕ) (entry : TraceEntry) → 
     IsJournaled d n (entry ∷ []) n
 idle_journaled None n entry idle = (appends_none entry idle, refl)
 idle_journaled (Some durable) n entry idle = (Lacks n, advances_idle durable n entry idle, refl)
+
+pub stale_journaled : (d : Option Durability) (n : ℕ) (source : Peer) (bytes : List ℕ) →
+    IsJournaled d n (Stale source bytes ∷ []) n
+stale_journaled None n source bytes = (refl, refl)
+stale_journaled (Some durable) n source bytes = (Lacks n, refl, refl)
 
 -- calls without an append
 pub calls_journaled : (d : Option Durability) (n : ℕ) (calls : List Call) → list_any is_append calls ≡ false →
@@ -126,6 +134,7 @@ tries_both a b c (Happened (events.Media port source bytes) ∷ p) q h k = tries
 tries_both a b c (Happened events.Tick ∷ p) q h k = (h.0, tries_both (a + 1) b c p q h.1 k)
 tries_both a b c (Printed text ∷ p) q h k = tries_both a b c p q h k
 tries_both a b c (Noted text ∷ p) q h k = tries_both a b c p q h k
+tries_both a b c (Stale source bytes ∷ p) q h k = tries_both a b c p q h k
 
 pub tried_both : (d : Option Durability) (a b c : ℕ) (p q : List TraceEntry) → IsTried d a p b → IsTried d b q c →
     IsTried d a (p ++ q) c
@@ -147,6 +156,11 @@ idle_tried (Some durable) n (Happened (events.Media port source bytes)) idle = r
 idle_tried (Some durable) n (Happened events.Tick) idle = absurd idle
 idle_tried (Some durable) n (Printed text) idle = refl
 idle_tried (Some durable) n (Noted text) idle = refl
+idle_tried (Some durable) n (Stale source bytes) idle = absurd idle
+
+pub stale_tried : (d : Option Durability) (n : ℕ) (source : Peer) (bytes : List ℕ) → IsTried d n (Stale source bytes ∷ []) n
+stale_tried None n source bytes = refl
+stale_tried (Some durable) n source bytes = refl
 
 pub calls_tried : (d : Option Durability) (n : ℕ) (calls : List Call) → list_any is_append calls ≡ false →
     IsTried d n (map (λ (call : Call). Called call) calls) n
@@ -183,6 +197,7 @@ appended_prints Recording (Called call ∷ p) all =
 appended_prints form (Happened event ∷ p) all = absurd (All-head IsAppended (Happened event) p all)
 appended_prints form (Printed text ∷ p) all = absurd (All-head IsAppended (Printed text) p all)
 appended_prints form (Noted text ∷ p) all = absurd (All-head IsAppended (Noted text) p all)
+appended_prints form (Stale source bytes ∷ p) all = absurd (All-head IsAppended (Stale source bytes) p all)
 
 append_prints : (form : Form) (call : Call) → output_of form (Called call ∷ []) ≡ []
 append_prints Plain call = refl

@@ -21,7 +21,7 @@ use Rattle.mg_ports.specs.declared.call.Call.TheVariants.{Receive, Send, BeginTi
 use Rattle.mg_ports.specs.Journaled.{AppendsDated, JournalAfter}
 use Rattle.mg_serve.specs.Journaled.{Progress, Lacks, Announces, Advances, AppendsLines, Journals}
 use Rattle.mg_serve.specs.JournalLaws.{IsScriptOf, LosesTicks, TellsEvents}
-use Rattle.mg_serve.specs.Trace.{TraceEntry, Called, Happened, Printed, Noted, calls_of, events_of_trace}
+use Rattle.mg_serve.specs.Trace.{TraceEntry, Called, Happened, Printed, Noted, Stale, calls_of, events_of_trace}
 use Rattle.mg_serve.proofs.Printing.{calls_both}
 use Rattle.mg_serve.proofs.JournalText.{Fit, IsWritten, known_more, written, written_front, written_script}
 
@@ -302,6 +302,8 @@ entry_holds read cut durability told happened (Lacks n) next (Printed text) old 
     no_event durability told happened n next old new holds step after
 entry_holds read cut durability told happened (Lacks n) next (Noted text) old new holds step after =
     no_event durability told happened n next old new holds step after
+entry_holds read cut durability told happened (Lacks n) next (Stale source bytes) old new holds step after =
+    no_event durability told happened n next old new holds step after
 
 -- ## The parts of a trace
 
@@ -314,6 +316,7 @@ quiet_both (Happened (Media port source bytes) ∷ p) q = quiet_both p q
 quiet_both (Happened Tick ∷ p) q = ap (λ (l : List Event). Tick ∷ l) (quiet_both p q)
 quiet_both (Printed text ∷ p) q = quiet_both p q
 quiet_both (Noted text ∷ p) q = quiet_both p q
+quiet_both (Stale source bytes ∷ p) q = quiet_both p q
 
 pub after_parts : (p q : List Call) (old new : JournalState) → JournalAfter (p ++ q) old new
     → (mid : JournalState) × JournalAfter p old mid × JournalAfter q mid new

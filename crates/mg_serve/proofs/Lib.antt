@@ -1,5 +1,7 @@
 pub mod Printing
 pub mod JournalLemmas
+pub mod FenceLemmas
+pub mod FenceProofs
 pub mod OneLine
 pub mod Taking
 pub mod Appending

@@ -7,7 +7,7 @@ use Rattle.mg_lines.specs.Streams.{WritesFront}
 use Rattle.mg_lines.proofs.WriterLemmas.{longer}
 use Rattle.mg_ports.specs.declared.call.Call.{Call}
 use Rattle.mg_serve.specs.declared.form.Form.{Form}
-use Rattle.mg_serve.specs.Trace.{TraceEntry, Called, Happened, Printed, Noted, calls_of, output_of, printed_text}
+use Rattle.mg_serve.specs.Trace.{TraceEntry, Called, Happened, Printed, Noted, Stale, calls_of, output_of, printed_text}
 use Rattle.mg_serve.specs.aids.Printing.{PrinterView, Prints, Puts}
 
 -- ## What is done, in two parts
@@ -21,6 +21,7 @@ calls_both (Called call ∷ p) q = ap (λ (l : List Call). call ∷ l) (calls_bo
 calls_both (Happened event ∷ p) q = calls_both p q
 calls_both (Printed text ∷ p) q = calls_both p q
 calls_both (Noted text ∷ p) q = calls_both p q
+calls_both (Stale source bytes ∷ p) q = calls_both p q
 
 -- ## Texts
 

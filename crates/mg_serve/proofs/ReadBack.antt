@@ -25,7 +25,7 @@ use Rattle.mg_serve.specs.declared.form.Form.TheVariants.{Recording}
 use Rattle.mg_serve.specs.Theorems.{CutSessionsAreReadBack, ReplaysAreTheSession, SessionsAreReadBack, recorded}
 use Rattle.mg_serve.specs.Serve.{opening}
 use Rattle.mg_serve.specs.Session.{Each, Becomes, ReceivesDatagram, Performs, EndsTurn, HandlesDatagram, HandlesEvent, IsAppended, MayAppend, Session, SocketTurn, event_at, sends_of}
-use Rattle.mg_serve.specs.Trace.{TraceEntry, Called, Happened, Printed, Noted, events_of_trace, one_line, output_of}
+use Rattle.mg_serve.specs.Trace.{TraceEntry, Called, Happened, Printed, Noted, Stale, events_of_trace, one_line, output_of}
 use Rattle.mg_serve.proofs.OneLine.{short}
 use Rattle.mg_serve.proofs.Runs.{session_run}
 
@@ -37,6 +37,7 @@ entries_of (Called call ∷ trace) = entries_of trace
 entries_of (Happened event ∷ trace) = entry.Happened event ∷ entries_of trace
 entries_of (Printed text ∷ trace) = entry.Noted (one_line text) ∷ entries_of trace
 entries_of (Noted text ∷ trace) = entry.Noted (one_line text) ∷ entries_of trace
+entries_of (Stale source bytes ∷ trace) = entries_of trace
 
 recording_is : (p : List TraceEntry) → output_of Recording p ≡ recording_of (entries_of p)
 recording_is [] = refl
@@ -44,6 +45,7 @@ recording_is (Called call ∷ p) = recording_is p
 recording_is (Happened event ∷ p) = ap (λ (l : List ℕ). entry_line (entry.Happened event) ++ l) (recording_is p)
 recording_is (Printed text ∷ p) = ap (λ (l : List ℕ). entry_line (entry.Noted (one_line text)) ++ l) (recording_is p)
 recording_is (Noted text ∷ p) = ap (λ (l : List ℕ). entry_line (entry.Noted (one_line text)) ++ l) (recording_is p)
+recording_is (Stale source bytes ∷ p) = recording_is p
 
 events_are : (p : List TraceEntry) → events_in (entries_of p) ≡ events_of_trace p
 events_are [] = refl
@@ -51,6 +53,7 @@ events_are (Called call ∷ p) = events_are p
 events_are (Happened event ∷ p) = ap (λ (l : List Event). event ∷ l) (events_are p)
 events_are (Printed text ∷ p) = events_are p
 events_are (Noted text ∷ p) = events_are p
+events_are (Stale source bytes ∷ p) = events_are p
 
 entries_both : (p q : List TraceEntry) → entries_of (p ++ q) ≡ entries_of p ++ entries_of q
 entries_both [] q = refl
@@ -58,6 +61,7 @@ entries_both (Called call ∷ p) q = entries_both p q
 entries_both (Happened event ∷ p) q = ap (λ (l : List Entry). entry.Happened event ∷ l) (entries_both p q)
 entries_both (Printed text ∷ p) q = ap (λ (l : List Entry). entry.Noted (one_line text) ∷ l) (entries_both p q)
 entries_both (Noted text ∷ p) q = ap (λ (l : List Entry). entry.Noted (one_line text) ∷ l) (entries_both p q)
+entries_both (Stale source bytes ∷ p) q = entries_both p q
 
 -- ## What can be read back
 
@@ -139,6 +143,7 @@ appended_read (Called call ∷ p) all = appended_read p (All-tail IsAppended (Ca
 appended_read (Happened event ∷ p) all = absurd (All-head IsAppended (Happened event) p all)
 appended_read (Printed text ∷ p) all = absurd (All-head IsAppended (Printed text) p all)
 appended_read (Noted text ∷ p) all = absurd (All-head IsAppended (Noted text) p all)
+appended_read (Stale source bytes ∷ p) all = absurd (All-head IsAppended (Stale source bytes) p all)
 
 may_read : (p : List TraceEntry) → MayAppend p → AreRead p
 may_read p (inl none) = read_as p [] none (All-nil IsRecorded)
@@ -164,9 +169,11 @@ become_read : (admitted : Bool) (setup : Setup) (socket : ℕ) → IsValidConfig
 become_read true setup socket valid lt datagram w next p fits (inl h) =
     handled_read setup socket (event_at setup socket datagram.0 datagram.1) w next p
     (datagram_read setup socket datagram.0 datagram.1 valid lt fits) h
-become_read true setup socket valid lt datagram w next p fits (inr h) =
-    read_as p (Noted (codes "no memory for a control datagram") ∷ []) h.1.0
+become_read true setup socket valid lt datagram w next p fits (inr (control, inl (is, same))) =
+    read_as p (Noted (codes "no memory for a control datagram") ∷ []) is
     (noted_read (codes "no memory for a control datagram"))
+become_read true setup socket valid lt datagram w next p fits (inr (control, inr (is, same))) =
+    read_as p (Stale datagram.0 datagram.1 ∷ []) is (All-nil IsRecorded)
 become_read false setup socket valid lt datagram w next p fits h = read_as p [] h.0 (All-nil IsRecorded)
 
 comes_read : (setup : Setup) (socket : ℕ) → IsValidConfig setup.config → socket < setup.config.slots + 1 →

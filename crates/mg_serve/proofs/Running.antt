@@ -16,6 +16,7 @@ use Rattle.mg_lines.specs.declared.write_failed.WriteFailed.{WriteFailed}
 use Rattle.mg_lines.specs.Lines.{without_return, lines_after}
 use Rattle.mg_lines.specs.Streams.{WritesFront}
 use Rattle.mg_ports.specs.Journaled.{PortsSeen}
+use Rattle.mg_serve.specs.Fenced.{IsFenced}
 use Rattle.mg_serve.specs.Journaled.{IsJournaled, IsTried}
 use Rattle.mg_serve.specs.declared.command.Command.{Command}
 use Rattle.mg_serve.specs.declared.form.Form.{Form}
@@ -26,7 +27,7 @@ use Rattle.mg_serve.specs.Serve.{Served, ServedByClock, ServedSession, form_of, 
 use Rattle.mg_serve.specs.Trace.{TraceEntry, output_of}
 use Rattle.mg_serve.specs.aids.Driving.{BytesTaken, EndsBy, EndsByFault, Finished, RanBy, RanByClock, RanLines}
 use Rattle.mg_serve.specs.aids.Printing.{PrinterView, Prints, Puts}
-use Rattle.mg_serve.specs.aids.Outside.{JournalView, Outside, LeadsByTrace, LogsTrace}
+use Rattle.mg_serve.specs.aids.Outside.{JournalView, Outside, LeadsByTrace, LogsTrace, new_journal}
 use Rattle.mg_serve.proofs.JournalLemmas.{nothing_journaled, nothing_tried}
 use Rattle.mg_serve.proofs.Printing.{prints_both}
 use Rattle.mg_serve.proofs.Steps.{finished_prints, prints_some, some_printed}
@@ -464,6 +465,7 @@ serves_nothing setup w title Gave x held fault opens printed gave = record {
   lacks = nothing_journaled setup.journal 0;
   untried = 0;
   tries = nothing_tried setup.journal 0;
+  fenced = (setup.fence, refl);
   journaled = refl;
   printed = printed;
   counts = tt;
@@ -526,6 +528,7 @@ opens_not setup w title Gave x a b held now opened failed gave =
       lacks = nothing_journaled setup.journal 0;
       untried = 0;
       tries = nothing_tried setup.journal 0;
+      fenced = (setup.fence, refl);
       journaled = refl;
       printed = front_put a.has_failed b.has_failed (output_of (form_of title) (opening title ++ [])) held now
           (ap (λ (v : PrinterView). v.has_failed) view) failed
@@ -561,10 +564,6 @@ opened_form : (title : Option (List ℕ)) (a b : PrinterView) (held now : Option
     b.form ≡ form_of title
 opened_form title a b held now opened = opened.1.form ∙ ap (λ (v : PrinterView). v.form) opened.0
 
--- a journal that lacks no tick
-abbrev pub new_journal : Setup → JournalView
-new_journal setup = record { durability = setup.journal; lacking = 0; untried = 0 }
-
 -- a run whose commands were done
 served_by : (setup : Setup) (w : World) (title : Option (List ℕ)) (Gave : Form → List Command → Type 0)
     (result : Result Counts RunFault) (old core : CoreState) (a : PrinterView) (held : Option (List ℕ))
@@ -590,6 +589,7 @@ served_by setup w title Gave result old core a held x z stands journal opened op
       lacks = subst (λ (v : JournalView). IsJournaled v.durability v.lacking p z.journal.lacking) journal logged.lacks;
       untried = z.journal.untried;
       tries = subst (λ (v : JournalView). IsTried v.durability v.untried p z.journal.untried) journal logged.tries;
+      fenced = (z.journal.fence, subst (λ (v : JournalView). IsFenced v.fence p z.journal.fence) journal logged.fenced);
       journaled = logged.journaled;
       printed = output (output_of (form_of title) (opening title ++ p)) (all_printed title a held x z p opened logged);
       counts = counted next after;

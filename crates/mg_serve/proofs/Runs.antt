@@ -16,7 +16,7 @@ use Rattle.mg_serve.specs.declared.command.Command.{Command}
 use Rattle.mg_serve.specs.declared.command.Command.TheVariants.{Poll, Tick, Stats, Quit, Unknown}
 use Rattle.mg_serve.specs.Theorems.{SendsAreARun, is_send}
 use Rattle.mg_serve.specs.Session.{Each, Becomes, ReceivesDatagram, Performs, EndsTurn, HandlesDatagram, HandlesEvent, IsAppended, MayAppend, Session, SocketTurn, event_at, send_of, sends_of}
-use Rattle.mg_serve.specs.Trace.{TraceEntry, Called, Happened, Printed, Noted, calls_of, events_of_trace}
+use Rattle.mg_serve.specs.Trace.{TraceEntry, Called, Happened, Printed, Noted, Stale, calls_of, events_of_trace}
 use Rattle.mg_serve.proofs.Printing.{calls_both}
 
 run_both : (w mid next : World) (es fs : List Event) (s t : List Sent) → Run w es s mid → Run mid fs t next →
@@ -38,6 +38,7 @@ events_both (Called call ∷ p) q = events_both p q
 events_both (Happened event ∷ p) q = ap (λ (l : List Event). event ∷ l) (events_both p q)
 events_both (Printed text ∷ p) q = events_both p q
 events_both (Noted text ∷ p) q = events_both p q
+events_both (Stale source bytes ∷ p) q = events_both p q
 
 -- ## Parts of a session
 
@@ -113,6 +114,7 @@ appended_ran setup w (Called (BeginTick timing) ∷ p) all =
 appended_ran setup w (Happened event ∷ p) all = absurd (All-head IsAppended (Happened event) p all)
 appended_ran setup w (Printed text ∷ p) all = absurd (All-head IsAppended (Printed text) p all)
 appended_ran setup w (Noted text ∷ p) all = absurd (All-head IsAppended (Noted text) p all)
+appended_ran setup w (Stale source bytes ∷ p) all = absurd (All-head IsAppended (Stale source bytes) p all)
 
 datagram_ran : (setup : Setup) (socket : ℕ) (event : Event) (w next : World) (p : List TraceEntry) →
     HandlesDatagram setup socket event w p next → SendsAreARun setup w p next
@@ -133,9 +135,12 @@ become_ran : (admitted : Bool) (setup : Setup) (socket : ℕ) (datagram : Peer �
     Becomes admitted setup socket datagram w p next → SendsAreARun setup w p next
 become_ran true setup socket datagram w next p (inl h) =
     datagram_ran setup socket (event_at setup socket datagram.0 datagram.1) w next p h
-become_ran true setup socket datagram w next p (inr h) =
+become_ran true setup socket datagram w next p (inr (control, inl (is, same))) =
     let noted = Noted (codes "no memory for a control datagram") in
-    ran_as setup w next p (noted ∷ []) h.1.0 (no_run setup w next (noted ∷ []) refl refl h.1.1)
+    ran_as setup w next p (noted ∷ []) is (no_run setup w next (noted ∷ []) refl refl same)
+become_ran true setup socket datagram w next p (inr (control, inr (is, same))) =
+    let stale = Stale datagram.0 datagram.1 in
+    ran_as setup w next p (stale ∷ []) is (no_run setup w next (stale ∷ []) refl refl same)
 become_ran false setup socket datagram w next p h = ran_as setup w next p [] h.0 (no_run setup w next [] refl refl h.1)
 
 comes_ran : (setup : Setup) (socket : ℕ) (datagram : Peer × List ℕ) (w next : World) (p : List TraceEntry) →

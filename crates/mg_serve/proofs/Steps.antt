@@ -3,6 +3,7 @@ use Rattle.std.proofs.Common.{◌≡◌, ◌≢◌, ℕ, zero, suc, ◌+◌, ◌
 use Rattle.std.proofs.lemmas.List.{append-nil, length_push}
 use Rattle.std.proofs.lemmas.List.Elements.{All-nil}
 use Rattle.std.specs.List.{list_any, range_with_len}
+use Rattle.mg_fence.specs.declared.fence.Fence.{Fence}
 use Rattle.mg_clock.specs.declared.timing.Timing.{Timing}
 use Rattle.mg_serve.specs.Setup.{Setup, is_admitted}
 use Rattle.mg_words.specs.declared.peer.Peer.{Peer}
@@ -31,32 +32,41 @@ use Rattle.mg_serve.specs.declared.form.Form.TheVariants.{Plain, Recording}
 use Rattle.mg_serve.specs.Lines.{line_command, prints}
 use Rattle.mg_serve.specs.Journaled.{is_append}
 use Rattle.mg_serve.specs.Session.{Each, Becomes, ReceivesDatagram, Performs, EndsTurn, HandlesDatagram, HandlesEvent, IsAppended, SocketTurn, event_at, send_of, sends_of}
-use Rattle.mg_serve.specs.Trace.{TraceEntry, Called, Happened, Noted, output_of}
+use Rattle.mg_serve.specs.Trace.{TraceEntry, Called, Happened, Noted, Stale, output_of}
 use Rattle.mg_serve.specs.aids.Driving.{Finished, Received}
 use Rattle.mg_serve.specs.aids.Printing.{PrinterView, Prints, Puts}
 use Rattle.mg_serve.specs.aids.Outside.{JournalView, Outside, LeadsByTrace, LogsTrace, outside}
 use Rattle.mg_serve.specs.aids.Journaling.{AppendsBefore, EndsTick, with_tick}
-use Rattle.mg_serve.proofs.JournalLemmas.{appended_prints, may_print, tick_journaled, tick_tried}
-use Rattle.mg_serve.proofs.Printing.{output_both}
+use Rattle.mg_fence.specs.Fence.{passes}
+use Rattle.mg_fence.specs.Number.{HasNumber}
+use Rattle.mg_serve.specs.Fenced.{IsFenced}
+use Rattle.mg_serve.proofs.FenceLemmas.{fenced_as, may_fenced}
+use Rattle.mg_serve.proofs.JournalLemmas.{appended_prints, may_print, stale_journaled, stale_tried, tick_journaled, tick_tried}
+use Rattle.mg_serve.proofs.Printing.{output_both, prints_nothing}
 use Rattle.mg_serve.proofs.Taking.{called, tells_announced, tells_appends, tells_both, tells_called, tells_print, tells_print_then, tells_refused, each_more, takes_after, takes_none}
 
 -- a control datagram that was announced and printed, and whose answer was sent, if there was one
 pub control_answered : (setup : Setup) (source : Peer) (bytes : List ℕ) (sent : List Sent) (old new : CoreState)
-    (seen later : PortsSeen) (x y : Option (List ℕ)) (a b : PrinterView) (j k : JournalView) (z : Outside) →
-    AppendsBefore (Happened (events.Control source bytes) ∷ []) (Ok tt) seen later j k →
+    (seen later : PortsSeen) (x y : Option (List ℕ)) (a b : PrinterView) (j k m : JournalView) (fence : Option Fence)
+    (z : Outside) → AppendsBefore (Happened (events.Control source bytes) ∷ []) (Ok tt) seen later j k →
+    m ≡ record k { fence = fence } → IsFenced j.fence (Happened (events.Control source bytes) ∷ []) fence →
     Leads StandsFor old new (λ w next. Step w (events.Control source bytes) sent next) →
     Prints a b x y (Happened (events.Control source bytes) ∷ []) →
-    LogsTrace (outside later y b k) z (sends_of setup sent) →
+    LogsTrace (outside later y b m) z (sends_of setup sent) →
     LeadsByTrace old new (outside seen x a j) z (Becomes true setup 0 (source, bytes))
-control_answered setup source bytes sent old new seen later x y a b j k z appends h printed logged w stands =
+control_answered setup source bytes sent old new seen later x y a b j k m fence z appends is fenced h printed logged w
+    stands =
     let event = events.Control source bytes in
     let (next, step, held) = h w stands in (
       appends.trace ++ (Happened event ∷ sends_of setup sent),
       next,
       subst (λ (l : List TraceEntry). LogsTrace (outside seen x a j) z l)
           (append_assoc appends.trace (Happened event ∷ []) (sends_of setup sent))
-          (tells_both (outside seen x a j) (outside later y b k) z (appends.trace ++ Happened event ∷ [])
-          (sends_of setup sent) (tells_announced event seen later x y a b j k appends printed) logged),
+          (tells_both (outside seen x a j) (outside later y b m) z (appends.trace ++ Happened event ∷ [])
+          (sends_of setup sent)
+          (subst (λ (v : JournalView).
+          LogsTrace (outside seen x a j) (outside later y b v) (appends.trace ++ Happened event ∷ [])) (sym is)
+          (tells_announced event seen later x y a b j k fence appends printed fenced)) logged),
       inl (appends.trace, Happened event ∷ sends_of setup sent, refl, appends.are, inl (sent, step, refl)),
       held,
     )
@@ -92,7 +102,27 @@ pub control_unread : (setup : Setup) (source : Peer) (bytes : List ℕ) (core : 
     LeadsByTrace core core (outside seen x a j) (outside seen y b j) (Becomes true setup 0 (source, bytes))
 control_unread setup source bytes core seen x y a b j printed w stands =
     let noted = Noted (codes "no memory for a control datagram") in
-    (noted ∷ [], w, tells_print seen x y a b j noted refl tt printed, inr (refl, (refl, refl)), stands)
+    (noted ∷ [], w, tells_print seen x y a b j noted refl tt printed, inr (refl, inl (refl, refl)), stands)
+
+stale_prints : (form : Form) (source : Peer) (bytes : List ℕ) → output_of form (Stale source bytes ∷ []) ≡ []
+stale_prints Plain source bytes = refl
+stale_prints Recording source bytes = refl
+
+-- a control datagram that doesn't pass the fence
+pub control_stale : (setup : Setup) (source : Peer) (bytes : List ℕ) (number : Option ℕ) (core : CoreState)
+    (seen : PortsSeen) (x : Option (List ℕ)) (a : PrinterView) (j : JournalView) → HasNumber bytes number →
+    passes j.fence bytes number ≡ false →
+    LeadsByTrace core core (outside seen x a j) (outside seen x a j) (Becomes true setup 0 (source, bytes))
+control_stale setup source bytes number core seen x a j has fails w stands =
+    let stale = Stale source bytes in (
+      stale ∷ [],
+      w,
+      tells_print_then seen x x a a j j stale refl (prints_nothing a x (stale ∷ []) (stale_prints a.form source bytes)) refl
+          (stale_journaled j.durability j.lacking source bytes) (stale_tried j.durability j.untried source bytes)
+          (number, has, fails, refl),
+      inr (refl, inr (refl, refl)),
+      stands,
+    )
 
 -- an event without appends before it
 handles : (setup : Setup) (socket : ℕ) (event : Event) (w next : World) (p : List TraceEntry) →
@@ -223,10 +253,11 @@ tick_sent setup timing old new outbox before begun sent after x y a b j k packet
     let i = with_tick j in
     let begin = tells_called x a j before begun (BeginTick timing ∷ []) begins refl same in
     let tick = tells_print_then begun x y a b j i (Happened events.Tick) refl printed refl
-    (tick_journaled j.durability j.lacking) (tick_tried j.durability j.untried ended.in_time) in
+    (tick_journaled j.durability j.lacking) (tick_tried j.durability j.untried ended.in_time) refl in
     let sends = tells_called y b i begun sent (packet_sends setup outbox) logged (sends_quiet setup outbox) kept in
     let appends = tells_appends y b i k sent after ended.appends ended.logs (may_print b.form ended.appends ended.may)
-    ended.durability ended.lacks ended.tries in (
+    ended.durability ended.lacks ended.tries
+    (fenced_as j.fence k.fence ended.appends ended.fence (may_fenced j.fence ended.appends ended.may)) in (
       Called (BeginTick timing) ∷ (happens ++ ended.appends),
       world_after_tick w,
       tells_both (outside before x a j) (outside begun x a j) (outside after y b k) (Called (BeginTick timing) ∷ [])
@@ -305,8 +336,10 @@ quiet_becomes : (admitted : Bool) (setup : Setup) (socket : ℕ) (datagram : Pee
     (p : List TraceEntry) → Becomes admitted setup socket datagram w p next → IsQuiet p
 quiet_becomes true setup socket datagram w next p (inl h) =
     quiet_datagram setup socket (event_at setup socket datagram.0 datagram.1) w next p h
-quiet_becomes true setup socket datagram w next p (inr h) =
-    quiet_as p (Noted (codes "no memory for a control datagram") ∷ []) h.1.0 refl
+quiet_becomes true setup socket datagram w next p (inr (control, inl (is, same))) =
+    quiet_as p (Noted (codes "no memory for a control datagram") ∷ []) is refl
+quiet_becomes true setup socket datagram w next p (inr (control, inr (is, same))) =
+    quiet_as p (Stale datagram.0 datagram.1 ∷ []) is refl
 quiet_becomes false setup socket datagram w next p h = quiet_as p [] h.0 refl
 
 quiet_comes : (setup : Setup) (socket : ℕ) (datagram : Peer × List ℕ) (w next : World) (p : List TraceEntry) →

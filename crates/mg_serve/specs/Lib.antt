@@ -1,6 +1,8 @@
 pub mod Setup
 pub mod Trace
 pub mod Lines
+pub mod Fenced
+pub mod FenceLaws
 pub mod Journaled
 pub mod Session
 pub mod Serve

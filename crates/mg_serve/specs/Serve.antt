@@ -14,6 +14,8 @@ use Rattle.mg_lines.specs.Lines.{lines_of}
 use Rattle.mg_lines.specs.Streams.{WritesFront}
 use Rattle.mg_ports.specs.Calls.{Logged}
 use Rattle.mg_ports.specs.Journaled.{PortsSeen, JournalAfter}
+use Rattle.mg_fence.specs.declared.fence.Fence.{Fence}
+use Rattle.mg_serve.specs.Fenced.{IsFenced}
 use Rattle.mg_serve.specs.Journaled.{IsJournaled, IsTried}
 use Rattle.mg_serve.specs.declared.form.Form.{Form}
 use Rattle.mg_serve.specs.declared.form.Form.TheVariants.{Plain, Recording}
@@ -138,6 +140,7 @@ pub record Served (setup : Setup) (w : World) (title : Option (List ℕ))
   pub lacks : IsJournaled setup.journal 0 trace lacking
   pub untried : ℕ
   pub tries : IsTried setup.journal 0 trace untried
+  pub fenced : (fence : Option Fence) × IsFenced setup.fence trace fence
   pub journaled : JournalAfter (calls_of trace) old.journal new.journal
   pub printed : IsOutput result (output_of (form_of title) (first ++ trace)) held written
   pub counts : AreCounted result last

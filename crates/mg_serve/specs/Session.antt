@@ -20,7 +20,7 @@ use Rattle.mg_serve.specs.declared.command.Command.{Command}
 use Rattle.mg_serve.specs.declared.command.Command.TheVariants.{Poll, Tick, Stats, Quit, Unknown}
 use Rattle.mg_serve.specs.Journaled.{tick_lines}
 use Rattle.mg_serve.specs.Setup.{Setup, is_admitted}
-use Rattle.mg_serve.specs.Trace.{TraceEntry, Called, Happened, Printed, Noted}
+use Rattle.mg_serve.specs.Trace.{TraceEntry, Called, Happened, Printed, Noted, Stale}
 
 -- The effects of several items, one after another, each in the world that the previous one left.
 abbrev pub Each : {A : Type 0} → (A → World → List TraceEntry → World → Type 0) → List A → World
@@ -86,12 +86,15 @@ HandlesDatagram setup zero event w trace next =
     × (HandlesEvent setup event w others next ⊎ LacksJournal event w others next)
 HandlesDatagram setup (suc s) event w trace next = HandlesEvent setup event w trace next
 
--- What happens to a datagram: it is an event if its sender is admitted, and is ignored otherwise.
+-- What happens to a datagram: it is an event if its sender is admitted, unless there is no memory for
+-- it or it is stale. `IsFenced` says which control datagrams are stale. A datagram is ignored if its
+-- sender isn't admitted.
 abbrev pub Becomes : (admitted : Bool) → Setup → ℕ → Peer × List ℕ → World → List TraceEntry → World
     → Type 0
 Becomes true setup socket datagram w trace next =
     HandlesDatagram setup socket (event_at setup socket datagram.0 datagram.1) w trace next
-    ⊎ ((socket ≡ 0) × LacksMemory w trace next)
+    ⊎ ((socket ≡ 0) × (LacksMemory w trace next
+    ⊎ ((trace ≡ Stale datagram.0 datagram.1 ∷ []) × (next ≡ w))))
 Becomes false setup socket datagram w trace next = (trace ≡ []) × (next ≡ w)
 
 -- the receive that returned a datagram, and what happens to it

@@ -9,15 +9,18 @@ use Rattle.mg_sdp.specs.declared.chosen.Chosen.{Chosen}
 use Rattle.mg_rooms.specs.Registry.{holder_of}
 use Rattle.mg_engine.specs.declared.config.Config.{Config}
 use Rattle.mg_core.specs.World.{World}
+use Rattle.mg_fence.specs.declared.fence.Fence.{Fence}
 use Rattle.mg_journal.specs.declared.durability.Durability.{Durability}
 
 -- the gateway's configuration, the addresses of its controllers, whether callers use symmetric RTP,
--- and, if there is a journal, how durably messages are appended to it
+-- how durably messages are appended to the journal, if there is one, and the fence at the start, if
+-- there is one
 pub record Setup : Type 0 where
   pub config : Config
   pub controllers : List (List ℕ)
   pub symmetric_rtp : Bool
   pub journal : Option Durability
+  pub fence : Option Fence
 
 -- Control messages are accepted from the listed addresses, or from any address if none is listed.
 abbrev pub may_command : List (List ℕ) → List ℕ → Bool

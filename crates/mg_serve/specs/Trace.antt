@@ -1,6 +1,7 @@
 -- What a gateway does, in order, and what is printed about it.
 use Rattle.std.specs.Prelude.{ℕ, ◌==◌, not, List, [], ◌∷◌, ◌++◌, codes, flat_map, take}
 use Rattle.std.specs.List.{filter}
+use Rattle.mg_words.specs.declared.peer.Peer.{Peer}
 use Rattle.mg_core.specs.declared.event.Event.{Event}
 use Rattle.mg_core.specs.Recording.{Entry, entry_line, event_line}
 use Rattle.mg_core.specs.Recording as entry
@@ -8,13 +9,14 @@ use Rattle.mg_ports.specs.declared.call.Call.{Call}
 use Rattle.mg_serve.specs.declared.form.Form.{Form}
 use Rattle.mg_serve.specs.declared.form.Form.TheVariants.{Plain, Recording}
 
--- The gateway calls its ports, an event happens, the gateway prints text for whoever drives it, or
--- it notes text that is printed only in a recording.
+-- The gateway calls its ports, an event happens, the gateway prints text for whoever drives it, it
+-- notes text that is printed only in a recording, or it drops a stale control datagram.
 pub data TraceEntry : Type 0 where
   Called : (call : Call) → TraceEntry
   Happened : (event : Event) → TraceEntry
   Printed : (text : List ℕ) → TraceEntry
   Noted : (text : List ℕ) → TraceEntry
+  Stale : (source : Peer) (bytes : List ℕ) → TraceEntry
 
 abbrev pub calls_of : List TraceEntry → List Call
 calls_of [] = []
@@ -35,10 +37,10 @@ one_line text = take 1000 (filter (λ b. not (b == 10)) text)
 abbrev pub printed_text : Form → TraceEntry → List ℕ
 printed_text Plain (Printed text) = one_line text ++ codes "\n"
 printed_text Plain _ = []
-printed_text Recording (Called call) = []
 printed_text Recording (Happened event) = event_line event
 printed_text Recording (Printed text) = entry_line (entry.Noted (one_line text))
 printed_text Recording (Noted text) = entry_line (entry.Noted (one_line text))
+printed_text Recording _ = []
 
 abbrev pub output_of : Form → List TraceEntry → List ℕ
 output_of form trace = flat_map (printed_text form) trace

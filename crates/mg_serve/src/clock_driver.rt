@@ -3,7 +3,7 @@ ghost use Rattle.mg_clock.specs.Ticks.{clock_seen};
 ghost use Rattle.mg_engine.specs.Config.{IsValidConfig};
 ghost use Rattle.mg_ports.specs.Journaled.{ports_seen};
 ghost use Rattle.mg_serve.specs.aids.Driving.{EndsByFault, RanByClock, StepTaken};
-ghost use Rattle.mg_serve.specs.aids.Outside.{LeadsByTrace, outside};
+ghost use Rattle.mg_serve.specs.aids.Outside.{LeadsByTrace, new_journal, outside};
 
 use crate::command::Command;
 use crate::form::Form;
@@ -12,7 +12,6 @@ use crate::server::Server;
 use crate::setup::Setup;
 use mg_clock::{Step, TickSchedule, Watch};
 use mg_core::{Core, DATAGRAM_LIMIT, RunFault};
-use mg_journal::Durability;
 use mg_lines::WriteFailed;
 use mg_ports::Ports;
 use std::alloc::{AllocError, Global};
@@ -32,20 +31,19 @@ impl<'a, M: Monitor> ClockDriver<'a, M> {
         alloc: Global,
         core: Core,
         form: Form,
-        durability: Option<Durability>,
+        setup: &Setup<'_>,
         allowed: u16,
         monitor: &'a mut M,
     ) -> Result<Self, AllocError>
         ensures core { IfOk result (λ driver. driver.server.core ≡ core) }
         ensures printer { IfOk result (λ driver.
             driver.server.printer ≡ record { form = form; has_failed = false }) }
-        ensures journal { IfOk result (λ driver.
-            driver.server.journal ≡ record { durability = durability; lacking = 0; untried = 0 }) }
+        ensures journal { IfOk result (λ driver. driver.server.journal ≡ new_journal setup.now) }
         ensures schedule { IfOk result (λ driver.
             driver.schedule ≡ record { ticks = 0; allowed = allowed; messages = 0 }) }
     {
         Ok(ClockDriver {
-            server: Server::new(alloc, core, form, durability, monitor)?,
+            server: Server::new(alloc, core, form, setup, monitor)?,
             schedule: TickSchedule::new(allowed),
         })
     }

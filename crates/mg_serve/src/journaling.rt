@@ -1,6 +1,8 @@
 ghost use Rattle.std.specs.Prelude.{◌≡◌, ◌^◌, ◌<◌, ◌≤◌, ◌+◌, ◌∷◌, [], IfOk, IsSome, OnOk};
+ghost use Rattle.std.specs.Option.{option_map};
 ghost use Rattle.mg_core.specs.declared.event.Event.TheVariants as events;
 ghost use Rattle.mg_core.specs.Recording.{IsDatagram};
+ghost use Rattle.mg_fence.specs.Fence.{passes, raised_by};
 ghost use Rattle.mg_journal.specs.Text.{EndsInLineFeed};
 ghost use Rattle.mg_ports.specs.declared.call.Call.TheVariants.{Append};
 ghost use Rattle.mg_ports.specs.Calls.{Logged};
@@ -11,6 +13,7 @@ ghost use Rattle.mg_serve.specs.aids.Journaling.{AppendsBatch, AppendsBefore, En
 
 use crate::journal_report::JournalReport;
 use mg_core::{EventLine, Peer};
+use mg_fence::Fence;
 use mg_journal::{AppendFault, Durability};
 use mg_ports::Ports;
 use std::alloc::{AllocError, Global};
@@ -26,7 +29,8 @@ const TICK_LINES: [[u8; 5]; BATCH] = [*b"tick\n"; BATCH];
 /// rule only once the journal has the tick after the message.
 const TOGETHER: u64 = 10;
 
-/// The state of a session's journal, if it has one: how many ticks the journal lacks.
+/// The state of a session's journal and of its fence, if it has them: how many ticks the journal lacks, and the highest
+/// number of the messages that have been run.
 ///
 /// A message is appended before it is handled. Ticks are appended five times a second, and before each message.
 #[derive(Drop)]
@@ -35,6 +39,7 @@ pub struct Journaling {
     lacking: u64,
     /// How many ticks have happened since an append was tried.
     untried: u64,
+    fence: Option<Fence>,
     line: EventLine,
     failed: u64,
 }
@@ -45,9 +50,20 @@ impl Model for Journaling {
 
     ghost Value = { JournalView };
 
-    ghost view = { λ j. record { durability = j.durability; lacking = j.lacking; untried = j.untried } };
+    ghost view = { λ j.
+        record { durability = j.durability; lacking = j.lacking; untried = j.untried; fence = j.fence } };
 
     ghost invariant = { λ j. (j.untried ≤ j.lacking) × (j.untried < 10) };
+}
+
+/// Returns the fence after a message with this number has been run, if there is a fence.
+fn raised_by(number: Option<u32>, fence: Option<Fence>) -> Option<Fence>
+    ensures value { result ≡ option_map (raised_by number) fence }
+{
+    match fence {
+        Some(fence) => Some(fence.raised_by(number)),
+        None => None,
+    }
 }
 
 /// Appends lines, and counts the append if it fails.
@@ -89,16 +105,46 @@ fn append_lines<P: Ports>(ports: &mut P, ticks: usize, failed: &mut u64) -> Resu
 impl Journaling {
     /// Starts with a journal that isn't missing any ticks. Messages are appended with this durability; `None` means
     /// that there is no journal. No other call allocates.
-    pub fn new(alloc: Global, durability: Option<Durability>) -> Result<Self, AllocError>
-        ensures value { IfOk result (λ j. j ≡ record { durability = durability; lacking = 0; untried = 0 }) }
+    pub fn new(
+        alloc: Global,
+        durability: Option<Durability>,
+        fence: Option<Fence>,
+    ) -> Result<Self, AllocError>
+        ensures value { IfOk result (λ j.
+            j ≡ record { durability = durability; lacking = 0; untried = 0; fence = fence }) }
     {
         Ok(Journaling {
             durability,
             lacking: 0,
             untried: 0,
+            fence,
             line: EventLine::new(alloc)?,
             failed: 0,
         })
+    }
+
+    /// Returns the fence.
+    pub fn fence(&self) -> Option<Fence>
+        ensures value { result ≡ self.now.fence }
+    {
+        self.fence
+    }
+
+    /// Returns whether a message with this number passes the fence.
+    pub fn passes(&self, bytes: &[u8], number: Option<u32>) -> bool
+        ensures value { result ≡ passes self.now.fence bytes.now number }
+    {
+        match &self.fence {
+            Some(fence) => fence.passes(bytes, number),
+            None => true,
+        }
+    }
+
+    /// Takes note of a message that is run.
+    pub fn pass(&mut self, number: Option<u32>)
+        ensures value { self.new ≡ record self.old { fence = option_map (raised_by number) self.old.fence } }
+    {
+        self.fence = raised_by(number, self.fence);
     }
 
     /// Returns what a monitor learns about the journal, given how many messages were dropped because an append failed.

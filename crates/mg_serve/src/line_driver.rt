@@ -5,7 +5,7 @@ ghost use Rattle.mg_lines.specs.Lines.{without_return};
 ghost use Rattle.mg_serve.specs.Lines.{line_command, is_quit};
 ghost use Rattle.mg_serve.specs.Session.{Performs};
 ghost use Rattle.mg_serve.specs.aids.Driving.{BytesTaken, EndsBy, Finished, RanLines};
-ghost use Rattle.mg_serve.specs.aids.Outside.{LeadsByTrace, outside};
+ghost use Rattle.mg_serve.specs.aids.Outside.{LeadsByTrace, new_journal, outside};
 
 use crate::command::Command;
 use crate::form::Form;
@@ -14,7 +14,6 @@ use crate::monitor::Monitor;
 use crate::server::Server;
 use crate::setup::Setup;
 use mg_core::{Core, DATAGRAM_LIMIT, RunFault};
-use mg_journal::Durability;
 use mg_lines::{READ_SIZE, WriteFailed, read_some, without_return};
 use mg_ports::Ports;
 use std::alloc::{AllocError, Global};
@@ -33,18 +32,17 @@ impl<'a, M: Monitor> LineDriver<'a, M> {
         alloc: Global,
         core: Core,
         form: Form,
-        durability: Option<Durability>,
+        setup: &Setup<'_>,
         monitor: &'a mut M,
     ) -> Result<Self, AllocError>
         ensures core { IfOk result (λ driver. driver.server.core ≡ core) }
         ensures printer { IfOk result (λ driver.
             driver.server.printer ≡ record { form = form; has_failed = false }) }
-        ensures journal { IfOk result (λ driver.
-            driver.server.journal ≡ record { durability = durability; lacking = 0; untried = 0 }) }
+        ensures journal { IfOk result (λ driver. driver.server.journal ≡ new_journal setup.now) }
         ensures partial { IfOk result (λ driver. driver.partial ≡ []) }
     {
         Ok(LineDriver {
-            server: Server::new(alloc, core, form, durability, monitor)?,
+            server: Server::new(alloc, core, form, setup, monitor)?,
             partial: Line::new(),
         })
     }

@@ -19,7 +19,7 @@ ghost use Rattle.mg_serve.specs.Setup.{is_admitted, is_remote};
 ghost use Rattle.mg_serve.specs.Trace.{Called, Happened};
 ghost use Rattle.mg_serve.specs.aids.Driving.{Received};
 ghost use Rattle.mg_serve.specs.aids.Printing.{Prints};
-ghost use Rattle.mg_serve.specs.aids.Outside.{LeadsByTrace, outside};
+ghost use Rattle.mg_serve.specs.aids.Outside.{LeadsByTrace, new_journal, outside};
 
 use crate::command::Command;
 use crate::form::Form;
@@ -31,7 +31,7 @@ use crate::setup::Setup;
 use crate::tick_report::TickReport;
 use mg_clock::Timing;
 use mg_core::{Answer, Core, Counts, DATAGRAM_LIMIT, Datagram, Peer};
-use mg_journal::Durability;
+use mg_fence::number_in;
 use mg_lines::WriteFailed;
 use mg_ports::Ports;
 use mg_sdp::Chosen;
@@ -56,6 +56,8 @@ pub struct Server<'a, M: Monitor> {
     pub unread: u64,
     /// Control datagrams that were dropped because an append to the journal failed.
     pub unjournaled: u64,
+    /// Control datagrams that were dropped because they didn't pass the fence.
+    pub stale: u64,
 }
 
 /// Sends a datagram, and counts it if the send succeeds.
@@ -130,22 +132,23 @@ impl<'a, M: Monitor> Server<'a, M> {
         alloc: Global,
         core: Core,
         form: Form,
-        durability: Option<Durability>,
+        setup: &Setup<'_>,
         monitor: &'a mut M,
     ) -> Result<Self, AllocError>
         ensures core { IfOk result (λ server. server.core ≡ core) }
         ensures printer { IfOk result (λ server. server.printer ≡ record { form = form; has_failed = false }) }
-        ensures journal { IfOk result (λ server. server.journal ≡ record { durability = durability; lacking = 0; untried = 0 }) }
+        ensures journal { IfOk result (λ server. server.journal ≡ new_journal setup.now) }
     {
         Ok(Server {
             core,
             printer: Printer::new(alloc, form)?,
-            journal: Journaling::new(alloc, durability)?,
+            journal: Journaling::new(alloc, setup.journal(), setup.fence())?,
             monitor,
             lines: 0,
             sent: 0,
             unread: 0,
             unjournaled: 0,
+            stale: 0,
         })
     }
 
@@ -170,7 +173,8 @@ impl<'a, M: Monitor> Server<'a, M> {
         Ok(())
     }
 
-    /// Appends a control datagram to the journal, if there is one. Then runs it, and sends its answer.
+    /// Appends a control datagram to the journal, if there is one. Then runs it, and sends its answer. A datagram that
+    /// doesn't pass the fence is dropped.
     fn take_control<P: Ports, W: Write>(
         &mut self,
         alloc: Global,
@@ -195,12 +199,18 @@ impl<'a, M: Monitor> Server<'a, M> {
             self.unread = self.unread.saturating_add(1);
             return;
         };
+        let number = number_in(bytes, &parsed);
+        if !self.journal.passes(bytes, number) {
+            self.stale = self.stale.saturating_add(1);
+            return;
+        }
         let Ok(()) = self.journal.announce(ports, source, bytes) else {
             self.printer
                 .note(b"no journal for a control datagram", writer);
             self.unjournaled = self.unjournaled.saturating_add(1);
             return;
         };
+        self.journal.pass(number);
         let answer = self.core.run(source, bytes, &parsed);
         self.printer.control(source, bytes, writer);
         match answer {
@@ -411,6 +421,8 @@ impl<'a, M: Monitor> Server<'a, M> {
             core: &self.core,
             counts,
             unread: self.unread,
+            stale: self.stale,
+            fence: self.journal.fence(),
             failures: ports.failure_causes(),
             journal: self.journal.report(self.unjournaled),
             timing,
@@ -457,7 +469,7 @@ impl<'a, M: Monitor> Server<'a, M> {
             Command::Poll => self.poll(alloc, setup, ports, buffer, writer),
             Command::Tick(timing) => self.tick(setup, ports, timing, writer),
             Command::Stats => {
-                let text = counts_text(&self.counts(ports));
+                let text = counts_text(&self.counts(ports), self.journal.fence(), self.stale);
                 self.printer.print(text.as_slice(), writer);
             }
             Command::Quit => {}

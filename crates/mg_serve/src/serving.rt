@@ -6,6 +6,7 @@ ghost use Rattle.mg_core.specs.World.{World};
 ghost use Rattle.mg_core.specs.aids.Stands.{StandsFor};
 ghost use Rattle.mg_ports.specs.Journaled.{ports_seen};
 ghost use Rattle.mg_serve.specs.Serve.{ServedByClock, ServedSession, form_of};
+ghost use Rattle.mg_serve.specs.aids.Outside.{new_journal};
 
 use crate::clock_driver::ClockDriver;
 use crate::form::Form;
@@ -25,10 +26,10 @@ use std::io::{Read, Write};
 ///
 /// - `poll` reads at most 64 datagrams from each socket: first from the control socket, then from the media sockets in
 ///   ascending order. A control message is answered at once; a message from an address that isn't a controller's is
-///   dropped. A failed receive ends that socket's turn.
+///   dropped, and so is a message that doesn't pass the fence. A failed receive ends that socket's turn.
 /// - `tick` advances by 20 ms and sends the packets. If a send fails, only that packet is lost.
 /// - `stats` prints `control=a media=b ticks=c sent=d failed=e dropped=f,g,h,i,j,k concealed=l`: [`Counts`] explains
-///   these numbers.
+///   these numbers. If there is a fence, its number and the count of stale messages follow, as in `fence=17 stale=0`.
 /// - Any other line prints `unknown command`.
 ///
 /// With a title, the output is a recording: a script with one line for each event (`control`, `rtp` or `tick`), in
@@ -64,8 +65,7 @@ pub fn serve<P: Ports, R: Read, W: Write, M: Monitor>(
         (W.contents writer.old) (W.contents writer.new) result }
     ensures started { result ≢ Err RunFault.BadConfig }
 {
-    let Ok(mut driver) = LineDriver::new(alloc, core, form_of(title), setup.journal(), monitor)
-    else {
+    let Ok(mut driver) = LineDriver::new(alloc, core, form_of(title), setup, monitor) else {
         return Err(RunFault::NoMemory);
     };
     drive(&mut driver, alloc, setup, title, ports, reader, writer)
@@ -84,7 +84,7 @@ fn drive<P: Ports, R: Read, W: Write, M: Monitor>(
     requires sound { IsValidConfig setup.now.config }
     requires printer { driver.old.server.printer ≡
         record { form = form_of (option_map (λ text. text.now) title); has_failed = false } }
-    requires journal { driver.old.server.journal ≡ record { durability = setup.now.journal; lacking = 0; untried = 0 } }
+    requires journal { driver.old.server.journal ≡ new_journal setup.now }
     requires partial { driver.old.partial ≡ [] }
     ensures session { (w : World) → StandsFor driver.old.server.core.state w →
         ServedSession setup.now w (option_map (λ text. text.now) title.entry)
@@ -134,14 +134,8 @@ pub fn serve_by_clock<P: Ports, K: Watch, W: Write, M: Monitor>(
         (W.contents writer.old) (W.contents writer.new) result }
     ensures started { result ≢ RunFault.BadConfig }
 {
-    let Ok(mut driver) = ClockDriver::new(
-        alloc,
-        core,
-        form_of(title),
-        setup.journal(),
-        allowed,
-        monitor,
-    ) else {
+    let Ok(mut driver) = ClockDriver::new(alloc, core, form_of(title), setup, allowed, monitor)
+    else {
         return RunFault::NoMemory;
     };
     drive_by_clock(&mut driver, alloc, setup, title, ports, watch, writer)
@@ -160,7 +154,7 @@ fn drive_by_clock<P: Ports, K: Watch, W: Write, M: Monitor>(
     requires sound { IsValidConfig setup.now.config }
     requires printer { driver.old.server.printer ≡
         record { form = form_of (option_map (λ text. text.now) title); has_failed = false } }
-    requires journal { driver.old.server.journal ≡ record { durability = setup.now.journal; lacking = 0; untried = 0 } }
+    requires journal { driver.old.server.journal ≡ new_journal setup.now }
     ensures session { (allowed : ℕ) → driver.old.schedule ≡ record { ticks = 0; allowed = allowed; messages = 0 } →
         (w : World) → StandsFor driver.old.server.core.state w →
         ServedByClock setup.now w (option_map (λ text. text.now) title.entry) allowed

@@ -2,41 +2,52 @@ ghost use Rattle.std.specs.Prelude.{◌≡◌};
 ghost use Rattle.mg_serve.specs.Setup.{may_command};
 
 use mg_core::Config;
+use mg_fence::Fence;
 use mg_journal::Durability;
 use std::marker::Model;
 
 /// The setup of a session: the gateway's configuration, who may send it commands, whose RTP it accepts, and whether it
-/// has a journal.
+/// has a journal and a fence.
 #[derive(Drop)]
 pub struct Setup<'a> {
     config: Config,
     controllers: &'a [[u8; 4]],
     symmetric_rtp: bool,
     journal: Option<Durability>,
+    fence: Option<Fence>,
 }
 
 impl<'a> Model for Setup<'a> {
     ghost Value = { Rattle.mg_serve.specs.Setup.Setup };
 
     ghost view = { λ s.
-        record { config = s.config; controllers = s.controllers.now; symmetric_rtp = s.symmetric_rtp; journal = s.journal } };
+        record {
+          config = s.config;
+          controllers = s.controllers.now;
+          symmetric_rtp = s.symmetric_rtp;
+          journal = s.journal;
+          fence = s.fence;
+        } };
 }
 
 impl<'a> Setup<'a> {
     /// Creates the setup of a session with this configuration. Only these IPv4 addresses may send control messages; if
     /// there are none, any address may. With symmetric RTP (RFC 4961), a termination's packets are accepted only from
-    /// the address and port of its Remote. If there is a journal, messages are appended to it with this durability.
+    /// the address and port of its Remote. If there is a journal, messages are appended to it with this durability. If
+    /// there is a fence, this is where it begins.
     pub fn new(
         config: Config,
         controllers: &'a [[u8; 4]],
         symmetric_rtp: bool,
         journal: Option<Durability>,
+        fence: Option<Fence>,
     ) -> Self
         ensures value { result ≡ record {
           config = config;
           controllers = controllers.now;
           symmetric_rtp = symmetric_rtp;
           journal = journal;
+          fence = fence;
         } }
     {
         Setup {
@@ -44,6 +55,7 @@ impl<'a> Setup<'a> {
             controllers,
             symmetric_rtp,
             journal,
+            fence,
         }
     }
 
@@ -66,6 +78,13 @@ impl<'a> Setup<'a> {
         ensures value { result ≡ self.now.journal }
     {
         self.journal
+    }
+
+    /// Returns the fence at the start.
+    pub fn fence(&self) -> Option<Fence>
+        ensures value { result ≡ self.now.fence }
+    {
+        self.fence
     }
 
     /// Returns whether control messages from an address are accepted.

@@ -1,6 +1,7 @@
 use crate::journal_report::JournalReport;
 use mg_clock::Timing;
 use mg_core::{Config, Core, Counts};
+use mg_fence::Fence;
 use mg_ports::FailureCauses;
 
 /// What a monitor learns at the end of a tick.
@@ -12,6 +13,10 @@ pub struct TickReport<'a> {
     pub counts: Counts,
     /// Control datagrams that were dropped because memory ran out while they were read.
     pub unread: u64,
+    /// Control datagrams that were dropped because they didn't pass the fence.
+    pub stale: u64,
+    /// The fence after all messages so far, if there is one.
+    pub fence: Option<Fence>,
     /// The failed receives and sends since the start, by cause.
     pub failures: FailureCauses,
     /// The journal's state.

@@ -11,6 +11,8 @@ mod clocks;
 #[cfg(test)]
 mod equality;
 #[cfg(test)]
+mod fences;
+#[cfg(test)]
 mod journaled;
 #[cfg(test)]
 mod loss;

@@ -6,6 +6,7 @@ ghost use Rattle.mg_engine.specs.Config.{IsValidConfig};
 use crate::clocks::{LateClock, SteadyClock};
 use crate::watchers::{LastReport, LastText};
 use mg_fakes::{FailingReader, FailingWriter};
+use mg_fence::Fence;
 use mg_journal::{AppendFault, FaultEffect, FileCall, InjectedFault, MemoryFile, Opening};
 use mg_monitor::{Both, Metrics, Reports};
 use mg_ports::{Arrival, Call, FakePorts, Payload, Peer, Receipt};
@@ -36,6 +37,7 @@ pub struct Session<'a> {
     pub controllers: &'a [[u8; 4]],
     pub symmetric_rtp: bool,
     pub journal: Option<Durability>,
+    pub fence: Option<Fence>,
     /// The title of the recording. Without a title, the session is not recorded.
     pub title: Option<&'a [u8]>,
     /// How many seconds pass from one report to the next; 0 disables reports.
@@ -65,6 +67,7 @@ pub const SESSION: Session<'static> = Session {
     controllers: &[],
     symmetric_rtp: false,
     journal: None,
+    fence: None,
     title: None,
     seconds: 0,
     step: None,
@@ -247,6 +250,7 @@ fn serve_on<M: Monitor>(
         session.controllers,
         session.symmetric_rtp,
         session.journal,
+        session.fence,
     );
     if session.by_clock {
         let mut clock = LateClock::new();

@@ -8,7 +8,7 @@ use Rattle.mg_journal.specs.declared.durability.Durability.TheVariants.{Written,
 use Rattle.mg_journal.specs.Journal.{JournalState, appended}
 use Rattle.mg_host.specs.declared.host_call.HostCall.{HostCall}
 use Rattle.mg_arguments.specs.Title.{title_line}
-use Rattle.mg_start.specs.Journal.{missed_lines}
+use Rattle.mg_start.specs.Journal.{start_lines}
 use Rattle.mg_start.specs.aids.Starting.{HasBegun, HasWritten, title_before}
 use Rattle.mg_start.proofs.JournalLemmas.{begins, known_none}
 
@@ -16,18 +16,18 @@ pub was_done : (result : Result (Unit {0}) AppendFault) (P : Type 0) → is_err 
 was_done (Ok done) P ok holds = holds
 was_done (Err fault) P ok holds = absurd cc
 
-pub has_begun : (timeline : Option Timeline) (is_new : Bool) (config : Config) (missed : ℕ) (found : Option (List ℕ))
-    (first last : JournalState) (a b : Option (List HostCall)) → is_new ≡ is_none timeline → first.is_broken ≡ false
+pub has_begun : (timeline : Option Timeline) (is_new : Bool) (config : Config) (missed : ℕ) (fence : Option ℕ)
+    (found : Option (List ℕ)) (first last : JournalState) (a b : Option (List HostCall)) → is_new ≡ is_none timeline → first.is_broken ≡ false
     → first.text ≡ found
-    → (is_new ≡ true → last ≡ appended (missed_lines missed) Written (appended (title_line config) Synced first))
-    → (is_new ≡ true → HasWritten a b (title_line config ++ missed_lines missed))
-    → (is_new ≡ false → last ≡ appended (missed_lines missed) Written first)
-    → (is_new ≡ false → HasWritten a b (missed_lines missed))
-    → HasBegun (title_before timeline config) missed found last × HasWritten a b (title_before timeline config ++ missed_lines missed)
-has_begun None is_new config missed found first last a b is works text new new_logged old old_logged = (
-  begins (title_line config) missed found (appended (title_line config) Synced first) last works
+    → (is_new ≡ true → last ≡ appended (start_lines missed fence) Written (appended (title_line config) Synced first))
+    → (is_new ≡ true → HasWritten a b (title_line config ++ start_lines missed fence))
+    → (is_new ≡ false → last ≡ appended (start_lines missed fence) Written first)
+    → (is_new ≡ false → HasWritten a b (start_lines missed fence))
+    → HasBegun (title_before timeline config) missed fence found last × HasWritten a b (title_before timeline config ++ start_lines missed fence)
+has_begun None is_new config missed fence found first last a b is works text new new_logged old old_logged = (
+  begins (title_line config) missed fence found (appended (title_line config) Synced first) last works
       (ap (λ (t : Option (List ℕ)). append_known t (title_line config)) text) (new is),
   new_logged is,
 )
-has_begun (Some timeline) is_new config missed found first last a b is works text new new_logged old old_logged =
-    (begins [] missed found first last works (text ∙ sym (known_none found)) (old is), old_logged is)
+has_begun (Some timeline) is_new config missed fence found first last a b is works text new new_logged old old_logged =
+    (begins [] missed fence found first last works (text ∙ sym (known_none found)) (old is), old_logged is)

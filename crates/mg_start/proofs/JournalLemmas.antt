@@ -10,11 +10,11 @@ use Rattle.mg_core.specs.Recording.{event_line}
 use Rattle.mg_engine.specs.declared.config.Config.{Config}
 use Rattle.mg_journal.specs.declared.durability.Durability.TheVariants.{Written}
 use Rattle.mg_journal.specs.declared.append_fault.AppendFault.{AppendFault}
-use Rattle.mg_journal.specs.Journal.{JournalState, appended}
+use Rattle.mg_journal.specs.Journal.{Appends, JournalState, appended}
 use Rattle.mg_journal.specs.Text.{EndsInLineFeed}
 use Rattle.mg_journal.proofs.TextLemmas.{ends_line}
-use Rattle.mg_start.specs.Journal.{missed_comment, missed_lines}
-use Rattle.mg_start.specs.aids.Starting.{HasBegun}
+use Rattle.mg_start.specs.Journal.{fence_comment, missed_comment, start_lines}
+use Rattle.mg_start.specs.aids.Starting.{HasBegun, missed_lines}
 use Rattle.mg_arguments.specs.Title.{title_line}
 use Rattle.mg_arguments.specs.Title.{title_text}
 use Rattle.mg_serve.specs.Journaled.{tick_lines}
@@ -48,13 +48,14 @@ ticks_more all left batch old mid new some few is more =
     ∙ ap (λ (l : List ℕ). append_known old.text l)
     (sym (ticks_both (all - left) batch) ∙ ap tick_lines count))
 
--- the journal with its title, and then with the ticks
-pub begins : (title : List ℕ) (missed : ℕ) (found : Option (List ℕ)) (titled last : JournalState)
+-- the journal with its title, and then with the ticks and the number of a fence
+pub begins : (title : List ℕ) (missed : ℕ) (fence : Option ℕ) (found : Option (List ℕ)) (titled last : JournalState)
     → titled.is_broken ≡ false → titled.text ≡ append_known found title
-    → last ≡ appended (missed_lines missed) Written titled → HasBegun title missed found last
-begins title missed found titled last works text is = record {
+    → last ≡ appended (start_lines missed fence) Written titled → HasBegun title missed fence found last
+begins title missed fence found titled last works text is = record {
   works = ap (λ (j : JournalState). j.is_broken) is ∙ works;
-  text = ap (λ (j : JournalState). j.text) is ∙ ap (λ (t : Option (List ℕ)). append_known t (missed_lines missed)) text;
+  text = ap (λ (j : JournalState). j.text) is
+      ∙ ap (λ (t : Option (List ℕ)). append_known t (start_lines missed fence)) text;
 }
 
 feed_after : (front text : List ℕ) → EndsInLineFeed (front ++ (text ++ codes "\n"))
@@ -80,6 +81,25 @@ comment_feed missed some =
     rw (ne_eqb missed 0 (λ e. omega (arith, some, e)))
     (subst EndsInLineFeed (ap (λ (l : List ℕ). codes "# missed " ++ l) (append_assoc (decimal missed) (codes " ticks") (codes "\n")))
     (feed_after (codes "# missed ") (decimal missed ++ codes " ticks")))
+
+-- the comment about a fence is a whole line
+pub fence_feed : (number : ℕ) → EndsInLineFeed (fence_comment (Some number))
+fence_feed number = feed_after (codes "# fence ") (decimal number)
+
+-- ticks that were missed, and then the number of a fence
+pub then_fence : (result : Result (Unit {0}) AppendFault) (missed number : ℕ) (old mid new : JournalState)
+    → mid ≡ appended (missed_lines missed) Written old → Appends (fence_comment (Some number)) Written mid new result
+    → OnOk result (new ≡ appended (start_lines missed (Some number)) Written old)
+then_fence (Ok done) missed number old mid new ticks more =
+    more.1 ∙ (ap (λ (j : JournalState). appended (fence_comment (Some number)) Written j) ticks
+    ∙ ap (λ (text : Option (List ℕ)). record old { text = text })
+    (known_both old.text (missed_lines missed) (fence_comment (Some number))))
+then_fence (Err fault) missed number old mid new ticks more = tt
+
+-- ticks that were missed, and no fence
+pub no_fence : (missed : ℕ) (old new : JournalState) → new ≡ appended (missed_lines missed) Written old
+    → new ≡ appended (start_lines missed None) Written old
+no_fence missed old new is = is ∙ ap (λ (l : List ℕ). appended l Written old) (sym (append-nil (missed_lines missed)))
 
 -- no tick was missed
 pub none_missed : (missed : ℕ) (old : JournalState) → missed ≡ 0 → old ≡ appended (missed_lines missed) Written old

@@ -4,3 +4,4 @@ pub mod TitleLemmas
 pub mod StartLemmas
 pub mod LogLemmas
 pub mod BeginLemmas
+pub mod ReaderLemmas

@@ -1,5 +1,5 @@
 -- How a gateway finds its journal, chooses its configuration and starts.
-use Rattle.std.proofs.Common.{◌≡◌, ◌≢◌, inl, inr, ℕ, zero, suc, ◌<◌, ◌==◌, true, length, take, drop, slice_index, arith, List, [], ◌∷◌, ◌++◌, codes, Option, Some, None, refl, sym, ap, ◌∙◌, append_assoc, append-nil, IfSome, MatchOption, Bor}
+use Rattle.std.proofs.Common.{◌≡◌, ◌≢◌, inl, inr, ℕ, zero, suc, ◌<◌, ◌==◌, true, length, take, drop, slice_index, arith, List, [], ◌∷◌, ◌++◌, codes, Option, Some, None, refl, sym, ap, subst, ◌∙◌, append_assoc, append-nil, IfSome, MatchOption, Bor}
 use Rattle.std.specs.Prelude.{reverse, unwrap_or}
 use Rattle.std.specs.Option.{option_map}
 use Rattle.std.proofs.lemmas.Bool.{eqb-true}
@@ -16,6 +16,7 @@ use Rattle.mg_dates.specs.declared.timeline.Timeline.{Timeline}
 use Rattle.mg_dates.specs.Times.{missed_since, timeline_of}
 use Rattle.mg_engine.specs.declared.config.Config.{Config}
 use Rattle.mg_lines.specs.Lines.{lines_after, lines_of}
+use Rattle.mg_fence.specs.Reached.{Reaches}
 use Rattle.mg_journal.specs.Journal.{JournalState}
 use Rattle.mg_journal.specs.JournalFile.{FileState}
 use Rattle.mg_journal.specs.aids.Opened.{text_in}
@@ -28,8 +29,8 @@ use Rattle.mg_arguments.specs.declared.given.Given.{Given}
 use Rattle.mg_arguments.specs.Draws.{IsDrawn}
 use Rattle.mg_arguments.specs.Given.{Agrees}
 use Rattle.mg_arguments.specs.Title.{title_line, title_text}
-use Rattle.mg_start.specs.Journal.{missed_after, missed_lines, timeline_after}
-use Rattle.mg_start.specs.aids.Starting.{HasBegun, HasWritten, KeepsTimes, PassesTicks, missed_by, title_before, CanResume, CanStart}
+use Rattle.mg_start.specs.Journal.{missed_after, start_lines, timeline_after}
+use Rattle.mg_start.specs.aids.Starting.{HasBegun, HasReached, HasWritten, KeepsTimes, PassesTicks, missed_by, title_before, CanResume, CanStart}
 use Rattle.mg_start.specs.Start.{BeginsWithTitle, IsChosenBy, started_text}
 use Rattle.mg_start.proofs.LogLemmas.{grows_both}
 
@@ -67,25 +68,56 @@ known_events None rest script events read are = tt
 known_events (Some text) rest script events read are =
     ap (λ (l : List ℕ). events_of (lines_of true l)) (read_whole text script rest read) ∙ are
 
-pub resumes_from : (path : List ℕ) (text rest : Option (List ℕ)) (config : Config) (state : CoreState)
-    → IsResumed config text rest state → CanResume (Some path) text config state
-resumes_from path text rest config state r = record {
+known_notes : (text rest : Option (List ℕ)) (script : List ℕ) (notes : List Note) (reached : ℕ)
+    → HasRead text rest script true → notes_of (lines_of true script) ≡ Some notes → Reaches 0 notes reached
+    → HasReached text reached
+known_notes None rest script notes reached read are reaches = tt
+known_notes (Some text) rest script notes reached read are reaches =
+    (notes, ap (λ (l : List ℕ). notes_of (lines_of true l)) (read_whole text script rest read) ∙ are, reaches)
+
+-- nothing has been reached in an empty journal
+reached_nothing : (text : Option (List ℕ)) → IfSome text (λ t. t ≡ []) → HasReached text 0
+unfolding lines_after notes_of
+reached_nothing None empty = tt
+reached_nothing (Some text) empty = ([], ap (λ (l : List ℕ). notes_of (lines_of true l)) empty, refl)
+
+-- where nothing has been reached yet
+pub reached_anew : (text : Option (List ℕ)) (reached : ℕ) → IfSome text (λ t. t ≡ []) → reached ≡ 0
+    → HasReached text reached
+reached_anew text reached empty is = subst (λ (n : ℕ). HasReached text n) (sym is) (reached_nothing text empty)
+
+both_known : (text : Option (List ℕ)) (events : List Event) (reached : ℕ)
+    → IfSome text (λ lines. events_of (lines_of true lines) ≡ Some events) → HasReached text reached
+    → IfSome text (λ lines. (events_of (lines_of true lines) ≡ Some events)
+    × ((notes : List Note) × (notes_of (lines_of true lines) ≡ Some notes) × Reaches 0 notes reached))
+both_known None events reached are reaches = tt
+both_known (Some text) events reached are reaches = (are, reaches)
+
+pub resumes_from : (path : List ℕ) (text rest : Option (List ℕ)) (config : Config) (state : CoreState) (reached : ℕ)
+    → IsResumed config text rest state → HasReached text reached → CanResume (Some path) text config state reached
+resumes_from path text rest config state reached r reaches = record {
   world = r.world;
   stands = r.history.1;
-  resumes = (r.events, r.sent, r.history.0, known_events text rest r.script r.events r.read r.are);
+  resumes = (
+    r.events,
+    r.sent,
+    r.history.0,
+    both_known text r.events reached (known_events text rest r.script r.events r.read r.are) reaches,
+  );
 }
 
--- the text of the journal, after its title and the ticks that were missed
-writes : (timeline : Option Timeline) (config : Config) (missed : ℕ) (text : Option (List ℕ)) (journal : JournalState)
-    → KeepsTimes timeline text → HasBegun (title_before timeline config) missed text journal
-    → journal.text ≡ option_map (started_text config missed) text
-writes None config missed None journal keeps begins = begins.text
-writes None config missed (Some []) journal keeps begins = begins.text
-writes None config missed (Some (byte ∷ text)) journal keeps begins = absurd cc
-writes (Some timeline) config missed None journal keeps begins = begins.text
-writes (Some timeline) config missed (Some []) journal keeps begins = absurd (keeps.0 refl)
-writes (Some timeline) config missed (Some (byte ∷ text)) journal keeps begins =
-    begins.text ∙ ap (λ (l : List ℕ). Some (l ++ missed_lines missed)) (append-nil (byte ∷ text))
+-- the text of the journal, after its title, the ticks that were missed and the number of a fence
+writes : (timeline : Option Timeline) (config : Config) (missed : ℕ) (fence : Option ℕ) (text : Option (List ℕ))
+    (journal : JournalState)
+    → KeepsTimes timeline text → HasBegun (title_before timeline config) missed fence text journal
+    → journal.text ≡ option_map (started_text config missed fence) text
+writes None config missed fence None journal keeps begins = begins.text
+writes None config missed fence (Some []) journal keeps begins = begins.text
+writes None config missed fence (Some (byte ∷ text)) journal keeps begins = absurd cc
+writes (Some timeline) config missed fence None journal keeps begins = begins.text
+writes (Some timeline) config missed fence (Some []) journal keeps begins = absurd (keeps.0 refl)
+writes (Some timeline) config missed fence (Some (byte ∷ text)) journal keeps begins =
+    begins.text ∙ ap (λ (l : List ℕ). Some (l ++ start_lines missed fence)) (append-nil (byte ∷ text))
 
 -- ## The ticks that were missed
 
@@ -97,12 +129,18 @@ known_times (Some text) rest script notes timeline read are is =
     is ∙ sym (ap (λ (n : Option (List Note)). timeline_of (reverse (unwrap_or n [])))
     (ap (λ (l : List ℕ). notes_of (lines_of true l)) (read_whole text script rest read) ∙ are))
 
--- the times of a journal that was followed to its end
-pub times_from : (config : Config) (text rest : Option (List ℕ)) (state : CoreState) (timeline : Timeline)
-    → IsFollowed config text rest state (λ notes. timeline ≡ timeline_of (reverse notes))
+-- the times of a journal that was followed to its end, and what its messages have reached
+pub times_from : (config : Config) (text rest : Option (List ℕ)) (state : CoreState) (timeline : Timeline) (reached : ℕ)
+    → IsFollowed config text rest state (λ notes. (timeline ≡ timeline_of (reverse notes)) × Reaches 0 notes reached)
     → IfSome text (λ found. timeline ≡ timeline_after found)
-times_from config text rest state timeline f =
-    known_times text rest f.script f.notes timeline f.read f.are f.follows
+times_from config text rest state timeline reached f =
+    known_times text rest f.script f.notes timeline f.read f.are f.follows.0
+
+pub reached_from : (config : Config) (text rest : Option (List ℕ)) (state : CoreState) (timeline : Timeline) (reached : ℕ)
+    → IsFollowed config text rest state (λ notes. (timeline ≡ timeline_of (reverse notes)) × Reaches 0 notes reached)
+    → HasReached text reached
+reached_from config text rest state timeline reached f =
+    known_notes text rest f.script f.notes reached f.read f.are f.follows.1
 
 pub times_kept : (timeline : Timeline) (text : Option (List ℕ)) → IfSome text (λ found. found ≢ [])
     → IfSome text (λ found. timeline ≡ timeline_after found) → KeepsTimes (Some timeline) text
@@ -127,48 +165,49 @@ times_missed timeline text (Some millis) is =
     ap (λ (t : Timeline). missed_since t (record { millis = millis })) is
 
 -- the ticks that were missed, and the lines that are appended before a gateway starts
-lines_begun : (timeline : Option Timeline) (config : Config) (missed : ℕ) (millis : Option ℕ) (text : Option (List ℕ))
+lines_begun : (timeline : Option Timeline) (config : Config) (missed : ℕ) (fence : Option ℕ) (millis : Option ℕ)
+    (text : Option (List ℕ))
     → missed ≡ missed_by timeline millis → KeepsTimes timeline text
     → IfSome text (λ found. (missed ≡ missed_after found millis)
-    × (started_text config missed found ≡ found ++ (title_before timeline config ++ missed_lines missed)))
-lines_begun timeline config missed millis None is keeps = tt
-lines_begun None config missed millis (Some []) is keeps = (is ∙ none_missed millis, refl)
-lines_begun None config missed millis (Some (byte ∷ text)) is keeps = absurd cc
-lines_begun (Some timeline) config missed millis (Some []) is keeps = absurd (keeps.0 refl)
-lines_begun (Some timeline) config missed millis (Some (byte ∷ text)) is keeps =
+    × (started_text config missed fence found ≡ found ++ (title_before timeline config ++ start_lines missed fence)))
+lines_begun timeline config missed fence millis None is keeps = tt
+lines_begun None config missed fence millis (Some []) is keeps = (is ∙ none_missed millis, refl)
+lines_begun None config missed fence millis (Some (byte ∷ text)) is keeps = absurd cc
+lines_begun (Some timeline) config missed fence millis (Some []) is keeps = absurd (keeps.0 refl)
+lines_begun (Some timeline) config missed fence millis (Some (byte ∷ text)) is keeps =
     (is ∙ times_missed timeline (byte ∷ text) millis keeps.1, refl)
 
 pub starts_from : (path : List ℕ) (text : Option (List ℕ)) (config : Config) (old new : CoreState)
-    (timeline : Option Timeline) (missed : ℕ) (millis : Option ℕ) (journal : JournalState)
-    (bound read begun : Option (List HostCall)) → CanResume (Some path) text config old → KeepsTimes timeline text
+    (timeline : Option Timeline) (missed : ℕ) (fence millis : Option ℕ) (reached : ℕ) (journal : JournalState)
+    (bound read begun : Option (List HostCall)) → CanResume (Some path) text config old reached → KeepsTimes timeline text
     → missed ≡ missed_by timeline millis → Grows bound read (ReadDate millis ∷ []) → PassesTicks missed old new
-    → HasBegun (title_before timeline config) missed text journal
-    → HasWritten read begun (title_before timeline config ++ missed_lines missed)
-    → CanStart (Some path) text config new journal bound begun
-starts_from path text config old new timeline missed millis journal bound read begun can keeps is grows passes begins (calls, more, written) = record {
+    → HasBegun (title_before timeline config) missed fence text journal
+    → HasWritten read begun (title_before timeline config ++ start_lines missed fence)
+    → CanStart (Some path) text fence config new reached journal bound begun
+starts_from path text config old new timeline missed fence millis reached journal bound read begun can keeps is grows passes begins (calls, more, written) = record {
   world = world_after_ticks missed can.world;
   stands = passes can.world can.stands;
   started = record {
     missed = missed;
     starts = (can.world, can.resumes, refl);
     works = λ some. begins.works;
-    writes = λ some. writes timeline config missed text journal keeps begins;
+    writes = λ some. writes timeline config missed fence text journal keeps begins;
     begins = (
       millis,
       calls,
-      title_before timeline config ++ missed_lines missed,
+      title_before timeline config ++ start_lines missed fence,
       grows_both bound read begun (ReadDate millis ∷ []) calls grows more,
       written,
-      lines_begun timeline config missed millis text is keeps,
+      lines_begun timeline config missed fence millis text is keeps,
     );
   };
 }
 
 -- without a journal
-pub starts_anew : (text : Option (List ℕ)) (config : Config) (state : CoreState) (journal : JournalState)
-    (calls : Option (List HostCall)) → CanResume None text config state
-    → CanStart None text config state journal calls calls
-starts_anew text config state journal calls can = record {
+pub starts_anew : (text : Option (List ℕ)) (fence : Option ℕ) (config : Config) (state : CoreState) (reached : ℕ)
+    (journal : JournalState) (calls : Option (List HostCall)) → CanResume None text config state reached
+    → CanStart None text fence config state reached journal calls calls
+starts_anew text fence config state reached journal calls can = record {
   world = can.world;
   stands = can.stands;
   started = record {

@@ -2,6 +2,7 @@
 use Rattle.std.specs.Prelude.{◌≡◌, ◌==◌, ℕ, List, [], ◌∷◌, ◌++◌, codes, decimal}
 use Rattle.std.specs.Prelude.{Option, Some, None, Ok, true, reverse, unwrap_or}
 use Rattle.std.specs.Prelude.{if◌then◌else◌}
+use Rattle.std.specs.Option.{option_map_or}
 use Rattle.mg_lines.specs.Lines.{lines_of}
 use Rattle.mg_core.specs.Note.{notes_of}
 use Rattle.mg_dates.specs.declared.timeline.Timeline.{Timeline}
@@ -17,9 +18,14 @@ abbrev pub missed_comment : ℕ → List ℕ
 missed_comment ticks =
     if ticks == 0 then [] else codes "# missed " ++ (decimal ticks ++ codes " ticks\n")
 
--- ticks that were missed, after a comment that says how many
-abbrev pub missed_lines : ℕ → List ℕ
-missed_lines ticks = missed_comment ticks ++ tick_lines ticks
+-- the comment with which an operator sets the fence, if he sets it
+abbrev pub fence_comment : Option ℕ → List ℕ
+fence_comment fence = option_map_or (λ n. codes "# fence " ++ (decimal n ++ codes "\n")) fence []
+
+-- what is appended before a gateway starts: ticks that were missed, after a comment that says how
+-- many, and then the comment with which an operator sets the fence
+abbrev pub start_lines : (missed : ℕ) → (fence : Option ℕ) → List ℕ
+start_lines missed fence = (missed_comment missed ++ tick_lines missed) ++ fence_comment fence
 
 -- lines were appended to a journal, in this order, and nothing else was done
 abbrev pub Writes : List HostCall → (lines : List ℕ) → Type 0

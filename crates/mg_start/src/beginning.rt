@@ -17,8 +17,8 @@ use std::alloc::Global;
 use std::io::Write;
 use std::time::Clock;
 
-/// Starts appending to the journal, if there is one, and skips the ticks that the gateway missed. If that fails,
-/// reports the fault to `errors` and returns the program's exit status.
+/// Starts appending to the journal, if there is one, and skips the ticks that the gateway missed. The journal has
+/// reached this number. If that fails, reports the fault to `errors` and returns the program's exit status.
 pub fn begin_journal<'a, T: Dates, F: JournalFile, C: Clock, E: Write>(
     host: &mut T,
     alloc: Global,
@@ -27,16 +27,17 @@ pub fn begin_journal<'a, T: Dates, F: JournalFile, C: Clock, E: Write>(
     clock: &'a C,
     found: Option<FoundJournal<F>>,
     core: &mut Core,
+    reached: u32,
     errors: &mut E,
 ) -> Result<Option<DatedJournal<'a, FileJournal<F>, C>>, Status>
 where
     F: Drop,
     requires resumed { CanResume service.now.journal (option_map_or (λ j. text_in j.opening.file) found None)
-        config.now core.old.state }
+        config.now core.old.state reached }
     requires found { IsSome service.now.journal → IsSome found }
     requires times { IfSome found (λ j. KeepsTimes j.timeline (text_in j.opening.file)) }
     ensures started { IfOk result (λ journal. CanStart service.now.journal
-        (option_map_or (λ j. text_in j.opening.file) found None) config.now core.new.state
+        (option_map_or (λ j. text_in j.opening.file) found None) service.now.fence_from config.now core.new.state reached
         (option_map_or (λ j. j) journal no_journal) (T.calls host.old) (T.calls host.new)) }
     ensures fails { OnErr result (RunsNoSession (T.calls host.old) (T.calls host.new)) }
     ensures quiet { OnOk result (errors.new ≡ errors.old) }
@@ -48,7 +49,7 @@ where
     let Some(found) = found else {
         return Ok(None);
     };
-    match found.begin(host, alloc, config, clock, core) {
+    match found.begin(host, alloc, config, clock, service.fence_from, core) {
         Ok(journal) => Ok(Some(journal)),
         Err(fault) => Err(fault.report(path, errors)),
     }

@@ -2,11 +2,11 @@ ghost use Rattle.std.specs.Prelude.{◌≡◌, ◌<◌, ◌≤◌, ◌+◌, ◌+
 ghost use Rattle.mg_journal.specs.Journal.{Appends, appended};
 ghost use Rattle.mg_journal.specs.aids.Opened.{text_in};
 ghost use Rattle.mg_journal.specs.Text.{EndsInLineFeed};
-ghost use Rattle.mg_start.specs.Journal.{RunsNoSession, missed_comment, missed_lines};
+ghost use Rattle.mg_start.specs.Journal.{RunsNoSession, fence_comment, missed_comment, start_lines};
 ghost use Rattle.mg_host.specs.declared.host_call.HostCall.{HostCall};
 ghost use Rattle.mg_host.specs.declared.host_call.HostCall.TheVariants.{ReadDate};
 ghost use Rattle.mg_host.specs.HostCalls.{Grows};
-ghost use Rattle.mg_start.specs.aids.Starting.{HasBegun, Logs, PassesTicks, missed_by, title_before};
+ghost use Rattle.mg_start.specs.aids.Starting.{HasBegun, Logs, PassesTicks, missed_by, missed_lines, title_before};
 ghost use Rattle.mg_arguments.specs.Title.{title_line};
 ghost use Rattle.mg_serve.specs.Journaled.{tick_lines};
 
@@ -194,30 +194,88 @@ fn append_missed<T: Tells, J: Journal>(
     append_ticks(host, ticks, journal)
 }
 
-/// Appends what comes first: the title, if the journal is new, and ticks that were missed.
+/// The maximum length of a comment that sets the fence, in bytes.
+const FENCE_ROOM: usize = 19;
+
+/// A comment that sets the fence, with its line feed.
+type FenceLine = ArrayVec<u8, FENCE_ROOM>;
+
+/// Returns the comment that sets the fence to a number.
+fn fence_line(number: u32) -> FenceLine
+    ensures value { result.items ≡ fence_comment (Some number) }
+{
+    let mut buffer = Buffer::new();
+    let mut line = FenceLine::new();
+    let _ = line.try_extend_from_slice(b"# fence ");
+    let _ = line.try_extend_from_slice(buffer.format(number).as_bytes());
+    let _ = line.try_extend_from_slice(b"\n");
+    line
+}
+
+/// Appends the comment that sets the fence to a number.
+fn append_fence<T: Tells, J: Journal>(
+    host: &mut T,
+    number: u32,
+    journal: &mut J,
+) -> Result<(), AppendFault>
+    ensures value { Appends (fence_comment (Some number)) Durability.Written (J.journal journal.old)
+        (J.journal journal.new) result }
+    ensures logged { Logs (T.calls host.old) (T.calls host.new) (fence_comment (Some number)) result }
+{
+    append(
+        host,
+        journal,
+        fence_line(number).as_slice(),
+        Durability::Written,
+    )
+}
+
+/// Appends ticks that were missed, and then the number to which an operator sets the fence.
+fn append_start<T: Tells, J: Journal>(
+    host: &mut T,
+    missed: u64,
+    fence: Option<u32>,
+    journal: &mut J,
+) -> Result<(), AppendFault>
+    ensures value { OnOk result (J.journal journal.new ≡ appended (start_lines missed fence) Durability.Written
+        (J.journal journal.old)) }
+    ensures logged { Logs (T.calls host.old) (T.calls host.new) (start_lines missed fence) result }
+{
+    if let Err(fault) = append_missed(host, missed, journal) {
+        return Err(fault);
+    }
+    match fence {
+        Some(number) => append_fence(host, number, journal),
+        None => Ok(()),
+    }
+}
+
+/// Appends what comes first: the title, if the journal is new, ticks that were missed, and the number to which an
+/// operator sets the fence.
 fn append_first<T: Tells, J: Journal>(
     host: &mut T,
     is_new: bool,
     config: &Config,
     missed: u64,
+    fence: Option<u32>,
     journal: &mut J,
 ) -> Result<(), AppendFault>
-    ensures new { is_new ≡ true → OnOk result (J.journal journal.new ≡ appended (missed_lines missed) Durability.Written
+    ensures new { is_new ≡ true → OnOk result (J.journal journal.new ≡ appended (start_lines missed fence) Durability.Written
         (appended (title_line config.now) Durability.Synced (J.journal journal.old))) }
     ensures new_logged { is_new ≡ true → Logs (T.calls host.old) (T.calls host.new)
-        (title_line config.now ++ missed_lines missed) result }
-    ensures old { is_new ≡ false → OnOk result (J.journal journal.new ≡ appended (missed_lines missed) Durability.Written
-        (J.journal journal.old)) }
-    ensures old_logged { is_new ≡ false → Logs (T.calls host.old) (T.calls host.new) (missed_lines missed) result }
+        (title_line config.now ++ start_lines missed fence) result }
+    ensures old { is_new ≡ false → OnOk result (J.journal journal.new ≡ appended (start_lines missed fence)
+        Durability.Written (J.journal journal.old)) }
+    ensures old_logged { is_new ≡ false → Logs (T.calls host.old) (T.calls host.new) (start_lines missed fence) result }
     ensures fails { OnErr result (RunsNoSession (T.calls host.old) (T.calls host.new)) }
 {
     if !is_new {
-        return append_missed(host, missed, journal);
+        return append_start(host, missed, fence, journal);
     }
     if let Err(fault) = append_title(host, config, journal) {
         return Err(fault);
     }
-    append_missed(host, missed, journal)
+    append_start(host, missed, fence, journal)
 }
 
 /// Returns whether a journal is new: no times are known for it.
@@ -253,13 +311,14 @@ impl<F: JournalFile> FoundJournal<F> {
     }
 
     /// Starts appending to the journal. Skips the ticks that the gateway missed, and appends them to the journal, after
-    /// a comment that says how many.
+    /// a comment that says how many. Then appends the number to which an operator sets the fence, if it is given.
     pub fn begin<'a, T: Dates, C: Clock>(
         self,
         host: &mut T,
         alloc: Global,
         config: &Config,
         clock: &'a C,
+        fence: Option<u32>,
         core: &mut Core,
     ) -> Result<DatedJournal<'a, FileJournal<F>, C>, JournalFault>
     where
@@ -268,8 +327,8 @@ impl<F: JournalFile> FoundJournal<F> {
             × (missed ≡ missed_by self.timeline millis) × Grows (T.calls host.old) read (ReadDate millis ∷ [])
             × PassesTicks missed core.old.state core.new.state
             × IfOk result (λ journal.
-            HasBegun (title_before self.timeline config.now) missed (text_in self.opening.file) journal)
-            × Logs read (T.calls host.new) (title_before self.timeline config.now ++ missed_lines missed) result }
+            HasBegun (title_before self.timeline config.now) missed fence (text_in self.opening.file) journal)
+            × Logs read (T.calls host.new) (title_before self.timeline config.now ++ start_lines missed fence) result }
     {
         let missed = self.missed(host);
         core.skip(missed);
@@ -278,7 +337,7 @@ impl<F: JournalFile> FoundJournal<F> {
             Ok(journal) => journal,
             Err(error) => return Err(JournalFault::Write(error)),
         };
-        if append_first(host, is_new, config, missed, &mut journal).is_err() {
+        if append_first(host, is_new, config, missed, fence, &mut journal).is_err() {
             return Err(write_fault(&journal));
         }
         match DatedJournal::new(alloc, journal, clock) {

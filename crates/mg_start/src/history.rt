@@ -5,10 +5,11 @@ ghost use Rattle.mg_core.specs.aids.Resume.{IsResumed};
 ghost use Rattle.mg_engine.specs.Config.{IsValidConfig};
 ghost use Rattle.mg_arguments.specs.Given.{Agrees};
 ghost use Rattle.mg_start.specs.Journal.{timeline_after};
-ghost use Rattle.mg_start.specs.aids.Starting.{KeepsTimes, may_be_title};
+ghost use Rattle.mg_start.specs.aids.Starting.{HasReached, KeepsTimes, may_be_title};
 ghost use Rattle.mg_start.specs.Start.{BeginsWithTitle};
 
 use crate::journal_fault::JournalFault;
+use crate::journal_reader::JournalReader;
 use crate::reading::{FileKey, Reading};
 use memchr::memchr;
 use mg_arguments::{ConfigFault, Given, titled};
@@ -31,14 +32,16 @@ pub(crate) struct History {
     pub config: Config,
     pub core: Core,
     pub timeline: Timeline,
+    /// The number that the journal has reached.
+    pub reached: u32,
 }
 
-/// A journal whose events were run, the gateway in the state that they lead to, and when its ticks happened.
+/// A journal whose events were run, the gateway in the state that they lead to, and what was read about them.
 #[derive(Drop)]
 struct Resumed<F: JournalFile> {
     opening: Opening<F>,
     core: Core,
-    timeline: Timeline,
+    reader: JournalReader,
 }
 
 /// A journal, and what its events lead to, or `None` if it is empty.
@@ -131,7 +134,8 @@ fn check_config(given: &Given, wanted: &Config, config: &Config) -> Result<(), J
 fn fault_of(fault: RunFault) -> JournalFault {
     match fault {
         RunFault::Script(line) => JournalFault::BadLine(line),
-        RunFault::NoMemory => JournalFault::NoMemory,
+        // The reader of a journal stops only if memory runs out.
+        RunFault::NoMemory | RunFault::Write => JournalFault::NoMemory,
         _ => JournalFault::Read(io::Error::from(ErrorKind::Other)),
     }
 }
@@ -149,15 +153,16 @@ where
     ensures file { IfOk result (λ r. r.opening.file ≡ K.file) }
     ensures resumed { IfOk result (λ r. (rest : Option (List ℕ)) ×
         IsResumed config (text_in opening.file) rest r.core.state) }
-    ensures times { IfOk result (λ r. IfSome (text_in opening.file) (λ text. r.timeline ≡ timeline_after text)) }
+    ensures times { IfOk result (λ r. IfSome (text_in opening.file) (λ text. r.reader.timeline ≡ timeline_after text)) }
+    ensures reached { IfOk result (λ r. HasReached (text_in opening.file) r.reader.fence.reached) }
 {
     let mut reading = Reading::<F, K>::new(opening);
-    let mut timeline = Timeline::new();
-    match resume(alloc, config, &mut reading, &mut timeline) {
+    let mut reader = JournalReader::new(alloc);
+    match resume(alloc, config, &mut reading, &mut reader) {
         Ok(core) => Ok(Resumed {
             opening: reading.into_opening(),
             core,
-            timeline,
+            reader,
         }),
         Err(fault) => Err(fault_of(fault)),
     }
@@ -185,6 +190,7 @@ where
         IfSome (text_in opening.file) (BeginsWithTitle h.config))) }
     ensures resumed { IfOk result (λ f. IfSome f.history (λ h. (rest : Option (List ℕ)) ×
         IsResumed h.config (text_in opening.file) rest h.core.state)) }
+    ensures reached { IfOk result (λ f. IfSome f.history (λ h. HasReached (text_in opening.file) h.reached)) }
 {
     let mut opening = opening;
     let Some(config) = config_in(alloc, &mut opening)? else {
@@ -200,7 +206,8 @@ where
         history: Some(History {
             config,
             core: resumed.core,
-            timeline: resumed.timeline,
+            timeline: resumed.reader.timeline,
+            reached: resumed.reader.fence.reached,
         }),
     })
 }

@@ -6,7 +6,9 @@
 //! ```rust
 //! let prepared = prepare(&mut host, &rt, alloc, config, &service, draws, &mut errors)?;
 //! let mut core = prepared.core;
-//! let journal = begin_journal(alloc, &prepared.config, &service, &rt, prepared.journal, &mut core, &mut errors)?;
+//! let journal = begin_journal(
+//!     &mut host, alloc, &prepared.config, &service, &rt, prepared.journal, &mut core, prepared.reached, &mut errors,
+//! )?;
 //! ```
 //!
 //! [`FoundJournal`] is a journal before anything is appended to it. If a gateway can't start, the fault is reported,
@@ -20,6 +22,7 @@ mod beginning;
 mod found_journal;
 mod history;
 mod journal_fault;
+mod journal_reader;
 mod prepared;
 mod reading;
 

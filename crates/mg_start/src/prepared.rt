@@ -6,7 +6,7 @@ ghost use Rattle.mg_core.specs.World.{start_of};
 ghost use Rattle.mg_core.specs.aids.Stands.{StandsFor};
 ghost use Rattle.mg_journal.specs.aids.Opened.{text_in};
 ghost use Rattle.mg_arguments.specs.Draws.{IsDrawn};
-ghost use Rattle.mg_start.specs.aids.Starting.{KeepsTimes, CanResume};
+ghost use Rattle.mg_start.specs.aids.Starting.{HasReached, KeepsTimes, CanResume};
 ghost use Rattle.mg_start.specs.Start.{FailsToStart, Finds, IsChosen, IsChosenBy, Opens};
 
 use crate::found_journal::FoundJournal;
@@ -28,6 +28,8 @@ pub struct Prepared<F: JournalFile> {
     pub config: Config,
     pub core: Core,
     pub journal: Option<FoundJournal<F>>,
+    /// The number that the journal has reached, or 0 without a journal.
+    pub reached: u32,
 }
 
 /// The maximum length of a line for an operator, in bytes: a path and two numbers.
@@ -50,6 +52,10 @@ impl<F: JournalFile> Prepared<F> {
             "journal {path}: continues after {} messages and {} ticks",
             counts.control, counts.ticks
         );
+        if service.fence.is_some() {
+            let from = service.fence_from.unwrap_or(self.reached);
+            let _ = writeln!(line, "fence: begins at {from}");
+        }
         let _ = reports.write_all(line.as_slice());
         let _ = reports.flush();
     }
@@ -73,6 +79,7 @@ where
     ensures file { IfOk result (λ p. option_map_or (λ j. text_in j.opening.file) p.journal None
         ≡ option_map_or (λ o. text_in o.file) opening None) }
     ensures times { IfOk result (λ p. IfSome p.journal (λ j. IsNone j.timeline)) }
+    ensures reached { IfOk result (λ p. p.reached ≡ 0) }
     ensures quiet { OnOk result (errors.new ≡ errors.old) }
     ensures ends { IfErr result (FailsToStart config) }
 {
@@ -96,6 +103,7 @@ where
             config,
             core,
             journal,
+            reached: 0,
         }),
         Err(_) => {
             let _ = writeln!(errors, "{}", RunFault::NoMemory);
@@ -123,6 +131,7 @@ where
     ensures chosen { IfOk result (λ p. IsChosenBy (text_in opening.file) service.now.given draws config p.config) }
     ensures resumed { IfOk result (λ p. (rest : Option (List ℕ)) ×
         IsResumed p.config (text_in opening.file) rest p.core.state) }
+    ensures reached { IfOk result (λ p. HasReached (text_in opening.file) p.reached) }
     ensures file { IfOk result (λ p. option_map_or (λ j. text_in j.opening.file) p.journal None ≡ text_in opening.file) }
     ensures times { IfOk result (λ p. IfSome p.journal (λ j. KeepsTimes j.timeline (text_in j.opening.file))) }
     ensures found { IfOk result (λ p. IsSome p.journal) }
@@ -144,6 +153,7 @@ where
             opening,
             timeline: Some(history.timeline),
         }),
+        reached: history.reached,
     })
 }
 
@@ -193,7 +203,7 @@ pub fn prepare<H: Journals, G: RandomSource, E: Write>(
     ensures chosen { IfOk result (λ p. IsChosen service.now.journal
         (option_map_or (λ j. text_in j.opening.file) p.journal None) service.now.given draws config p.config) }
     ensures resumed { IfOk result (λ p. CanResume service.now.journal
-        (option_map_or (λ j. text_in j.opening.file) p.journal None) p.config p.core.state) }
+        (option_map_or (λ j. text_in j.opening.file) p.journal None) p.config p.core.state p.reached) }
     ensures found { IfOk result (λ p. IsSome service.now.journal → IsSome p.journal) }
     ensures times { IfOk result (λ p. IfSome p.journal (λ j. KeepsTimes j.timeline (text_in j.opening.file))) }
     ensures quiet { OnOk result (errors.new ≡ errors.old) }

@@ -35,6 +35,7 @@ pub record AppendsBatch (result : Result (Unit {0}) AppendFault) (before after :
   pub ticks : ℕ
   pub logs : LogsCalls before after (Append (tick_lines ticks) Written result ∷ [])
   pub durability : new.durability ≡ old.durability
+  pub fence : new.fence ≡ old.fence
   pub lacks : IsJournaled old.durability old.lacking
       (Called (Append (tick_lines ticks) Written result) ∷ []) new.lacking
   pub tries : IsTried old.durability old.untried
@@ -65,6 +66,7 @@ pub record AppendsBefore (followed : List TraceEntry) (result : Result (Unit {0}
   pub are : AreAppends followed result trace
   pub logs : LogsCalls before after (calls_of trace)
   pub durability : new.durability ≡ old.durability
+  pub fence : new.fence ≡ old.fence
   pub lacks : IsJournaled old.durability old.lacking (trace ++ if_ok result followed) new.lacking
   pub tries : IsTried old.durability old.untried (trace ++ if_ok result followed) new.untried
 
@@ -74,6 +76,7 @@ pub record EndsTick (before after : PortsSeen) (old new : JournalView) : Type 0 
   pub may : MayAppend appends
   pub logs : LogsCalls before after (calls_of appends)
   pub durability : new.durability ≡ old.durability
+  pub fence : new.fence ≡ old.fence
   pub lacks : IsJournaled old.durability (after_one_tick old.durability old.lacking) appends
       new.lacking
   pub in_time : old.untried < 10

@@ -6,16 +6,25 @@ use Rattle.mg_core.specs.aids.Stands.{StandsFor}
 use Rattle.mg_journal.specs.declared.durability.Durability.{Durability}
 use Rattle.mg_ports.specs.Calls.{Logged}
 use Rattle.mg_ports.specs.Journaled.{PortsSeen, JournalAfter}
+use Rattle.mg_fence.specs.declared.fence.Fence.{Fence}
+use Rattle.mg_serve.specs.Fenced.{IsFenced}
 use Rattle.mg_serve.specs.Journaled.{IsJournaled, IsTried}
+use Rattle.mg_serve.specs.Setup.{Setup}
 use Rattle.mg_serve.specs.Trace.{TraceEntry, calls_of}
 use Rattle.mg_serve.specs.aids.Printing.{PrinterView, Prints}
 
--- how durably messages are appended to the journal, if there is one, how many ticks it lacks, and
--- how many have happened since an append was tried
+-- how durably messages are appended to the journal, if there is one, how many ticks it lacks, how
+-- many have happened since an append was tried, and the fence, if there is one
 pub record JournalView : Type 0 where
   pub durability : Option Durability
   pub lacking : ℕ
   pub untried : ℕ
+  pub fence : Option Fence
+
+-- the journal of a setup, without any tick that it lacks
+abbrev pub new_journal : Setup → JournalView
+new_journal setup =
+    record { durability = setup.journal; lacking = 0; untried = 0; fence = setup.fence }
 
 -- a server as seen from outside: its ports, the content of its writer, its printer, and the
 -- progress of its journal
@@ -37,6 +46,7 @@ pub record LogsTrace (old new : Outside) (trace : List TraceEntry) : Type 0 wher
   pub durability : new.journal.durability ≡ old.journal.durability
   pub lacks : IsJournaled old.journal.durability old.journal.lacking trace new.journal.lacking
   pub tries : IsTried old.journal.durability old.journal.untried trace new.journal.untried
+  pub fenced : IsFenced old.journal.fence trace new.journal.fence
 
 -- Every world that the old core represents steps, with this trace, to a world that the new core
 -- represents.

@@ -1,5 +1,5 @@
 -- What the functions that start a gateway tell one another.
-use Rattle.std.specs.Prelude.{◌≡◌, ◌≢◌, ℕ, false, List, [], codes, Option, Some, None, Result, Ok, Err, IfSome, Bool, ◌||◌, nat_eq}
+use Rattle.std.specs.Prelude.{◌≡◌, ◌≢◌, ◌++◌, ℕ, false, true, List, [], codes, Option, Some, None, Result, Ok, Err, IfSome, Bool, ◌||◌, nat_eq}
 use Rattle.std.specs.List.{starts_with}
 use Rattle.std.specs.Io.KnownBytes.{append_known}
 use Rattle.mg_dates.specs.declared.timeline.Timeline.{Timeline}
@@ -7,12 +7,16 @@ use Rattle.mg_dates.specs.Times.{missed_since}
 use Rattle.mg_host.specs.HostCalls.{Grows}
 use Rattle.mg_engine.specs.declared.config.Config.{Config}
 use Rattle.mg_core.specs.declared.state.CoreState.{CoreState}
+use Rattle.mg_core.specs.Note.{Note, notes_of}
 use Rattle.mg_core.specs.World.{World, world_after_ticks}
 use Rattle.mg_core.specs.aids.Stands.{StandsFor}
+use Rattle.mg_fence.specs.Reached.{Reaches}
 use Rattle.mg_journal.specs.Journal.{JournalState}
+use Rattle.mg_lines.specs.Lines.{lines_of}
+use Rattle.mg_serve.specs.Journaled.{tick_lines}
 use Rattle.mg_host.specs.declared.host_call.HostCall.{HostCall}
 use Rattle.mg_arguments.specs.Title.{title_line}
-use Rattle.mg_start.specs.Journal.{missed_lines, RunsNoSession, timeline_after, Writes}
+use Rattle.mg_start.specs.Journal.{RunsNoSession, Writes, missed_comment, start_lines, timeline_after}
 use Rattle.mg_start.specs.Start.{HasStarted, ResumesIn}
 
 -- Times are kept for a journal if and only if it has lines, as far as its text is known. They are
@@ -54,23 +58,33 @@ abbrev pub PassesTicks : ℕ → CoreState → CoreState → Type 0
 PassesTicks ticks old new =
     (w : World) → StandsFor old w → StandsFor new (world_after_ticks ticks w)
 
+-- ticks that were missed, after a comment that says how many
+abbrev pub missed_lines : ℕ → List ℕ
+missed_lines ticks = missed_comment ticks ++ tick_lines ticks
+
 -- A journal that works, and whose text, if it is known, is the text that was found, then the title,
--- then lines for this many missed ticks.
-pub record HasBegun (title : List ℕ) (ticks : ℕ) (found : Option (List ℕ)) (journal : JournalState)
-    : Type 0 where
+-- then lines for this many missed ticks, and for the number to which an operator sets the fence.
+pub record HasBegun (title : List ℕ) (ticks : ℕ) (fence : Option ℕ) (found : Option (List ℕ))
+    (journal : JournalState) : Type 0 where
   pub works : journal.is_broken ≡ false
-  pub text : journal.text ≡ append_known (append_known found title) (missed_lines ticks)
+  pub text : journal.text ≡ append_known (append_known found title) (start_lines ticks fence)
 
--- a core in a world in which the gateway is resumed
-pub record CanResume (journal text : Option (List ℕ)) (config : Config) (state : CoreState) : Type 0
-  where
-    pub world : World
-    pub stands : StandsFor state world
-    pub resumes : ResumesIn journal text config world
-
--- a core in the world in which a gateway starts
-pub record CanStart (journal text : Option (List ℕ)) (config : Config) (state : CoreState)
-    (before : JournalState) (bound begun : Option (List HostCall)) : Type 0 where
+-- a core in a world in which the gateway is resumed, and the number that its messages have reached
+pub record CanResume (journal text : Option (List ℕ)) (config : Config) (state : CoreState)
+    (reached : ℕ) : Type 0 where
   pub world : World
   pub stands : StandsFor state world
-  pub started : HasStarted journal text config world before bound begun
+  pub resumes : ResumesIn journal text config world reached
+
+-- the number that the text of a journal has reached
+abbrev pub HasReached : (text : Option (List ℕ)) → (reached : ℕ) → Type 0
+HasReached text reached = IfSome text (λ lines.
+    (notes : List Note) × (notes_of (lines_of true lines) ≡ Some notes) × Reaches 0 notes reached)
+
+-- a core in the world in which a gateway starts, and the number that the journal has reached
+pub record CanStart (journal text : Option (List ℕ)) (fence : Option ℕ) (config : Config)
+    (state : CoreState) (reached : ℕ) (before : JournalState) (bound begun : Option (List HostCall))
+    : Type 0 where
+  pub world : World
+  pub stands : StandsFor state world
+  pub started : HasStarted journal text fence config world reached before bound begun

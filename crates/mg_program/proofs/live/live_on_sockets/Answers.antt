@@ -32,6 +32,7 @@ returns g c =
         sound = c.requires.sound;
         runs = fault_ran c.live_on-fault.result c.live_on-fault.ensures.started;
         start = can.world;
+        reached = c.args.ready.reached;
         before = before;
         after = after;
         begun = g.H.Tells.calls c.args.host;
@@ -39,14 +40,14 @@ returns g c =
         served = (
           unread,
           c.requires.unread,
-          subst (λ (s : ClockSeen). ServedByClock (setup_of config service) can.world (title_if service.records config)
+          subst (λ (s : ClockSeen). ServedByClock (setup_of config c.args.ready.reached service) can.world (title_if service.records config)
               c.args.late unread s ⊤ old (new last) (g.W.Write.contents c.args.output.now)
               (g.W.Write.contents c.live_on-fault.new.output) c.live_on-fault.result) (sym c.stop.ensures.stopped)
-              (subst (λ (x : Option (List HostCall)). ServedByClock (setup_of config service) can.world
+              (subst (λ (x : Option (List HostCall)). ServedByClock (setup_of config c.args.ready.reached service) can.world
               (title_if service.records config) c.args.late unread clock ⊤ old (new x)
               (g.W.Write.contents c.args.output.now) (g.W.Write.contents c.live_on-fault.new.output)
               c.live_on-fault.result) (sym c.stop.ensures.same)
-              (served_any (setup_of config service) can.world (title_if service.records config) c.args.late unread clock
+              (served_any (setup_of config c.args.ready.reached service) can.world (title_if service.records config) c.args.late unread clock
               (g.H.Watch.Watch.Fails c.live_on-fault.new.watch) old (new (g.H.Tells.calls ports.host))
               (g.W.Write.contents c.args.output.now) (g.W.Write.contents c.live_on-fault.new.output)
               c.live_on-fault.result (rw (c.new-ports.ensures.host, c.new-ports.ensures.journal) at

@@ -11,7 +11,7 @@ returns-in-Err g c = record {
   value = λ text found bound can binds. inr (
     fails_anyhow c.args.ready.config c.watch_fault-status.result c.watch_fault-status.ensures.ends,
     not_started c.args.service.now.journal text c.args.service.now.bind_address c.args.ready.config can.started.missed
-        c.args.ready.config.slots found bound (g.H.Tells.calls c.args.host) (g.H.Tells.calls c.watch.new.self) binds
+        c.args.service.now.fence_from c.args.ready.config.slots found bound (g.H.Tells.calls c.args.host) (g.H.Tells.calls c.watch.new.self) binds
         can.started.begins c.watch.ensures.same,
     refl,
   );
@@ -22,7 +22,7 @@ returns-in-Err-monitor g c = record {
   value = λ text found bound can binds. inr (
     tt,
     not_started c.args.service.now.journal text c.args.service.now.bind_address c.args.ready.config can.started.missed
-        c.args.ready.config.slots found bound (g.H.Tells.calls c.args.host) (g.H.Tells.calls c.watch.new.self) binds
+        c.args.service.now.fence_from c.args.ready.config.slots found bound (g.H.Tells.calls c.args.host) (g.H.Tells.calls c.watch.new.self) binds
         can.started.begins c.watch.ensures.same,
     refl,
   );
@@ -36,7 +36,8 @@ returns g c = record {
     c.status_after.ensures.value,
     binds,
     c.live_on_sockets.ensures.value text bound (subst (λ (x : Option (List HostCall)).
-        CanStart c.args.service.now.journal text c.args.ready.config c.args.ready.core.state
+        CanStart c.args.service.now.journal text c.args.service.now.fence_from c.args.ready.config
+        c.args.ready.core.state c.args.ready.reached
         (option_map_or (λ j. j) c.args.ready.journal no_journal) bound x) (sym c.watch.ensures.same) can),
   );
 }

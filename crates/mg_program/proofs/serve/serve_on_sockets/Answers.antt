@@ -14,6 +14,7 @@ returns g c =
         sound = c.requires.sound;
         runs = c.serve_on-outcome.ensures.started;
         start = can.world;
+        reached = c.args.ready.reached;
         before = option_map_or (λ j. j) c.args.ready.journal no_journal;
         after = option_map_or (λ j. j) ports.journal no_journal;
         begun = g.H.Tells.calls c.args.host;

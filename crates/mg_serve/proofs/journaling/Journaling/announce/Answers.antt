@@ -12,7 +12,7 @@ returns-clause-value g c =
     (ports_seen (g.P.Ports.calls c.append_all_ticks.new.ports) (g.P.Ports.journal c.append_all_ticks.new.ports))
     (ports_seen (g.P.Ports.calls c.append.new.ports) (g.P.Ports.journal c.append.new.ports))
     c.args.self.now c.append_all_ticks.new.self
-    (record { durability = c.self-2.inside.durability; lacking = c.self-2.inside.lacking; untried = 0 })
+    (record { durability = c.self-2.inside.durability; lacking = c.self-2.inside.lacking; untried = 0; fence = c.self-2.inside.fence })
     c.in_default-append_all_ticks.ensures.value
     (ap (λ (v : JournalView). v.durability) (sym c.self.view_is) ∙ c.in-Some.is)
     c.in_default-append_all_ticks.ensures.none

@@ -3,7 +3,7 @@ use Rattle.mg_journal.specs.declared.durability.Durability.TheVariants.{Written,
 use Rattle.mg_journal.specs.Journal.{appended}
 use Rattle.mg_journal.specs.aids.Opened.{text_in}
 use Rattle.mg_arguments.specs.Title.{title_line}
-use Rattle.mg_start.specs.Journal.{missed_lines}
+use Rattle.mg_start.specs.Journal.{start_lines}
 use Rattle.mg_start.proofs.BeginLemmas.{has_begun, was_done}
 use Rattle.mg_start.proofs.LogLemmas.{first_quiet, logs_done}
 use Rattle.mg_start.proofs.found_journal.FoundJournal.begin.Goals as goal
@@ -17,11 +17,11 @@ returns-in-Ok-new g c =
     let before = g.T.Tells.calls c.missed-missed.new.host in
     let after = g.T.Tells.calls c.append_first.new.host in
     let ok : is_err c.append_first.result ≡ false = sym c.is_err.ensures.value ∙ c.if-is_err.false in
-    let begun = has_begun c.args.self.timeline c.is_new-is_new.result config missed (text_in c.args.self.opening.file) first
+    let begun = has_begun c.args.self.timeline c.is_new-is_new.result config missed c.args.fence (text_in c.args.self.opening.file) first
     c.in-Ok-new.dated before after c.is_new-is_new.ensures.value c.in-Ok.ensures.works c.in-Ok.ensures.text
-    (λ new. c.in-Ok-new.ensures.value ∙ was_done c.append_first.result (c.append_first.new.journal ≡ appended (missed_lines missed) Written (appended (title_line config) Synced first)) ok (c.append_first.ensures.new new))
+    (λ new. c.in-Ok-new.ensures.value ∙ was_done c.append_first.result (c.append_first.new.journal ≡ appended (start_lines missed c.args.fence) Written (appended (title_line config) Synced first)) ok (c.append_first.ensures.new new))
     (λ new. logs_done before after _ c.append_first.result ok (c.append_first.ensures.new_logged new))
-    (λ old. c.in-Ok-new.ensures.value ∙ was_done c.append_first.result (c.append_first.new.journal ≡ appended (missed_lines missed) Written first) ok (c.append_first.ensures.old old))
+    (λ old. c.in-Ok-new.ensures.value ∙ was_done c.append_first.result (c.append_first.new.journal ≡ appended (start_lines missed c.args.fence) Written first) ok (c.append_first.ensures.old old))
     (λ old. logs_done before after _ c.append_first.result ok (c.append_first.ensures.old_logged old)) in
     record { passed = (missed, millis, before, is, grows, c.skip.ensures.next, begun.0, begun.1) }
 

@@ -1,0 +1,71 @@
+-- No message is run whose number is below that of a message that was run before.
+use Rattle.std.proofs.Common.{◌≡◌, ℕ, ◌≤◌, max, true, List, [], ◌∷◌, ◌++◌, map, Option, Some, None, refl, sym, ap, subst, ◌∙◌, arith, unwrap_or}
+use Rattle.std.specs.Option.{option_map}
+use Rattle.std.proofs.lemmas.Bool.{leb-true}
+use Rattle.mg_core.specs.declared.event.Event.TheVariants as events
+use Rattle.mg_core.specs.declared.parsed.Parsed.{Parsed}
+use Rattle.mg_core.specs.Note.{Note, Comment}
+use Rattle.mg_core.specs.Note as notes
+use Rattle.mg_core.specs.Parsed.{ReadingsAreUnique}
+use Rattle.mg_fence.specs.declared.fence.Fence.{Fence}
+use Rattle.mg_fence.specs.Fence.{passes, raised_by}
+use Rattle.mg_fence.specs.Number.{HasNumber, number_in}
+use Rattle.mg_fence.specs.Reached.{Reaches, number_set}
+use Rattle.mg_serve.specs.Fenced.{IsFenced}
+use Rattle.mg_serve.specs.FenceLaws.{NoLowerNumberIsRun}
+use Rattle.mg_serve.specs.Trace.{TraceEntry, Called, Happened, Printed, Noted, Stale, events_of_trace}
+
+-- a message has one number
+one_number : ReadingsAreUnique → (bytes : List ℕ) (a b : Option ℕ) → HasNumber bytes a → HasNumber bytes b → a ≡ b
+one_number unique bytes a b (p, reads, is) (q, too, same) =
+    is ∙ ap (λ (r : Parsed). number_in bytes r) (unique bytes p q reads too) ∙ sym same
+
+-- what passes a fence that is at least n isn't below n
+not_below : (n m : ℕ) (f : Fence) (bytes : List ℕ) (number : Option ℕ) → n ≤ f.reached →
+    passes (Some f) bytes number ≡ true → number ≡ Some m → n ≤ m
+not_below n m f bytes None least passed is = absurd cc
+not_below n m f bytes (Some k) least passed is =
+    let same : k ≡ m = cc in subst (λ (x : ℕ). n ≤ x) same (omega (arith, least, leb-true f.reached k passed))
+
+-- what notes reach after a part of them
+reached_after : ReadingsAreUnique → (from mid last : ℕ) (p q : List Note) → Reaches from p mid → Reaches from (p ++ q) last →
+    Reaches mid q last
+reached_after unique from mid last [] q h k = subst (λ (m : ℕ). Reaches m q last) (sym h) k
+reached_after unique from mid last (Comment line ∷ p) q h k =
+    reached_after unique (unwrap_or (number_set line) from) mid last p q h k
+reached_after unique from mid last (notes.Happened (events.Control source bytes) ∷ p) q (n, has, h) (m, other, k) =
+    reached_after unique (max from (unwrap_or n 0)) mid last p q h
+    (subst (λ (o : Option ℕ). Reaches (max from (unwrap_or o 0)) (p ++ q) last) (one_number unique bytes m n other has) k)
+reached_after unique from mid last (notes.Happened (events.Media port source bytes) ∷ p) q h k =
+    reached_after unique from mid last p q h k
+reached_after unique from mid last (notes.Happened events.Tick ∷ p) q h k = reached_after unique from mid last p q h k
+
+-- the events of a trace, as notes of a journal
+abbrev noted : List TraceEntry → List Note
+noted p = map notes.Happened (events_of_trace p)
+
+-- the fence after a part of a trace is what this part has reached
+fence_after : ReadingsAreUnique → (f : Fence) (fence end : Option Fence) (p q : List TraceEntry) (last : ℕ) →
+    fence ≡ Some f → IsFenced fence (p ++ q) end → Reaches f.reached (noted p) last →
+    (g : Fence) × (last ≡ g.reached) × IsFenced (Some g) q end
+fence_after unique f fence end [] q last is h k = (f, k, subst (λ (o : Option Fence). IsFenced o q end) is h)
+fence_after unique f fence end (Called call ∷ p) q last is h k = fence_after unique f fence end p q last is h k
+fence_after unique f fence end (Happened (events.Control source bytes) ∷ p) q last is (n, has, passed, h) (m, other, k) =
+    fence_after unique (raised_by n f) (option_map (raised_by n) fence) end p q last
+    (ap (λ (o : Option Fence). option_map (raised_by n) o) is) h
+    (subst (λ (o : Option ℕ). Reaches (max f.reached (unwrap_or o 0)) (noted p) last) (one_number unique bytes m n other has) k)
+fence_after unique f fence end (Happened (events.Media port source bytes) ∷ p) q last is h k =
+    fence_after unique f fence end p q last is h k
+fence_after unique f fence end (Happened events.Tick ∷ p) q last is h k = fence_after unique f fence end p q last is h k
+fence_after unique f fence end (Printed text ∷ p) q last is h k = fence_after unique f fence end p q last is h k
+fence_after unique f fence end (Noted text ∷ p) q last is h k = fence_after unique f fence end p q last is h k
+fence_after unique f fence end (Stale source bytes ∷ p) q last is (n, has, fails, h) k =
+    fence_after unique f fence end p q last is h k
+
+pub no_lower_number : ReadingsAreUnique → NoLowerNumberIsRun
+no_lower_number unique start end earlier front rest source bytes last number before fenced reached numbered =
+    let since = reached_after unique 0 start.reached last earlier (noted front) before reached in
+    let (f, is, behind) =
+    fence_after unique start (Some start) end front (Happened (events.Control source bytes) ∷ rest) last refl fenced since in
+    let (n, has, passed, h) = behind in
+    not_below last number f bytes n (omega (arith, is)) passed (one_number unique bytes n (Some number) has numbered)

@@ -245,7 +245,7 @@ bad_offers(Config) ->
     [Told | _] = rtpengine:offers(Relay),
     ?assertEqual([nomatch, nomatch], [binary:match(Told, It) || It <- [<<"192.0.2.66">>, <<"candidate">>]]).
 
-%% Browsers are told that rtpengine was lost, and join again. Their callers stay isolated and muted.
+%% Browsers learn that rtpengine was lost, and join again. Whoever was isolated or muted stays so.
 rtpengine_is_lost(Config) ->
     Relay = proplists:get_value(relay, Config),
     Other = talker(<<"100">>, <<"other">>),

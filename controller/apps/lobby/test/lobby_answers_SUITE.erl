@@ -8,6 +8,7 @@
 
 all() ->
     [messages, responses, any_bytes, in_dialogs, dialogs_are_known_by_both_tags, answers_have_both_tags, a_stranger_is_not_read, a_bomb_stops_nobody,
+     a_slow_reader_stops_only_its_senders,
      one_address_shuts_out_nobody, too_fast, a_digest_is_used_once, a_proxy_is_trusted, a_long_session,
      silent_connections_end, a_call_keeps_its_connection, strangers_do_not_connect, a_call_over_tls, a_renewed_certificate_is_used].
 
@@ -274,6 +275,35 @@ a_bomb_stops_nobody(Config) ->
      || Name <- ["Contact", "Route", "Record-Route", "Via", "Accept"], {Count, Value} <- [{5800, "<sip:a@b>"}, {780, "<sip:a@b>"}, {3900, ";"}]],
     ?assertEqual(200, phone:status(answer(options([]), Config))).
 
+%% Its senders' messages wait, up to a number, and are answered in order.
+a_slow_reader_stops_only_its_senders(Config) ->
+    {links, Links} = process_info(whereis(lobby_sip), links),
+    [Slow | _] = [Pid || Pid <- Links, is_pid(Pid), {lobby_sip_reader, init, 1} =:= proc_lib:translate_initial_call(Pid)],
+    ok = sys:suspend(Slow),
+    Phones = [phone:start(sip(Config)) || _ <- lists:seq(1, 16)],
+    Send = fun(Phone, N) ->
+        phone:send(string:replace(options([{"CSeq", integer_to_list(N) ++ " OPTIONS"}]), "PORT", integer_to_list(phone:port(Phone)), all), Phone)
+    end,
+    _ = [Send(Phone, 1) || Phone <- Phones],
+    Waiting = [Phone || Phone <- Phones, phone:recv(Phone, 500) =:= none],
+    ?assertMatch(N when N > 0, length(Waiting)),
+    ?assertMatch(N when N < 16, length(Waiting)),
+    _ = [Send(hd(Waiting), N) || N <- lists:seq(2, 150)],
+    ?assertEqual(none, phone:recv(hd(Waiting), 500)),
+    {message_queue_len, Length} = process_info(Slow, message_queue_len),
+    ?assertEqual(100, Length),
+    ok = sys:resume(Slow),
+    Numbers = fun Next() -> case phone:recv(hd(Waiting), 500) of
+        none -> [];
+        Answer ->
+            {match, [N]} = re:run(Answer, "CSeq: ([0-9]+)", [{capture, all_but_first, list}]),
+            [list_to_integer(N) | Next()]
+    end end,
+    ?assertEqual(lists:seq(1, 101 - length(Waiting)), Numbers()),
+    Send(hd(Waiting), 200),
+    ?assertEqual([200], Numbers()),
+    _ = [phone:close(Phone) || Phone <- Phones].
+
 %% A phone's address that isn't 127.0.0.1.
 from(Address, Text, Config) ->
     {ok, Socket} = gen_udp:open(0, [list, {ip, Address}, {active, false}]),
@@ -301,11 +331,14 @@ one_address_shuts_out_nobody(Config) ->
 
 %% Twice the rate at once.
 too_fast(Config) ->
-    Phone = phone:start(sip(Config)),
-    [phone:send(string:replace(options([]), "PORT", integer_to_list(phone:port(Phone)), all), Phone) || _ <- lists:seq(1, 100)],
-    Answers = fun Count(N) -> case phone:recv(Phone, 500) of none -> N; _ -> Count(N + 1) end end,
-    Answered = Answers(0),
-    ?assertEqual({Answered, true}, {Answered, Answered >= 20 andalso Answered < 60}),
+    lists:foreach(fun({Start, Least}) ->
+        Phone = phone:Start(sip(Config), "100"),
+        [phone:send(string:replace(options([]), "PORT", integer_to_list(phone:port(Phone)), all), Phone) || _ <- lists:seq(1, 100)],
+        Answers = fun Count(N) -> case phone:recv(Phone, 500) of none -> N; _ -> Count(N + 1) end end,
+        Answered = Answers(0),
+        ?assertEqual({Start, Answered, true}, {Start, Answered, Answered >= Least andalso Answered < 60}),
+        phone:close(Phone)
+    end, [{start, 20}, {start_tcp, 5}]),
     ?assertEqual(200, from({127, 0, 0, 2}, options([]), Config)),
     timer:sleep(200),
     ?assertEqual(200, phone:status(answer(options([]), Config))).

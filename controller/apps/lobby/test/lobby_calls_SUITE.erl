@@ -84,7 +84,8 @@ modes(Room, Config) ->
 
 hang_up(Phone) ->
     Phone1 = phone:request("BYE", "", Phone),
-    Response = phone:recv(Phone1),
+    %% What the phone answered twice is acknowledged twice.
+    Response = (fun Next() -> case phone:recv(Phone1) of "ACK" ++ _ -> Next(); Text -> Text end end)(),
     ?assertEqual({200, "BYE"}, {phone:status(Response), lists:last(string:lexemes(phone:header("CSeq", Response), " "))}).
 
 %%% Cases.

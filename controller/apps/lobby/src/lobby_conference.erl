@@ -467,7 +467,7 @@ termination(Id, #conference{held = Held}) -> (maps:get(Id, Held))#held.terminati
 %%% Its answer.
 
 %% @doc A termination was let go: another room has it now.
--spec done(step() | {released, id()}, {ok, lobby_h248:reply(), owner()} | {error, pos_integer() | busy} | done,
+-spec done(step() | {released, id()}, {ok, lobby_h248:reply(), owner()} | {error, pos_integer() | busy | lost} | done,
            conference()) -> {[event()], conference()}.
 done({released, Id}, done, C = #conference{held = Held, departing = Departing}) ->
     {[], ended(C#conference{held = maps:remove(Id, Held), departing = maps:remove(Id, Departing)})};

@@ -35,7 +35,7 @@ new_loads() ->
     ?MODULE = ets:new(?MODULE, [named_table, public, {read_concurrency, true}]),
     ok.
 
-%% @doc Tells a gateway's process of what a room wants. Whoever has no answer tells it again.
+%% @doc Tells a gateway's process of what a room wants. A room that has no answer asks for it.
 -spec cast(handle(), tuple()) -> ok.
 cast({Name, _}, Event) ->
     gen_server:cast(via(Name), Event).

@@ -41,6 +41,7 @@
                      entries := [{lobby_h248:termination(), lobby_seats:entry()}],
                      requests := [{lobby_transactions:sent(), purpose()}]}.
 -type event() :: start | {request, handle(), room(), Reference :: term(), lobby_h248:action(), [id()]}
+               | {unanswered, handle(), room(), Reference :: term()}
                | {holdings, handle(), room()} | {reserve, From :: term(), handle(), room(), [id()]}
                | {seats, handle(), room(), [id()]} | {release, handle(), lobby_h248:termination(), room()}
                | {'end', handle(), [place()]} | {received, lobby_h248:message()} | refused
@@ -112,13 +113,17 @@ acts(Actions, G) -> lists:foldl(fun act/2, G, Actions).
 event(start, Now, G = #gateway{state = State}) ->
     entered(State, G#gateway{away = Now});
 event({request, {_, N}, Room, Reference, Action, Ids}, Now, G = #gateway{generation = N, sentinel = {_, _, _}}) ->
+    submit({queued, {room, Room, Reference, Ids}}, Action, Now, G);
+event({request, Handle, Room, _, _, _}, _, G) ->
+    told_lost(Handle, Room, G);
+%% If nothing is awaited, either the room was told the answer, or the request was on its way to a process that failed.
+event({unanswered, {_, N}, Room, Reference}, _, G = #gateway{generation = N}) ->
     Is = fun({room, Of, Known, _}) -> Of =:= Room andalso Known =:= Reference; (_) -> false end,
-    %% It comes again if it was only lost on its way to a process that failed.
     case lobby_transactions:awaits(Is, G#gateway.transactions) of
         true -> G;
-        false -> submit({queued, {room, Room, Reference, Ids}}, Action, Now, G)
+        false -> act({tell, Room, {answer, Reference, {error, lost}}}, G)
     end;
-event({request, Handle, Room, _, _, _}, _, G) ->
+event({unanswered, Handle, Room, _}, _, G) ->
     told_lost(Handle, Room, G);
 event({holdings, {_, N}, Room}, _, G = #gateway{generation = N, asking = Asking}) ->
     answer_asking(G#gateway{asking = lists:usort([Room | Asking])});

@@ -150,6 +150,7 @@ act(Action, State = #state{name = Name}) ->
 do({save, Kept}, Name) -> lobby_store:put(lobby_rooms, Name, Kept);
 do({request, Gateway, Reference, Action, Ids}, Name) ->
     lobby_gateway:cast(Gateway, {request, Gateway, Name, Reference, Action, Ids});
+do({unanswered, Gateway, Reference}, Name) -> lobby_gateway:cast(Gateway, {unanswered, Gateway, Name, Reference});
 do({holdings, Gateway}, Name) -> lobby_gateway:cast(Gateway, {holdings, Gateway, Name});
 do({seats, Gateway, Ids}, Name) -> lobby_gateway:cast(Gateway, {seats, Gateway, Name, Ids});
 do(Event = {release, Gateway, _, _}, _) -> lobby_gateway:cast(Gateway, Event);

@@ -1,8 +1,9 @@
 %%% @doc A room as a value: whom it admits, which gateway has its conference, and whom it reports to. `handle/3' takes
 %%% what happens and returns what is to be done, so that every order of events can be tried without processes.
 %%%
-%%% Whatever it is told may be told again, late, or never: rows are read again when the room starts, a request is
-%%% repeated under its reference until it is answered, and a member's row is reported until he has it.
+%%% Whatever it is told may be told again, late, or never: rows are read again when the room starts, a member's row is
+%%% reported until he has it, and the gateway's process is asked for an answer that hasn't come. A request is never sent
+%%% to that process again: if its answer is under way, it would be run twice.
 -module(lobby_room_core).
 
 -export([new/1, handle/3, describe/2, agrees/1, named/1, seats/1, received/2]).
@@ -36,9 +37,10 @@
                | {settings, From :: term(), settings()}
                | {audit, From :: term()} | {agree, From :: term()}
                | {answer, reference_(), {ok, lobby_h248:reply(), lobby_conference:owner()}
-                                        | {error, pos_integer() | busy}}
+                                        | {error, pos_integer() | busy | lost}}
                | {lost, handle()} | {returned, handle()} | retry | watch.
--type action() :: {request, handle(), reference_(), lobby_h248:action(), [id()]} | {holdings, handle()}
+-type action() :: {request, handle(), reference_(), lobby_h248:action(), [id()]} | {unanswered, handle(), reference_()}
+                | {holdings, handle()}
                 | {place, [id()], Prefer :: handle() | none, Except :: handle() | none}
                 | {reserve, handle(), [id()]} | {seats, handle(), [id()]}
                 | {release, handle(), lobby_h248:termination(), To :: name()}
@@ -58,7 +60,7 @@
                admitted = #{} :: #{id() => integer()}, admits = [] :: [{id(), handle() | none}],
                %% What is awaited: the gateway's process, a seat, or an answer.
                busy = none :: none | holdings | {seat, id()} | place
-                            | {reference_(), lobby_h248:action(), [id()], lobby_conference:step()},
+                            | {reference_(), lobby_conference:step()},
                next = 1 :: pos_integer(), failures = 0 :: non_neg_integer(), waits = false :: boolean(),
                %% Whether nothing was left to be done.
                rests = false :: boolean(),
@@ -187,7 +189,7 @@ event({audit, From}, _, Room = #room{gateway = none}) ->
     act({reply, From, unknown}, Room);
 event({audit, From}, _, Room = #room{conference = C, audits = Audits}) ->
     Room#room{conference = lobby_conference:check(C), audits = [From | Audits], compared = unknown};
-event({answer, Reference, Answer}, Now, Room = #room{busy = {Reference, _, _, Step}, conference = C}) ->
+event({answer, Reference, Answer}, Now, Room = #room{busy = {Reference, Step}, conference = C}) ->
     {Events, Done} = lobby_conference:done(Step, Answer, C),
     lists:foldl(fun(Event, R) -> answered(Event, Now, R) end,
                 progress(Step, Events, Room#room{busy = none, conference = Done}), Events);
@@ -244,8 +246,8 @@ lost(Room = #room{conference = C, stale = Stale, busy = Busy, asks = Asks}) ->
               failures = 0, full = false, packets = #{}, seats = none}.
 
 %% Asks for what is awaited, perhaps again: whoever is asked may be starting, and miss it.
-sent(Room = #room{busy = {Reference, Action, Ids, _}, gateway = Gateway}) ->
-    acts([{request, Gateway, Reference, Action, Ids}, {retry, later}], Room);
+sent(Room = #room{busy = {Reference = {_, _}, _}, gateway = Gateway}) ->
+    acts([{unanswered, Gateway, Reference}, {retry, later}], Room);
 sent(Room = #room{busy = holdings, gateway = Gateway}) ->
     acts([{holdings, Gateway}, {retry, later}], Room);
 sent(Room) ->
@@ -328,8 +330,10 @@ ids(Room = #room{admits = Admits}) ->
 seated_ids(#room{conference = C, admitted = Admitted, busy = Busy}) ->
     lists:usort([Id || {seat, Id} <- [Busy]] ++ lobby_conference:ids(C) ++ maps:keys(Admitted)).
 
-next({request, Action, Step}, Room = #room{run = Run, next = N}) ->
-    sent(Room#room{busy = {{Run, N}, Action, added(Step), Step}, next = N + 1});
+next({request, Action, Step}, Room = #room{run = Run, next = N, gateway = Gateway}) ->
+    Reference = {Run, N},
+    acts([{request, Gateway, Reference, Action, added(Step)}, {retry, later}],
+         Room#room{busy = {Reference, Step}, next = N + 1});
 next({release, #{id := Id}, T}, Room = #room{asks = Asks, gateway = Gateway, conference = C}) ->
     case Asks of
         #{Id := {To, Moved, Gateway}} ->

@@ -4,7 +4,7 @@
 %% Between any two events, somebody can ask for a change, and a process can be killed. A gateway can end, and start again
 %% empty or from its journal. The other node of a pair can take over. A datagram can be lost, or come twice or much later.
 %% Messages arrive in the order in which they were sent, except for a few that overtake others. Timers run out only when
-%% nothing else can happen, so nothing waits without a reason.
+%% nothing else can happen, so nothing waits without a reason; but a room may be impatient.
 -module(lobby_world).
 
 -export([start/1, model/1, format/1]).
@@ -184,6 +184,8 @@ faults(W = #world{options = #{faults := {_, Kinds}}}) ->
 faults(lose, W) -> [{lose, Key} || Key <- datagrams(W)];
 faults(double, W) -> [{double, Key} || Key = {_, {net, _}} <- datagrams(W)];
 faults(late, W = #world{late = Late}) -> [{late, Key} || Key = {_, {net, _}} <- datagrams(W), Late =:= []];
+faults(early, #world{timers = Timers, rooms = Rooms}) ->
+    [{early, R} || {room, R, retry} <- lists:sort(maps:keys(Timers)), is_map_key(R, Rooms)];
 faults(kill_person, W) -> [{kill, {person, Id}} || Id <- callers(W)];
 faults(kill_room, #world{rooms = Rooms}) -> [{kill, {room, R}} || R <- lists:sort(maps:keys(Rooms))];
 faults(kill_gateway, #world{gateways = Gateways}) -> [{kill, {gateway, G}} || G <- lists:sort(maps:keys(Gateways))];
@@ -304,6 +306,9 @@ fault({double, Key}, W = #world{queues = Queues}) ->
 fault({late, Key = {_, {net, G}}}, W = #world{queues = Queues, late = Late, now = Now}) ->
     #{Key := [First | _]} = Queues,
     fault({lose, Key}, W#world{late = [{G, First, Now + ?QUIET} | Late]});
+%% A room's timer runs out before what is under way has come.
+fault({early, R}, W = #world{timers = Timers}) ->
+    ran_out({room, R, retry}, W#world{timers = maps:remove({room, R, retry}, Timers)});
 fault({kill, Process}, W) ->
     started(Process, W#world{queues = to_nobody(Process, W)});
 fault({'end', G}, W = #world{options = Options, worlds = Worlds, journals = Journals, queues = Queues}) ->
@@ -505,6 +510,7 @@ reserve(Handle = {G, _}, R, Ids, W) ->
 room_act(R, {save, Kept}, W) -> put_in({lobby_rooms, R}, Kept, W);
 room_act(R, {request, H = {G, _}, Reference, Action, Ids}, W) ->
     send({room, R}, {gateway, G}, {request, H, R, Reference, Action, Ids}, W);
+room_act(R, {unanswered, H = {G, _}, Reference}, W) -> send({room, R}, {gateway, G}, {unanswered, H, R, Reference}, W);
 room_act(R, {holdings, H = {G, _}}, W) -> send({room, R}, {gateway, G}, {holdings, H, R}, W);
 room_act(R, {seats, H = {G, _}, Ids}, W) -> send({room, R}, {gateway, G}, {seats, H, R, Ids}, W);
 room_act(R, {release, H = {G, _}, T, To}, W) -> send({room, R}, {gateway, G}, {release, H, T, To}, W);

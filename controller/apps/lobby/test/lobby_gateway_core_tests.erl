@@ -38,3 +38,14 @@ what_it_refuses_to_end_is_tried_again_test() ->
     Refused = {received, {reply, list_to_integer(Number), {error, 500}}},
     {_, Later} = lobby_gateway_core:handle(Refused, Now + 1100, G),
     ?assert(lists:member({timer, clean, 1000}, Later)).
+
+%% A room whose request was on its way to a process that failed is told so. While the answer is awaited, it is told nothing.
+a_lost_request_is_reported_test() ->
+    {G, _} = lost(0),
+    Handle = lobby_gateway_core:handle_of(G),
+    Told = fun(Actions) -> [{Room, Message} || {tell, Room, Message} <- Actions] end,
+    {_, Lost} = lobby_gateway_core:handle({unanswered, Handle, <<"100">>, 1}, 2000, G),
+    ?assertEqual([{<<"100">>, {answer, 1, {error, lost}}}], Told(Lost)),
+    {Asked, _} = lobby_gateway_core:handle({request, Handle, <<"100">>, 1, #{context => 3, commands => [{audit, all, []}]}, []}, 2000, G),
+    {_, Awaited} = lobby_gateway_core:handle({unanswered, Handle, <<"100">>, 1}, 2000, Asked),
+    ?assertEqual([], Told(Awaited)).

@@ -65,10 +65,13 @@ two_datagrams_test_() ->
 
 %% The answer may be under way when the room asks again.
 an_impatient_room_test_() ->
-    searched(#{joined => [], rooms => [<<"1">>], changes => {2, [join]}, faults => {2, [early, kill_gateway]}}).
+    searched(#{joined => [], rooms => [<<"1">>], changes => {2, [join]}, faults => {1, [early]}}).
 
 an_impatient_room_changes_test_() ->
     searched(#{rooms => [<<"1">>], changes => {3, [{mute, {ann, 1}}, {unmute, {ann, 1}}]}, faults => {2, [early, lose]}}).
+
+an_impatient_member_moves_test_() ->
+    searched(#{joined => ?APART, changes => {1, [move]}, faults => {2, [early]}}).
 
 few_seats_test_() ->
     searched(#{seats => #{a => 3, b => 3}, changes => {1, [isolate, move, leave]},

@@ -4,7 +4,7 @@
 %% Between any two events, somebody can ask for a change, and a process can be killed. A gateway can end, and start again
 %% empty or from its journal. The other node of a pair can take over. A datagram can be lost, or come twice or much later.
 %% Messages arrive in the order in which they were sent, except for a few that overtake others. Timers run out only when
-%% nothing else can happen, so nothing waits without a reason; but a room may be impatient.
+%% nothing else can happen, so nothing waits without a reason; but rooms and members may be impatient.
 -module(lobby_world).
 
 -export([start/1, model/1, format/1]).
@@ -184,8 +184,9 @@ faults(W = #world{options = #{faults := {_, Kinds}}}) ->
 faults(lose, W) -> [{lose, Key} || Key <- datagrams(W)];
 faults(double, W) -> [{double, Key} || Key = {_, {net, _}} <- datagrams(W)];
 faults(late, W = #world{late = Late}) -> [{late, Key} || Key = {_, {net, _}} <- datagrams(W), Late =:= []];
-faults(early, #world{timers = Timers, rooms = Rooms}) ->
-    [{early, R} || {room, R, retry} <- lists:sort(maps:keys(Timers)), is_map_key(R, Rooms)];
+faults(early, #world{timers = Timers, rooms = Rooms, people = People}) ->
+    [{early, {timer, Key}} || Key = {room, R, retry} <- lists:sort(maps:keys(Timers)), is_map_key(R, Rooms)]
+        ++ [{early, {again, Id}} || {Id, Person} <- lists:sort(maps:to_list(People)), not lobby_person:is_settled(Person)];
 faults(kill_person, W) -> [{kill, {person, Id}} || Id <- callers(W)];
 faults(kill_room, #world{rooms = Rooms}) -> [{kill, {room, R}} || R <- lists:sort(maps:keys(Rooms))];
 faults(kill_gateway, #world{gateways = Gateways}) -> [{kill, {gateway, G}} || G <- lists:sort(maps:keys(Gateways))];
@@ -306,9 +307,11 @@ fault({double, Key}, W = #world{queues = Queues}) ->
 fault({late, Key = {_, {net, G}}}, W = #world{queues = Queues, late = Late, now = Now}) ->
     #{Key := [First | _]} = Queues,
     fault({lose, Key}, W#world{late = [{G, First, Now + ?QUIET} | Late]});
-%% A room's timer runs out before what is under way has come.
-fault({early, R}, W = #world{timers = Timers}) ->
-    ran_out({room, R, retry}, W#world{timers = maps:remove({room, R, retry}, Timers)});
+%% A timer runs out before what is under way has come. The time stays as it is.
+fault({early, {timer, Key}}, W = #world{timers = Timers}) ->
+    ran_out(Key, W#world{timers = maps:remove(Key, Timers)});
+fault({early, Again}, W) ->
+    step(Again, W);
 fault({kill, Process}, W) ->
     started(Process, W#world{queues = to_nobody(Process, W)});
 fault({'end', G}, W = #world{options = Options, worlds = Worlds, journals = Journals, queues = Queues}) ->

@@ -30,8 +30,8 @@ PAIR = ", {pair, #{self => 'lobby@127.0.0.1', peer => 'lobby@127.0.0.2'}}"
 
 class Controller(http.server.BaseHTTPRequestHandler):
     def do_GET(self):
-        loads = [{"name": name, "terminations": 5, "max_terminations": 256, "contexts": 2, "max_contexts": 64}
-                 for name in self.server.serving]
+        loads = [{"name": name, "terminations": 5, "max_terminations": 256, "contexts": 2, "max_contexts": 64, "draining": False}
+                 | self.server.draining.get(name, {}) for name in self.server.serving]
         bodies = {"/gateways": json.dumps({"gateways": loads}), "/metrics": METRICS,
                   "/openapi.json": json.dumps({"info": {"version": "0.2.0"}})}
         known = self.headers["Authorization"] == f"Bearer {TOKEN}"
@@ -49,7 +49,7 @@ class Controller(http.server.BaseHTTPRequestHandler):
 class Status(unittest.TestCase):
     def setUp(self):
         self.server = http.server.ThreadingHTTPServer(("127.0.0.1", 0), Controller)
-        self.server.serving = ["1", "2"]
+        self.server.serving, self.server.draining = ["1", "2"], {}
         threading.Thread(target=self.server.serve_forever, daemon=True).start()
         self.addCleanup(self.server.server_close)
         self.addCleanup(self.server.shutdown)
@@ -73,6 +73,16 @@ class Status(unittest.TestCase):
         self.server.serving = ["2"]
         said, status = self.status()
         self.assertIn("gateway 1 at 10.0.0.10:2944: NOT in service\n", said)
+        self.assertEqual(status, 1)
+
+    def test_draining(self):
+        self.server.draining = {"1": {"draining": True}}
+        said, status = self.status()
+        self.assertIn("gateway 1 at 10.0.0.10:2944: 5 of 256 terminations, 2 of 64 conferences, being drained\n", said)
+        self.assertEqual(status, 0)
+        self.server.draining = {"1": {"draining": True, "terminations": 0, "contexts": 0}}
+        said, status = self.status()
+        self.assertIn("gateway 1 at 10.0.0.10:2944: drained, and NOT in service until POST /gateways/1/resume\n", said)
         self.assertEqual(status, 1)
 
     def test_a_pair(self):

@@ -41,6 +41,19 @@ ANSWERS, DIALOGS, HTTP = "lobby_answers_SUITE:", "lobby_dialogs_SUITE:", "lobby_
 CONFERENCE, CORE, GATEWAY = "lobby_conference", "lobby_room_core", "lobby_gateway_core"
 
 BODIES = [
+    Wrong("a gateway that is being drained takes rooms", "lobby_placement",
+          [("{Handle, Load = #{draining := false}} <- All]", "{Handle, Load} <- All]")],
+          "lobby_gateways_SUITE:one_is_drained"),
+    Wrong("rooms aren't told to leave any more after a failure", "lobby_gateway_core",
+          [("Leave = [{timer, leave, 0} || G#gateway.draining],", "Leave = [],")],
+          SEARCH + "what_drains_a_gateway_fails_test_"),
+    Wrong("a drained gateway keeps our termination", "lobby_gateway_core",
+          [("Action = #{context => Context, commands => [{subtract_optional, T}]},\n    Left",
+            "Action = #{context => Context, commands => [{audit, T, [media]}]},\n    Left")],
+          "lobby_gateways_SUITE:one_is_drained"),
+    Wrong("what a room leaves behind is nobody's", "lobby_gateway_core",
+          [("              orelse not Given andalso GatewayOf(Room) =/= Own].", "              orelse not Given andalso false andalso GatewayOf(Room) =/= Own].")],
+          SEARCH + "what_drains_a_gateway_fails_test_"),
     Wrong("activate before topology", CONFERENCE,
           [("first_mode(_, _) -> inactive.", "first_mode(_, Mode) -> Mode.")],
           PROMISE + "a_newcomer_whose_topology_is_refused"),

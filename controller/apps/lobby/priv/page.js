@@ -384,10 +384,23 @@ async function showGateways() {
   const { gateways: serving, rtpengine } = await ask("GET", "/gateways");
   $("invite").hidden = rtpengine === "none";
   const used = new Map(serving.map(it => [it.name, it.terminations]));
-  for (const name of used.keys()) if (!gateways.has(name)) gateways.set(name, "serving");
+  for (const { name, draining } of serving) gateways.set(name, draining ? "draining" : "serving");
   put($("gateways"), [...gateways].map(([name, state]) =>
     `Gateway ${shown(name)}: ${state}${used.has(name) ? `, terminations: ${used.get(name)}` : ""}`).join("; ") +
     (rtpengine === "none" ? "" : `; rtpengine: ${rtpengine}`));
+  for (const [name, state] of gateways) {
+    if (!drains.has(name)) drains.set(name, $("drains").appendChild(button("", () => drain(name))));
+    put(drains.get(name), `${leaves(state) ? "Resume" : "Drain"} gateway ${shown(name)}`);
+  }
+}
+
+// A button for each gateway.
+const drains = new Map();
+const leaves = state => ["draining", "drained"].includes(state);
+async function drain(name) {
+  const [way, back] = leaves(gateways.get(name)) ? ["resume", "drain"] : ["drain", "resume"];
+  if (way === "drain" && !await sure(`Move all rooms from gateway ${shown(name)} to others? It takes no new rooms until you resume it.`)) return;
+  act(`${way === "drain" ? "Draining" : "Resumed"} gateway ${shown(name)}`, () => ask("POST", path("gateways", name, way)), () => ask("POST", path("gateways", name, back)));
 }
 
 // Server-sent events. An EventSource can't send the token.

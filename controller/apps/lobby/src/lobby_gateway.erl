@@ -5,7 +5,7 @@
 -module(lobby_gateway).
 -behaviour(gen_server).
 
--export([start_link/1, new_loads/0, cast/2, reserve/3, name/1, serving/0, any_serves/0]).
+-export([start_link/1, new_loads/0, cast/2, reserve/3, drain/2, name/1, serving/0, any_serves/0]).
 -export([init/1, handle_call/3, handle_cast/2, handle_info/2]).
 -export_type([name/0, handle/0, config/0]).
 
@@ -49,11 +49,20 @@ reserve(Handle = {Name, _}, Room, Ids) ->
         exit:{_, {gen_server, call, _}} -> false
     end.
 
+%% @doc Whether a gateway's rooms are to leave it, and it takes no new ones.
+-spec drain(name(), boolean()) -> ok | {error, no_gateway}.
+drain(Name, Is) ->
+    try
+        gen_server:call(via(Name), {drain, Is})
+    catch
+        exit:{noproc, {gen_server, call, _}} -> {error, no_gateway}
+    end.
+
 -spec name(handle()) -> name().
 name({Name, _}) ->
     Name.
 
-%% @doc The gateways that serve, with what they have.
+%% @doc The gateways that serve or are drained, with what they have.
 -spec serving() -> [{handle(), lobby_placement:load()}].
 serving() ->
     [{Handle, Load} || {Name, Handle, Load} <- lists:sort(ets:tab2list(?MODULE)),
@@ -80,10 +89,12 @@ init(Config = #{name := Name, address := {Address, Port}, here := Here}) ->
     _ = erlang:send_after(?ORPHANS, self(), orphans),
     {ok, handled(start, #state{name = Name, socket = Socket, core = Core})}.
 
--spec handle_call({reserve, handle(), lobby_room:name(), [lobby_rules:id()]}, gen_server:from(), #state{}) ->
-          {noreply, #state{}}.
+-spec handle_call({reserve, handle(), lobby_room:name(), [lobby_rules:id()]} | {drain, boolean()}, gen_server:from(),
+                  #state{}) -> {noreply, #state{}}.
 handle_call({reserve, Handle, Room, Ids}, From, State) ->
-    {noreply, handled({reserve, From, Handle, Room, Ids}, State)}.
+    {noreply, handled({reserve, From, Handle, Room, Ids}, State)};
+handle_call({drain, Is}, From, State) ->
+    {noreply, handled({drain, From, Is}, State)}.
 
 -spec handle_cast(lobby_gateway_core:event(), #state{}) -> {noreply, #state{}}.
 handle_cast(Event, State) ->
@@ -111,7 +122,7 @@ handle_info(orphans, State) ->
     _ = erlang:send_after(?ORPHANS, self(), orphans),
     handle_info(look, State);
 handle_info(look, State = #state{core = Core}) ->
-    {noreply, case lobby_gateway_core:orphans(fun lobby_member:find/1, Core) of
+    {noreply, case lobby_gateway_core:orphans(fun lobby_member:find/1, fun lobby_rooms:gateway/1, Core) of
         [] -> State;
         Orphans -> handled({orphans, Orphans}, State)
     end};

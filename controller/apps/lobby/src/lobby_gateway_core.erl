@@ -13,6 +13,8 @@
 %%%   ours exists elsewhere by now, so it is ended first. The requests go out at once, so that a gateway that hangs
 %%%   reads them before it sends anything. A node of a pair waits until the gateway answers, and until the nodes agree
 %%%   again;
+%%% - a gateway that is being drained takes no new rooms, and its rooms are told to leave, one after the other. Once it
+%%%   has nothing of ours, this termination is ended, too, and nothing is sent until it is to serve again;
 %%% - if this process or another node had it before, its conferences go on. Requests are kept before they are sent, and
 %%%   repeated under their numbers until they are answered. Only then are the rooms told what they have, so the gateway
 %%%   runs no request of an earlier owner after that.
@@ -20,21 +22,24 @@
 %%% Each time that it was lost it has a new handle, so that nobody who missed its loss commands by its old names.
 -module(lobby_gateway_core).
 
--export([new/1, handle/3, handle_of/1, orphans/2]).
+-export([new/1, handle/3, handle_of/1, orphans/3]).
 -export_type([gateway/0, event/0, action/0, purpose/0, options/0, kept/0]).
+
+%% Milliseconds until the next room is told to leave.
+-define(LEAVE, 200).
 
 -type handle() :: lobby_gateway:handle().
 -type room() :: lobby_room:name().
 -type id() :: lobby_rules:id().
 -type place() :: lobby_conference:place().
--type state() :: probing | cleaning | serving | away.
+-type state() :: probing | cleaning | serving | away | drained.
 -type sentinel() :: {lobby_h248:context(), lobby_h248:termination(), Remote :: lobby_h248:endpoint()}.
 %% What a request is for: a room, with the ids that it adds, or this process itself.
 -type purpose() :: {room, room(), Reference :: term(), [id()]} | {probe, Remote :: lobby_h248:endpoint()} | audit
-                 | {clean, place()} | {unknown, lobby_transactions:sent()}.
+                 | {clean, place()} | {unknown, lobby_transactions:sent()} | leave.
 %% `contexts': what is to be ended. `unknown': abandoned requests that may have made something.
 -type kept() :: #{generation := pos_integer(), sentinel := sentinel() | none, contexts := [place()],
-                  unknown := [lobby_transactions:sent()]}.
+                  unknown := [lobby_transactions:sent()], draining => boolean()}.
 %% `settled': milliseconds after which the nodes of a pair agree about who serves.
 -type options() :: #{config := lobby_gateway:config(), sender := lobby_h248:endpoint(),
                      first := lobby_h248:transaction(), settled := non_neg_integer(), kept := kept() | none,
@@ -45,14 +50,16 @@
                | {holdings, handle(), room()} | {reserve, From :: term(), handle(), room(), [id()]}
                | {seats, handle(), room(), [id()]} | {release, handle(), lobby_h248:termination(), room()}
                | {'end', handle(), [place()]} | {received, lobby_h248:message()} | refused
-               | {timer, timer(), Remote :: lobby_h248:endpoint()} | {orphans, [lobby_h248:termination()]}.
--type timer() :: transactions | probe | audit | clean | back.
+               | {timer, timer(), Remote :: lobby_h248:endpoint()} | {orphans, [lobby_h248:termination()]}
+               | {drain, From :: term(), boolean()}.
+-type timer() :: transactions | probe | audit | clean | back | leave.
 -type action() :: {send, binary()} | {keep, kept()}
                 | {request, lobby_h248:transaction(), {lobby_transactions:sent(), purpose()} | none}
                 | {entry, lobby_seats:change()} | {tell, room(), term()} | {reply, From :: term(), term()}
                 | {timer, timer(), non_neg_integer() | infinity} | {deadline, integer() | infinity}
-                | {load, lobby_placement:load() | none} | {publish, serving | away | returned | lost}
-                | {count, atom()} | {log, logger:level(), io:format(), [term()]}.
+                | {load, lobby_placement:load() | none}
+                | {publish, serving | away | returned | lost | draining | drained} | {count, atom()}
+                | {log, logger:level(), io:format(), [term()]}.
 
 -record(gateway, {config :: lobby_gateway:config(), settled :: non_neg_integer(), state = probing :: state(),
                   generation = 1 :: pos_integer(), transactions :: lobby_transactions:transactions(),
@@ -62,6 +69,8 @@
                   contexts = [] :: [place()], unknown = [] :: [lobby_transactions:sent()],
                   %% Rooms that wait for their holdings until all their requests are answered.
                   asking = [] :: [room()],
+                  %% Whether its rooms are to leave, and which was told so last.
+                  draining = false :: boolean(), told = <<>> :: room(),
                   kept = none :: kept() | none, shown = none :: lobby_placement:load() | none, out = [] :: [action()]}).
 -opaque gateway() :: #gateway{}.
 
@@ -75,20 +84,26 @@ new(Options = #{config := Config, sender := Sender, first := First, settled := S
     case Kept of
         none -> G;
         #{generation := Generation, sentinel := Sentinel, contexts := Contexts, unknown := Unknown} ->
+            IsDraining = maps:get(draining, Kept, false),
             G#gateway{generation = Generation, sentinel = Sentinel, contexts = Contexts, unknown = Unknown,
-                      kept = Kept, transactions = lobby_transactions:kept(Requests, T),
-                      state = case Sentinel of none -> probing; _ -> away end}
+                      kept = Kept, transactions = lobby_transactions:kept(Requests, T), draining = IsDraining,
+                      state = case Sentinel of none when IsDraining -> drained; none -> probing; _ -> away end}
     end.
 
 -spec handle_of(gateway()) -> handle().
 handle_of(#gateway{config = #{name := Name}, generation = Generation}) -> {Name, Generation}.
 
-%% @doc The terminations that belong to nobody, by the rows of those for whom they were made.
--spec orphans(fun((id()) -> {ok, lobby_person:row()} | error), gateway()) -> [lobby_h248:termination()].
-orphans(Find, #gateway{seats = Seats}) ->
+%% @doc The terminations that belong to nobody, by the rows of those for whom they were made, and by the gateways of
+%% their rooms.
+-spec orphans(fun((id()) -> {ok, lobby_person:row()} | error), fun((room()) -> handle() | none), gateway()) ->
+          [lobby_h248:termination()].
+orphans(Find, GatewayOf, G = #gateway{seats = Seats}) ->
     Entries = lobby_seats:entries(Seats),
-    [T || {T, Entry = #{member := Id}} <- Entries,
-          is_left_behind(Entry, Find(Id)) orelse is_superseded(Entry, Entries)].
+    Own = handle_of(G),
+    [T || {T, Entry = #{member := Id, room := Room, given := Given}} <- Entries,
+          is_left_behind(Entry, Find(Id)) orelse is_superseded(Entry, Entries)
+              %% The room has left, and this process failed before it heard of that.
+              orelse not Given andalso GatewayOf(Room) =/= Own].
 
 %% He is in no room that has it, and comes from none.
 is_left_behind(_, error) -> true;
@@ -141,6 +156,10 @@ event({release, {_, N}, T, To}, _, G = #gateway{generation = N, seats = Seats}) 
     changed(lobby_seats:let_go(T, To, Seats), G);
 event({'end', {_, N}, Places}, Now, G = #gateway{generation = N}) ->
     to_end(Places, Now, G);
+event({drain, From, Is}, _, G) ->
+    drain(Is, act({reply, From, ok}, G));
+event({timer, leave, _}, Now, G = #gateway{draining = true}) ->
+    leave(Now, act({timer, leave, ?LEAVE}, G));
 event({orphans, Orphans}, Now, G = #gateway{seats = Seats}) ->
     Places = [{Context, T} || {T, #{context := Context}} <- lobby_seats:entries(Seats), lists:member(T, Orphans)],
     to_end(Places, Now, case Places of [] -> G; _ -> act({count, lobby_strays_total}, G) end);
@@ -184,6 +203,8 @@ changed({Changes, Seats}, G) ->
 
 enter(State, G) -> entered(State, G#gateway{state = State}).
 
+entered(drained, G) ->
+    G;
 entered(probing, G) ->
     act({timer, probe, 0}, G);
 entered(away, G = #gateway{config = #{returns := Returns, retry := Retry, tries := Tries}}) ->
@@ -192,7 +213,8 @@ entered(cleaning, G = #gateway{settled = Settled}) ->
     act({timer, clean, Settled}, G);
 entered(serving, G = #gateway{config = #{name := Name, audit := Interval}}) ->
     Serves = {log, notice, "gateway ~p is in service", [Name]},
-    answer_asking(acts([Serves, {publish, serving}, {timer, audit, Interval}], G)).
+    Leave = [{timer, leave, 0} || G#gateway.draining],
+    answer_asking(acts([Serves, {publish, serving}, {timer, audit, Interval} | Leave], G)).
 
 sentinel_audit(#gateway{sentinel = {Context, Termination, _}}) ->
     #{context => Context, commands => [{audit, Termination, [media]}]}.
@@ -241,6 +263,40 @@ begun_anew(G = #gateway{state = State}) ->
     end,
     {_, T1} = lobby_transactions:abandon(T),
     enter(probing, Lost#gateway{sentinel = none, contexts = [], unknown = [], transactions = T1}).
+
+%%% Draining.
+
+drain(Is, G = #gateway{draining = Is}) ->
+    G;
+drain(true, G = #gateway{config = #{name := Name}}) ->
+    Draining = kept(G#gateway{draining = true, told = <<>>}),
+    acts([{log, notice, "gateway ~p is being drained", [Name]}, {publish, draining}, {timer, leave, 0}], Draining);
+drain(false, G = #gateway{state = State, config = #{name := Name}}) ->
+    Log = {log, notice, "gateway ~p takes rooms again", [Name]},
+    Back = kept(acts([Log, {timer, leave, infinity}], G#gateway{draining = false})),
+    case State of drained -> enter(probing, abandoned(Back)); _ -> Back end.
+
+%% Tells the next room to leave. If there is none, the gateway is left.
+leave(Now, G = #gateway{state = serving, seats = Seats, told = Told, contexts = Contexts, unknown = Unknown}) ->
+    Rooms = lobby_seats:rooms(Seats),
+    case {[Room || Room <- Rooms, Room > Told] ++ Rooms, Contexts, Unknown} of
+        {[Next | _], _, _} -> act({tell, Next, {leave, handle_of(G)}}, G#gateway{told = Next});
+        {[], [], []} -> left(Now, G);
+        {[], _, _} -> G
+    end;
+leave(_, G) ->
+    G.
+
+left(Now, G = #gateway{config = #{name := Name}, sentinel = {Context, T, _}, generation = Generation}) ->
+    Action = #{context => Context, commands => [{subtract_optional, T}]},
+    Left = submit({patiently, leave}, Action, Now, abandoned(enter(drained, G))),
+    acts([{log, notice, "gateway ~p is drained", [Name]}, {publish, drained}, {timer, leave, infinity}],
+         kept(Left#gateway{sentinel = none, generation = Generation + 1})).
+
+%% Of the requests, only audits and the last one can be open.
+abandoned(G = #gateway{transactions = T}) ->
+    {_, Without} = lobby_transactions:abandon(T),
+    G#gateway{transactions = Without}.
 
 %%% What is to be ended.
 
@@ -367,14 +423,16 @@ answer_asking(G) ->
 %%% What outlives the process, and what others choose by.
 
 kept(G = #gateway{kept = Before, generation = Generation, sentinel = Sentinel}) ->
-    #gateway{contexts = Contexts, unknown = Unknown} = G,
-    case #{generation => Generation, sentinel => Sentinel, contexts => Contexts, unknown => Unknown} of
+    #gateway{contexts = Contexts, unknown = Unknown, draining = IsDraining} = G,
+    case #{generation => Generation, sentinel => Sentinel, contexts => Contexts, unknown => Unknown,
+           draining => IsDraining} of
         Before -> G;
         Kept -> act({keep, Kept}, G#gateway{kept = Kept})
     end.
 
 %% Whoever hears that it no longer serves doesn't find it.
-shown(#gateway{state = State, seats = Seats}, G = #gateway{state = State, seats = Seats}) ->
+shown(#gateway{state = State, seats = Seats, draining = Is},
+      G = #gateway{state = State, seats = Seats, draining = Is}) ->
     G;
 shown(_, G = #gateway{shown = Before, out = Out}) ->
     case load(G) of
@@ -382,5 +440,7 @@ shown(_, G = #gateway{shown = Before, out = Out}) ->
         Load -> G#gateway{shown = Load, out = Out ++ [{load, Load}]}
     end.
 
-load(#gateway{state = serving, seats = Seats}) -> lobby_seats:load(Seats);
+load(#gateway{state = serving, seats = Seats, draining = Is}) -> (lobby_seats:load(Seats))#{draining => Is};
+load(#gateway{state = drained, seats = Seats}) ->
+    (lobby_seats:load(Seats))#{terminations => 0, contexts => 0, draining => true};
 load(_) -> none.

@@ -155,7 +155,7 @@ answer(Method, Path, Mod = #mod{request_uri = Uri, parsed_header = Headers}) ->
                     {false, _} -> handled(Handler, Name, fun() -> #{} end)
                 end;
             {_, _, _, _} when Role =:= viewer -> failure(403, <<"this token can only read">>);
-            {_, Name, Handler, Route} -> changed(Handler, Name, [Method, " ", Route], Who, Mod);
+            {_, Name, Handler, Route} -> changed(Handler, Name, Route, Who, Mod);
             false ->
                 Allowed = lists:append(lists:join(", ", [Known || {Known, _, _, _} <- Routes])),
                 failure(405, [{allow, Allowed}], list_to_binary(["allowed methods: ", Allowed]))
@@ -198,12 +198,12 @@ failure(Status, Text) -> failure(Status, [], Text).
 failure(Status, Headers, Text) -> {Status, Headers, #{error => Text}}.
 
 %% It is in the audit log before it is begun, and again with its answer.
-changed(Handler, Name, Change, Who, Mod = #mod{entity_body = Body}) ->
+changed(Handler, Name, Route, Who, Mod = #mod{method = Method, entity_body = Body}) ->
     try object(list_to_binary(Body)) of
         Object ->
             Numbered = {_, Number} = number(),
             Entry = [{request, list_to_integer(Number)}, {by, Who}, {from, from(Mod)},
-                     {change, iolist_to_binary(Change)} | about(Name, Object)],
+                     {change, iolist_to_binary([Method, " ", Route])} | about(Route, Name, Object)],
             ok = lobby_audit:write([{event, change} | Entry] ++ [{body, maps:with(?LOGGED, Object)}]),
             {Status, Headers, Json} = caught(fun() -> handled(Handler, Name, fun() -> Object end) end),
             More = maps:to_list(maps:with([error, number], Json)),
@@ -215,8 +215,10 @@ changed(Handler, Name, Change, Who, Mod = #mod{entity_body = Body}) ->
 
 from(#mod{init_data = #init_data{peername = {_, From}}}) -> list_to_binary(From).
 
-%% The rooms and the member that a change is about.
-about(Name, Object) ->
+%% The gateway, or the rooms and the member, that a change is about.
+about(<<"/gateways/", _/binary>>, Name, _) ->
+    [{gateway, Name}];
+about(_, Name, Object) ->
     To = [Room || #{<<"room">> := Room} <- [Object], is_binary(Room)],
     case lobby_member:find(Name) of
         {ok, Row = #{room := Room}} ->
@@ -294,6 +296,8 @@ routes() ->
       fun(Id, Object) -> lobby_member:move(Id, room_name(lobby_json:text(<<"room">>, Object))) end},
      {"POST", <<"/members/{id}/hang_up">>, fun hang_up/2},
      {"GET", <<"/gateways">>, fun(_, _) -> {ok, #{gateways => gateways(), rtpengine => lobby_rtpengine:state()}} end},
+     {"POST", <<"/gateways/{name}/drain">>, fun(Name, _) -> lobby_gateway:drain(Name, true) end},
+     {"POST", <<"/gateways/{name}/resume">>, fun(Name, _) -> lobby_gateway:drain(Name, false) end},
      {"GET", <<"/events">>, events},
      {"POST", <<"/links">>, fun link_to/2},
      {"DELETE", <<"/links/{number}">>, fun unlink_from/2},
@@ -399,6 +403,7 @@ refused({refused, Code}) ->
     failure(502, <<"the gateway rejected the request: error ", (integer_to_binary(Code))/binary>>);
 refused(no_such_room) -> failure(404, <<"there is no such room">>);
 refused(no_member) -> failure(404, <<"there is no such member">>);
+refused(no_gateway) -> failure(404, <<"there is no such gateway">>);
 refused(no_listener) -> failure(404, <<"the listener isn't in the member's room">>);
 refused(no_link) -> failure(401, <<"the link isn't valid">>);
 refused(link_expired) -> failure(401, <<"the link has expired">>);

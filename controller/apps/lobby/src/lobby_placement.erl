@@ -8,9 +8,10 @@
 -export_type([load/0]).
 
 -type handle() :: lobby_gateway:handle().
-%% How many terminations and contexts a gateway has or has promised, and how many it may have.
+%% How many terminations and contexts a gateway has or has promised, how many it may have, and whether it takes no new
+%% room.
 -type load() :: #{terminations := non_neg_integer(), contexts := non_neg_integer(),
-                  max_terminations := pos_integer(), max_contexts := pos_integer()}.
+                  max_terminations := pos_integer(), max_contexts := pos_integer(), draining := boolean()}.
 
 -spec start_link() -> gen_server:start_ret().
 start_link() ->
@@ -47,9 +48,10 @@ handle_cast(_, State) ->
     {noreply, State}.
 
 %% @doc The gateways that may have seats for so many and a context, the best first. Who moves there may have his
-%% already.
+%% already. One that is being drained takes no room.
 -spec ranked(Members :: non_neg_integer(), Prefer :: handle() | none, [{handle(), load()}]) -> [handle()].
-ranked(Members, Prefer, Gateways) ->
+ranked(Members, Prefer, All) ->
+    Gateways = [{Handle, Load} || {Handle, Load = #{draining := false}} <- All],
     Fitting = [{-free(Load), Handle} || {Handle, Load} <- Gateways, Handle =/= Prefer, free(Load) >= Members,
                                         has_context(Load)],
     [Handle || {Handle, _} <- Gateways, Handle =:= Prefer] ++ [Handle || {_, Handle} <- lists:sort(Fitting)].

@@ -38,7 +38,7 @@
                | {audit, From :: term()} | {agree, From :: term()}
                | {answer, reference_(), {ok, lobby_h248:reply(), lobby_conference:owner()}
                                         | {error, pos_integer() | busy | lost}}
-               | {lost, handle()} | {returned, handle()} | retry | watch.
+               | {lost, handle()} | {returned, handle()} | {leave, handle()} | retry | watch.
 -type action() :: {request, handle(), reference_(), lobby_h248:action(), [id()]} | {unanswered, handle(), reference_()}
                 | {holdings, handle()}
                 | {place, [id()], Prefer :: handle() | none, Except :: handle() | none}
@@ -197,6 +197,9 @@ event({lost, Gateway}, _, Room = #room{gateway = Gateway}) ->
     lost(Room);
 event({returned, Gateway}, _, Room = #room{gateway = Gateway, conference = C}) ->
     act({count, lobby_conferences_kept_total}, Room#room{conference = lobby_conference:check(C), packets = #{}});
+%% As if it were full.
+event({leave, Gateway}, _, Room = #room{gateway = Gateway}) ->
+    Room#room{full = true};
 event(retry, _, Room = #room{conference = C}) ->
     sent(Room#room{failures = 0, conference = lobby_conference:unblock(C)});
 event(watch, Now, Room = #room{conference = C, admitted = Admitted}) ->

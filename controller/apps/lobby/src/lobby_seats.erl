@@ -114,7 +114,7 @@ entries(#seats{entries = Entries}) ->
     maps:to_list(Entries).
 
 %% @doc How much is taken. The controller's own termination and its context count.
--spec load(seats()) -> lobby_placement:load().
+-spec load(seats()) -> #{atom() => non_neg_integer()}.
 load(S = #seats{entries = Entries, reserved = Reserved, max_terminations = Max, max_contexts = MaxContexts}) ->
     With = lists:usort([Id || #{member := Id} <- maps:values(Entries)]),
     People = lists:usort(With ++ lists:append(maps:values(Reserved))),

@@ -18,7 +18,8 @@ all() ->
      one_that_comes_back_with_less_is_corrected, another_run_takes_over,
      rooms_that_are_gone_end_when_a_gateway_returns,
      one_that_began_anew_between_two_runs, processes_fail, a_room_fails_in_the_middle_of_a_request,
-     somebody_else_changes_the_topology, lost_and_doubled_datagrams, anything_for_some_seconds].
+     somebody_else_changes_the_topology, lost_and_doubled_datagrams, one_is_drained, one_that_is_drained_fails,
+     what_has_no_room_elsewhere_stays, anything_for_some_seconds].
 
 init_per_testcase(_, Config) ->
     ok = application:load(lobby),
@@ -570,6 +571,85 @@ somebody_else_changes_the_topology(_) ->
     lobby_case:until(fun() -> heard(<<"100">>, #{<<"a">> => G}) =:= [{alice, carol}, {carol, alice}] end, 8000).
 
 %% A relay loses and doubles datagrams in both directions.
+%% Two gateways, with rooms of three on both: who is isolated talks, and the others listen. Returns their ears.
+rooms_of_three(Gs) ->
+    run(maps:to_list(Gs)),
+    Rooms = [integer_to_binary(N) || N <- lists:seq(1, 6)],
+    Ears = lists:append([begin
+        ok = people:create(Room, []),
+        Callers = [begin
+            Caller = caller:start(),
+            {ok, _} = people:joins({Room, N}, #{room => Room, role => <<"member">>, isolated => N =:= 1, caller => Caller}),
+            Caller
+        end || N <- [1, 2, 3]],
+        tl(Callers)
+    end || Room <- Rooms]),
+    ?assertEqual([<<"a">>, <<"b">>], lists:usort([gateway_of(Room) || Room <- Rooms])),
+    {Rooms, Ears}.
+
+gateway_of(Room) -> maps:get(gateway, people:describe(Room)).
+
+%% What a gateway has of ours.
+has(Rooms, Gs) ->
+    [?assertEqual([{{Room, 2}, {Room, 3}}, {{Room, 3}, {Room, 2}}], heard(Room, Gs)) || Room <- Rooms].
+
+all_of(G) -> gateway:contexts(lists:seq(1, 100), G).
+
+%% Its rooms go, one after the other, with who joins them meanwhile, and who is isolated stays so. New rooms are made
+%% elsewhere. In the end, it has nothing of ours, until it is to serve again.
+one_is_drained(_) ->
+    Gs = #{<<"a">> := A} = maps:from_list([{Name, gateway:start()} || Name <- [<<"a">>, <<"b">>]]),
+    {Rooms, _} = rooms_of_three(Gs),
+    On = hd([Room || Room <- Rooms, gateway_of(Room) =:= <<"a">>]),
+    ok = lobby_gateway:drain(<<"a">>, true),
+    ok = lobby_gateway:drain(<<"a">>, true),
+    join(On, late, <<"member">>),
+    join(<<"new">>, first, <<"member">>),
+    ?assertEqual(<<"b">>, gateway_of(<<"new">>)),
+    lobby_case:until(fun() -> all_of(A) =:= [] end),
+    ?assertMatch([{{<<"a">>, _}, #{draining := true, terminations := 0}}, {{<<"b">>, _}, #{draining := false}}], lobby_gateway:serving()),
+    ok = people:leave(late),
+    has(Rooms, Gs),
+    %% And after a failure of its process.
+    exit(lobby_registry:whereis_name({gateway, <<"a">>}), kill),
+    lobby_case:until(fun() -> lobby_registry:whereis_name({gateway, <<"a">>}) =/= undefined end),
+    timer:sleep(500),
+    ?assertEqual([], all_of(A)),
+    ok = lobby_gateway:drain(<<"a">>, false),
+    lobby_case:until(fun() -> [false, false] =:= [Is || {_, #{draining := Is}} <- lobby_gateway:serving()] end),
+    join(<<"another">>, second, <<"member">>),
+    ?assertEqual(<<"a">>, gateway_of(<<"another">>)),
+    ?assertEqual({error, no_gateway}, lobby_gateway:drain(<<"c">>, true)).
+
+%% It is killed while rooms go, and comes back. What it is told then ends what it may have, and no room comes back to it.
+one_that_is_drained_fails(_) ->
+    Gs = #{<<"a">> := A} = maps:from_list([{Name, gateway:start()} || Name <- [<<"a">>, <<"b">>]]),
+    {Rooms, _} = rooms_of_three(Gs),
+    ok = lobby_gateway:drain(<<"a">>, true),
+    lobby_case:until(fun() -> length([on || Room <- Rooms, gateway_of(Room) =:= <<"b">>]) > 3 end),
+    Again = gateway:restart(A, []),
+    lobby_case:until(fun() -> [<<"b">>] =:= lists:usort([gateway_of(Room) || Room <- Rooms]) end),
+    lobby_case:until(fun() -> all_of(Again) =:= [] end),
+    timer:sleep(1000),
+    ?assertEqual([], all_of(Again)),
+    has(Rooms, Gs#{<<"a">> := Again}).
+
+%% People stay where they are until there are seats elsewhere.
+what_has_no_room_elsewhere_stays(_) ->
+    Gs = #{<<"a">> := A} = maps:from_list([{Name, gateway:start()} || Name <- [<<"a">>, <<"b">>]]),
+    run([{<<"a">>, A}]),
+    ok = people:create(<<"1">>, []),
+    [join(<<"1">>, N, <<"member">>) || N <- [1, 2]],
+    ok = lobby_gateway:drain(<<"a">>, true),
+    timer:sleep(700),
+    ?assertEqual([{1, 2}, {2, 1}], heard(<<"1">>, Gs)),
+    join(<<"1">>, 3, <<"member">>),
+    ok = people:isolate(3),
+    ?assertEqual({error, no_room}, people:join(<<"2">>, 4, <<"member">>)),
+    ?assertEqual([{1, 2}, {2, 1}], heard(<<"1">>, Gs)),
+    ok = lobby_gateway:drain(<<"a">>, false),
+    join(<<"2">>, 4, <<"member">>).
+
 lost_and_doubled_datagrams(_) ->
     G = gateway:start(),
     Relay = relay:start(gateway:address(G), #{lose => 0.15, double => 0.2, delay => 60}),

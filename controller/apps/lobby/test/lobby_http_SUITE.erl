@@ -350,10 +350,12 @@ everything_is_described(Config) ->
     [begin
          [call("100", Config) || _ <- [1, 2]],
          [Id, Other] = members("100", Config),
-         Filled = string:replace(string:replace(string:replace(Path, "{name}", "100"), "{id}", Id), "{number}", "0123456789abcdef"),
+         Name = case Path of <<"/gateways/", _/binary>> -> "a"; _ -> "100" end,
+         Filled = string:replace(string:replace(string:replace(Path, "{name}", Name), "{id}", Id), "{number}", "0123456789abcdef"),
          Query = case Path of <<"/names">> -> "?gateway=a"; _ -> "" end,
          Answer = ask(list_to_atom(string:lowercase(Method)), binary_to_list(iolist_to_binary([Filled, Query])), body(Path, Other), Config),
          ?assertMatch({_, _, 200}, {Method, Path, element(1, Answer)}),
+         ask(post, "/gateways/a/resume", Config),
          ask(delete, "/rooms/100", Config),
          ask(delete, "/rooms/200", Config)
      end || {Method, Path} <- Described, Path =/= <<"/events">>],
@@ -367,6 +369,7 @@ body(<<"/members/{id}/oneway">>, Other) -> "{\"listener\": \"" ++ binary_to_list
 body(<<"/members/{id}/role">>, _) -> "{\"role\": \"x\"}";
 body(<<"/links">>, _) -> "{\"room\": \"100\", \"role\": \"x\", \"name\": \"x\", \"seconds\": 60}";
 body(<<"/members/{id}/hang_up">>, _) -> "";
+body(<<"/gateways/", _/binary>>, _) -> "";
 body(<<"/members/{id}/let_in">>, _) -> "{\"role\": \"agent\"}";
 body(<<"/members/{id}/move">>, _) -> "{\"room\": \"200\"}";
 body(_, _) -> "{\"rules\": []}".

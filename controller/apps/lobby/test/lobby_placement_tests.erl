@@ -3,7 +3,7 @@
 -include_lib("eunit/include/eunit.hrl").
 
 load(Terminations, Contexts) ->
-    #{terminations => Terminations, contexts => Contexts, max_terminations => 10, max_contexts => 2}.
+    #{terminations => Terminations, contexts => Contexts, max_terminations => 10, max_contexts => 2, draining => false}.
 
 ranked(Members, Prefer, Gateways) -> lobby_placement:ranked(Members, Prefer, [{{G, 1}, Load} || {G, Load} <- Gateways]).
 

@@ -77,6 +77,16 @@ few_seats_test_() ->
     searched(#{seats => #{a => 3, b => 3}, changes => {1, [isolate, move, leave]},
                faults => {1, [lose_gateway, begin_anew, lose]}}).
 
+a_gateway_is_drained_test_() ->
+    searched(#{joined => ?APART, seats => #{a => 10, b => 10}, changes => {2, [drain, isolate, move]}}).
+
+one_that_is_drained_fails_test_() ->
+    searched(#{rooms => [<<"1">>], seats => #{a => 10, b => 10}, changes => {1, [{drain, a, true}]},
+               faults => {1, [kill_room, kill_person, kill_gateway, lose, late, lose_gateway, begin_anew]}}).
+
+what_drains_a_gateway_fails_test_() ->
+    searched(#{rooms => [<<"1">>], seats => #{a => 10, b => 10}, changes => {2, [drain]}, faults => {1, [kill_gateway]}}).
+
 %% An agent is in the room, and the coach and the customer come.
 coaching_test_() ->
     searched(#{people => #{ann => <<"coach">>, bob => <<"customer">>, cay => <<"agent">>}, rooms => [<<"1">>],

@@ -139,7 +139,8 @@ timeouts(World = #world{timers = Timers, people = People}) ->
     lists:sublist(Needed ++ Again ++ Looks, 1).
 
 orphans(G, #world{gateways = Gateways, store = Store}) ->
-    lobby_gateway_core:orphans(fun(Id) -> maps:find({lobby_members, Id}, Store) end, maps:get(G, Gateways)).
+    GatewayOf = fun(R) -> maps:get(gateway, maps:get({lobby_rooms, R}, Store, #{}), none) end,
+    lobby_gateway_core:orphans(fun(Id) -> maps:find({lobby_members, Id}, Store) end, GatewayOf, maps:get(G, Gateways)).
 
 is_needed({node, _, _}, _) -> true;
 %% The controller never stops asking a lost gateway whether it is back.
@@ -156,6 +157,13 @@ is_needed({gateway, G, audit}, #world{worlds = Worlds, oracles = Oracles, store 
             maps:get(T, oracle:remotes(maps:get(G, Oracles), World), none) =/= {<<"127.0.0.9">>, <<"9">>};
         {_, _} -> false
     end;
+%% Rooms can leave if there is another gateway, and the last thing that leaves is our own termination.
+is_needed({gateway, G, leave}, #world{loads = Loads}) ->
+    case Loads of
+        #{G := {_, #{contexts := 1}}} -> true;
+        #{G := _} -> [Other || {Other, {_, #{draining := false}}} <- maps:to_list(Loads), Other =/= G] =/= [];
+        #{} -> false
+    end;
 is_needed({room, R, retry}, #world{rooms = Rooms}) ->
     is_map_key(R, Rooms) andalso not lobby_room_core:agrees(maps:get(R, Rooms)).
 
@@ -171,8 +179,10 @@ changes(role, W = #world{options = #{roles := Roles}}) -> [{role, Id, Role} || I
 changes(let_in, W) -> [{let_in, Id} || Id <- callers(W), promises:possible({waiting, Id}, W#world.promises) =/= [false]];
 changes(rules, #world{options = #{rooms := Rooms, rulesets := Sets}}) -> [{rules, R, Rules} || R <- Rooms, Rules <- Sets];
 changes(oneway, W) -> [{oneway, Talker, Listener} || Talker <- callers(W), Listener <- callers(W), Talker =/= Listener];
+changes(drain, #world{gateways = Gateways}) -> [{drain, G, Is} || G <- lists:sort(maps:keys(Gateways)), Is <- [true, false]];
 changes(watch, #world{rooms = Rooms}) -> [{watch, R} || R <- lists:sort(maps:keys(Rooms))];
 changes(Kind, W) when is_atom(Kind) -> [{Kind, Id} || Id <- callers(W)];
+changes(Change = {drain, _, _}, _) -> [Change];
 changes(Change, W) -> [Change || lists:member(element(2, Change), callers(W))].
 
 callers(#world{people = People}) -> lists:sort(maps:keys(People)).
@@ -260,6 +270,7 @@ change({oneway, Talker, Listener}, W = #world{store = Store}) ->
             ruled(R, add, lobby_rules:oneway({member, Talker}, {member, Listener}), W);
         {_, _} -> W
     end;
+change({drain, G, Is}, W) -> handled({gateway, G}, {drain, nobody, Is}, W);
 change({watch, R}, W) -> handled({room, R}, watch, W);
 change({leave, Id}, W = #world{phones = Phones}) -> left(Id, W#world{phones = Phones#{Id => gone}}).
 
@@ -545,6 +556,7 @@ gateway_acts(G, {entry, {delete, T}}, W) -> delete({lobby_terminations, {G, T}},
 gateway_acts(G, {tell, R, Message}, W = #world{rooms = Rooms}) ->
     case is_map_key(R, Rooms) of true -> send({gateway, G}, {room, R}, Message, W); false -> W end;
 gateway_acts(_, {reply, reserve, Reply}, W) -> put_in(reply, Reply, W);
+gateway_acts(_, {reply, nobody, ok}, W) -> W;
 gateway_acts(G, {timer, Timer, infinity}, W) -> timed({gateway, G, Timer}, infinity, W);
 gateway_acts(G, {timer, Timer, 0}, W) -> ran_out({gateway, G, Timer}, W);
 gateway_acts(G, {timer, Timer, Time}, W = #world{now = Now}) -> timed({gateway, G, Timer}, Now + Time, W);
@@ -641,6 +653,8 @@ left_over(W = #world{store = Store, people = People, rooms = Rooms}) ->
     Missing = [Id || Id <- Members -- There, has_seats(room(Id, W), W)],
     Waiting = (Members -- There) -- Missing,
     [{missing, Missing} || Missing =/= []] ++ [{stray, There -- Members} || There -- Members =/= []]
+        ++ [{stays, G} || {G, {_, #{draining := true, contexts := Contexts}}} <- maps:to_list(W#world.loads), Contexts > 0,
+                          {Other, {_, #{draining := false}}} <- maps:to_list(W#world.loads), lists:member(Other, running(W))]
         ++ [{forgotten, Members -- maps:keys(People)} || Members -- maps:keys(People) =/= []]
         ++ [{disagrees, R} || Waiting =:= [], {R, Core} <- maps:to_list(Rooms), not lobby_room_core:agrees(Core)]
         ++ [{unanswered, Id} || Waiting =:= [], {Id, Person} <- maps:to_list(People), not lobby_person:is_settled(Person)].

@@ -147,7 +147,7 @@ refused_media(_) ->
     run([{<<"a">>, G}]),
     Bad = {{{127, 0, 0, 1}, 0}, pcmu},
     ?assertEqual({error, {refused, 515}}, people:join(<<"100">>, x, <<"member">>, Bad, sendrecv)),
-    ?assertEqual([], lobby_rooms:names()),
+    lobby_case:until(fun() -> lobby_rooms:names() =:= [] end),
     Local = join(<<"100">>, alice, <<"member">>),
     ?assertEqual({error, {refused, 515}}, people:update(alice, #{media => Bad})),
     ?assertEqual({ok, Local}, people:update(alice, #{muted => false})).

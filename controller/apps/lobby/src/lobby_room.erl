@@ -12,8 +12,9 @@
 %% Milliseconds until a room tries again what its gateway refused or nobody answered.
 -define(SOON, 250).
 -define(LATER, 1000).
-%% Milliseconds after which an idle room takes less memory.
+%% Milliseconds after which an idle room takes less memory, and for which a gateway may still play what it was sent.
 -define(IDLE, 1000).
+-define(PLAYED, 100).
 
 -type name() :: binary().
 %% `agree': is answered once the gateway has what the rules say. `audit': once that was compared. `describe': at once.
@@ -57,6 +58,10 @@ handle_call(agree, From, State) -> handled({agree, From}, State);
 handle_call(audit, From, State) -> handled({audit, From}, State).
 
 -spec handle_cast(lobby_room_core:event(), #state{}) -> {noreply, #state{}} | {stop, normal, #state{}}.
+%% Until then, whoever's phone has sent to a lost gateway may be heard there.
+handle_cast(Event = {confirmed, _, _}, State) ->
+    _ = erlang:send_after(?PLAYED, self(), Event),
+    {noreply, State};
 handle_cast(Event, State) ->
     handled(Event, State).
 
@@ -64,6 +69,8 @@ handle_cast(Event, State) ->
 handle_info({lobby_gateway, {holdings, Holdings}}, State) ->
     handled({holdings, Holdings, others(Holdings)}, State);
 handle_info({lobby_gateway, Event}, State) ->
+    handled(Event, State);
+handle_info(Event = {confirmed, _, _}, State) ->
     handled(Event, State);
 handle_info({answer, From, Reply}, State) ->
     ok = lobby_member:answer(From, Reply),

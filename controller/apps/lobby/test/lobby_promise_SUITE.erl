@@ -371,6 +371,10 @@ a_phone_still_sends_to_a_gateway_out_of_reach(_) ->
     receive {isolated, _} -> error(answered) after 300 -> ok end,
     true = erlang:resume_process(Alice),
     receive {isolated, ok} -> ok after 5000 -> error(not_answered) end,
+    %% What her phone had sent there has been played.
+    caller:reset(Bob),
+    timer:sleep(60),
+    ?assertEqual(0, caller:heard(Bob)),
     ?assertEqual(?SILENT, heard(Bob, 300)).
 
 %% Three rooms of 26 see the same free seats. Nobody is hung up.

@@ -397,8 +397,9 @@ add_some(Rows, C) ->
     New = [Id || #{id := Id} <- Rows],
     Everyone = lobby_topology:everyone([Id || #{id := Id} <- held_members(C)] ++ New),
     Flows = sets:filter(fun({A, B}) -> lists:member(A, New) orelse lists:member(B, New) end, Everyone),
-    {request, #{commands => [{add_optional, settings(Row, inactive)} || Row <- Rows]},
-     {add, [{Row, inactive} || Row <- Rows], Flows}}.
+    First = case wanted(Rows, Rows ++ held_members(C), C) of Flows -> fun mode/1; _ -> fun(_) -> inactive end end,
+    {request, #{commands => [{add_optional, settings(Row, First(Row))} || Row <- Rows]},
+     {add, [{Row, First(Row)} || Row <- Rows], Flows}}.
 
 %% The triples between a newcomer and the others, and the open flows with him.
 entering(Row = #{id := Id}, C) ->

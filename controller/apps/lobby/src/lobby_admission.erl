@@ -5,7 +5,8 @@
 -export([new/1, message/3, call/4, entered/4, left/2]).
 -export_type([limits/0, admission/0]).
 
-%% Calls at all; calls and rooms of one address, and its messages and new calls a second.
+%% How many calls there may be, and how many calls and rooms one address may have. How many messages and new calls it
+%% may send in a second.
 -type limits() :: #{callers := [lobby_auth:network()], proxies := [lobby_auth:network()], max_calls := pos_integer(),
                     max_calls_from := pos_integer(), max_rooms_from := pos_integer(), messages_from := pos_integer(),
                     new_calls_from := pos_integer(), _ => _}.
@@ -50,7 +51,7 @@ call(Address, {Room, IsNew}, Now, A = #admission{limits = Limits, calls = Calls,
             {case Taken of true -> ok; false -> too_fast end, A1}
     end.
 
-%% @doc A call is there, by its process.
+%% @doc Counts a call, which is known by its process.
 -spec entered(pid(), inet:ip4_address(), lobby_room:name(), admission()) -> admission().
 entered(Pid, _, _, A = #admission{calls = Calls}) when is_map_key(Pid, Calls) ->
     A;

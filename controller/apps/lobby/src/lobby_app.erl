@@ -73,7 +73,7 @@ start(_, _) ->
         {error, Text} -> {error, {bad_configuration, Text}}
     end.
 
-%% So that the first caller doesn't wait while what his call needs is loaded.
+%% Loads what a call needs, so that the first caller doesn't wait for it.
 loaded() ->
     {ok, Modules} = application:get_key(lobby, modules),
     code:ensure_modules_loaded([esip, esip_codec, gen_statem, re, sets | Modules]).
@@ -87,7 +87,7 @@ allowed(#{sip := {Address, Port}, callers := Callers, users := Users}) ->
      end,
      case map_size(Users) of 0 -> "without a password"; _ -> "with a password" end].
 
-%% Without a configured token one is made, which only who reads the log knows.
+%% Without a configured token, one is made. Only those who read the log know it.
 with_token(Config = #{tokens := [], http := {Address, Port}}) ->
     Token = string:lowercase(binary:encode_hex(crypto:strong_rand_bytes(16))),
     logger:notice("the page is http://~s:~b/ and asks for the token ~s", [inet:ntoa(Address), Port, Token]),

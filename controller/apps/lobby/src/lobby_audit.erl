@@ -15,10 +15,10 @@
 %% `lost': whether the last line couldn't be written.
 -record(state, {config :: config(), file = none :: file:fd() | none, size = 0 :: non_neg_integer(),
                 number = 0 :: non_neg_integer(), lost = false :: boolean()}).
-%% Lines in an answer, and when all are needed.
+%% The most lines in an answer, and a limit that no log reaches.
 -define(MAX_LINES, 1000).
 -define(ALL, 16#FFFFFFFF).
-%% Bytes at the end of a file that surely have a whole line.
+%% So many bytes at the end of a file contain a whole line.
 -define(END, 262144).
 %% Milliseconds for which a change waits for its line.
 -define(PATIENCE, 2000).

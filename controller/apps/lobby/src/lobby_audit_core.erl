@@ -7,7 +7,7 @@
 -export([line/3, time/1, entries/1, last_number/1, renames/2, query/1, selects/2, names/1, seen/2, seats/2]).
 -export_type([entry/0, query/0, seen/0, seats/0]).
 
-%% What a line has after its number and time, in this order.
+%% The keys and values of a line, in order, without its number and time.
 -type entry() :: [{atom(), term()}].
 -type line() :: #{binary() => term()}.
 %% Milliseconds since 1970. `after': only lines with higher numbers.
@@ -16,7 +16,7 @@
 -type seen() :: #{rooms | roles | codecs => [binary()]}.
 -type seats() :: #{lobby_rules:id() => {Gateway :: binary(), Context :: term(), lobby_h248:termination()}}.
 
-%% Rooms, roles or codecs of a call that are recorded.
+%% The most rooms, roles or codecs that are recorded of a call.
 -define(MAX_SEEN, 64).
 %% What `heard --names' takes.
 -define(MAX_NAMES, 1024).
@@ -112,7 +112,7 @@ name(#{<<"caller">> := Name, <<"proved">> := true}) -> printable(Name, ?MAX_NAME
 name(#{<<"caller">> := Name, <<"member">> := Id}) ->
     [printable(Name, ?MAX_NAME - byte_size(Id) - 3), " (", Id, ")"].
 
-%% Without what turns or hides text, and what the file's format doesn't take.
+%% Replaces characters that turn or hide text, or that the file's format doesn't allow.
 printable(Name, Size) ->
     Plain = re:replace(Name, "[\\p{C}\\p{Zl}\\p{Zp}\"\\\\]", "?", [global, unicode, ucp, {return, list}]),
     shortened(lists:flatten(string:slice(Plain, 0, Size)), Size).
@@ -123,7 +123,7 @@ shortened(Text, Size) ->
         _ -> shortened(lists:droplast(Text), Size)
     end.
 
-%% @doc What a call has been, with what is wanted for its caller now.
+%% @doc Adds the caller's room, role and codec to those that his call has had.
 -spec seen(lobby_person:row(), seen()) -> seen().
 seen(#{room := Room, role := Role, media := {_, Format}}, Seen) ->
     New = #{rooms => Room, roles => Role, codecs => string:uppercase(atom_to_binary(Format))},
@@ -134,7 +134,7 @@ seen(#{room := Room, role := Role, media := {_, Format}}, Seen) ->
         end
     end, New).
 
-%% @doc Who has taken a termination, and who has left one.
+%% @doc Returns who has left a termination, and who has taken one.
 -spec seats(Before :: seats(), Now :: seats()) -> {Left :: [lobby_rules:id()], Taken :: [lobby_rules:id()]}.
 seats(Before, Now) ->
     Other = fun(Of) -> fun(Id, Seat) -> maps:get(Id, Of, none) =/= Seat end end,

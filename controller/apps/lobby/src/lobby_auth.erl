@@ -119,7 +119,7 @@ nonce(Time, Random, Method, Address, #auth{secret = Secret}) ->
     <<Signature:16/binary, _/binary>> = crypto:mac(hmac, sha256, Secret, term_to_binary({Signed, Method, Address})),
     binary:encode_hex(<<Signed/binary, Signature/binary>>).
 
-%% Of a nonce that was made here for this address and method, in seconds.
+%% The age in seconds of a nonce that was made here for this address and method.
 age(Nonce, Method, Address, Auth, Now) ->
     case catch binary:decode_hex(Nonce) of
         <<Time:64, Random:8/binary, _/binary>> ->

@@ -16,7 +16,7 @@
 %% RFC 3261, section 17: T2 is 8 times T1, and after 64 times T1 nobody waits any longer.
 -define(T2, 8 * t1()).
 -define(GIVE_UP, 64 * t1()).
-%% Milliseconds for each call, over which restored calls are spread when they are asked whether they are still there.
+%% Milliseconds: N restored calls are asked within N times as long whether they are still there.
 -define(SPREAD, 2).
 %% Words in which an INVITE is answered without a garbage collection, and milliseconds after which an idle call takes
 %% less memory.
@@ -88,7 +88,7 @@ callers(Rows) ->
                        {ok, Kept = #{invite := _}} <- [lobby_store:get(lobby_calls, Key)]]
                    ++ [{Id, Name} || #{id := Id, call := {web, _}, name := Name} <- Rows]).
 
-%% Whoever isn't answered yet has only his INVITE.
+%% A call that isn't answered yet has only its INVITE.
 dialog(#{call := #call{dialog = Dialog}}) -> Dialog;
 dialog(#{invite := Invite}) -> lobby_dialog:new(Invite, <<>>).
 
@@ -127,7 +127,7 @@ set_aside(Key) ->
     lists:foreach(fun(Row) -> ok = leave(lobby_person:restored(Row)) end, Rows),
     lobby_store:delete(lobby_calls, Key).
 
-%% Nobody who waits is answered.
+%% Leaves the room, and answers nobody who waits for a change.
 leave(Person) ->
     {_, Actions} = lobby_person:handle(leave, Person),
     lists:foreach(fun lobby_member:act/1, [Action || Action <- Actions, element(1, Action) =/= answer]).
@@ -168,7 +168,7 @@ handle_event(Type, Content, _, Call) ->
         Next = #call{state = State, out = Out} -> {next_state, State, Next#call{out = []}, Out}
     end.
 
-%% Has gen_statem do something after this event. Of two times for a timeout, the later one counts.
+%% Adds what gen_statem is to do after this event. If a timeout is set twice, the later setting counts.
 with(Actions, Call = #call{out = Out}) -> Call#call{out = Out ++ Actions}.
 
 event(internal, {start, Id, Room, Invite, Source}, new) ->
@@ -509,7 +509,7 @@ session_timeout(#call{session_timer = Timer}) ->
     {Time, What} = lobby_session_timer:timeout(Timer),
     {{timeout, session}, Time, What}.
 
-%% Has what he describes now changed on the gateway.
+%% Has the gateway use the media that he describes now.
 change(Session, More, Purpose, Call) ->
     Change = More#{media => lobby_sdp:media(Session), direction => lobby_sdp:direction(Session)},
     person({change, {media, Purpose}, Change}, keep(Call#call{session = Session})).
@@ -599,7 +599,7 @@ accepted(Response, Call = #call{source = Source}) ->
 agreed(Call = #call{told = Told}) ->
     agreed(Told, Call).
 
-%% He sends there from now on.
+%% From now on, he sends there.
 agreed(Local, Call = #call{id = Id, person = Person}) ->
     #{room := Room} = lobby_person:row(Person),
     _ = lobby_rooms:tell(Room, {confirmed, Id, Local}),
@@ -621,7 +621,7 @@ refused(Status, Response, Call = #call{request = Invite = #sip{hdrs = Headers}})
     case lobby_dialog:after_refusal(Status) of
         ended -> stop(Call#call{why = <<"the caller's phone has ended it">>});
         again -> with(quiet() ++ [{{timeout, invite}, 10 * rand:uniform(200), invite}], Call#call{state = talking});
-        %% He doesn't send to where the gateway receives him now.
+        %% He still sends to where the gateway doesn't receive him any more.
         goes_on when Call#call.told =/= Call#call.agreed -> bye(?BAD_MEDIA, Call#call{state = talking});
         goes_on -> talk(Call)
     end.

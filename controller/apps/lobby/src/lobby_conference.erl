@@ -28,12 +28,12 @@
 %% The largest conference whose topology or modes fit into a reply, with ten-digit numbers.
 -define(MAX_AUDITED, 29).
 
-%% It is no longer there.
+%% Errors by which the gateway says that something is no longer there.
 -define(IS_GONE(Code), (Code =:= 411 orelse Code =:= 430 orelse Code =:= 431 orelse Code =:= 435)).
 
 -type id() :: lobby_rules:id().
 -type row() :: lobby_person:row().
-%% What the gateway has for a member. What isn't known may be anything.
+%% What the gateway has for a member. `unknown' may be anything.
 -record(held, {termination :: lobby_h248:termination(), local :: lobby_h248:media(),
                remote :: lobby_h248:media() | unknown, mode :: lobby_h248:mode() | unknown}).
 -opaque held() :: #held{}.
@@ -54,7 +54,7 @@
                      %% Whether the open flows are those that are wanted. To find out takes a while in a large room.
                      agreed = true :: boolean(),
                      arriving = #{} :: #{id() => arrival()},
-                     %% Those who are wanted in other rooms now, and are still held here.
+                     %% Those who are now wanted in other rooms, but whom the gateway still has here.
                      departing = #{} :: #{id() => row()},
                      %% Members whom the gateway doesn't take now, and media that it doesn't take.
                      blocked = [] :: [id()], refused = #{} :: #{id() => lobby_h248:media()},
@@ -112,7 +112,7 @@ leave(Row = #{id := Id}, C = #conference{held = Held, departing = Departing}) ->
         false -> expel(Id, Left)
     end.
 
-%% He is no longer a member, and it doesn't matter any more what is open between him and others.
+%% Once he is no longer a member, it doesn't matter what is open between him and others.
 without(Id, C = #conference{members = Members, open = Open, agreed = Agreed}) ->
     Without = (unblock(Id, C))#conference{members = [Row || Row = #{id := Other} <- Members, Other =/= Id],
                                           open = flows_without(Id, Open),
@@ -195,7 +195,7 @@ doubt(C) ->
 check(C = #conference{context = new}) -> C;
 check(C) -> doubt(C).
 
-%% @doc Tries again to have those added whom the gateway didn't take.
+%% @doc Tries again to add those whom the gateway didn't take.
 -spec unblock(conference()) -> conference().
 unblock(C) ->
     C#conference{blocked = []}.
@@ -549,7 +549,7 @@ flows_between(Rows, Flows) ->
     Ids = maps:from_keys([Id || #{id := Id} <- Rows], in),
     sets:filter(fun({A, B}) -> is_map_key(A, Ids) andalso is_map_key(B, Ids) end, Flows).
 
-%% Who left while the request was under way is ended.
+%% Ends the termination of somebody who left while the request was under way.
 added({{#{id := Id, media := Media}, Mode}, {add, T, #{local := Local}}}, C = #conference{held = Held}) ->
     Has = #held{termination = T, local = Local, remote = Media, mode = Mode},
     Added = C#conference{held = Held#{Id => Has}, arriving = maps:remove(Id, C#conference.arriving)},
@@ -629,7 +629,7 @@ gone(C = #conference{held = Held, context = Context, leaving = Leaving}) ->
     Others = [Place || Place = {In, _} <- Leaving, In =/= Context],
     lost_from(Held, C#conference{context = new, held = #{}, leaving = Others, open = ?NO_FLOWS, doubts = []}).
 
-%% Without those whose terminations have gone.
+%% Forgets those whose terminations have gone.
 lost_from(Before, C = #conference{held = Held, open = Open, departing = Departing}) ->
     Lost = maps:keys(maps:without(maps:keys(Held), Before)),
     agree(true, C#conference{open = lists:foldl(fun flows_without/2, Open, Lost),

@@ -6,7 +6,7 @@
 -export([known/2, keep_isolated/2]).
 -export_type([rule/0]).
 
-%% Who has which role. A header counts only from a proxy in these networks.
+%% Which callers have which role. A header counts only if it comes from a proxy in these networks.
 -type rule() :: {{user, binary()}, lobby_rules:role()} | {{network, lobby_auth:network()}, lobby_rules:role()}
               | {header, Name :: binary(), [lobby_auth:network()]}.
 

@@ -80,7 +80,7 @@ settled_after() ->
 -spec init({config(), supervisor:child_spec()}) -> {ok, #state{}}.
 init({#{pair := #{gap := Gap, lease := Lease, ready := Ready, peer := Peer}, sip := {Address, _}}, Serving}) ->
     _ = process_flag(priority, high),
-    %% Since an earlier process looked.
+    %% An earlier process may have looked at the lease too long ago.
     ok = hold(),
     {ok, _} = mnesia:subscribe(system),
     ok = net_kernel:monitor_nodes(true),

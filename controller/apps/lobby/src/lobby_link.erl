@@ -60,7 +60,7 @@ checked(Secret, Now, Token) ->
 
 signature(Secret, Text) -> crypto:mac(hmac, sha256, Secret, ["link ", Text]).
 
-%% The one of tags, by another prefix. It is in the pair's store.
+%% Links are signed with the secret of tags, which is in the pair's store, behind another prefix.
 secret() -> lobby_sip:secret().
 
 hex(Bytes) -> string:lowercase(binary:encode_hex(Bytes)).

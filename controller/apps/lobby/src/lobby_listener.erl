@@ -3,7 +3,8 @@
 
 -export([start_link/3, listen/3]).
 
-%% Of connections over one port, of those from one address, and of new ones from it a second. They are counted as calls.
+%% The most connections at one port, the most from one address, and the most new ones from it in a second. They are
+%% counted as calls.
 -define(LIMITS, #{max_calls => 1024, max_calls_from => 64, new_calls_from => 64}).
 %% Milliseconds.
 -define(ACCEPT, 1000).

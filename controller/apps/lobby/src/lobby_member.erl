@@ -4,7 +4,7 @@
 -export([change/2, move/2, hang_up/1, hang_up_all/1, find/1, new/2, act/1, answer/2]).
 -export_type([error/0]).
 
-%% Milliseconds to wait for a process that is being started again, and between two looks for it.
+%% How many milliseconds it waits for a process that is being started again, and how often it looks.
 -define(PATIENCE, 2000).
 -define(LOOK, 20).
 

@@ -37,7 +37,7 @@
                 | {answer, tag(), {ok, lobby_h248:media()} | {error, term()}}.
 
 -record(person, {row :: row(), phase = in :: joining | in | {moving, lobby_room:name()},
-                 %% Who waits: for the room's admission, for a version, or for a move before theirs.
+                 %% Those who wait for the room's admission, for a version, or for an earlier move.
                  asking = none :: tag() | none, pending = [] :: [{version(), tag()}],
                  moves = [] :: [{tag(), lobby_room:name()}],
                  %% The last version that the gateway has, as far as the room said.
@@ -103,7 +103,7 @@ handle(_, P) ->
 admit(#person{phase = joining, row = #{id := Id, room := Room}}) -> {admit, Room, Id, none};
 admit(#person{phase = {moving, To}, row = #{id := Id, room := Room}}) -> {admit, To, Id, Room}.
 
-%% What is wanted already is reported again.
+%% If nothing changes, the room only reports again.
 changed(Tag, Row, P = #person{row = Row = #{room := Room, version := Version}, pending = Pending}) ->
     {P#person{pending = Pending ++ [{Version, Tag}]}, [{want, Room, Row}]};
 changed(Tag, Row = #{version := Version}, P = #person{pending = Pending}) ->
@@ -142,7 +142,7 @@ reported({holds, Version, Local, Everywhere}, P0 = #person{row = Row = #{moved :
     end;
 reported({later, Version}, P) ->
     answered(fun({V, Tag}) -> V =< Version andalso element(1, Tag) =/= joins end, {error, not_yet}, P);
-%% He keeps the media that the gateway has.
+%% His media are those that the gateway still has.
 reported({refused, Version, Code, Media}, P0) ->
     {P = #person{row = Row}, Answers} = answered(fun({V, _}) -> V =< Version end, {error, {refused, Code}}, P0),
     case Media of

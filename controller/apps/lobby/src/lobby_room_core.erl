@@ -62,11 +62,11 @@
                busy = none :: none | holdings | {seat, id()} | place
                             | {reference_(), lobby_conference:step()},
                next = 1 :: pos_integer(), failures = 0 :: non_neg_integer(), waits = false :: boolean(),
-               %% Whether nothing was left to be done.
+               %% Whether there was nothing left to do.
                rests = false :: boolean(),
                %% Whether the gateway refused a member for whom it should have a seat.
                full = false :: boolean(),
-               %% Rooms that want members who were here.
+               %% The rooms where members of this one are wanted now.
                asks = #{} :: #{id() => {To :: name(), Moved :: pos_integer(), handle() | none}},
                reported = #{} :: #{id() => lobby_person:report()},
                %% Who is answered when the gateway has what the rules say, and when it was audited.
@@ -325,11 +325,11 @@ work(Room = #room{conference = C0}) ->
     {Next, C} = lobby_conference:next(C0),
     next(Next, Room#room{conference = C}).
 
-%% Whoever has or is to have a seat.
+%% Those who have a seat or are to have one.
 ids(Room = #room{admits = Admits}) ->
     lists:usort([Id || {Id, _} <- Admits] ++ seated_ids(Room)).
 
-%% Whoever has a seat, or for whom one is being reserved.
+%% Those who have a seat, or for whom one is being reserved.
 seated_ids(#room{conference = C, admitted = Admitted, busy = Busy}) ->
     lists:usort([Id || {seat, Id} <- [Busy]] ++ lobby_conference:ids(C) ++ maps:keys(Admitted)).
 
@@ -350,7 +350,7 @@ next({release, #{id := Id}, T}, Room = #room{asks = Asks, gateway = Gateway, con
 next(settled, Room) ->
     settled(Room).
 
-%% Of whom a request makes terminations.
+%% Those for whom a request makes terminations.
 added({add, New, _}) -> [Id || {#{id := Id}, _} <- New];
 added(_) -> [].
 
@@ -403,7 +403,7 @@ may_send(Id, Moved, Sends, Room = #room{conference = C, stale = Stale}) ->
         _ -> Room
     end.
 
-%% Until something changes, or for a while.
+%% Waits until something changes, or for a while.
 waits(Room = #room{conference = C, asked = Asked}) ->
     Late = [{report, Id, {later, Version}} || Row = #{id := Id, version := Version} <- lobby_conference:persons(C),
                                               is_late(Row, Room)],
@@ -450,7 +450,7 @@ saved(Room = #room{saved = Before, settings = Settings, gateway = Gateway, stale
         Kept -> Room#room{saved = Kept, out = Out ++ [{save, Kept}]}
     end.
 
-%% If somebody who looks would see something else than before.
+%% Publishes that the room has changed, if that can be seen.
 published(Room = #room{busy = none, shown = Before, conference = C, gateway = Gateway, settings = Settings}) ->
     case {lobby_conference:visible(C), Gateway, Settings} of
         Before -> Room;

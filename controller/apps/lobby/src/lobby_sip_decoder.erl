@@ -136,7 +136,7 @@ match(Text, Name) ->
     {match, Found} = re:run(Text, compiled(Name), [{capture, all_but_first, binary}]),
     Found.
 
-%% Compiling takes longer than reading.
+%% Keeps compiled patterns: to compile one takes longer than to match it.
 compiled(Name) ->
     case persistent_term:get({?MODULE, Name}, none) of
         none ->
@@ -195,7 +195,7 @@ uri(Text) ->
             #uri{scheme = lower(Scheme), host = Rest}
     end.
 
-%% Of ASCII: what others send needn't be UTF-8.
+%% Changes only ASCII, because what others send needn't be UTF-8.
 lower(Text) -> list_to_binary(string:to_lower(binary_to_list(Text))).
 upper(Text) -> list_to_binary(string:to_upper(binary_to_list(Text))).
 

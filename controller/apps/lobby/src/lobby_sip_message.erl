@@ -140,7 +140,7 @@ connection({tcp, {tls, Pid}, _}) -> Pid;
 connection({tcp, Pid, _}) -> Pid;
 connection(_) -> none.
 
-%% @doc As it is written in a Via.
+%% @doc The transport, as it is written in a Via.
 -spec transport(target()) -> binary().
 transport({tcp, {tls, _}, _}) -> <<"TLS">>;
 transport({tcp, _, _}) -> <<"TCP">>;

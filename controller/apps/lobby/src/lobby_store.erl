@@ -24,7 +24,7 @@
 %% Milliseconds until a node asks the other one again.
 -define(AGAIN, 500).
 
-%% Of a node in a pair.
+%% A node of a pair has the pair's configuration.
 -type state() :: lobby_pair:config() | none.
 
 -spec start_link(config()) -> gen_server:start_ret().
@@ -62,7 +62,7 @@ has(Table, Key) ->
 delete(Table, Key) ->
     write(fun() -> mnesia:delete({Table, Key}) end).
 
-%% On both nodes.
+%% Returns once it is on both nodes.
 write(Change) ->
     mnesia:sync_dirty(Change).
 

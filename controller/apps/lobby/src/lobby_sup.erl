@@ -34,7 +34,7 @@ await_end(Name) ->
     Monitor = monitor(process, Name),
     receive {'DOWN', Monitor, process, _, _} -> ok end.
 
-%% Whatever fails takes up what its predecessor knew.
+%% A process that is started again takes up what its predecessor knew.
 -spec init({top, lobby_config:config()} | children()) -> {ok, {supervisor:sup_flags(), [supervisor:child_spec()]}}.
 %% Of a pair, the node that has the lease starts what serves.
 init({top, Config = #{pair := Pair}}) ->
@@ -56,7 +56,7 @@ init({serving, Config = #{gateways := Gateways}}) ->
               (child(lobby_keeper, [call]))#{id := lobby_call_keeper},
               sup(lobby_tcp_sup, {tcp, Sip}),
               (child(lobby_http, [maps:with([http, tokens, tls], Config)]))#{type => supervisor}]);
-%% Nothing else fails with it.
+%% If one of these fails, nothing else does.
 init({aside, #{audit_log := Audit, rtpengine := Rtpengine}}) ->
     {ok, {#{strategy => one_for_one, intensity => 20, period => 10},
           [child(lobby_audit, [Audit]), child(lobby_rtpengine, [Rtpengine])]}};

@@ -14,7 +14,7 @@
 -define(IN_CALL, 7200000).
 
 -record(state, {socket :: lobby_socket:socket(), peer :: lobby_socket:address(), buffer = <<>> :: binary(),
-                %% Runs while a message has to come.
+                %% A timer that runs while a message is due.
                 due :: reference() | none, calls = #{} :: #{pid() => uses}}).
 
 %% @doc The socket has to be given to this process, and it has to be told so by `{ready, Tls}'.

@@ -60,6 +60,10 @@ two_failures_in_a_room_test_() ->
 a_datagram_test_() ->
     searched(#{joined => ?APART, changes => {1, [move, isolate, leave]}, faults => {1, [lose, double, late]}}).
 
+%% A copy of the request that makes the context may come after its reply.
+a_datagram_to_a_new_room_test_() ->
+    searched(#{joined => [], rooms => [<<"1">>], changes => {1, [join]}, faults => {2, [lose, double, late]}}).
+
 two_datagrams_test_() ->
     searched(#{joined => ?APART, changes => {1, [move]}, faults => {2, [lose, double, late, kill_room]}}).
 

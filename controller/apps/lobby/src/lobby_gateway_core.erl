@@ -85,9 +85,14 @@ new(Options = #{config := Config, sender := Sender, first := First, settled := S
         none -> G;
         #{generation := Generation, sentinel := Sentinel, contexts := Contexts, unknown := Unknown} ->
             IsDraining = maps:get(draining, Kept, false),
-            G#gateway{generation = Generation, sentinel = Sentinel, contexts = Contexts, unknown = Unknown,
-                      kept = Kept, transactions = lobby_transactions:kept(Requests, T), draining = IsDraining,
-                      state = case Sentinel of none when IsDraining -> drained; none -> probing; _ -> away end}
+            Known = G#gateway{generation = Generation, sentinel = Sentinel, contexts = Contexts, unknown = Unknown,
+                              kept = Kept, draining = IsDraining},
+            %% Without our termination it had nothing of ours, so there is nothing to wait for.
+            case Sentinel of
+                none when IsDraining -> Known#gateway{state = drained};
+                none -> Known;
+                _ -> Known#gateway{state = away, transactions = lobby_transactions:kept(Requests, T)}
+            end
     end.
 
 -spec handle_of(gateway()) -> handle().

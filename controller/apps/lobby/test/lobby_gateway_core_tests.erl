@@ -3,16 +3,21 @@
 
 -include_lib("eunit/include/eunit.hrl").
 
+-define(REMOTE, {{127, 0, 0, 1}, 9}).
+
+new(Settled, Kept) ->
+    lobby_gateway_core:new(#{
+        config => #{name => <<"1">>, address => {{127, 0, 0, 1}, 2944}, here => {127, 0, 0, 1}, retry => 100, tries => 4, quiet => 5000,
+                    audit => 250, returns => 1000, terminations => 256, contexts => 64},
+        sender => {{127, 0, 0, 1}, 2945}, first => 1, settled => Settled, entries => [], requests => [],
+        kept => maps:merge(#{generation => 1, unknown => []}, Kept)}).
+
 %% It has a conference, and hasn't returned in time.
 lost(Settled) ->
     lost(Settled, 0).
 
 lost(Settled, Now) ->
-    G = lobby_gateway_core:new(#{
-        config => #{name => <<"1">>, address => {{127, 0, 0, 1}, 2944}, here => {127, 0, 0, 1}, retry => 100, tries => 4, quiet => 5000,
-                    audit => 250, returns => 1000, terminations => 256, contexts => 64},
-        sender => {{127, 0, 0, 1}, 2945}, first => 1, settled => Settled, entries => [], requests => [],
-        kept => #{generation => 1, sentinel => {1, 1, {{127, 0, 0, 1}, 9}}, contexts => [{2, all}], unknown => []}}),
+    G = new(Settled, #{sentinel => {1, 1, ?REMOTE}, contexts => [{2, all}]}),
     {Started, _} = lobby_gateway_core:handle(start, Now, G),
     lobby_gateway_core:handle({timer, back, 1000}, Now + 1000, Started).
 
@@ -38,6 +43,16 @@ what_it_refuses_to_end_is_tried_again_test() ->
     Refused = {received, {reply, list_to_integer(Number), {error, 500}}},
     {_, Later} = lobby_gateway_core:handle(Refused, Now + 1100, G),
     ?assert(lists:member({timer, clean, 1000}, Later)).
+
+%% Its process was started again before the gateway answered for the first time.
+one_that_never_served_is_sent_requests_test() ->
+    G = new(0, #{sentinel => none, contexts => []}),
+    {Serves, _} = lists:foldl(fun(Event, {Acc, _}) -> lobby_gateway_core:handle(Event, 0, Acc) end, {G, []},
+                              [start, {timer, probe, ?REMOTE},
+                               {received, {reply, 1, {ok, [#{context => 1, results => [{add, 1, #{}}]}]}}}, {timer, clean, 0}]),
+    Handle = lobby_gateway_core:handle_of(Serves),
+    {_, Sent} = lobby_gateway_core:handle({request, Handle, <<"100">>, 1, #{context => new, commands => [{audit, all, []}]}, []}, 0, Serves),
+    ?assertMatch([_], [Message || {send, Message} <- Sent]).
 
 %% A room whose request was on its way to a process that failed is told so. While the answer is awaited, it is told nothing.
 a_lost_request_is_reported_test() ->

@@ -13,8 +13,8 @@
 %%%   ours exists elsewhere by now, so it is ended first. The requests go out at once, so that a gateway that hangs
 %%%   reads them before it sends anything. A node of a pair waits until the gateway answers, and until the nodes agree
 %%%   again;
-%%% - a gateway that is being drained takes no new rooms, and its rooms are told to leave, one after the other. Once it
-%%%   has nothing of ours, this termination is ended, too, and nothing is sent until it is to serve again;
+%%% - a gateway that is being drained takes no new rooms, and its rooms leave it, one after the other. Once it has
+%%%   nothing of ours, this termination is ended, too, and nothing is sent until it is to serve again;
 %%% - if this process or another node had it before, its conferences go on. Requests are kept before they are sent, and
 %%%   repeated under their numbers until they are answered. Only then are the rooms told what they have, so the gateway
 %%%   runs no request of an earlier owner after that.
@@ -25,7 +25,7 @@
 -export([new/1, handle/3, handle_of/1, orphans/3]).
 -export_type([gateway/0, event/0, action/0, purpose/0, options/0, kept/0]).
 
-%% Milliseconds until the next room is told to leave.
+%% Milliseconds until the next room leaves.
 -define(LEAVE, 200).
 
 -type handle() :: lobby_gateway:handle().

@@ -1,9 +1,9 @@
 %%% @doc A room as a value: whom it admits, which gateway has its conference, and whom it reports to. `handle/3' takes
 %%% what happens and returns what is to be done, so that every order of events can be tried without processes.
 %%%
-%%% Whatever it is told may be told again, late, or never: rows are read again when the room starts, a member's row is
-%%% reported until he has it, and the gateway's process is asked for an answer that hasn't come. A request is never sent
-%%% to that process again: if its answer is under way, it would be run twice.
+%%% A message to a room may come again, late, or never: rows are read again when the room starts, a member's row is
+%%% reported until he has it, and the room asks the gateway's process for an answer that hasn't come. It never sends
+%%% that process a request again: if the answer is under way, the request would be run twice.
 -module(lobby_room_core).
 
 -export([new/1, handle/3, describe/2, agrees/1, named/1, seats/1, received/2]).

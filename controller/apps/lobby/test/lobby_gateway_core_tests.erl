@@ -54,7 +54,7 @@ one_that_never_served_is_sent_requests_test() ->
     {_, Sent} = lobby_gateway_core:handle({request, Handle, <<"100">>, 1, #{context => new, commands => [{audit, all, []}]}, []}, 0, Serves),
     ?assertMatch([_], [Message || {send, Message} <- Sent]).
 
-%% A room whose request was on its way to a process that failed is told so. While the answer is awaited, it is told nothing.
+%% A room learns that its request was on its way to a process that failed. While the answer is awaited, it hears nothing.
 a_lost_request_is_reported_test() ->
     {G, _} = lost(0),
     Handle = lobby_gateway_core:handle_of(G),

@@ -58,7 +58,7 @@ handle_call(agree, From, State) -> handled({agree, From}, State);
 handle_call(audit, From, State) -> handled({audit, From}, State).
 
 -spec handle_cast(lobby_room_core:event(), #state{}) -> {noreply, #state{}} | {stop, normal, #state{}}.
-%% Until then, whoever's phone has sent to a lost gateway may be heard there.
+%% Until then, a lost gateway may still play what the phone had sent to it.
 handle_cast(Event = {confirmed, _, _}, State) ->
     _ = erlang:send_after(?PLAYED, self(), Event),
     {noreply, State};

@@ -56,7 +56,7 @@ init({serving, Config = #{gateways := Gateways}}) ->
               (child(lobby_keeper, [call]))#{id := lobby_call_keeper},
               sup(lobby_tcp_sup, {tcp, Sip}),
               (child(lobby_http, [maps:with([http, tokens, tls], Config)]))#{type => supervisor}]);
-%% Each of these can fail alone.
+%% A failure of one child leaves the others running.
 init({aside, #{audit_log := Audit, rtpengine := Rtpengine}}) ->
     {ok, {#{strategy => one_for_one, intensity => 20, period => 10},
           [child(lobby_audit, [Audit]), child(lobby_rtpengine, [Rtpengine])]}};

@@ -621,7 +621,7 @@ one_is_drained(_) ->
     ?assertEqual(<<"a">>, gateway_of(<<"another">>)),
     ?assertEqual({error, no_gateway}, lobby_gateway:drain(<<"c">>, true)).
 
-%% It is killed while rooms go, and comes back. What it is told then ends what it may have, and no room comes back to it.
+%% The gateway is killed while its rooms leave, and starts again. It ends whatever it still has, and no room returns to it.
 one_that_is_drained_fails(_) ->
     Gs = #{<<"a">> := A} = maps:from_list([{Name, gateway:start()} || Name <- [<<"a">>, <<"b">>]]),
     {Rooms, _} = rooms_of_three(Gs),

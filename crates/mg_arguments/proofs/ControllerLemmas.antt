@@ -1,4 +1,4 @@
--- The controllers that were read so far, and those that are left.
+-- The controllers that have been read, and those that remain to be read.
 use Rattle.std.proofs.Common.{◌≡◌, ◌∙◌, ◌+◌, ◌<◌, ℕ, List, [], ◌∷◌, ◌++◌, Some, Result, Ok, Err, ap, append_assoc, drop, get_or, length, map, refl, sym}
 use Rattle.std.proofs.lemmas.List.{at_drop_more}
 use Rattle.mg_words.specs.Address.{address_of}
@@ -10,7 +10,7 @@ use Rattle.mg_arguments.specs.Read.{all_read}
 abbrev pub all_named : List (List ℕ) → Result (List (List ℕ)) ControllerFault
 all_named texts = all_read address_of Unreadable texts
 
--- addresses that were read, and then those that are named
+-- The addresses in `read`, followed by the named addresses.
 abbrev pub then_named : List (List ℕ) → Result (List (List ℕ)) ControllerFault → Result (List (List ℕ)) ControllerFault
 then_named read (Ok named) = Ok (read ++ named)
 then_named read (Err fault) = Err fault
@@ -29,7 +29,7 @@ one_read : (read : List (List ℕ)) (text : List ℕ) (texts : List (List ℕ)) 
     → then_named read (all_named (text ∷ texts)) ≡ then_named (read ++ address ∷ []) (all_named texts)
 one_read read text texts address is = rw is (with_one read address (all_named texts))
 
--- the next of some texts was read
+-- Reading the next text adds its address to `read`.
 pub next_read : {X : Type 0} (now : X → List ℕ) (texts : List X) (i : ℕ) (d : X) (address : List ℕ)
     (read : List (List ℕ)) → i < length texts
     → address_of (now (get_or texts i d)) ≡ Some address

@@ -1,6 +1,6 @@
--- What the options of `mg_bridge heard` ask for.
+-- The requests that the options of `mg_bridge heard` make.
 use Rattle.std.proofs.Common.{◌≡◌, ◌∙◌, Bool, true, false, List, [], ◌∷◌, Option, Some, None, Result, Ok, Err, IfErr, IfOk, ap, codes, sym}
-use Rattle.std.specs.Prelude.{unwrap_or, if◌then◌else◌}
+use Rattle.std.specs.Prelude.{ok_or, unwrap_or, if◌then◌else◌}
 use Rattle.std.specs.Option.{option_map_or}
 use Rattle.clap.specs.Walk.{Row, Text, first_of}
 use Rattle.clap.specs.Kinds.{Kinds}
@@ -16,26 +16,30 @@ use Rattle.mg_arguments.specs.declared.file_path_fault.FilePathFault.{FilePathFa
 use Rattle.mg_arguments.specs.declared.heard_request.HeardRequest.{HeardRequest}
 use Rattle.mg_arguments.specs.declared.invocation.Invocation.{Invocation}
 use Rattle.mg_arguments.specs.declared.printing.Printing.{Printing}
-use Rattle.mg_arguments.specs.Options.{asked_in, file_in, form_in, format_of, is_set, named_by, printing_in, query_in, request_in, reshapes_page, valid, valid_value}
+use Rattle.mg_arguments.specs.FilePath.{file_path}
+use Rattle.mg_arguments.specs.Options.{asked_in, form_in, format_of, is_set, named_by, printing_in, query_in, request_in, reshapes_page, valid, value_by}
 use Rattle.mg_arguments.specs.ZoneName.{zone_name}
+
+abbrev valid_value : {A : Type 0} → Option A → Result (Option A) Kinds
+valid_value read = ok_or read (ValueValidation ∷ []) >>= (λ value. Ok (Some value))
 
 abbrev read_by : {A : Type 0} → (Text → Option A) → Option Text → Result (Option A) Kinds
 read_by read text = option_map_or (λ t. valid_value (read t)) text (Ok None)
 
--- a text that names a value, one that names none, and no text
+-- If the option's text has a value, `value_by` returns this value.
 pub named_is : {A : Type 0} (read : Text → Option A) (name : Text) (rows : List Row) (text : Text) (value : A) →
-    Some text ≡ first_of name rows → Some value ≡ read text → named_by read name rows ≡ Ok (Some value)
+    Some text ≡ first_of name rows → Some value ≡ read text → value_by read name rows ≡ Ok (Some value)
 named_is read name rows text value named is = sym (ap valid_value is ∙ ap (read_by read) named)
 
 pub named_fails : {A : Type 0} (read : Text → Option A) (name : Text) (rows : List Row) (text : Text) →
-    Some text ≡ first_of name rows → None ≡ read text → named_by read name rows ≡ Err (ValueValidation ∷ [])
+    Some text ≡ first_of name rows → None ≡ read text → value_by read name rows ≡ Err (ValueValidation ∷ [])
 named_fails read name rows text named is = sym (ap valid_value is ∙ ap (read_by read) named)
 
 pub not_named : {A : Type 0} (read : Text → Option A) (name : Text) (rows : List Row) → None ≡ first_of name rows →
-    named_by read name rows ≡ Ok None
+    value_by read name rows ≡ Ok None
 not_named read name rows named = sym (ap (read_by read) named)
 
--- a step by a value, or by none
+-- If a step returns a value, the next step continues with the value.
 pub goes_on : {A B : Type 0} (value : A) (read : Result A Kinds) (next : A → Result B Kinds) → read ≡ Ok value →
     (read >>= next) ≡ next value
 goes_on {A = A} value read next is = ap (λ (r : Result A Kinds). r >>= next) is
@@ -52,77 +56,77 @@ with_until listener talker from until =
 
 abbrev with_from : List Row → (listener talker : Option Asked) → Option Date → Result AskedQuery Kinds
 with_from rows listener talker from =
-    named_by date_of_text (codes "to") rows >>= with_until listener talker from
+    value_by date_of_text (codes "to") rows >>= with_until listener talker from
 
 abbrev with_talker : List Row → (listener talker : Option Asked) → Result AskedQuery Kinds
 with_talker rows listener talker =
-    named_by date_of_text (codes "from") rows >>= with_from rows listener talker
+    value_by date_of_text (codes "from") rows >>= with_from rows listener talker
 
 abbrev with_listener : List Row → Option Asked → Result AskedQuery Kinds
 with_listener rows listener =
-    named_by (asked_in rows) (codes "talker") rows >>= with_talker rows listener
+    value_by (asked_in rows) (codes "talker") rows >>= with_talker rows listener
 
 at_listener : (rows : List Row) (listener : Option Asked) →
-    named_by (asked_in rows) (codes "listener") rows ≡ Ok listener → query_in rows ≡ with_listener rows listener
+    value_by (asked_in rows) (codes "listener") rows ≡ Ok listener → query_in rows ≡ with_listener rows listener
 at_listener rows listener is =
-    goes_on listener (named_by (asked_in rows) (codes "listener") rows) (with_listener rows) is
+    goes_on listener (value_by (asked_in rows) (codes "listener") rows) (with_listener rows) is
 
 at_talker : (rows : List Row) (listener talker : Option Asked) →
-    named_by (asked_in rows) (codes "listener") rows ≡ Ok listener →
-    named_by (asked_in rows) (codes "talker") rows ≡ Ok talker → query_in rows ≡ with_talker rows listener talker
+    value_by (asked_in rows) (codes "listener") rows ≡ Ok listener →
+    value_by (asked_in rows) (codes "talker") rows ≡ Ok talker → query_in rows ≡ with_talker rows listener talker
 at_talker rows listener talker is heard =
     at_listener rows listener is ∙
-    goes_on talker (named_by (asked_in rows) (codes "talker") rows) (with_talker rows listener) heard
+    goes_on talker (value_by (asked_in rows) (codes "talker") rows) (with_talker rows listener) heard
 
 at_from : (rows : List Row) (listener talker : Option Asked) (from : Option Date) →
-    named_by (asked_in rows) (codes "listener") rows ≡ Ok listener →
-    named_by (asked_in rows) (codes "talker") rows ≡ Ok talker →
-    named_by date_of_text (codes "from") rows ≡ Ok from → query_in rows ≡ with_from rows listener talker from
+    value_by (asked_in rows) (codes "listener") rows ≡ Ok listener →
+    value_by (asked_in rows) (codes "talker") rows ≡ Ok talker →
+    value_by date_of_text (codes "from") rows ≡ Ok from → query_in rows ≡ with_from rows listener talker from
 at_from rows listener talker from is heard begins =
     at_talker rows listener talker is heard ∙
-    goes_on from (named_by date_of_text (codes "from") rows) (with_from rows listener talker) begins
+    goes_on from (value_by date_of_text (codes "from") rows) (with_from rows listener talker) begins
 
 pub query_is : (rows : List Row) (listener talker : Option Asked) (from until : Option Date) →
-    named_by (asked_in rows) (codes "listener") rows ≡ Ok listener →
-    named_by (asked_in rows) (codes "talker") rows ≡ Ok talker →
-    named_by date_of_text (codes "from") rows ≡ Ok from → named_by date_of_text (codes "to") rows ≡ Ok until →
+    value_by (asked_in rows) (codes "listener") rows ≡ Ok listener →
+    value_by (asked_in rows) (codes "talker") rows ≡ Ok talker →
+    value_by date_of_text (codes "from") rows ≡ Ok from → value_by date_of_text (codes "to") rows ≡ Ok until →
     query_in rows ≡ with_until listener talker from until
 query_is rows listener talker from until is heard begins lasts =
     at_from rows listener talker from is heard begins ∙
-    goes_on until (named_by date_of_text (codes "to") rows) (with_until listener talker from) lasts
+    goes_on until (value_by date_of_text (codes "to") rows) (with_until listener talker from) lasts
 
 pub refuses_listener : (rows : List Row) →
-    named_by (asked_in rows) (codes "listener") rows ≡ Err (ValueValidation ∷ []) →
+    value_by (asked_in rows) (codes "listener") rows ≡ Err (ValueValidation ∷ []) →
     query_in rows ≡ Err (ValueValidation ∷ [])
 refuses_listener rows none =
-    ends (ValueValidation ∷ []) (named_by (asked_in rows) (codes "listener") rows) (with_listener rows) none
+    ends (ValueValidation ∷ []) (value_by (asked_in rows) (codes "listener") rows) (with_listener rows) none
 
 pub refuses_talker : (rows : List Row) (listener : Option Asked) →
-    named_by (asked_in rows) (codes "listener") rows ≡ Ok listener →
-    named_by (asked_in rows) (codes "talker") rows ≡ Err (ValueValidation ∷ []) →
+    value_by (asked_in rows) (codes "listener") rows ≡ Ok listener →
+    value_by (asked_in rows) (codes "talker") rows ≡ Err (ValueValidation ∷ []) →
     query_in rows ≡ Err (ValueValidation ∷ [])
 refuses_talker rows listener is none =
     at_listener rows listener is ∙
-    ends (ValueValidation ∷ []) (named_by (asked_in rows) (codes "talker") rows) (with_talker rows listener) none
+    ends (ValueValidation ∷ []) (value_by (asked_in rows) (codes "talker") rows) (with_talker rows listener) none
 
 pub refuses_from : (rows : List Row) (listener talker : Option Asked) →
-    named_by (asked_in rows) (codes "listener") rows ≡ Ok listener →
-    named_by (asked_in rows) (codes "talker") rows ≡ Ok talker →
-    named_by date_of_text (codes "from") rows ≡ Err (ValueValidation ∷ []) →
+    value_by (asked_in rows) (codes "listener") rows ≡ Ok listener →
+    value_by (asked_in rows) (codes "talker") rows ≡ Ok talker →
+    value_by date_of_text (codes "from") rows ≡ Err (ValueValidation ∷ []) →
     query_in rows ≡ Err (ValueValidation ∷ [])
 refuses_from rows listener talker is heard none =
     at_talker rows listener talker is heard ∙
-    ends (ValueValidation ∷ []) (named_by date_of_text (codes "from") rows) (with_from rows listener talker) none
+    ends (ValueValidation ∷ []) (value_by date_of_text (codes "from") rows) (with_from rows listener talker) none
 
 pub refuses_until : (rows : List Row) (listener talker : Option Asked) (from : Option Date) →
-    named_by (asked_in rows) (codes "listener") rows ≡ Ok listener →
-    named_by (asked_in rows) (codes "talker") rows ≡ Ok talker →
-    named_by date_of_text (codes "from") rows ≡ Ok from →
-    named_by date_of_text (codes "to") rows ≡ Err (ValueValidation ∷ []) →
+    value_by (asked_in rows) (codes "listener") rows ≡ Ok listener →
+    value_by (asked_in rows) (codes "talker") rows ≡ Ok talker →
+    value_by date_of_text (codes "from") rows ≡ Ok from →
+    value_by date_of_text (codes "to") rows ≡ Err (ValueValidation ∷ []) →
     query_in rows ≡ Err (ValueValidation ∷ [])
 refuses_until rows listener talker from is heard begins none =
     at_from rows listener talker from is heard begins ∙
-    ends (ValueValidation ∷ []) (named_by date_of_text (codes "to") rows) (with_until listener talker from) none
+    ends (ValueValidation ∷ []) (value_by date_of_text (codes "to") rows) (with_until listener talker from) none
 
 -- ## How it is printed
 
@@ -132,24 +136,24 @@ formed page reshapes named =
     else (named >>= (λ format. Ok (unwrap_or format formats.Text)))
 
 in_format : (rows : List Row) (named : Result (Option Format) Kinds) → is_set (codes "report") rows ≡ false →
-    named_by format_of (codes "format") rows ≡ named → form_in rows ≡ formed false (reshapes_page rows) named
+    value_by format_of (codes "format") rows ≡ named → form_in rows ≡ formed false (reshapes_page rows) named
 in_format rows named lines is =
-    ap (λ (b : Bool). formed b (reshapes_page rows) (named_by format_of (codes "format") rows)) lines ∙
+    ap (λ (b : Bool). formed b (reshapes_page rows) (value_by format_of (codes "format") rows)) lines ∙
     ap (λ (r : Result (Option Format) Kinds). formed false (reshapes_page rows) r) is
 
 pub form_is : (rows : List Row) (format : Option Format) → is_set (codes "report") rows ≡ false →
-    named_by format_of (codes "format") rows ≡ Ok format → form_in rows ≡ Ok (unwrap_or format formats.Text)
+    value_by format_of (codes "format") rows ≡ Ok format → form_in rows ≡ Ok (unwrap_or format formats.Text)
 form_is rows format lines is = in_format rows (Ok format) lines is
 
 pub refuses_form : (rows : List Row) → is_set (codes "report") rows ≡ false →
-    named_by format_of (codes "format") rows ≡ Err (ValueValidation ∷ []) → form_in rows ≡ Err (ValueValidation ∷ [])
+    value_by format_of (codes "format") rows ≡ Err (ValueValidation ∷ []) → form_in rows ≡ Err (ValueValidation ∷ [])
 refuses_form rows lines none = in_format rows (Err (ValueValidation ∷ [])) lines none
 
 on_page : (rows : List Row) (reshapes : Bool) → is_set (codes "report") rows ≡ true → reshapes_page rows ≡ reshapes →
-    form_in rows ≡ formed true reshapes (named_by format_of (codes "format") rows)
+    form_in rows ≡ formed true reshapes (value_by format_of (codes "format") rows)
 on_page rows reshapes page is =
-    ap (λ (b : Bool). formed b (reshapes_page rows) (named_by format_of (codes "format") rows)) page ∙
-    ap (λ (b : Bool). formed true b (named_by format_of (codes "format") rows)) is
+    ap (λ (b : Bool). formed b (reshapes_page rows) (value_by format_of (codes "format") rows)) page ∙
+    ap (λ (b : Bool). formed true b (value_by format_of (codes "format") rows)) is
 
 pub form_is_page : (rows : List Row) → is_set (codes "report") rows ≡ true → reshapes_page rows ≡ false →
     form_in rows ≡ Ok formats.Page
@@ -166,26 +170,26 @@ with_names format zone names =
     Ok (record { format = format; zone = zone; names = names })
 
 abbrev with_zone : List Row → Format → Option Text → Result Printing Kinds
-with_zone rows format zone = valid (file_in (codes "names") rows) >>= with_names format zone
+with_zone rows format zone = valid (named_by file_path (codes "names") rows) >>= with_names format zone
 
 abbrev with_format : List Row → Format → Result Printing Kinds
-with_format rows format = named_by zone_name (codes "zone") rows >>= with_zone rows format
+with_format rows format = value_by zone_name (codes "zone") rows >>= with_zone rows format
 
 at_format : (rows : List Row) (format : Format) → form_in rows ≡ Ok format →
     printing_in rows ≡ with_format rows format
 at_format rows format is = goes_on format (form_in rows) (with_format rows) is
 
 at_zone : (rows : List Row) (format : Format) (zone : Option Text) →
-    form_in rows ≡ Ok format → named_by zone_name (codes "zone") rows ≡ Ok zone →
+    form_in rows ≡ Ok format → value_by zone_name (codes "zone") rows ≡ Ok zone →
     printing_in rows ≡ with_zone rows format zone
 at_zone rows format zone is placed =
-    at_format rows format is ∙ goes_on zone (named_by zone_name (codes "zone") rows) (with_zone rows format) placed
+    at_format rows format is ∙ goes_on zone (value_by zone_name (codes "zone") rows) (with_zone rows format) placed
 
 pub printing_is : (rows : List Row) (format : Format) (zone names : Option Text) →
-    form_in rows ≡ Ok format → named_by zone_name (codes "zone") rows ≡ Ok zone →
-    Ok names ≡ file_in (codes "names") rows → printing_in rows ≡ with_names format zone names
+    form_in rows ≡ Ok format → value_by zone_name (codes "zone") rows ≡ Ok zone →
+    Ok names ≡ named_by file_path (codes "names") rows → printing_in rows ≡ with_names format zone names
 printing_is rows format zone names is placed called =
-    at_zone rows format zone is placed ∙ goes_on names (valid (file_in (codes "names") rows)) (with_names format zone)
+    at_zone rows format zone is placed ∙ goes_on names (valid (named_by file_path (codes "names") rows)) (with_names format zone)
     (ap (λ (r : Result (Option Text) FilePathFault). valid r) (sym called))
 
 pub refuses_format : (rows : List Row) → form_in rows ≡ Err (ValueValidation ∷ []) →
@@ -194,17 +198,17 @@ refuses_format rows none =
     ends (ValueValidation ∷ []) (form_in rows) (with_format rows) none
 
 pub refuses_zone : (rows : List Row) (format : Format) → form_in rows ≡ Ok format →
-    named_by zone_name (codes "zone") rows ≡ Err (ValueValidation ∷ []) → printing_in rows ≡ Err (ValueValidation ∷ [])
+    value_by zone_name (codes "zone") rows ≡ Err (ValueValidation ∷ []) → printing_in rows ≡ Err (ValueValidation ∷ [])
 refuses_zone rows format is none =
     at_format rows format is ∙
-    ends (ValueValidation ∷ []) (named_by zone_name (codes "zone") rows) (with_zone rows format) none
+    ends (ValueValidation ∷ []) (value_by zone_name (codes "zone") rows) (with_zone rows format) none
 
 pub refuses_names : (rows : List Row) (format : Format) (zone : Option Text) (fault : FilePathFault) →
-    form_in rows ≡ Ok format → named_by zone_name (codes "zone") rows ≡ Ok zone →
-    Err fault ≡ file_in (codes "names") rows → printing_in rows ≡ Err (ValueValidation ∷ [])
+    form_in rows ≡ Ok format → value_by zone_name (codes "zone") rows ≡ Ok zone →
+    Err fault ≡ named_by file_path (codes "names") rows → printing_in rows ≡ Err (ValueValidation ∷ [])
 refuses_names rows format zone fault is placed none =
     at_zone rows format zone is placed ∙
-    ends (ValueValidation ∷ []) (valid (file_in (codes "names") rows)) (with_names format zone)
+    ends (ValueValidation ∷ []) (valid (named_by file_path (codes "names") rows)) (with_names format zone)
     (ap (λ (r : Result (Option Text) FilePathFault). valid r) (sym none))
 
 -- ## What is asked
@@ -218,37 +222,37 @@ with_file query time printing file = Ok (record {
 })
 
 abbrev with_printing : List Row → AskedQuery → Option Date → Printing → Result HeardRequest Kinds
-with_printing rows query time printing = valid (file_in (codes "file") rows) >>= with_file query time printing
+with_printing rows query time printing = valid (named_by file_path (codes "file") rows) >>= with_file query time printing
 
 abbrev with_time : List Row → AskedQuery → Option Date → Result HeardRequest Kinds
 with_time rows query time = printing_in rows >>= with_printing rows query time
 
 abbrev with_query : List Row → AskedQuery → Result HeardRequest Kinds
-with_query rows query = named_by date_of_text (codes "at") rows >>= with_time rows query
+with_query rows query = value_by date_of_text (codes "at") rows >>= with_time rows query
 
 at_query : (rows : List Row) (query : AskedQuery) → query_in rows ≡ Ok query → request_in rows ≡ with_query rows query
 at_query rows query is = goes_on query (query_in rows) (with_query rows) is
 
 at_time : (rows : List Row) (query : AskedQuery) (time : Option Date) → query_in rows ≡ Ok query →
-    named_by date_of_text (codes "at") rows ≡ Ok time → request_in rows ≡ with_time rows query time
+    value_by date_of_text (codes "at") rows ≡ Ok time → request_in rows ≡ with_time rows query time
 at_time rows query time is timed =
     at_query rows query is ∙
-    goes_on time (named_by date_of_text (codes "at") rows) (with_time rows query) timed
+    goes_on time (value_by date_of_text (codes "at") rows) (with_time rows query) timed
 
 at_printing : (rows : List Row) (query : AskedQuery) (time : Option Date) (printing : Printing) →
-    query_in rows ≡ Ok query → named_by date_of_text (codes "at") rows ≡ Ok time →
+    query_in rows ≡ Ok query → value_by date_of_text (codes "at") rows ≡ Ok time →
     printing_in rows ≡ Ok printing → request_in rows ≡ with_printing rows query time printing
 at_printing rows query time printing is timed formed =
     at_time rows query time is timed ∙
     goes_on printing (printing_in rows) (with_printing rows query time) formed
 
 pub heard_is : (rows : List Row) (query : AskedQuery) (time : Option Date) (printing : Printing) (file : Option Text) →
-    query_in rows ≡ Ok query → named_by date_of_text (codes "at") rows ≡ Ok time →
-    printing_in rows ≡ Ok printing → Ok file ≡ file_in (codes "file") rows →
+    query_in rows ≡ Ok query → value_by date_of_text (codes "at") rows ≡ Ok time →
+    printing_in rows ≡ Ok printing → Ok file ≡ named_by file_path (codes "file") rows →
     request_in rows ≡ with_file query time printing file
 heard_is rows query time printing file is timed formed named =
     at_printing rows query time printing is timed formed ∙
-    goes_on file (valid (file_in (codes "file") rows)) (with_file query time printing)
+    goes_on file (valid (named_by file_path (codes "file") rows)) (with_file query time printing)
     (ap (λ (r : Result (Option Text) FilePathFault). valid r) (sym named))
 
 pub refuses_query : (rows : List Row) → query_in rows ≡ Err (ValueValidation ∷ []) →
@@ -256,14 +260,14 @@ pub refuses_query : (rows : List Row) → query_in rows ≡ Err (ValueValidation
 refuses_query rows none = ends (ValueValidation ∷ []) (query_in rows) (with_query rows) none
 
 pub refuses_time : (rows : List Row) (query : AskedQuery) → query_in rows ≡ Ok query →
-    named_by date_of_text (codes "at") rows ≡ Err (ValueValidation ∷ []) →
+    value_by date_of_text (codes "at") rows ≡ Err (ValueValidation ∷ []) →
     request_in rows ≡ Err (ValueValidation ∷ [])
 refuses_time rows query is none =
     at_query rows query is ∙
-    ends (ValueValidation ∷ []) (named_by date_of_text (codes "at") rows) (with_time rows query) none
+    ends (ValueValidation ∷ []) (value_by date_of_text (codes "at") rows) (with_time rows query) none
 
 pub refuses_printing : (rows : List Row) (query : AskedQuery) (time : Option Date) → query_in rows ≡ Ok query →
-    named_by date_of_text (codes "at") rows ≡ Ok time →
+    value_by date_of_text (codes "at") rows ≡ Ok time →
     printing_in rows ≡ Err (ValueValidation ∷ []) →
     request_in rows ≡ Err (ValueValidation ∷ [])
 refuses_printing rows query time is timed none =
@@ -271,12 +275,12 @@ refuses_printing rows query time is timed none =
     ends (ValueValidation ∷ []) (printing_in rows) (with_printing rows query time) none
 
 pub refuses_file : (rows : List Row) (query : AskedQuery) (time : Option Date) (printing : Printing)
-    (fault : FilePathFault) → query_in rows ≡ Ok query → named_by date_of_text (codes "at") rows ≡ Ok time →
-    printing_in rows ≡ Ok printing → Err fault ≡ file_in (codes "file") rows →
+    (fault : FilePathFault) → query_in rows ≡ Ok query → value_by date_of_text (codes "at") rows ≡ Ok time →
+    printing_in rows ≡ Ok printing → Err fault ≡ named_by file_path (codes "file") rows →
     request_in rows ≡ Err (ValueValidation ∷ [])
 refuses_file rows query time printing fault is timed formed none =
     at_printing rows query time printing is timed formed ∙
-    ends (ValueValidation ∷ []) (valid (file_in (codes "file") rows)) (with_file query time printing)
+    ends (ValueValidation ∷ []) (valid (named_by file_path (codes "file") rows)) (with_file query time printing)
     (ap (λ (r : Result (Option Text) FilePathFault). valid r) (sym none))
 
 -- ## What a request asks for

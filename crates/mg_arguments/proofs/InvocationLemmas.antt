@@ -1,4 +1,4 @@
--- What follows of the words for which the command line finds no fault, or one.
+-- The consequences of words in which the command line finds a fault, or none.
 use Rattle.std.proofs.Common.{◌≡◌, ◌∙◌, ◌&&◌, ℕ, Bool, true, false, not, List, [], ◌∷◌, Option, Some, None, is_some, inl, inr, refl, sym, ap, ap₂, true≢false, Result, Ok, Err, codes}
 use Rattle.std.specs.Prelude.{Box, IfErr, IsErrAnd, option_and_then, option_map}
 use Rattle.std.specs.List.{list_any}
@@ -35,7 +35,7 @@ use Rattle.mg_arguments.specs.declared.bind_address_fault.BindAddressFault.{Bind
 use Rattle.mg_journal.specs.declared.durability.Durability.{Durability}
 use Rattle.mg_arguments.specs.declared.service.Service.{Service}
 use Rattle.mg_options.specs.Numbers.{number_or}
-use Rattle.mg_arguments.specs.Options.{address_in, bind_address_in, check_in, gateway_in, requested, command_line, config_at, controllers_in, durability_in, file_in, given_in, heard_options, is_set, options, run_in, run_of, service_in, valid}
+use Rattle.mg_arguments.specs.Options.{address_in, check_in, command_line, config_at, controllers_in, durability_in, gateway_in, given_in, heard_options, is_set, named_by, options, requested, run_in, run_of, service_in, valid}
 
 abbrev has_kinds : Kinds → Bool
 has_kinds [] = false
@@ -52,7 +52,7 @@ met_where_wanted false true wants argument wanted none = absurd (true≢false (a
 met_where_wanted false false true argument wanted none = absurd (true≢false (ap has_kinds none))
 met_where_wanted false false false argument wanted none = absurd (true≢false (sym wanted))
 
--- a level of a command line that wants a subcommand finds one where it finds no fault
+-- If a level of the command line requires a subcommand and has no fault, a subcommand was found.
 level_met : (level : Shape) (names : Names) (held : Held) (words : List Text) (met : Bool) (below : Kinds) →
     level.subcommand_required ≡ true
     → level_fault level names held words met below ≡ [] → met ≡ true
@@ -97,9 +97,9 @@ both_found : {Z : Type 0} (o : Option (Box SubCommand Z)) (name : Text) (rows : 
 both_found None name rows named found = cc
 both_found (Some b) name rows named found = cc
 
--- what a parse by the program's command line says of what its words ask for
+-- The results of parsing words by the program's command line.
 module _ (line : App) (words : List Text) (is : line ≡ command_line) where
-  -- matches have a subcommand
+  -- If the words have no fault, the matches have a subcommand.
   pub meets_subcommand : (m : ArgMatches) → (is_simple_and_free line ≡ true → fault_of line words ≡ []) →
       HasMatchesOf line words m
       → has_subcommand m ≡ true
@@ -108,7 +108,7 @@ module _ (line : App) (words : List Text) (is : line ≡ command_line) where
       (ap is_some (subcommand_is line command_line words is is_simple_line m matches) ∙
       has_met words (no_fault line command_line words is is_simple_line passes))
 
-  -- matches ask for what the name and the options of the subcommand say
+  -- If the words have no fault, they request the run of the subcommand with its options.
   pub asks_run : (m : ArgMatches) (name : Text) (rows : List Row) →
       (is_simple_and_free line ≡ true → fault_of line words ≡ [])
       → HasMatchesOf line words m → Some name ≡ subcommand_name_of m →
@@ -120,14 +120,14 @@ module _ (line : App) (words : List Text) (is : line ≡ command_line) where
       (sym (subcommand_is line command_line words is is_simple_line m matches) ∙
       both_found (out-ArgMatches m).subcommand name rows named found)
 
--- the standard address is that of the standard configuration
+-- If `config` is the standard configuration, its address is the default for the option.
 pub named_or_standard : (rows : List Row) (config : Config) (found : Result (List ℕ) AddressFault) → config ≡ standard
     → found ≡ address_in (codes "address") config.address rows
     → found ≡ address_in (codes "address") standard.address rows
 named_or_standard rows config found is named =
     named ∙ ap (λ (c : Config). address_in (codes "address") c.address rows) is
 
--- a step by a value that is valid, or by none
+-- If a step returns a valid value, the next step continues with the value.
 continues : {A B E : Type 0} (value : A) (read : Result A E) (next : A → Result B Kinds) → Ok value ≡ read →
     (valid read >>= next) ≡ next value
 continues {A = A} {E = E} value read next is = ap (λ (r : Result A E). valid r >>= next) (sym is)
@@ -158,7 +158,7 @@ at_control name rows address control named commanded =
     at_address name rows address named ∙
     continues control (address_in (codes "control-address") address rows) (with_control name rows address) commanded
 
--- the run of a subcommand at an address
+-- If the addresses and the options of a gateway are valid, the run is that of the subcommand.
 pub run_is : (name : Text) (rows : List Row) (address control : List ℕ) (service : Service) (config : Config)
     (run : Invocation) → Ok address ≡ address_in (codes "address") standard.address rows
     → Ok control ≡ address_in (codes "control-address") address rows → service_in rows ≡ Ok service →
@@ -169,13 +169,13 @@ run_is name rows address control service config run named commanded served confi
     (ap (λ (r : Result Service Kinds). r >>= with_service name rows address control) served ∙
     rw (is, configured) refl)
 
--- there is none at a text that names no address
+-- If the address for media is invalid, the run is refused.
 pub refuses_address : (name : Text) (rows : List Row) (fault : AddressFault) →
     Err fault ≡ address_in (codes "address") standard.address rows → gateway_in name rows ≡ Err (ValueValidation ∷ [])
 refuses_address name rows fault named =
     stops fault (address_in (codes "address") standard.address rows) (with_address name rows) named
 
--- none at one that names no address for control messages
+-- If the address for control messages is invalid, the run is refused.
 pub refuses_control : (name : Text) (rows : List Row) (address : List ℕ) (fault : AddressFault) →
     Ok address ≡ address_in (codes "address") standard.address rows →
     Err fault ≡ address_in (codes "control-address") address rows → gateway_in name rows ≡ Err (ValueValidation ∷ [])
@@ -183,7 +183,7 @@ refuses_control name rows address fault named commanded =
     at_address name rows address named ∙
     stops fault (address_in (codes "control-address") address rows) (with_control name rows address) commanded
 
--- and none with faulty options of a gateway on sockets
+-- If the options of a gateway on sockets are invalid, the run is refused.
 pub refuses_service : (name : Text) (rows : List Row) (address control : List ℕ) →
     Ok address ≡ address_in (codes "address") standard.address rows →
     Ok control ≡ address_in (codes "control-address") address rows →
@@ -192,7 +192,7 @@ refuses_service name rows address control named commanded refused =
     at_control name rows address control named commanded ∙
     ap (λ (r : Result Service Kinds). r >>= with_service name rows address control) refused
 
--- the address to bind sockets to, of the string that names it
+-- The address to bind sockets to, after its text was read.
 abbrev some_bound : Result (List ℕ) BindAddressFault → Result (Option (List ℕ)) BindAddressFault
 some_bound read = read >>= (λ address. Ok (Some address))
 
@@ -200,18 +200,18 @@ abbrev bound_by : Option Text → Result (Option (List ℕ)) BindAddressFault
 bound_by named = option_map_or (λ text. some_bound (bind_address text)) named (Ok None)
 
 pub bound_is : (rows : List Row) (text address : List ℕ) → Some text ≡ first_of (codes "bind-address") rows →
-    Ok address ≡ bind_address text → Ok (Some address) ≡ bind_address_in rows
+    Ok address ≡ bind_address text → Ok (Some address) ≡ named_by bind_address (codes "bind-address") rows
 bound_is rows text address named is = ap some_bound is ∙ ap bound_by named
 
 pub bound_fails : (rows : List Row) (text : List ℕ) (fault : BindAddressFault) →
     Some text ≡ first_of (codes "bind-address") rows → Err fault ≡ bind_address text →
-    Err fault ≡ bind_address_in rows
+    Err fault ≡ named_by bind_address (codes "bind-address") rows
 bound_fails rows text fault named is = ap some_bound is ∙ ap bound_by named
 
-pub unbound : (rows : List Row) → None ≡ first_of (codes "bind-address") rows → Ok None ≡ bind_address_in rows
+pub unbound : (rows : List Row) → None ≡ first_of (codes "bind-address") rows → Ok None ≡ named_by bind_address (codes "bind-address") rows
 unbound rows named = ap bound_by named
 
--- the path of a file, of the string that names it
+-- The path of a file, after its text was read.
 abbrev some_path : Result (List ℕ) FilePathFault → Result (Option (List ℕ)) FilePathFault
 some_path read = read >>= (λ path. Ok (Some path))
 
@@ -219,47 +219,51 @@ abbrev written_by : Option Text → Result (Option (List ℕ)) FilePathFault
 written_by named = option_map_or (λ text. some_path (file_path text)) named (Ok None)
 
 pub path_is : (name : Text) (rows : List Row) (text path : List ℕ) → Some text ≡ first_of name rows →
-    Ok path ≡ file_path text → Ok (Some path) ≡ file_in name rows
+    Ok path ≡ file_path text → Ok (Some path) ≡ named_by file_path name rows
 path_is name rows text path named is = ap some_path is ∙ ap written_by named
 
 pub path_fails : (name : Text) (rows : List Row) (text : List ℕ) (fault : FilePathFault) →
-    Some text ≡ first_of name rows → Err fault ≡ file_path text → Err fault ≡ file_in name rows
+    Some text ≡ first_of name rows → Err fault ≡ file_path text → Err fault ≡ named_by file_path name rows
 path_fails name rows text fault named is = ap some_path is ∙ ap written_by named
 
-pub unwritten : (name : Text) (rows : List Row) → None ≡ first_of name rows → Ok None ≡ file_in name rows
+pub unwritten : (name : Text) (rows : List Row) → None ≡ first_of name rows → Ok None ≡ named_by file_path name rows
 unwritten name rows named = ap written_by named
 
--- the check of a gateway, if there is one
-abbrev check_of : Option Peer → Result Invocation Kinds
-check_of gateway = option_map_or (λ peer. Ok (Check peer)) gateway (Err (ValueValidation ∷ []))
+-- The check of a gateway from an address, if a gateway is named.
+abbrev check_of : Result (List ℕ) AddressFault → Option Peer → Result Invocation Kinds
+check_of source gateway = valid source >>= (λ address.
+    option_map_or (λ peer. Ok (Check peer address)) gateway (Err (ValueValidation ∷ [])))
 
-abbrev check_by : Option Text → Result Invocation Kinds
-check_by named = check_of (option_and_then peer_of named)
+abbrev source_in : List Row → Result (List ℕ) AddressFault
+source_in rows = address_in (codes "source") (0 ∷ 0 ∷ 0 ∷ 0 ∷ []) rows
 
-pub check_is : (rows : List Row) (text : List ℕ) (gateway : Peer) → Some text ≡ first_of (codes "gateway") rows →
-    Some gateway ≡ peer_of text → check_in rows ≡ Ok (Check gateway)
-check_is rows text gateway named is = sym (ap check_of is ∙ ap check_by named)
+abbrev named_gateway : List Row → Option Peer
+named_gateway rows = option_and_then peer_of (first_of (codes "gateway") rows)
 
-pub refuses_gateway : (rows : List Row) (text : List ℕ) → Some text ≡ first_of (codes "gateway") rows →
-    None ≡ peer_of text → check_in rows ≡ Err (ValueValidation ∷ [])
-refuses_gateway rows text named is = sym (ap check_of is ∙ ap check_by named)
+pub check_is : (rows : List Row) (source : List ℕ) (gateway : Peer) → Ok source ≡ source_in rows →
+    Some gateway ≡ named_gateway rows → check_in rows ≡ Ok (Check gateway source)
+check_is rows source gateway from is = sym (λ i. check_of (from i) (is i))
 
-pub refuses_no_gateway : (rows : List Row) → None ≡ first_of (codes "gateway") rows →
+pub refuses_gateway : (rows : List Row) (source : List ℕ) → Ok source ≡ source_in rows →
+    None ≡ named_gateway rows → check_in rows ≡ Err (ValueValidation ∷ [])
+refuses_gateway rows source from is = sym (λ i. check_of (from i) (is i))
+
+pub refuses_source : (rows : List Row) (fault : AddressFault) → Err fault ≡ source_in rows →
     check_in rows ≡ Err (ValueValidation ∷ [])
-refuses_no_gateway rows named = sym (ap check_by named)
+refuses_source rows fault from = sym (ap (λ (source : Result (List ℕ) AddressFault). check_of source (named_gateway rows)) from)
 
--- what holds anyway holds at an error
+-- A true statement is also true if the result is an error.
 pub at_error : {T E X : Type 0} (r : Result T E) → X → IfErr r (λ e. X)
 at_error (Ok value) x = tt
 at_error (Err e) x = x
 
--- an error says why words ask for none
+-- If the requested run is refused with a kind of error, the request is refused with this kind.
 pub refuses : (requested : Result Invocation Kinds) (name : Text) (rows : List Row) (kind : ErrorKind) →
     requested ≡ run_in name rows → run_in name rows ≡ Err (ValueValidation ∷ []) → kind ≡ ValueValidation →
     IsRefused requested kind
 refuses requested name rows kind asks refused is = rw (asks ∙ refused, is) (inr (inl refl))
 
--- want of memory that was passed on
+-- If an error that reports lack of memory is passed on, the request is refused with its kind.
 pub memory_passed_on : {T : Type 0} (r : Result T Error) (requested : Result Invocation Kinds) →
     IsErrAnd r (λ e. kind_of e ≡ OutOfMemory)
     → IfErr r (λ e. IsRefused requested (kind_of e))

@@ -1,4 +1,4 @@
--- What some lines of arguments ask for.
+-- The requests of some command lines, as examples.
 use Rattle.std.proofs.Common.{◌≡◌, ℕ, Bool, true, false, List, [], ◌∷◌, Option, Some, None, Ok, Err, refl, codes}
 use Rattle.clap.proofs.OnLiterals.{clap_on_literals}
 use Rattle.clap.specs.Walk.{Text}
@@ -19,7 +19,7 @@ slots number = codes "replay" ∷ codes "--slots" ∷ number ∷ []
 abbrev at_address : Text → List Text
 at_address text = codes "serve" ∷ codes "--address" ∷ text ∷ []
 
--- no option of the configuration
+-- No option of the configuration is given.
 abbrev none_given : Given
 none_given = record {
   address = false;
@@ -34,7 +34,7 @@ none_given = record {
   timestamp = false;
 }
 
--- under anybody's control, with a report every so many seconds, and without a recording
+-- A gateway that anybody can control, with this many seconds between reports, and without a recording.
 abbrev anybody : ℕ → Service
 anybody report = record {
   controllers = [];
@@ -50,11 +50,11 @@ anybody report = record {
   given = none_given;
 }
 
--- the same, with these options of the configuration
+-- A gateway that anybody can control, with these options of the configuration.
 abbrev with_given : Given → Service
 with_given given = record (anybody 0) { given = given }
 
--- all numbers that RTP packets start with are drawn
+-- All numbers with which RTP packets start are drawn.
 abbrev all_drawn : Draws
 all_drawn = record { ssrc = true; sequence = true; timestamp = true }
 
@@ -123,7 +123,7 @@ sync_without_a_journal : requested (codes "live" ∷ codes "--sync" ∷ []) ≡ 
 unfolding requested command_line options config_at clap_on_literals
 sync_without_a_journal = refl
 
--- under the control of 10.0.0.1 alone
+-- A gateway with a fence, which only 10.0.0.1 can control.
 abbrev fenced : (strict : Bool) → (from : Option ℕ) → Service
 fenced strict from = record (anybody 0) {
   controllers = (10 ∷ 0 ∷ 0 ∷ 1 ∷ []) ∷ [];
@@ -165,7 +165,7 @@ serve_writes_no_metrics : requested (codes "serve" ∷ codes "--metrics=m.prom" 
 unfolding requested command_line options config_at clap_on_literals
 serve_writes_no_metrics = refl
 
--- behind a router that translates addresses one to one
+-- A gateway behind a router that translates addresses one to one.
 live_bound : requested (codes "live" ∷ codes "--address=203.0.113.5" ∷ codes "--bind-address" ∷ codes "10.0.0.1" ∷ []) ≡
     Ok (Live (record standard { address = 203 ∷ 0 ∷ 113 ∷ 5 ∷ []; control_address = 203 ∷ 0 ∷ 113 ∷ 5 ∷ [] })
     (record (with_given (record none_given { address = true })) { bind_address = Some (10 ∷ 0 ∷ 0 ∷ 1 ∷ []) })
@@ -236,7 +236,7 @@ serve_with_slots : requested (codes "serve" ∷ codes "--slots=4" ∷ []) ≡
 unfolding requested command_line options config_at clap_on_literals
 serve_with_slots = refl
 
--- no run is begun with it, but it is for the run to say so
+-- The options accept 0 slots. The run rejects them later.
 with_no_slots : requested (slots (codes "0")) ≡ Ok (Replay (record standard { slots = 0 }) Sent)
 unfolding requested command_line options config_at clap_on_literals
 with_no_slots = refl
@@ -276,7 +276,7 @@ greatest_address : requested (at_address (codes "223.255.255.255")) ≡
 unfolding requested command_line options config_at address_of clap_on_literals
 greatest_address = refl
 
--- control messages on a network of their own
+-- Control messages have an address of their own.
 two_addresses : requested (codes "live" ∷ codes "--control-address=10.0.0.1" ∷ codes "--address" ∷ codes "192.0.2.1" ∷ [])
     ≡ Ok (Live (record standard { address = 192 ∷ 0 ∷ 2 ∷ 1 ∷ []; control_address = 10 ∷ 0 ∷ 0 ∷ 1 ∷ [] })
     (with_given (record none_given { address = true; control_address = true })) all_drawn 5)

@@ -1,4 +1,4 @@
--- The rules that were read so far, and those that are left; and what the options say about rules.
+-- The rules that have been read and those that remain to be read, and how options affect rules.
 use Rattle.std.proofs.Common.{◌≡◌, ◌∙◌, ◌+◌, ◌<◌, ℕ, Bool, true, false, List, [], ◌∷◌, ◌++◌, Option, Some, Result, Ok, Err, ap, append_assoc, codes, drop, get_or, length, map, refl, sym}
 use Rattle.std.specs.Prelude.{if◌then◌else◌}
 use Rattle.std.proofs.lemmas.List.{at_drop_more}
@@ -14,14 +14,15 @@ use Rattle.mg_arguments.specs.declared.invocation.Invocation.TheVariants.{Watch}
 use Rattle.mg_arguments.specs.declared.printing.Printing.{Printing}
 use Rattle.mg_arguments.specs.declared.rule_fault.RuleFault.{RuleFault}
 use Rattle.mg_arguments.specs.declared.rule_fault.RuleFault.TheVariants.{Unreadable}
-use Rattle.mg_arguments.specs.Options.{file_in, printing_in, rules_in, selects_part, valid, watch_in}
+use Rattle.mg_arguments.specs.FilePath.{file_path}
+use Rattle.mg_arguments.specs.Options.{named_by, printing_in, rules_in, selects_part, valid, watch_in}
 use Rattle.mg_arguments.specs.Read.{all_read}
 use Rattle.mg_arguments.proofs.HeardOptionLemmas.{ends, goes_on}
 
 abbrev pub all_stated : (has_names : Bool) → List (List ℕ) → Result (List AskedRule) RuleFault
 all_stated has_names texts = all_read (rule_by has_names) Unreadable texts
 
--- rules that were read, and then those that are stated
+-- The rules in `read`, followed by the stated rules.
 abbrev pub then_stated : List AskedRule → Result (List AskedRule) RuleFault → Result (List AskedRule) RuleFault
 then_stated read (Ok stated) = Ok (read ++ stated)
 then_stated read (Err fault) = Err fault
@@ -39,7 +40,7 @@ one_read : (has_names : Bool) (read : List AskedRule) (text : List ℕ) (texts :
     then_stated read (all_stated has_names (text ∷ texts)) ≡ then_stated (read ++ rule ∷ []) (all_stated has_names texts)
 one_read has_names read text texts rule is = rw is (with_one read rule (all_stated has_names texts))
 
--- the next of some texts was read
+-- Reading the next text adds its rule to `read`.
 pub next_read : {X : Type 0} (has_names : Bool) (now : X → List ℕ) (texts : List X) (i : ℕ) (d : X) (rule : AskedRule) (read : List AskedRule) →
     i < length texts → rule_by has_names (now (get_or texts i d)) ≡ Some rule →
     then_stated read (all_stated has_names (map now (drop i texts))) ≡
@@ -58,7 +59,7 @@ answer part rules printing file = if part then Err (ValueValidation ∷ []) else
 }))
 
 abbrev with_printing : List Row → List AskedRule → Printing → Result Invocation Kinds
-with_printing rows rules printing = valid (file_in (codes "file") rows) >>= answer (selects_part rows) rules printing
+with_printing rows rules printing = valid (named_by file_path (codes "file") rows) >>= answer (selects_part rows) rules printing
 
 abbrev with_rules : List Row → List AskedRule → Result Invocation Kinds
 with_rules rows rules = printing_in rows >>= with_printing rows rules
@@ -74,21 +75,21 @@ at_printing rows rules printing is formed =
 
 at_file : (rows : List Row) (rules : List AskedRule) (printing : Printing) (file : Option Text) →
     Ok rules ≡ rules_in rows → printing_in rows ≡ Ok printing →
-    Ok file ≡ file_in (codes "file") rows → watch_in rows ≡ answer (selects_part rows) rules printing file
+    Ok file ≡ named_by file_path (codes "file") rows → watch_in rows ≡ answer (selects_part rows) rules printing file
 at_file rows rules printing file is formed named =
-    at_printing rows rules printing is formed ∙ goes_on file (valid (file_in (codes "file") rows))
+    at_printing rows rules printing is formed ∙ goes_on file (valid (named_by file_path (codes "file") rows))
     (answer (selects_part rows) rules printing) (ap (λ (r : Result (Option Text) FilePathFault). valid r) (sym named))
 
 pub watch_is : (rows : List Row) (rules : List AskedRule) (printing : Printing) (file : Option Text) →
     Ok rules ≡ rules_in rows → printing_in rows ≡ Ok printing →
-    Ok file ≡ file_in (codes "file") rows → selects_part rows ≡ false →
+    Ok file ≡ named_by file_path (codes "file") rows → selects_part rows ≡ false →
     watch_in rows ≡ Ok (Watch (record { file = file; printing = printing; rules = rules }))
 watch_is rows rules printing file is formed named whole =
     at_file rows rules printing file is formed named ∙ ap (λ (b : Bool). answer b rules printing file) whole
 
 pub refuses_part : (rows : List Row) (rules : List AskedRule) (printing : Printing) (file : Option Text) →
     Ok rules ≡ rules_in rows → printing_in rows ≡ Ok printing →
-    Ok file ≡ file_in (codes "file") rows → selects_part rows ≡ true → watch_in rows ≡ Err (ValueValidation ∷ [])
+    Ok file ≡ named_by file_path (codes "file") rows → selects_part rows ≡ true → watch_in rows ≡ Err (ValueValidation ∷ [])
 refuses_part rows rules printing file is formed named part =
     at_file rows rules printing file is formed named ∙ ap (λ (b : Bool). answer b rules printing file) part
 
@@ -105,8 +106,8 @@ refuses_printing_of rows rules is none =
 
 pub refuses_file_of : (rows : List Row) (rules : List AskedRule) (printing : Printing) (fault : FilePathFault) →
     Ok rules ≡ rules_in rows → printing_in rows ≡ Ok printing →
-    Err fault ≡ file_in (codes "file") rows → watch_in rows ≡ Err (ValueValidation ∷ [])
+    Err fault ≡ named_by file_path (codes "file") rows → watch_in rows ≡ Err (ValueValidation ∷ [])
 refuses_file_of rows rules printing fault is formed none =
     at_printing rows rules printing is formed ∙
-    ends (ValueValidation ∷ []) (valid (file_in (codes "file") rows)) (answer (selects_part rows) rules printing)
+    ends (ValueValidation ∷ []) (valid (named_by file_path (codes "file") rows)) (answer (selects_part rows) rules printing)
     (ap (λ (r : Result (Option Text) FilePathFault). valid r) (sym none))

@@ -1,4 +1,4 @@
--- Texts one after another.
+-- Joining texts one after another.
 use Rattle.std.proofs.Common.{◌≡◌, ℕ, List, [], ◌++◌, append_assoc}
 use Rattle.std.proofs.lemmas.List.{append-nil}
 

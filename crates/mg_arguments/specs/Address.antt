@@ -1,4 +1,4 @@
--- How the addresses of a gateway are written.
+-- The addresses of a gateway, and their texts.
 use Rattle.std.specs.Prelude.{ℕ, Bool, nat_le, List, [], ◌∷◌, slice_index, ok_or, Result, Ok, Err}
 use Rattle.std.specs.Prelude.{if◌then◌else◌}
 use Rattle.std.specs.Str.{bytes_eq}
@@ -10,12 +10,12 @@ use Rattle.mg_arguments.specs.declared.address.AddressFault.TheVariants.{Multica
 use Rattle.mg_arguments.specs.declared.bind_address_fault.BindAddressFault.{BindAddressFault}
 use Rattle.mg_arguments.specs.declared.bind_address_fault.BindAddressFault.TheVariants as bind_faults
 
--- an address of 224.0.0.0 or above: multicast, reserved or broadcast
+-- Whether an address is 224.0.0.0 or above: multicast, reserved or broadcast.
 abbrev pub is_multicast : List ℕ → Bool
 is_multicast address = nat_le 224 (slice_index address 0)
 
--- The address that a string in dotted decimal names. It appears in session descriptions, or as the
--- gateway's name. So it is a unicast address, and not 0.0.0.0.
+-- The gateway's own address, in dotted decimal. It appears in session descriptions, or as the gateway's name. So it is
+-- a unicast address, and not 0.0.0.0.
 abbrev pub own_address : List ℕ → Result (List ℕ) AddressFault
 own_address text = do
   address ← ok_or (address_of text) Unreadable

@@ -1,4 +1,4 @@
--- The controllers that strings name.
+-- The addresses of controllers, and their texts.
 use Rattle.std.specs.Prelude.{ℕ, nat_lt, List, length, Result, Err, if◌then◌else◌}
 use Rattle.mg_words.specs.Address.{address_of}
 use Rattle.mg_arguments.specs.Read.{all_read}
@@ -6,7 +6,7 @@ use Rattle.mg_arguments.specs.declared.controller_fault.ControllerFault.{Control
 use Rattle.mg_arguments.specs.declared.controller_fault.ControllerFault.TheVariants.{Unreadable}
 use Rattle.mg_arguments.specs.declared.controller_fault.ControllerFault.TheVariants.{TooMany}
 
--- the addresses of the controllers, in dotted decimal, of which there are at most eight
+-- The addresses of the controllers, in dotted decimal. There are at most eight.
 abbrev pub controllers_of : List (List ℕ) → Result (List (List ℕ)) ControllerFault
 controllers_of texts = if nat_lt 8 (length texts) then Err TooMany
     else all_read address_of Unreadable texts

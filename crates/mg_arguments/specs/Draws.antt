@@ -1,9 +1,9 @@
--- Numbers of a configuration that are drawn at random.
+-- The numbers of a configuration that are drawn at random.
 use Rattle.std.specs.Prelude.{◌≡◌, false}
 use Rattle.mg_engine.specs.declared.config.Config.{Config}
 use Rattle.mg_arguments.specs.declared.draws.Draws.{Draws}
 
--- A configuration with the numbers that were drawn; everything else is unchanged.
+-- The drawn configuration differs from the given one only in the numbers that were drawn.
 pub record IsDrawn (draws : Draws) (config drawn : Config) : Type 0 where
   pub ssrc : draws.ssrc ≡ false → drawn.ssrc ≡ config.ssrc
   pub sequence : draws.sequence ≡ false → drawn.sequence ≡ config.sequence
@@ -14,6 +14,6 @@ pub record IsDrawn (draws : Draws) (config drawn : Config) : Type 0 where
     timestamp = drawn.timestamp;
   }
 
--- no number is drawn
+-- No number is drawn.
 abbrev pub no_draws : Draws
 no_draws = record { ssrc = false; sequence = false; timestamp = false }

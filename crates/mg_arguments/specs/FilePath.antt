@@ -3,7 +3,7 @@ use Rattle.std.specs.Prelude.{ℕ, ◌==◌, nat_le, List, length, Result, Ok, E
 use Rattle.mg_arguments.specs.declared.file_path_fault.FilePathFault.{FilePathFault}
 use Rattle.mg_arguments.specs.declared.file_path_fault.FilePathFault.TheVariants.{Empty, TooLong}
 
--- A text as a path. Temporary files have longer names, so the limit is below the system's.
+-- The text as a path. Temporary files have longer names, so the limit is below the system's.
 abbrev pub file_path : List ℕ → Result (List ℕ) FilePathFault
 file_path text =
     if length text == 0 then Err Empty

@@ -3,7 +3,7 @@ use Rattle.std.specs.Prelude.{◌≡◌, true}
 use Rattle.mg_engine.specs.declared.config.Config.{Config}
 use Rattle.mg_arguments.specs.declared.given.Given.{Given}
 
--- two configurations have the same values for the options that are given
+-- Two configurations have the same values for the given options.
 pub record Agrees (given : Given) (wanted actual : Config) : Type 0 where
   pub address : given.address ≡ true → wanted.address ≡ actual.address
   pub control_address : given.control_address ≡ true → wanted.control_address ≡ actual.control_address

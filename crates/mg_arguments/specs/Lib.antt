@@ -9,3 +9,4 @@ pub mod Draws
 pub mod Given
 pub mod FilePath
 pub mod Setup
+pub mod aids

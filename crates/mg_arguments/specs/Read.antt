@@ -1,8 +1,8 @@
--- What texts mean.
+-- The values of texts.
 use Rattle.std.specs.Prelude.{ℕ, List, [], ◌∷◌, ok_or, Option, Result, Ok}
 use Rattle.mg_words.specs.ResultSteps.{◌>>=◌}
 
--- what each text means, in their order, or a fault if one has no meaning
+-- The value of each text, in order, or a fault if a text has no value.
 abbrev pub all_read : {A E : Type 0} → (List ℕ → Option A) → E → List (List ℕ) → Result (List A) E
 all_read read fault [] = Ok []
 all_read read fault (text ∷ texts) = do

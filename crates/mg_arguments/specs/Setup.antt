@@ -5,8 +5,8 @@ use Rattle.mg_engine.specs.declared.config.Config.{Config}
 use Rattle.mg_serve.specs.Setup.{Setup}
 use Rattle.mg_arguments.specs.declared.service.Service.{Service}
 
--- The setup of a session, as the program creates it. A fence begins at the number that an operator
--- sets, or else at the one that the journal has reached.
+-- The setup of a session, as the program creates it. A fence begins at the number that an operator sets, or by default
+-- at the number that the journal has reached.
 abbrev pub setup_of : Config → (reached : ℕ) → Service → Setup
 setup_of config reached service = record {
   config = config;

@@ -4,7 +4,7 @@ ghost use Rattle.mg_arguments.specs.Address.{bind_address, is_multicast, own_add
 use crate::bind_address_fault::BindAddressFault;
 use mg_words::address_of;
 
-/// Why a string can't be a gateway's own address.
+/// The reason why a string can't be a gateway's own address.
 #[derive(Clone, Copy, Debug, PartialEq, Eq)]
 pub enum AddressFault {
     /// The string is not an IPv4 address in dotted decimal.
@@ -27,6 +27,21 @@ impl AddressFault {
             }
             AddressFault::Unspecified => {
                 "invalid value for '--address <ADDRESS>': callers cannot send to 0.0.0.0"
+            }
+        }
+    }
+
+    /// Returns the error message for a bad address to send from.
+    pub fn source_message(self) -> &'static str {
+        match self {
+            AddressFault::Unreadable => {
+                "invalid value for '--source <ADDRESS>': not an IPv4 address in dotted decimal"
+            }
+            AddressFault::Multicast => {
+                "invalid value for '--source <ADDRESS>': not a unicast address"
+            }
+            AddressFault::Unspecified => {
+                "invalid value for '--source <ADDRESS>': nobody can send from 0.0.0.0"
             }
         }
     }

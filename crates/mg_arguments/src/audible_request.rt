@@ -1,10 +1,10 @@
 use crate::heard_request::HeardRequest;
 
-/// When a talker was audible while a script ran: which intervals are asked for.
+/// A question when a talker was audible while a script ran.
 #[derive(Drop)]
 pub struct AudibleRequest {
     /// The number of the talker's termination.
     pub talker: u32,
-    /// The script, the format and the intervals. No time is asked about.
+    /// The script, the style of the answer and the query. Its time is `None`.
     pub heard: HeardRequest,
 }

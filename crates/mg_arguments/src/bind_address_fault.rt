@@ -1,4 +1,4 @@
-/// Why a string can't be an address to bind sockets to.
+/// The reason why a string can't be an address to bind sockets to.
 #[derive(Clone, Copy, Debug, PartialEq, Eq)]
 pub enum BindAddressFault {
     /// The string is not an IPv4 address in dotted decimal.

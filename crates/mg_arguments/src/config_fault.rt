@@ -5,7 +5,7 @@ use mg_core::{Config, TERMINATIONS};
 use mg_words::LAST_CONTEXT;
 use thiserror::Error;
 
-/// Why a gateway cannot start with a configuration: the first invalid option.
+/// The reason why a gateway cannot start with a configuration: its first invalid option.
 #[derive(Clone, Copy, Debug, PartialEq, Eq, Error)]
 pub enum ConfigFault {
     #[error("--slots must be from 1 to {most}", most = TERMINATIONS)]

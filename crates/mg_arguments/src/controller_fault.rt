@@ -1,4 +1,4 @@
-/// Why a list of strings is not a valid list of controllers.
+/// The reason why a list of strings is not a valid list of controllers.
 #[derive(Clone, Copy, Debug, PartialEq, Eq)]
 pub enum ControllerFault {
     /// A string is not an IPv4 address in dotted decimal.

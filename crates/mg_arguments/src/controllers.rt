@@ -9,7 +9,7 @@ use std::marker::Model;
 /// The maximum number of controllers that can be listed.
 const MAX_CONTROLLERS: usize = 8;
 
-/// The addresses of the controllers, at most eight. If none is listed, anybody may send commands to the gateway.
+/// The addresses of the controllers, at most eight. If the list is empty, anybody may send commands to the gateway.
 #[derive(Drop)]
 pub struct Controllers {
     addresses: ArrayVec<[u8; 4], MAX_CONTROLLERS>,

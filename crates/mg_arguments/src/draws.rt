@@ -5,7 +5,7 @@ use mg_core::Config;
 use std::io;
 use std::random::RandomSource;
 
-/// Which of the initial numbers for RTP packets are drawn at random because no option sets them.
+/// A choice of the initial numbers for RTP packets that are drawn at random, because no option sets them.
 #[derive(Clone, Copy, Debug, PartialEq, Eq)]
 pub struct Draws {
     pub ssrc: bool,
@@ -14,7 +14,7 @@ pub struct Draws {
 }
 
 impl Draws {
-    /// Returns the choice to draw none of the numbers.
+    /// Returns the choice to draw no number.
     pub fn none() -> Self
         ensures value { result ≡ no_draws }
     {

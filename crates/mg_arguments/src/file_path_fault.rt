@@ -1,4 +1,4 @@
-/// Why a string can't be the path of a file.
+/// The reason why a string can't be the path of a file.
 #[derive(Clone, Copy, Debug, PartialEq, Eq)]
 pub enum FilePathFault {
     /// The string is empty.

@@ -3,7 +3,7 @@ ghost use Rattle.mg_arguments.specs.Given.{Agrees};
 
 use mg_core::Config;
 
-/// Which options of the configuration are given on the command line.
+/// The options of the configuration that are given on the command line.
 #[derive(Clone, Copy, Debug, PartialEq, Eq)]
 pub struct Given {
     pub address: bool,
@@ -19,7 +19,8 @@ pub struct Given {
 }
 
 impl Given {
-    /// Returns the first given option whose value differs between two configurations, or `None` if there is none.
+    /// Returns the name of the first given option whose value differs between two configurations, or `None` if all
+    /// agree.
     pub fn first_difference(&self, wanted: &Config, actual: &Config) -> Option<&'static str>
         ensures value { IfNone result (Agrees self.now wanted.now actual.now) }
     {

@@ -6,7 +6,8 @@ ghost use Rattle.clap.specs.Words.{app_of, found_of, kind_of, rows_of, rule_of, 
 ghost use Rattle.mg_dates.specs.Dates.{date_of_text};
 ghost use Rattle.mg_options.specs.Line.{text_rule};
 ghost use Rattle.mg_arguments.specs.ZoneName.{zone_name};
-ghost use Rattle.mg_arguments.specs.Options.{asked_in, asks_for_two_times, audible_of, form_in, format_of, heard_line, heard_of, heard_options, named_by, number_named, printing_in, query_in, repeated_rule, request_for, request_in, reshapes_page, rules_in, script_in, script_rule, selects_part, watch_in};
+ghost use Rattle.mg_arguments.specs.aids.Asking.{request_for};
+ghost use Rattle.mg_arguments.specs.Options.{asked_in, asks_for_two_times, audible_of, form_in, format_of, heard_line, heard_of, heard_options, number_named, printing_in, query_in, repeated_rule, request_in, reshapes_page, rules_in, script_in, script_rule, selects_part, value_by, watch_in};
 
 use crate::audible_request::AudibleRequest;
 use crate::heard_request::HeardRequest;
@@ -39,18 +40,18 @@ const NO_ZONE: &str = "invalid value for '--zone <ZONE>': empty, or longer than 
 
 const NO_FORMAT: &str = "invalid value for '--format <FORMAT>': not text, csv or json";
 
-/// The error message if options select a part of what rules are about, or a page.
+/// The error message if options select a part of the intervals, or a page, although rules are given.
 const NO_PART: &str =
     "'--never' can't be used with '--listener', '--talker', '--at', '--from', '--to', '--audible' or '--report'";
 
-/// The error message if it is asked when a talker was audible who has no number.
+/// The error message if the talker of an audible interval isn't given by number.
 const NO_NUMBER: &str =
     "'--audible' needs '--talker' with the number of a termination, such as RTP/1";
 
-/// The error message if it is asked whether a talker was audible at a single time.
+/// The error message if `--audible` is used with a single time.
 const NO_SINGLE_TIME: &str = "'--audible' can't be used with '--at'";
 
-/// The error message for a period around a single time.
+/// The error message if a single time and a period are given.
 const NO_PERIOD: &str = "'--at' can't be used with '--from' or '--to'";
 
 /// The error message for an option that a page doesn't allow.
@@ -102,7 +103,8 @@ fn with_question<'a>(alloc: Global, command: Command<'a>) -> Result<Command<'a>,
     Ok(command)
 }
 
-/// Adds what [`with_question`] adds, the options that select a period or what was audible, and the one for rules.
+/// Adds a script, the options that select terminations, a time, a period or audible intervals, and the option for
+/// rules.
 fn with_period<'a>(alloc: Global, command: Command<'a>) -> Result<Command<'a>, Error>
     ensures app { IfOk result (λ with. app_of with ≡ fold with_rule (app_of command.entry) (take 8 heard_options)) }
     ensures memory { IfErr result (λ error. kind_of error ≡ ErrorKind.OutOfMemory) }
@@ -121,7 +123,7 @@ fn with_period<'a>(alloc: Global, command: Command<'a>) -> Result<Command<'a>, E
     Ok(command)
 }
 
-/// Creates the subcommand that says who could hear whom.
+/// Creates the subcommand that reports who could hear whom.
 pub(crate) fn heard_command<'a>(alloc: Global) -> Result<Command<'a>, Error>
     ensures app { IfOk result (λ command. app_of command ≡ heard_line) }
     ensures memory { IfErr result (λ error. kind_of error ≡ ErrorKind.OutOfMemory) }
@@ -139,15 +141,16 @@ pub(crate) fn heard_command<'a>(alloc: Global) -> Result<Command<'a>, Error>
     Ok(command)
 }
 
-/// Returns how an option names terminations, if it is given, or the error message.
+/// Returns the terminations that an option names, or `None` if the option isn't given. Returns the error message if the
+/// text is invalid.
 fn name_of(
     name: &str,
     message: &'static str,
     matches: &ArgMatches<'_>,
 ) -> Result<Option<Asked>, &'static str>
-    ensures value { IfOk result (λ party. named_by (asked_in (rows_of (found_of matches.now))) name.now
+    ensures value { IfOk result (λ party. value_by (asked_in (rows_of (found_of matches.now))) name.now
         (rows_of (found_of matches.now)) ≡ Ok party) }
-    ensures refused { IfErr result (λ _. named_by (asked_in (rows_of (found_of matches.now))) name.now (rows_of (found_of matches.now)) ≡
+    ensures refused { IfErr result (λ _. value_by (asked_in (rows_of (found_of matches.now))) name.now (rows_of (found_of matches.now)) ≡
         Err (ValueValidation ∷ [])) }
 {
     let Some(text) = matches.get_str(name) else {
@@ -159,14 +162,15 @@ fn name_of(
     }
 }
 
-/// Returns the time that an option names, if it is given, or the error message.
+/// Returns the time that an option names, or `None` if the option isn't given. Returns the error message if the text is
+/// invalid.
 fn time_of(
     name: &str,
     message: &'static str,
     matches: &ArgMatches<'_>,
 ) -> Result<Option<Date>, &'static str>
-    ensures value { IfOk result (λ time. named_by date_of_text name.now (rows_of (found_of matches.now)) ≡ Ok time) }
-    ensures refused { IfErr result (λ _. named_by date_of_text name.now (rows_of (found_of matches.now)) ≡
+    ensures value { IfOk result (λ time. value_by date_of_text name.now (rows_of (found_of matches.now)) ≡ Ok time) }
+    ensures refused { IfErr result (λ _. value_by date_of_text name.now (rows_of (found_of matches.now)) ≡
         Err (ValueValidation ∷ [])) }
 {
     let Some(text) = matches.get_str(name) else {
@@ -193,11 +197,12 @@ fn format_of(text: &str) -> Option<Format>
     }
 }
 
-/// Returns the format that an option names, if it is given, or the error message.
+/// Returns the format that an option names, or `None` if the option isn't given. Returns the error message if the text
+/// is invalid.
 fn given_format(matches: &ArgMatches<'_>) -> Result<Option<Format>, &'static str>
-    ensures value { IfOk result (λ format. named_by format_of (codes "format") (rows_of (found_of matches.now)) ≡
+    ensures value { IfOk result (λ format. value_by format_of (codes "format") (rows_of (found_of matches.now)) ≡
         Ok format) }
-    ensures refused { IfErr result (λ _. named_by format_of (codes "format") (rows_of (found_of matches.now)) ≡
+    ensures refused { IfErr result (λ _. value_by format_of (codes "format") (rows_of (found_of matches.now)) ≡
         Err (ValueValidation ∷ [])) }
 {
     let Some(text) = matches.get_str("format") else {
@@ -216,7 +221,7 @@ fn reshapes_page(matches: &ArgMatches<'_>) -> bool
     is_given("format", matches) || is_given("at", matches) || is_set("audible", matches)
 }
 
-/// Returns how the options ask to print, or the error message.
+/// Returns the format in which the options ask to print, or the error message.
 fn form_in(matches: &ArgMatches<'_>) -> Result<Format, &'static str>
     ensures value { IfOk result (λ format. form_in (rows_of (found_of matches.now)) ≡ Ok format) }
     ensures refused { IfErr result (λ _. form_in (rows_of (found_of matches.now)) ≡ Err (ValueValidation ∷ [])) }
@@ -231,10 +236,11 @@ fn form_in(matches: &ArgMatches<'_>) -> Result<Format, &'static str>
     Ok(format.unwrap_or(Format::Text))
 }
 
-/// Returns the time zone that an option names, if it is given, or the error message.
+/// Returns the time zone that an option names, or `None` if the option isn't given. Returns the error message if the
+/// text is invalid.
 fn given_zone(matches: &ArgMatches<'_>) -> Result<Option<ZoneName>, &'static str>
-    ensures value { IfOk result (λ zone. named_by zone_name (codes "zone") (rows_of (found_of matches.now)) ≡ Ok zone) }
-    ensures refused { IfErr result (λ _. named_by zone_name (codes "zone") (rows_of (found_of matches.now)) ≡
+    ensures value { IfOk result (λ zone. value_by zone_name (codes "zone") (rows_of (found_of matches.now)) ≡ Ok zone) }
+    ensures refused { IfErr result (λ _. value_by zone_name (codes "zone") (rows_of (found_of matches.now)) ≡
         Err (ValueValidation ∷ [])) }
 {
     let Some(text) = matches.get_str("zone") else {
@@ -246,7 +252,7 @@ fn given_zone(matches: &ArgMatches<'_>) -> Result<Option<ZoneName>, &'static str
     }
 }
 
-/// Returns how answers about a script are printed, or the error message.
+/// Returns the style in which answers about a script are printed, or the error message.
 fn printing_in(matches: &ArgMatches<'_>) -> Result<Printing, &'static str>
     ensures value { IfOk result (λ printing. printing_in (rows_of (found_of matches.now)) ≡ Ok printing) }
     ensures refused { IfErr result (λ _. printing_in (rows_of (found_of matches.now)) ≡ Err (ValueValidation ∷ [])) }
@@ -264,7 +270,7 @@ fn printing_in(matches: &ArgMatches<'_>) -> Result<Printing, &'static str>
     })
 }
 
-/// Returns which intervals the options ask for, or the error message.
+/// Returns the query that the options make, or the error message.
 fn query_in(matches: &ArgMatches<'_>) -> Result<AskedQuery, &'static str>
     ensures query { IfOk result (λ query. query_in (rows_of (found_of matches.now)) ≡ Ok query) }
     ensures refused { IfErr result (λ _. query_in (rows_of (found_of matches.now)) ≡ Err (ValueValidation ∷ [])) }
@@ -301,14 +307,15 @@ fn request_in(matches: &ArgMatches<'_>) -> Result<HeardRequest, &'static str>
     })
 }
 
-/// Returns whether a single time and a period are asked about.
+/// Returns whether a question asks about both a single time and a period.
 fn asks_for_two_times(request: &HeardRequest) -> bool
     ensures value { result ≡ asks_for_two_times request.now }
 {
     request.at.is_some() && (request.query.from.is_some() || request.query.until.is_some())
 }
 
-/// Returns the question who could hear whom, or the error message if it asks about a single time and a period.
+/// Returns the run that answers who could hear whom, or the error message if the question asks about a single time and
+/// a period.
 fn heard_of(request: HeardRequest) -> Result<Invocation, &'static str>
     ensures run { IfOk result (λ run. heard_of request ≡ Ok run) }
     ensures refused { IfErr result (λ _. heard_of request ≡ Err (ValueValidation ∷ [])) }
@@ -319,7 +326,7 @@ fn heard_of(request: HeardRequest) -> Result<Invocation, &'static str>
     Ok(Invocation::Heard(request))
 }
 
-/// Returns who could hear whom, as the options ask, or the error message.
+/// Returns the run that answers who could hear whom, as the options ask, or the error message.
 fn heard_in(matches: &ArgMatches<'_>) -> Result<Invocation, &'static str>
     ensures run { IfOk result (λ run. request_for heard_of (rows_of (found_of matches.now)) ≡ Ok run) }
     ensures refused { IfErr result (λ _. request_for heard_of (rows_of (found_of matches.now)) ≡ Err (ValueValidation ∷ [])) }
@@ -328,7 +335,7 @@ fn heard_in(matches: &ArgMatches<'_>) -> Result<Invocation, &'static str>
     heard_of(request)
 }
 
-/// Returns the number that a key is, if it is one.
+/// Returns the number in a key, or `None` if the key isn't a termination's number.
 fn number_named(asked: &Option<Asked>) -> Option<u32>
     ensures value { result ≡ number_named asked.now }
 {
@@ -341,8 +348,8 @@ fn number_named(asked: &Option<Asked>) -> Option<u32>
     }
 }
 
-/// Returns the question when the talker of a request was audible, or the error message if the talker has no number or a
-/// time is asked about.
+/// Returns the run that answers when the talker was audible, or the error message if the talker has no number or a time
+/// is asked about.
 fn audible_of(request: HeardRequest) -> Result<Invocation, &'static str>
     ensures run { IfOk result (λ run. audible_of request ≡ Ok run) }
     ensures refused { IfErr result (λ _. audible_of request ≡ Err (ValueValidation ∷ [])) }
@@ -359,7 +366,7 @@ fn audible_of(request: HeardRequest) -> Result<Invocation, &'static str>
     }))
 }
 
-/// Returns the question when a talker was audible, or the error message.
+/// Returns the run that answers when a talker was audible, as the options ask, or the error message.
 fn audible_in(matches: &ArgMatches<'_>) -> Result<Invocation, &'static str>
     ensures run { IfOk result (λ run. request_for audible_of (rows_of (found_of matches.now)) ≡ Ok run) }
     ensures refused { IfErr result (λ _. request_for audible_of (rows_of (found_of matches.now)) ≡ Err (ValueValidation ∷ [])) }
@@ -368,7 +375,7 @@ fn audible_in(matches: &ArgMatches<'_>) -> Result<Invocation, &'static str>
     audible_of(request)
 }
 
-/// Returns whether options select a part of what is heard.
+/// Returns whether options select a part of the intervals, or a page.
 fn selects_part(matches: &ArgMatches<'_>) -> bool
     ensures value { result ≡ selects_part (rows_of (found_of matches.now)) }
 {
@@ -392,7 +399,7 @@ fn rules_of(matches: &ArgMatches<'_>) -> Result<Rules, RuleFault>
     }
 }
 
-/// Returns the rules that a script must keep, or the error message.
+/// Returns the run that checks the rules on the command line, or the error message.
 fn watch_in(matches: &ArgMatches<'_>) -> Result<Invocation, &'static str>
     ensures run { IfOk result (λ run. watch_in (rows_of (found_of matches.now)) ≡ Ok run) }
     ensures refused { IfErr result (λ _. watch_in (rows_of (found_of matches.now)) ≡ Err (ValueValidation ∷ [])) }
@@ -416,7 +423,7 @@ fn watch_in(matches: &ArgMatches<'_>) -> Result<Invocation, &'static str>
     }))
 }
 
-/// Returns what the options ask about a script, or the error message.
+/// Returns the run for the question or the rules on the command line, or the error message.
 pub(crate) fn script_in(matches: &ArgMatches<'_>) -> Result<Invocation, &'static str>
     ensures run { IfOk result (λ run. script_in (rows_of (found_of matches.now)) ≡ Ok run) }
     ensures refused { IfErr result (λ _. script_in (rows_of (found_of matches.now)) ≡ Err (ValueValidation ∷ [])) }

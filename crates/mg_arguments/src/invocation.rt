@@ -6,7 +6,7 @@ use crate::service::Service;
 use crate::watch_request::WatchRequest;
 use mg_core::{Config, Peer, Shown};
 
-/// What the program's arguments ask it to do.
+/// The run that the program's arguments request.
 #[derive(Drop)]
 pub enum Invocation {
     /// Run a script. The second field selects what is written for each event.
@@ -17,16 +17,17 @@ pub enum Invocation {
     /// The last field is the maximum lateness of a tick, in ticks: if a tick is later than that, its packets are not
     /// sent.
     Live(Config, Service, Draws, u16),
-    /// Check that the gateway with this control port answers.
-    Check(Peer),
-    /// Say who could hear whom while a script ran.
+    /// Check that the gateway with this control port answers messages from this address. 0.0.0.0 is any address of the
+    /// machine.
+    Check(Peer, [u8; 4]),
+    /// Report who could hear whom while a script ran.
     Heard(HeardRequest),
-    /// Say when a talker was audible while a script ran.
+    /// Report when a talker was audible while a script ran.
     Audible(AudibleRequest),
-    /// Say whether the seals in a file are right, or those in the input if there is no file.
+    /// Report whether the seals in a file, or in the input, are right.
     Verify(Option<FilePath>),
-    /// Copy the input to the output, with seals.
+    /// Copy the input to the output, and add seals.
     Seal,
-    /// Say whether a script breaks a rule about who must not be heard.
+    /// Report whether a script breaks a rule about who must not be heard.
     Watch(WatchRequest),
 }

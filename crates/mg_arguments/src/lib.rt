@@ -1,6 +1,6 @@
-//! What the arguments of `mg_bridge` ask for.
+//! The arguments of `mg_bridge`, and the run that they request.
 //!
-//! [`requested_run`] returns the run that the arguments ask for:
+//! [`requested_run`] returns the run that the arguments request:
 //!
 //! ```rust
 //! let words = ["replay", "--slots", "4"];
@@ -12,11 +12,11 @@
 //! ```
 //!
 //! A [`Service`] holds the options of a gateway on sockets, except for its configuration. [`Draws`] draws the numbers
-//! that no option sets. [`title_of`] returns the first line of a recording, which states a configuration as arguments,
-//! and [`titled`] reads it.
+//! that no option sets. [`title_of`] returns the title of a recording, which states a configuration as arguments, and
+//! [`titled`] reads a title.
 //!
-//! `specs/Options.antt` defines what the arguments ask for. `specs/Setup.antt` defines a session's setup, and
-//! `specs/Title.antt` the first line of a recording.
+//! `specs/Options.antt` defines the run that the arguments request. `specs/Setup.antt` defines a session's setup, and
+//! `specs/Title.antt` defines the first line of a recording.
 #![tactic(auto)]
 
 mod address;

@@ -1,12 +1,16 @@
-ghost use Rattle.std.specs.Prelude.{◌≡◌, ◌∷◌, [], Err, IfErr, IfOk, Ok, codes, fold, if◌then◌else◌, map};
+ghost use Rattle.std.specs.Prelude.{◌≡◌, ◌∷◌, [], Err, IfErr, IfOk, Ok, codes, fold, if◌then◌else◌, map, option_and_then};
 ghost use Rattle.clap.specs.declared.error.kind.ErrorKind.TheVariants.{ValueValidation};
+ghost use Rattle.clap.specs.Walk.{first_of};
 ghost use Rattle.clap.specs.Words.{app_of, found_of, kind_of, rows_of, rule_of, with_rule};
+ghost use Rattle.mg_core.specs.Peer.{peer_of};
 ghost use Rattle.mg_options.specs.Requested.{IsRefused};
 ghost use Rattle.mg_options.specs.Line.{text_rule};
 ghost use Rattle.mg_options.specs.Numbers.{number_or};
+ghost use Rattle.mg_arguments.specs.Address.{bind_address};
+ghost use Rattle.mg_arguments.specs.FilePath.{file_path};
 ghost use Rattle.mg_arguments.specs.Options.{address_in, requested, command_line, config_at, controllers_in, repeated_rule};
-ghost use Rattle.mg_arguments.specs.Options.{bind_address_in, check_in, check_line, draws_of, flag_rule, is_set, live_line, options, replay_line, run_of};
-ghost use Rattle.mg_arguments.specs.Options.{durability_in, fence_in, file_in, gateway_in, gateway_rule, given_in, is_given, run_in, service_in, sockets_line, subcommand_line};
+ghost use Rattle.mg_arguments.specs.Options.{check_in, check_line, draws_of, flag_rule, is_set, live_line, options, replay_line, run_of};
+ghost use Rattle.mg_arguments.specs.Options.{durability_in, fence_in, gateway_in, named_by, gateway_rule, given_in, is_given, run_in, service_in, sockets_line, subcommand_line};
 
 use crate::address::{AddressFault, bind_address, own_address};
 use crate::bind_address_fault::BindAddressFault;
@@ -22,7 +26,7 @@ use crate::sealing_options::{seal_command, verify_command, verify_in};
 use crate::service::Service;
 use clap::error::ErrorKind;
 use clap::{Arg, ArgAction, ArgMatches, Command, Error};
-use mg_core::{Config, Shown, peer_of};
+use mg_core::{Config, Peer, Shown, peer_of};
 use mg_journal::Durability;
 use mg_options::{long_number, long_value, program_command, short_number, short_value};
 use std::alloc::Global;
@@ -32,10 +36,10 @@ use std::convert::AsStr;
 const NO_GATEWAY: &str =
     "invalid value for '<ADDRESS:PORT>': not an IPv4 address, a colon and a port";
 
-/// The error message if there is no journal to sync.
+/// The error message if `--sync` is given without a journal.
 const NO_JOURNAL: &str = "'--sync' needs '--journal <FILE>'";
 
-/// The error message if anybody may send messages through a fence.
+/// The error message if a fence is requested without controllers.
 const NO_CONTROLLER: &str = "a fence needs '--controller <ADDRESS>'";
 
 /// Creates an option that takes an IPv4 address. Its parser accepts any text.
@@ -52,7 +56,7 @@ fn file_option<'a>(alloc: Global, name: &'a str) -> Arg<'a>
     Arg::new(alloc, name).long(name).value_name("FILE")
 }
 
-/// Adds the options of a gateway, which every subcommand except `check` has.
+/// Adds the options of a gateway's configuration, which `replay`, `serve` and `live` have.
 fn with_options<'a>(alloc: Global, command: Command<'a>) -> Result<Command<'a>, Error>
     ensures app { IfOk result (λ with. app_of with ≡ fold with_rule (app_of command.entry) options) }
     ensures memory { IfErr result (λ error. kind_of error ≡ ErrorKind.OutOfMemory) }
@@ -100,14 +104,14 @@ fn controller_option<'a>(alloc: Global) -> Arg<'a>
         .help("IPv4 address of a controller, repeatable up to 8 times [default: any address]")
 }
 
-/// Creates a flag: an option without a value, which is set if it occurs.
+/// Creates a flag: an option without a value, which is set if it is given.
 pub(crate) fn flag<'a>(alloc: Global, name: &'a str) -> Arg<'a>
     ensures rule { rule_of result ≡ flag_rule name.now }
 {
     Arg::new(alloc, name).long(name).action(ArgAction::SetTrue)
 }
 
-/// Creates a subcommand with the options of a gateway.
+/// Creates a subcommand with the options of a gateway's configuration.
 fn subcommand<'a>(alloc: Global, name: &'a str, about: &'a str) -> Result<Command<'a>, Error>
     ensures app { IfOk result (λ command. app_of command ≡ subcommand_line name.now) }
     ensures memory { IfErr result (λ error. kind_of error ≡ ErrorKind.OutOfMemory) }
@@ -194,7 +198,10 @@ fn check<'a>(alloc: Global) -> Result<Command<'a>, Error>
 {
     let command = Command::new(alloc, "check")
         .about("Check that a gateway answers messages from this machine")
-        .arg(gateway_argument(alloc))?;
+        .arg(gateway_argument(alloc))?
+        .arg(address_option(alloc, "source").help(
+            "IPv4 address of this machine to send from [default: the system's choice]",
+        ))?;
     Ok(command)
 }
 
@@ -259,7 +266,7 @@ fn config_at(address: [u8; 4], control_address: [u8; 4], matches: &ArgMatches<'_
     }
 }
 
-/// Returns which numbers are drawn at random because no option sets them.
+/// Returns the choice of the numbers that are drawn at random because no option sets them.
 fn draws_of(matches: &ArgMatches<'_>) -> Draws
     ensures value { result ≡ draws_of (rows_of (found_of matches.now)) }
 {
@@ -316,9 +323,9 @@ fn controllers_of(matches: &ArgMatches<'_>) -> Result<Controllers, ControllerFau
     }
 }
 
-/// Returns the address to bind sockets to, if the command line names one.
+/// Returns the address to bind sockets to, or `None` if the command line names none.
 fn bind_address_of(matches: &ArgMatches<'_>) -> Result<Option<[u8; 4]>, BindAddressFault>
-    ensures value { result ≡ bind_address_in (rows_of (found_of matches.now)) }
+    ensures value { result ≡ named_by bind_address (codes "bind-address") (rows_of (found_of matches.now)) }
 {
     match matches.get_str("bind-address") {
         Some(text) => match bind_address(text) {
@@ -329,12 +336,12 @@ fn bind_address_of(matches: &ArgMatches<'_>) -> Result<Option<[u8; 4]>, BindAddr
     }
 }
 
-/// Returns the file that an option or an argument names, if it is given.
+/// Returns the file that an option or an argument names, or `None` if it isn't given.
 pub(crate) fn file_of(
     name: &str,
     matches: &ArgMatches<'_>,
 ) -> Result<Option<FilePath>, FilePathFault>
-    ensures value { result ≡ file_in name.now (rows_of (found_of matches.now)) }
+    ensures value { result ≡ named_by file_path name.now (rows_of (found_of matches.now)) }
 {
     match matches.get_str(name) {
         Some(text) => match FilePath::of(text) {
@@ -364,7 +371,8 @@ fn durability_of(
     }
 }
 
-/// Returns whether the fence is strict, if there is to be one. Without controllers, returns the error message.
+/// Returns whether the fence is strict, or `None` if there is no fence. Returns the error message if there is a fence
+/// without controllers.
 fn fence_of(
     controllers: &Controllers,
     matches: &ArgMatches<'_>,
@@ -393,7 +401,7 @@ pub(crate) fn is_given(name: &str, matches: &ArgMatches<'_>) -> bool
     }
 }
 
-/// Returns which options of the configuration are given.
+/// Returns the options of the configuration that are given.
 fn given_of(matches: &ArgMatches<'_>) -> Given
     ensures value { result ≡ given_in (rows_of (found_of matches.now)) }
 {
@@ -449,7 +457,7 @@ fn service_of(matches: &ArgMatches<'_>) -> Result<Service, &'static str>
     })
 }
 
-/// Returns the run that a subcommand asks for, with this configuration and these options of a gateway on sockets.
+/// Returns the run that a subcommand requests, with this configuration and these options of a gateway on sockets.
 fn run_of(name: &str, config: Config, service: Service, matches: &ArgMatches<'_>) -> Invocation
     ensures value { result ≡ run_of name.now config service (rows_of (found_of matches.now)) }
 {
@@ -462,21 +470,32 @@ fn run_of(name: &str, config: Config, service: Service, matches: &ArgMatches<'_>
     }
 }
 
-/// Returns the check that the argument asks for, or the error message.
+/// Returns the gateway that the argument of a check names, or `None` if the argument isn't an address with a port.
+fn gateway_of(matches: &ArgMatches<'_>) -> Option<Peer>
+    ensures value { result ≡ option_and_then peer_of (first_of (codes "gateway") (rows_of (found_of matches.now))) }
+{
+    match matches.get_str("gateway") {
+        Some(text) => peer_of(text.as_bytes()),
+        None => None,
+    }
+}
+
+/// Returns the check that the argument and the option request, or the error message.
 fn check_in(matches: &ArgMatches<'_>) -> Result<Invocation, &'static str>
     ensures run { IfOk result (λ run. check_in (rows_of (found_of matches.now)) ≡ Ok run) }
     ensures refused { IfErr result (λ _. check_in (rows_of (found_of matches.now)) ≡ Err (ValueValidation ∷ [])) }
 {
-    match matches.get_str("gateway") {
-        Some(text) => match peer_of(text.as_bytes()) {
-            Some(gateway) => Ok(Invocation::Check(gateway)),
-            None => Err(NO_GATEWAY),
-        },
+    let source = match address_of("source", [0, 0, 0, 0], matches) {
+        Ok(address) => address,
+        Err(fault) => return Err(fault.source_message()),
+    };
+    match gateway_of(matches) {
+        Some(gateway) => Ok(Invocation::Check(gateway, source)),
         None => Err(NO_GATEWAY),
     }
 }
 
-/// Returns the run of a gateway that a subcommand with these options asks for, or the error message.
+/// Returns the run of a gateway that a subcommand with these options requests, or the error message.
 fn gateway_in(name: &str, matches: &ArgMatches<'_>) -> Result<Invocation, &'static str>
     ensures run { IfOk result (λ run. gateway_in name.now (rows_of (found_of matches.now)) ≡ Ok run) }
     ensures refused { IfErr result (λ _. gateway_in name.now (rows_of (found_of matches.now)) ≡
@@ -495,7 +514,7 @@ fn gateway_in(name: &str, matches: &ArgMatches<'_>) -> Result<Invocation, &'stat
     Ok(run_of(name, config, service, matches))
 }
 
-/// Returns the run that a subcommand with these options and arguments asks for, or the error message.
+/// Returns the run that a subcommand with these options and arguments requests, or the error message.
 fn run_in(name: &str, matches: &ArgMatches<'_>) -> Result<Invocation, &'static str>
     ensures run { IfOk result (λ run. run_in name.now (rows_of (found_of matches.now)) ≡ Ok run) }
     ensures refused { IfErr result (λ _. run_in name.now (rows_of (found_of matches.now)) ≡
@@ -514,10 +533,10 @@ fn run_in(name: &str, matches: &ArgMatches<'_>) -> Result<Invocation, &'static s
     }
 }
 
-/// Returns the run that the arguments ask for. The arguments don't include the program's name.
+/// Returns the run that the arguments request. The arguments don't include the program's name.
 ///
-/// If they don't ask for a run, the caller must report the error: a usage error, a request for help or the version, or
-/// lack of memory.
+/// If the arguments don't request a run, the caller must report the error: a usage error, a request for help or the
+/// version, or lack of memory.
 pub fn requested_run<'a, S: AsStr>(alloc: Global, words: &'a [S]) -> Result<Invocation, Error>
     ensures run { IfOk result (λ run. requested (map S.text words.now) ≡ Ok run) }
     ensures refused { IfErr result (λ error. IsRefused (requested (map S.text words.now)) (kind_of error)) }

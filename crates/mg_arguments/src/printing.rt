@@ -2,7 +2,7 @@ use crate::file_path::FilePath;
 use crate::zone_name::ZoneName;
 use mg_heard::Format;
 
-/// How answers about a script are printed.
+/// The style in which answers about a script are printed.
 #[derive(Drop)]
 pub struct Printing {
     pub format: Format,

@@ -1,4 +1,4 @@
-/// Why a list of strings is not a valid list of rules.
+/// The reason why a list of strings is not a valid list of rules.
 #[derive(Clone, Copy, Debug, PartialEq, Eq)]
 pub enum RuleFault {
     /// A string is not a rule.

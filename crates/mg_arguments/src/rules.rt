@@ -9,7 +9,7 @@ use std::marker::Model;
 /// The maximum number of rules.
 const MAX_RULES: usize = 64;
 
-/// Rules about who must not be heard, at most 64.
+/// A list of at most 64 rules about who must not be heard.
 #[derive(Drop)]
 pub struct Rules {
     rules: ArrayVec<AskedRule, MAX_RULES>,

@@ -32,7 +32,7 @@ pub(crate) fn seal_command<'a>(alloc: Global) -> Command<'a>
     )
 }
 
-/// Returns the check of seals that the options ask for, or the error message.
+/// Returns the check of seals that the options request, or the error message.
 #[tactic(auto, using(crate::proofs::SealingOptionLemmas::refuses_verify, crate::proofs::SealingOptionLemmas::verify_is))]
 pub(crate) fn verify_in(matches: &ArgMatches<'_>) -> Result<Invocation, &'static str>
     ensures run { IfOk result (λ run. verify_in (rows_of (found_of matches.now)) ≡ Ok run) }

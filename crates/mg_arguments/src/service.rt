@@ -1,7 +1,6 @@
-ghost use Rattle.std.specs.Prelude.{◌≡◌};
+ghost use Rattle.std.specs.Prelude.{◌≡◌, Some, None, if◌then◌else◌};
 ghost use Rattle.std.specs.Option.{option_map};
 ghost use Rattle.mg_arguments.specs.Setup.{setup_of};
-ghost use Rattle.mg_arguments.specs.Title.{if_recorded};
 
 use crate::controllers::Controllers;
 use crate::file_path::FilePath;
@@ -14,9 +13,10 @@ use mg_serve::Setup;
 /// The options of a gateway on sockets, except for its configuration.
 #[derive(Drop)]
 pub struct Service {
-    /// Who may send messages to the gateway.
+    /// The controllers that may send messages to the gateway.
     pub controllers: Controllers,
-    /// The address that all ports are bound to, if it isn't the one that callers or controllers send to.
+    /// The address that all ports are bound to, or `None` to bind them to the addresses that callers and controllers
+    /// send to.
     pub bind_address: Option<[u8; 4]>,
     /// The seconds between reports; 0 disables reports.
     pub report: u16,
@@ -26,20 +26,21 @@ pub struct Service {
     pub symmetric_rtp: bool,
     /// The file to which a gateway in real time writes metrics, or `None` if it writes none.
     pub metrics: Option<FilePath>,
-    /// The file for the journal, if there is one.
+    /// The file for the journal, or `None` if there is no journal.
     pub journal: Option<FilePath>,
     /// How durably messages are appended to the journal.
     pub durability: Durability,
-    /// Whether the fence is strict, if there is one.
+    /// Whether the fence is strict, or `None` if there is no fence.
     pub fence: Option<bool>,
-    /// The number at which an operator lets the fence begin. Otherwise, it begins where the journal ends.
+    /// The number at which the fence begins, or `None` to begin at the number that the journal has reached.
     pub fence_from: Option<u32>,
-    /// Which options of the configuration are given. With a journal, the others come from the journal's title.
+    /// The options of the configuration that are given. With a journal, the other options come from the journal's
+    /// title.
     pub given: Given,
 }
 
 impl Service {
-    /// Returns the setup of a session with this configuration. The journal has reached this number.
+    /// Returns the setup of a session with this configuration. `reached` is the number that the journal has reached.
     pub fn setup(&self, config: Config, reached: u32) -> Setup<'_>
         ensures value { result ≡ setup_of config reached self.now }
     {
@@ -62,7 +63,7 @@ impl Service {
 
     /// Returns the title of the output if it is a recording, and `None` otherwise.
     pub fn title<'t>(&self, text: &'t [u8]) -> Option<&'t [u8]>
-        ensures value { option_map (λ title. title.now) result ≡ if_recorded self.now.records text.now }
+        ensures value { option_map (λ title. title.now) result ≡ (if self.now.records then Some text.now else None) }
     {
         if self.records { Some(text) } else { None }
     }

@@ -10,7 +10,7 @@ use mg_words::{ADDRESS_LIMIT, address_text};
 /// The capacity of a title, in bytes: the longest title and a margin.
 pub const TITLE_LIMIT: usize = 512;
 
-/// The first line of a recording, without its line feed.
+/// The first line of a recording, without the leading `# ` and the line feed.
 pub type Title = ArrayVec<u8, TITLE_LIMIT>;
 
 /// Appends a string.

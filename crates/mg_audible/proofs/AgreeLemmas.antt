@@ -17,7 +17,7 @@ use Rattle.mg_heard.specs.declared.open_flow.OpenFlow.{OpenFlow}
 use Rattle.mg_audible.specs.Audible.{RunsWithout}
 use Rattle.mg_audible.specs.Without.{StepUnless, StepWithout, is_port_of}
 
--- the talker alone
+-- The list of the talker alone.
 abbrev pub alone : ℕ → List ℕ
 alone talker = talker ∷ []
 
@@ -34,13 +34,14 @@ among : (w : Gateway) (talker port : ℕ) → is_port_of w talker port ≡ true 
 among w talker port h = among_at w talker port (at_port w.rooms port) refl h
 
 module _ (unheard : UnheardChangesNothing) (talker : ℕ) where
-  -- an event that arrives at both
+  -- If an event arrives at both gateways, they still agree outside the talker.
   both_agree : (a b x y : World) (event : Event) (s t : List Sent) → AgreeOutside (alone talker) a b →
       Step a event s x → Step b event t y → AgreeOutside (alone talker) x y
   both_agree a b x y event s t h step also = (unheard (alone talker) 0 a b x y (Both event ∷ []) s t h
       (λ sent next happens. tt) (one_event a x event s step) (one_event b y event t also)).0
 
-  -- an RTP datagram, which may arrive at the first alone
+  -- If an RTP datagram arrives at both gateways, or at the first alone because it is speech of the talker, they still
+  -- agree outside the talker.
   media_agree : (a b x y : World) (port : ℕ) (source : Peer) (bytes : List ℕ) (s : List Sent) (is_speech : Bool) →
       is_port_of a.gateway talker port ≡ is_speech → AgreeOutside (alone talker) a b →
       Step a (Media port source bytes) s x → StepUnless is_speech b (Media port source bytes) y →
@@ -71,7 +72,7 @@ module _ (unheard : UnheardChangesNothing) (talker : ℕ) where
   itself : (w : World) → AgreeOutside (alone talker) w w
   itself w = record { gateway = record { config = refl; rooms = refl; edits = refl; media = refl }; replies = refl }
 
-  -- those who don't hear the talker are sent the same packets
+  -- In the next tick, both gateways send the same packets from the port of a termination that doesn't hear the talker.
   pub same_next : (a v w : World) (events : List Event) (moments : List (List OpenFlow)) (port : ℕ) →
       RunsWithout talker a a events moments v w → NextTickIsSame (alone talker) port v w
   same_next a v w events moments port run =

@@ -1,4 +1,4 @@
--- The audible flows of a tick, one termination after another.
+-- The audible flows of a tick, one listener after another.
 use Rattle.std.proofs.Common.{◌≡◌, ℕ, ◌+◌, ◌<◌, ◌≤◌, Bool, true, false, cond, List, [], ◌∷◌, ◌++◌, map, get_or, take, length, Result, Ok, Err, sym, ap, ◌∙◌, arith, length-append}
 use Rattle.std.specs.Prelude.{filter, OnOk, OnErr}
 use Rattle.std.proofs.lemmas.List.{append-nil, map-append, take_more}
@@ -14,11 +14,11 @@ use Rattle.mg_heard.specs.aids.Opening.{IsRising, beginning_at, key_of}
 use Rattle.mg_heard.proofs.Members.{all_from_pairs, pairs_filter, pairs_from_all, pairs_map}
 use Rattle.mg_audible.specs.Audible.{audible_flows, is_sent_other}
 
--- the flows to those of some terminations who are sent other bytes
+-- The flows from the talker to the terminations in `rs` that are sent other bytes.
 abbrev pub flows_among : ℕ → World → World → List Record → List OpenFlow
 flows_among talker v w rs = map (λ r. open_flow v.gateway r.number talker) (filter (is_sent_other v w) rs)
 
--- one termination more
+-- One more termination adds its flow if it is sent other bytes.
 among_more : (talker : ℕ) (v w : World) (rs : List Record) (i : ℕ) (r : Record) (b : Bool) → i < length rs →
     get_or rs i r ≡ r → is_sent_other v w r ≡ b → flows_among talker v w (take (i + 1) rs)
     ≡ flows_among talker v w (take i rs) ++ cond b (open_flow v.gateway r.number talker ∷ []) []
@@ -40,7 +40,7 @@ pub flows_same : (talker : ℕ) (v w : World) (rs : List Record) (i : ℕ) (r : 
 flows_same talker v w rs i r flows there is e h =
     h ∙ sym (among_more talker v w rs i r false there is e ∙ append-nil (flows_among talker v w (take i rs)))
 
--- one more flow, for which there is room
+-- The next flow has room, because there are at most as many flows as terminations so far.
 pub flows_more : {E : Type 0} (talker : ℕ) (v w : World) (rs : List Record) (i : ℕ) (r : Record)
     (x : OpenFlow) (flows new : List OpenFlow) (pushed : Result (Unit {0}) E) → i < length rs →
     length rs ≤ termination_limit → get_or rs i r ≡ r → is_sent_other v w r ≡ true →
@@ -54,7 +54,7 @@ flows_more talker v w rs i r x flows new (Ok done) there few is e same h short p
 flows_more talker v w rs i r x flows new (Err fault) there few is e same h short put full =
     absurd (omega (arith, full))
 
--- they are in order of their pairs
+-- The intervals of the audible flows are in order of their pairs.
 pub flows_rising : (talker : ℕ) (v w : World) (now : Moment) → IsConsistent v.gateway.rooms →
     IsRising (map (beginning_at now) (audible_flows talker v w))
 flows_rising talker v w now h =
@@ -68,7 +68,7 @@ flows_rising talker v w now h =
     (λ r later less. omega arith)
     (pairs_filter before (is_sent_other v w) rs (pairs_from_all before rs h.terminations.rising))))
 
--- there are at most as many as terminations
+-- There are at most as many flows as terminations.
 pub few_more : {E : Type 0} (rs : List Record) (i : ℕ) (x : OpenFlow) (flows new : List OpenFlow)
     (pushed : Result (Unit {0}) E) → i < length rs → length rs ≤ termination_limit → length flows ≤ i →
     OnOk pushed (new ≡ flows ++ x ∷ []) → OnErr pushed (length flows ≡ termination_limit) → length new ≤ i + 1

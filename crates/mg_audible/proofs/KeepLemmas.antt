@@ -1,4 +1,4 @@
--- What a follower keeps, note by note.
+-- The state of a follower, note by note.
 use Rattle.std.proofs.Common.{IfSome, ◌≡◌, ◌≢◌, ℕ, ◌+◌, suc, zero, Bool, false, List, [], ◌∷◌, ◌++◌, length, get_or, map, take, Option, Some, None, Result, Ok, Err, OnOk, refl, sym, ap, subst, ◌∙◌, ◌<◌, ◌≤◌, arith}
 use Rattle.std.specs.Prelude.{reverse}
 use Rattle.std.proofs.lemmas.List.Elements.{All-nil}
@@ -56,7 +56,7 @@ told_open : (xs : List OpenInterval) → audible_in (map (entry_until None) xs) 
 told_open [] = refl
 told_open (x ∷ xs) = ap (λ (l : List Interval). still_open x ∷ l) (told_open xs)
 
--- one more interval is told
+-- Reporting the interval at index `i` extends the reported entries by that interval.
 pub told_more : (end : Option Moment) (before : List Entry) (xs : List OpenInterval) (i : ℕ) (x : OpenInterval) →
     i < length xs → get_or xs i x ≡ x →
     (before ++ map (entry_until end) (take i xs)) ++ entry_until end x ∷ [] ≡
@@ -212,7 +212,7 @@ keeps_tick config talker notes whole without whole_after without_after tick next
       tells = tells;
     }
 
--- several ticks, one after another
+-- Appending a tick to `i` ticks gives `i + 1` ticks.
 pub ticks_more : (notes : List Note) (i : ℕ) → (notes ++ ticks_of i) ++ ticks_of 1 ≡ notes ++ ticks_of (i + 1)
 ticks_more notes i =
     let next : suc i ≡ i + 1 = omega arith in
@@ -260,7 +260,7 @@ timed_until : (older : List Note) (bound : ℕ) (end : Option Moment) (stored : 
 timed_until older bound end stored xs ends begun h = timed_intervals older bound (entry_until end) xs stored
     (no_gaps end) (λ x first. (first, ends)) begun h
 
--- the intervals that have not ended are told, unless the sink refuses one
+-- At the end of a script, the intervals that have not ended are reported, unless the sink refuses an interval.
 pub tells_all_on : {E : Type 0} (config : Config) (talker : ℕ) (notes : List Note) (whole without : CoreState)
     (clock : Clock) (stored : List OpenInterval) (Told ToldNext : List Entry → Type 0) (result : Result (Unit {0}) E) →
     OneOutcome → DifferencesAreSpeech → IsStart config → KeepsTimed config talker notes whole without clock stored Told →
@@ -295,7 +295,7 @@ audible_weaker config talker notes whole without tick stored Told Next more h = 
   };
 }
 
--- from the notes, newest first, to the notes in order
+-- `KeepsTimed` follows from the state for the notes in reverse order.
 timed_back : (config : Config) (talker : ℕ) (notes older : List Note) (whole without : CoreState) (clock : Clock)
     (stored : List OpenInterval) (Told : List Entry → Type 0) → reverse notes ≡ older → IsClock older clock →
     AreBegun older (tick_count older) stored →
@@ -331,7 +331,7 @@ timed_comment_none config talker notes line whole without old new stored Told sa
     (keeps_comment config talker notes line whole without old.ticks new.ticks stored
     (Timed older (tick_count older) Told) same h.keeps))
 
--- a comment with a gap, unless the sink refuses the gap
+-- After a comment with a gap, `KeepsTimed` still holds, unless the sink refuses the gap.
 pub timed_gap_on : {E : Type 0} (config : Config) (talker : ℕ) (notes : List Note) (line : List ℕ) (gap : Gap)
     (whole without : CoreState) (old new : Clock) (stored : List OpenInterval) (Told ToldNext : List Entry → Type 0)
     (result : Result (Unit {0}) E) → new.ticks ≡ old.ticks → Some gap ≡ gap_of line (reverse notes) →
@@ -367,7 +367,7 @@ timed_datagram config talker notes event whole without whole_after without_after
     (keeps_datagram config talker notes event whole without whole_after without_after old.ticks new.ticks stored
     (Timed older (tick_count older) Told) same not leads h.keeps))
 
--- one tick: the intervals that end with it are told
+-- After a tick, `KeepsTimed` still holds if the intervals that end with the tick are reported.
 pub timed_tick : (config : Config) (talker : ℕ) (notes : List Note)
     (whole without whole_after without_after : CoreState) (old next : Clock) (now : Moment)
     (stored new over : List OpenInterval) (Told ToldNext : List Entry → Type 0) → next.ticks ≡ old.ticks + 1 →

@@ -1,4 +1,4 @@
--- What audible intervals say of their ticks.
+-- Audible intervals and the ticks that they contain.
 use Rattle.std.proofs.Common.{◌≡◌, ℕ, ◌<◌, eqb, not, ◌&&◌, ◌||◌, eqb-true, Bool, true, false, cond, List, [], ◌∷◌, ◌++◌, length, get_or, find, Option, Some, refl, sym, ap, subst, ◌∙◌, inl, inr, arith, length-append}
 use Rattle.std.specs.Prelude.{count_by, filter, reverse, Contains}
 use Rattle.std.specs.List.{AllByRecursion}
@@ -59,7 +59,7 @@ found_by : (w : Registry) → IsSound w → (r : Record) → Contains w.terminat
 found_by w sound r (k, within, is) =
     subst (λ (x : Record). record_at w x.number ≡ Some x) is (sound.by_number k r within)
 
--- no two terminations have the same port
+-- No two terminations have the same port.
 one_port : (w : Registry) → IsSound w → (r s : Record) → Contains w.terminations r → Contains w.terminations s →
     slot_port w.limits s.slot ≡ slot_port w.limits r.slot → s.number ≡ r.number
 one_port w sound r s i j e =
@@ -91,7 +91,7 @@ unfolding first_bytes
 first_at true d o ds h = refl
 first_at false d o ds h = h
 
--- the first packet that is found from a port is the first of all packets from the port
+-- The bytes of the first packet from a port are those of the first packet among all packets from the port.
 first_of : (port : ℕ) (packets : List Datagram) →
     bytes_from port packets ≡ first_bytes (filter (λ d. eqb d.from port) packets)
 unfolding first_bytes
@@ -169,7 +169,7 @@ at_middle : (xs ys : List (List OpenFlow)) (y : List OpenFlow) → get_or (xs ++
 at_middle [] ys y = refl
 at_middle (x ∷ xs) ys y = at_middle xs ys y
 
--- the moment of the tick after some events
+-- The moment of the tick after the events in `past`.
 record AtTick (talker : ℕ) (start : World) (past : List Event) (moments : List (List OpenFlow)) : Type 0 where
   v : World
   w : World
@@ -196,7 +196,7 @@ at_tick talker start last other past later moments runs =
           ∙ at_middle s.before s.after flows;
     }
 
--- what is told differs
+-- If an interval contains the tick, the bytes of the tick differ.
 told_differs : (config : Config) (talker listener : ℕ) (past : List Event) (moments : List (List OpenFlow)) →
     AtTick talker (start_of config) past moments →
     IsToldAt (count_by is_tick past) talker listener (intervals (reverse moments)) →
@@ -213,7 +213,7 @@ told_differs config talker listener past moments t told =
     let (index, within, is) = at_from_in r ts one in
     (t.before, t.v, t.w, t.runs, (index, r, within, is, (sym (ap (λ (x : OpenFlow). x.listener) k) ∙ pair.1, sent)))
 
--- what differs is told
+-- If the bytes of a tick differ, an interval contains the tick.
 differs_told : OneOutcome → (config : Config) (talker listener : ℕ) (past : List Event)
     (moments : List (List OpenFlow)) → AtTick talker (start_of config) past moments →
     Differs config talker listener past →

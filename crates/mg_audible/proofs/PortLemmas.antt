@@ -1,4 +1,4 @@
--- The termination with a port, one termination after another.
+-- The search for the termination with a port.
 use Rattle.std.proofs.Common.{◌≡◌, ℕ, ◌+◌, ◌<◌, ◌≤◌, Bool, true, false, cond, List, [], ◌∷◌, ◌++◌, find, get_or, take, drop, length, Option, Some, None, sym, ap, ◌∙◌}
 use Rattle.std.specs.Option.{option_or}
 use Rattle.std.proofs.lemmas.List.{drop_more, take-append-drop, take_all, take_more}

@@ -1,4 +1,4 @@
--- From what a sink was told to what was written, and whether there was speech.
+-- From the entries that a sink received to the text that was written, and whether the script has RTP datagrams.
 use Rattle.std.proofs.Common.{◌≡◌, ℕ, ◌+◌, ltb, lt-ltb, ◌||◌, Bool, true, false, cond, List, [], ◌∷◌, Option, refl, sym, ap, ◌∙◌, arith}
 use Rattle.std.specs.Prelude.{count_by}
 use Rattle.std.proofs.lemmas.Bool.Decides.{nat_tests}
@@ -14,7 +14,7 @@ use Rattle.mg_core.specs.declared.state.CoreState.{CoreState}
 use Rattle.mg_heard.specs.declared.entry.Entry.{Entry}
 use Rattle.mg_audible.specs.Told.{TellsAudible}
 
--- what was written, once a script was followed
+-- If `P` implies `Q`, a script that was followed with `P` was also followed with `Q`.
 pub reported_all : (config : Config) (talker : ℕ) (has_rtp : Bool) (input rest : Option (List ℕ))
     (P Q : List Entry → Type 0) → ((xs : List Entry) → P xs → Q xs) →
     ((state : CoreState) × IsFollowed config input rest state
@@ -59,7 +59,7 @@ any_counted (e ∷ es) = any_more (is_media e) (list_any is_media es) (count_by 
 still_above : (n m : ℕ) → m ≡ capped n → ltb 0 m ≡ ltb 0 n
 still_above n m is = grind (arith, nat_tests)
 
--- a count that is capped is above 0 if there is one such event
+-- A capped count of RTP datagrams is above 0 if and only if there is such a datagram.
 pub has_media : (events : List Event) (n counted : ℕ) → n ≡ count_by is_media events → counted ≡ capped n →
     ltb 0 counted ≡ list_any is_media events
 has_media events n counted e is = still_above n counted is ∙ ap (ltb 0) e ∙ sym (any_counted events)

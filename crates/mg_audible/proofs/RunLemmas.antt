@@ -1,4 +1,4 @@
--- Two gateways that run events, one of them without the talker's speech.
+-- Two gateways that run events, the second without the talker's speech.
 use Rattle.std.proofs.Common.{◌≡◌, ℕ, ◌+◌, Bool, true, false, cond, List, [], ◌∷◌, ◌++◌, length, refl, sym, ap, subst, ◌∙◌, arith}
 use Rattle.std.specs.Prelude.{count_by}
 use Rattle.std.proofs.lemmas.List.Sums.{sum_by-cons}
@@ -97,7 +97,7 @@ split talker a b x y (e ∷ es) later moments (n, m, rest, step, run, is) =
 
 -- ## The first gateway
 
--- it receives all events
+-- The first gateway receives all events.
 pub first_run : (talker : ℕ) (a b v w : World) (events : List Event) (moments : List (List OpenFlow)) →
     RunsWithout talker a b events moments v w → (sent : List Sent) × Run a events sent v
 first_run talker a b v w [] moments (none, is, also) = ([], (refl, is))

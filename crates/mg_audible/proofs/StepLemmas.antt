@@ -1,4 +1,4 @@
--- One event at both gateways, or at the first alone.
+-- One event that arrives at both gateways, or at the first alone.
 use Rattle.std.proofs.Common.{◌≡◌, ℕ, Bool, true, false, List, [], map, refl, sym, subst}
 use Rattle.mg_engine.specs.declared.taken.Taken.{Taken}
 use Rattle.mg_words.specs.Leads.{Leads}

@@ -1,6 +1,6 @@
--- When a talker is audible to a listener: the listener is sent other bytes than he would be sent if
--- the gateway had never received the talker's speech. Intervals are read off the moments as in
--- `mg_heard`. Here, each tick has a moment: the flows whose listeners are sent other bytes.
+-- A talker is audible to a listener if the gateway sends the listener other bytes than it would send without having
+-- received the talker's speech. Intervals follow from moments as in `mg_heard`. Here, each tick has a moment: the flows
+-- whose listeners are sent other bytes.
 use Rattle.std.specs.Prelude.{◌≡◌, ℕ, ◌==◌, not, Bool, List, [], ◌∷◌, filter, find, map}
 use Rattle.std.specs.Prelude.{reverse, if◌then◌else◌}
 use Rattle.std.specs.Option.{option_map_or}
@@ -19,19 +19,19 @@ use Rattle.mg_audible.specs.Without.{StepWithout}
 
 -- ## One tick
 
--- the bytes of the first packet that is sent from a port, or no bytes (no port has two packets)
+-- The bytes of the first packet that is sent from a port, or no bytes if there is no such packet. No port has two
+-- packets.
 abbrev pub bytes_from : ℕ → List Datagram → List ℕ
 bytes_from port packets = option_map_or (λ d. d.bytes) (find (λ d. d.from == port) packets) []
 
--- In the next tick, the termination with this record in the first world is sent other bytes in the
--- first world than in the second.
+-- In the next tick, the first world sends the termination with this record other bytes than the second.
 abbrev pub is_sent_other : World → World → Record → Bool
 is_sent_other v w r =
     let port = slot_port v.gateway.rooms.limits r.slot in
     not (bytes_eq (bytes_from port (packets_of v)) (bytes_from port (packets_of w)))
 
--- the flows from the talker to those who are sent other bytes in the next tick, in order of
--- listeners, as they are in the first world
+-- The flows from the talker to the terminations that are sent other bytes in the next tick, in order of listeners, with
+-- the data of the first world.
 abbrev pub audible_flows : ℕ → World → World → List OpenFlow
 audible_flows talker v w =
     map (λ r. open_flow v.gateway r.number talker)
@@ -39,8 +39,8 @@ audible_flows talker v w =
 
 -- ## All ticks
 
--- Events arrive at two gateways, one after another, but the talker's speech only at the first.
--- These are the audible flows of each tick, and the worlds in which the gateways end.
+-- Events arrive at two gateways, one after another, but the talker's speech only at the first. `moments` lists the
+-- audible flows of each tick, and the gateways end in the worlds `last` and `other`.
 abbrev pub RunsWithout : ℕ → World → World → List Event → List (List OpenFlow) → World → World
     → Type 0
 RunsWithout talker v w [] moments last other = (moments ≡ []) × (last ≡ v) × (other ≡ w)
@@ -50,7 +50,7 @@ RunsWithout talker v w (event ∷ events) moments last other =
     × RunsWithout talker next also events later last other
     × (moments ≡ if is_tick event then audible_flows talker v w ∷ later else later)
 
--- the intervals in which the talker is audible, for gateways with this configuration
+-- The intervals in which the talker is audible, for gateways with this configuration.
 abbrev pub AreAudible : Config → ℕ → List Event → List Interval → Type 0
 AreAudible config talker events ys =
     (moments : List (List OpenFlow)) × (last : World) × (other : World)

@@ -1,4 +1,4 @@
--- What an audible interval says about each of its ticks.
+-- Statements about each tick of an audible interval.
 use Rattle.std.specs.Prelude.{◌≡◌, ◌↔◌, ℕ, ◌==◌, ◌&&◌, ◌||◌, Bool, true, List, ◌∷◌, ◌++◌}
 use Rattle.std.specs.Prelude.{count_by, Any}
 use Rattle.mg_engine.specs.declared.config.Config.{Config}
@@ -36,19 +36,19 @@ TellsDifferences config talker events ys =
 
 -- ## What it shows
 
--- the talker's speech flows to the listener, or the listener is the talker himself, in Loopback
+-- The talker's speech flows to the listener, or the listener is the talker, in Loopback.
 abbrev pub reaches : Gateway → ℕ → ℕ → Bool
 reaches w talker listener =
     flow w talker listener || ((talker == listener) && hears_itself w listener)
 
--- If the bytes of a tick differ, the talker's speech reaches the listener in the world before it.
+-- If the bytes of a tick differ, the talker's speech reaches the listener in the world before the tick.
 abbrev pub DifferencesAreSpeech : Type 0
 DifferencesAreSpeech =
     (config : Config) (talker listener : ℕ) (past : List Event) (sent : List Sent) (w : World)
     → IsStart config → Differs config talker listener past → Run (start_of config) past sent w
     → reaches w.gateway talker listener ≡ true
 
--- So it does if an interval contains the tick.
+-- If an interval contains a tick, the talker's speech reaches the listener in the world before the tick.
 abbrev pub TellsSpeech : Config → ℕ → List Event → List Interval → Type 0
 TellsSpeech config talker events ys =
     (past later : List Event) (listener : ℕ) (sent : List Sent) (w : World)

@@ -1,4 +1,4 @@
--- What is reported to a sink about a talker: when he was audible, and what that says.
+-- Everything that is reported to a sink about a talker: when the talker was audible, and what follows from that.
 use Rattle.std.specs.Prelude.{◌≡◌, ℕ, List, [], reverse, All}
 use Rattle.mg_engine.specs.declared.config.Config.{Config}
 use Rattle.mg_core.specs.Note.{Note, events_in}
@@ -8,8 +8,8 @@ use Rattle.mg_heard.specs.Told.{HasMoments, IsDated, audible_in, gaps_in, interv
 use Rattle.mg_audible.specs.Audible.{AreAudible}
 use Rattle.mg_audible.specs.Laws.{TellsDifferences, TellsSpeech}
 
--- After a whole script, all intervals in which the talker is audible have been reported, with their
--- dates, and the script's gaps, in order, each once, and no others.
+-- After a whole script, exactly the intervals in which the talker is audible and the script's gaps have been reported,
+-- in order and each once, and the intervals have the right dates.
 pub record TellsAudible (config : Config) (talker : ℕ) (notes : List Note)
     (Told : List Entry → Type 0) : Type 0 where
   pub xs : List Entry

@@ -1,4 +1,4 @@
--- Two gateways with the same events, except that the second isn't given the speech of one talker.
+-- Two gateways with the same events, except that the second does not receive the speech of one talker.
 use Rattle.std.specs.Prelude.{◌≡◌, ℕ, ◌==◌, Bool, true, false, List}
 use Rattle.std.specs.Option.{option_map_or}
 use Rattle.mg_engine.specs.Arrival.{at_port}
@@ -8,16 +8,16 @@ use Rattle.mg_core.specs.declared.event.Event.TheVariants.{Media}
 use Rattle.mg_core.specs.Step.{Sent, Step}
 use Rattle.mg_core.specs.World.{World}
 
--- whether the port is that of the termination with this number
+-- Whether the port is that of the termination with this number.
 abbrev pub is_port_of : Gateway → ℕ → ℕ → Bool
 is_port_of w n port = option_map_or (λ r. r.number == n) (at_port w.rooms port) false
 
--- an RTP datagram that arrives at the talker's port
+-- Whether an event is an RTP datagram that arrives at the talker's port.
 abbrev pub is_speech_of : Gateway → ℕ → Event → Bool
 is_speech_of w talker (Media port source bytes) = is_port_of w talker port
 is_speech_of w talker _ = false
 
--- an event, unless it is left out
+-- The step of an event, or no step if the event is left out.
 abbrev pub StepUnless : (is_left_out : Bool) → World → Event → World → Type 0
 StepUnless true w event next = next ≡ w
 StepUnless false w event next = (sent : List Sent) × Step w event sent next

@@ -21,7 +21,7 @@ pub(crate) struct Audible<S: Sink> {
     alloc: Global,
     pub(crate) sink: S,
     pub(crate) clock: Clock,
-    /// Why the follower stopped, or `None` if it has not stopped or if the sink made it stop.
+    /// The reason why the follower stopped, or `None` if it has not stopped or if the sink made it stop.
     pub(crate) fault: Option<HeardFault>,
     pub(crate) pair: Pair,
     pub(crate) open: OpenIntervals,
@@ -66,13 +66,13 @@ impl<S: Sink> Audible<S> {
         })
     }
 
-    /// Stores why the follower stops.
+    /// Stores the reason why the follower stops.
     fn stop(&mut self, fault: HeardFault) -> Stopped {
         self.fault = Some(fault);
         Stopped
     }
 
-    /// Runs a tick on both gateways, and reports the intervals that end with it.
+    /// Runs a tick on both gateways, and reports the intervals that end with the tick.
     fn pass_tick(&mut self) -> Result<(), Stopped>
         ensures value { (start : S) (config : Config) (notes : List Note) →
             KeepsTimed config self.old.pair.talker notes self.old.pair.whole.state self.old.pair.without.state

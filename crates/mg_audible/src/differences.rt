@@ -1,4 +1,4 @@
-//! Compares what two gateways send in a tick.
+//! Compares the packets that two gateways send in a tick.
 
 ghost use Rattle.std.specs.Prelude.{◌≡◌, ◌≤◌, ◌==◌, [], find, length, not};
 ghost use Rattle.std.specs.Option.{option_map_or};
@@ -42,7 +42,7 @@ fn differ(port: u16, whole: &[Datagram], without: &[Datagram]) -> bool
     bytes_of(&first) != bytes_of(&second)
 }
 
-/// Returns what an interval says about the termination with this number.
+/// Returns the description of the termination with this number for an interval.
 fn party_named(core: &Core, number: u32) -> Party
     ensures number { result.number ≡ number }
     ensures value { (w : World) → StandsFor core.now.state w → IsParty w.gateway result }
@@ -57,7 +57,7 @@ fn party_named(core: &Core, number: u32) -> Party
     }
 }
 
-/// Returns the audible flows of the tick that two cores have just run: one for each listener to whom they sent
+/// Returns the audible flows of the tick that two cores have just run: one flow for each listener to whom they sent
 /// different bytes.
 pub(crate) fn audible_flows(talker: u32, whole: &Core, without: &Core) -> AudibleFlows
     ensures few { length result.items ≤ TERMINATIONS }

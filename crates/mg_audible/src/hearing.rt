@@ -15,11 +15,11 @@ use mg_heard::{HeardFault, Sink};
 use std::alloc::Global;
 use std::io::Read;
 
-/// Runs a script, and reports to a sink when the talker with this number was audible to which listeners, as a series of
+/// Runs a script, and reports to a sink when the talker with this number was audible, and to whom, as a series of
 /// intervals. Returns the sink, and whether the script has any RTP datagrams.
 ///
 /// An interval is reported when it ends, so the memory needed does not grow with the script. Two gateways mix all
-/// packets; no packets are sent.
+/// packets, but send none.
 pub fn hear_talker<R: Read, S: Sink>(
     alloc: Global,
     config: Config,
@@ -68,7 +68,7 @@ fn has_rtp(core: &Core) -> bool
     core.counts().media > 0
 }
 
-/// Returns why a script was not run to its end, given why its follower stopped.
+/// Returns the reason why a script was not run to its end, given the reason why its follower stopped.
 fn fault_of(fault: RunFault, stopped: Option<HeardFault>) -> HeardFault {
     match (fault, stopped) {
         (RunFault::Write, Some(own)) => own,

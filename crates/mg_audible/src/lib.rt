@@ -1,18 +1,18 @@
-//! When a talker was audible: the intervals in which his speech changed what a listener was sent.
+//! When a talker was audible: the intervals in which the talker's speech changed what a listener was sent.
 //!
-//! [`hear_talker`] runs a full recording on two gateways. One of them receives all events, and the other all but the
-//! talker's speech: the RTP datagrams that arrive at the talker's port. If a tick's packets to a listener differ, the
-//! talker was audible to that listener:
+//! [`hear_talker`] runs a full recording on two gateways. One gateway receives all events. The other doesn't receive
+//! the talker's speech: the RTP datagrams that arrive at the talker's port. If a tick's packets to a listener differ,
+//! the talker was audible to that listener:
 //!
 //! ```rust
 //! let (sink, has_rtp) = hear_talker(alloc, config, &mut input, 3, sink)?;
 //! ```
 //!
-//! [`write_audible`] writes a line for each such interval that a query selects, and for each gap.
+//! [`write_audible`] writes a line for each audible interval and each gap that a query selects.
 //!
 //! If an interval contains a tick, the two gateways send the listener different bytes in that tick, and the talker's
-//! speech reaches the listener (`specs/Laws.antt`). Equal bytes show less: either the talker could not be heard, or he
-//! was silent.
+//! speech reaches the listener (`specs/Laws.antt`). If the bytes are equal, either the talker could not be heard, or
+//! the talker was silent.
 //!
 //! Dates and gaps come from the script's comments, as in [`mg_heard`].
 #![tactic(auto)]

@@ -11,7 +11,7 @@ use crate::ports::is_port_of;
 use mg_core::{Config, Core, NoMemory, Peer, StartFault, TERMINATIONS};
 use std::alloc::Global;
 
-/// Two gateways with the same events, except that the second isn't given the talker's speech.
+/// Two gateways with the same events, except that the second does not receive the talker's speech.
 #[derive(Drop)]
 pub(crate) struct Pair {
     /// The talker's number.
@@ -49,7 +49,7 @@ impl Pair {
         let _ = self.without.media(port, source, bytes);
     }
 
-    /// Handles a control datagram. If memory runs out, nothing changes.
+    /// Handles a control datagram on both gateways. If memory runs out, nothing changes.
     pub(crate) fn control(
         &mut self,
         alloc: Global,
@@ -66,7 +66,7 @@ impl Pair {
         Ok(())
     }
 
-    /// Runs a tick. Returns its audible flows.
+    /// Runs a tick on both gateways. Returns the audible flows of the tick.
     pub(crate) fn tick(&mut self) -> AudibleFlows
         ensures few { length result.items ≤ TERMINATIONS }
         ensures consistent { IsConsistent self.new.whole.state.engine.rooms }

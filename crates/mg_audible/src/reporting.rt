@@ -36,8 +36,8 @@ fn hear_report<'a, R: Read, W: Write>(
     Ok((report, has_rtp))
 }
 
-/// Prints when a talker was audible in a script: one line per requested interval, and one per gap.
-/// The line for an interval is written when the interval ends. Returns whether the script has any RTP datagrams; without
+/// Prints when a talker was audible in a script: one line for each interval and each gap that the query selects. The
+/// line for an interval is written when the interval ends. Returns whether the script has any RTP datagrams; without
 /// them, nothing is audible.
 pub fn write_audible<R: Read, W: Write>(
     alloc: Global,
@@ -66,7 +66,7 @@ pub fn write_audible<R: Read, W: Write>(
     };
     let (report, has_rtp) = hear_report(alloc, config, reader, asked.talker, report)?;
     let Report { writer, .. } = report;
-    // This does nothing at run time. It shows the proof what the writer holds.
+    // This line does nothing at run time. It makes the writer's contents available to the proof.
     let _ = &*writer;
     Ok(has_rtp)
 }

@@ -1,6 +1,6 @@
 use mg_heard::Query;
 
-/// A talker, and which of the intervals in which the talker is audible are asked for.
+/// A talker, and a query that selects intervals in which the talker is audible.
 #[derive(Drop)]
 pub struct TalkerQuery {
     /// The number of the talker's termination.

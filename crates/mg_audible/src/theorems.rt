@@ -2,10 +2,10 @@
 
 ghost use Rattle.mg_audible.specs.Laws.{DifferencesAreSpeech};
 
-/// If a listener is sent other bytes than without a talker's speech, the talker's speech reaches the listener in that
-/// tick: it flows to the listener, or the listener is the talker himself, in Loopback.
+/// If the gateway sends a listener other bytes than it would without a talker's speech, the talker's speech reaches the
+/// listener in that tick: it flows to the listener, or the listener is the talker, in Loopback.
 ///
-/// This is the contrapositive of [`mg_core::theorems::unheard_changes_nothing`].
+/// This theorem is the contrapositive of [`mg_core::theorems::unheard_changes_nothing`].
 pub fn differences_are_speech()
     ensures theorem { DifferencesAreSpeech }
 {

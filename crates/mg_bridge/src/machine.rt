@@ -1,4 +1,4 @@
-//! The operating system, as a host of the program. Contracts say nothing about what it does: tests of the built program
+//! The operating system, as a host of the program. Contracts say nothing about its effects: tests of the built program
 //! show that each method makes the system calls that it is named after.
 
 mod control_watch;

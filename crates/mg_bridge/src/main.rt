@@ -8,8 +8,8 @@
 //! `tick` advances by 20 ms and sends the packets, `stats` prints the counts, and `quit` ends the run. Another program,
 //! `mg_pace`, writes `poll` and `tick` when the clock says that they are due.
 //!
-//! With `--record`, `live` and `serve` print a recording: a script of all events. While they run, they don't wait for the
-//! readers of standard output and standard error; the other subcommands (`check`, `heard`, `verify`, `seal`) do.
+//! With `--record`, `live` and `serve` print a recording: a script of all events. While they run, they don't wait for
+//! the readers of standard output and standard error. All other subcommands do.
 #![tactic(auto)]
 
 mod live_output;
@@ -69,7 +69,7 @@ fn status_without_outlets(fault: &OutletFault) -> Status {
     }
 }
 
-/// Runs a gateway without waiting for its readers. When `serve` ends, it waits until its output has been read.
+/// Runs a gateway without waiting for its readers. When `serve` ends, waits until its output has been read.
 fn run_gateway(rt: &HostRuntime, words: &[String], is_serve: bool) -> Result<u8, OutletFault> {
     let outlet = Outlet::watching(rt, rt.alloc(), rt.stdout(), OUTPUT_LIMIT, Overflow::End)?;
     let mut output = LiveOutput::new(outlet, error_outlet(rt)?);

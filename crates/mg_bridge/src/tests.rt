@@ -1,5 +1,5 @@
-//! What no run of the built program shows: values of its libraries, and clocks and random numbers that fail. Everything
-//! else is tested on the built program.
+//! Tests of values of the libraries, and of clocks and random numbers that fail, which no run of the built program
+//! shows. Everything else is tested on the built program.
 
 mod drawing;
 mod emptied;
@@ -11,7 +11,7 @@ use std::io;
 use std::net::{IpAddr, Ipv4Addr, SocketAddr, UdpSocket};
 use std::test::Fail;
 
-/// Returns a port of 127.0.0.1. Port 0 is a free one that the system chooses.
+/// Returns the address of a port of 127.0.0.1. For port 0, the system chooses a free port.
 fn local(port: u16) -> SocketAddr {
     SocketAddr::new(IpAddr::V4(Ipv4Addr::new(127, 0, 0, 1)), port)
 }

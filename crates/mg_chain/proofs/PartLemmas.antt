@@ -10,7 +10,7 @@ use Rattle.mg_chain.specs.Seals.{has_mark, is_whole, last_part}
 use Rattle.mg_chain.specs.aids.Parts.{IsStart, part_after}
 use Rattle.mg_chain.proofs.SealLemmas.{has_feed}
 
--- whether a text begins like a seal, or with a line feed and then like a seal
+-- Whether a text begins like a seal (`begins`), or with a line feed and then like a seal (`marks`).
 abbrev pub begins : List ℕ → Bool
 begins text = starts_with nat_eq text (codes "# sha256 ")
 
@@ -149,7 +149,7 @@ unfolding has_mark
 seam_mark b [] more whole starts = rw (feed_first b whole) (rw starts refl)
 seam_mark b (c ∷ cs) more whole starts = mark_cons b ((c ∷ cs) ++ more) (seam_mark c cs more whole starts)
 
--- lines that begin like a seal begin a part
+-- If complete lines are followed by text that begins like a seal and has no mark, that text is the last part.
 pub part_begins : (text more : List ℕ) → is_whole text ≡ true → has_mark more ≡ false → begins more ≡ true
     → last_part (text ++ more) ≡ more
 part_begins [] more whole none starts = part_same more none
@@ -182,7 +182,7 @@ nowhere (b ∷ bs) none = at (marks (b ∷ bs)) refl (nowhere bs (λ k occurs. n
     at true is rest = absurd (none 0 (occurs_at_front (b ∷ bs) is))
     at false is rest = rest
 
--- a text that is too short for a mark
+-- A text of fewer than 10 bytes has no mark.
 pub too_short : (text : List ℕ) → length text < 10 → has_mark text ≡ false
 too_short text short = nowhere text (λ k occurs. omega (arith, occurs.fits, short))
 

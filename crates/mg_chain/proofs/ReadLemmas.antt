@@ -10,13 +10,13 @@ use Rattle.mg_chain.specs.Seals.{after_line, after_lines, is_whole, last_part, n
 use Rattle.mg_chain.specs.aids.Reading.{Reading, Reads}
 use Rattle.mg_chain.proofs.PartLemmas.{part_nil}
 
--- at the end of a text, nothing is left to count
+-- At the end of a text, there is no further line to count.
 at_end : (most : ℕ) (seals : Seals) (number : ℕ) (before : List ℕ) → after_lines most seals number before [] ≡ seals
 unfolding after_lines
 at_end zero seals number before = refl
 at_end (suc most) seals number before = refl
 
--- what is left after a line is shorter than the text
+-- The rest of a text after its first line is shorter than the text.
 pub shorter : (b : ℕ) (bs : List ℕ) → length (drop_through 10 (b ∷ bs)) ≤ length bs
 shorter b bs = at (eqb b 10) (rest bs)
   where
@@ -53,7 +53,7 @@ some_taken b bs = at (eqb b 10)
     at true = omega arith
     at false = omega arith
 
--- a line is complete if something follows it
+-- A line is complete if text follows it.
 pub line_whole : (text : List ℕ) → 0 < length (drop_through 10 text) → is_whole (take_through 10 text) ≡ true
 line_whole [] more = absurd (omega arith)
 line_whole (b ∷ bs) more = at (eqb b 10) refl more (line_whole bs) (taken bs)
@@ -69,7 +69,7 @@ line_whole (b ∷ bs) more = at (eqb b 10) refl more (line_whole bs) (taken bs)
     taken [] more = absurd (omega arith)
     taken (c ∷ cs) more = some_taken c cs
 
--- before the first line
+-- Before the first line, the state of the reader fits the whole text.
 pub starts : (text : Option (List ℕ)) (hasher : Sha256) (seals : Seals) → Holds256 hasher [] → seals ≡ no_seals
     → Reads text text hasher seals 1
 starts None hasher seals holds none = tt
@@ -84,7 +84,7 @@ starts (Some all) hasher seals holds none = record {
   is = ap (λ s. after_lines (length all) s 1 [] all) none;
 }
 
--- the seals at the end of the text
+-- At the end of the text, the seals found are those of the whole text.
 pub ends : (text rest : Option (List ℕ)) (hasher : Sha256) (seals found : Seals) (number : ℕ)
     → Reads text rest hasher seals number → IsAtEnd rest → found ≡ seals → IfSome text (λ all. found ≡ seals_of all)
 ends None rest hasher seals found number reads end same = tt
@@ -118,7 +118,7 @@ step all before (b ∷ bs) line (suc most) number new after seals found enough i
           (drop_through 10 (b ∷ bs))) taken ∙ is);
     }
 
--- the seals after one more line
+-- Reading one more line keeps the invariant of the reader.
 pub goes_on : (text rest new : Option (List ℕ)) (hasher after : Sha256) (seals found : Seals) (number : ℕ)
     (old items line : List ℕ)
     → Reads text rest hasher seals number → IfSome rest (λ xs. items ≡ old ++ take_through 10 xs) → old ≡ []

@@ -8,7 +8,7 @@ use Rattle.sha2.specs.Sha256.{sha256}
 use Rattle.sha2.proofs.Facts256.{length-sha256}
 use Rattle.mg_chain.specs.Seals.{seal_of}
 
--- whether there is a line feed
+-- Whether the text has a line feed.
 abbrev pub has_feed : List ℕ → Bool
 has_feed [] = false
 has_feed (b ∷ bs) = cond (eqb b 10) true (has_feed bs)
@@ -44,7 +44,7 @@ plain_digits digits (b ∷ rest) none =
     (All-cons (λ b. b ≢ 10) (slice_index digits (b % 16)) (encode_with digits rest) (plain_at digits (b % 16) none)
     (plain_digits digits rest none))
 
--- the text of a seal, without the mark of a comment and the line feed
+-- The text of a seal, without the comment sign at its start and the line feed at its end.
 abbrev pub seal_text : List ℕ → List ℕ
 seal_text text = codes "sha256 " ++ encode_lower (sha256 text)
 

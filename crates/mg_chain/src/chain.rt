@@ -18,7 +18,7 @@ pub const END: usize = DIGITS + 1;
 
 /// The SHA-256 of the last part of a text that is still being written or read.
 ///
-/// A part begins with each line that begins like a seal.
+/// Each line that begins like a seal starts a new part.
 #[derive(Drop)]
 pub struct Chain {
     hasher: Sha256,

@@ -47,7 +47,7 @@ impl Check {
         }
     }
 
-    /// Returns what the seals say so far.
+    /// Returns the counts of seals and lines so far.
     pub fn seals(&self) -> Seals
         ensures value { result ≡ self.now.seals }
     {

@@ -1,7 +1,7 @@
-//! Lines in a text that say what is before them: a chain of hashes.
+//! Lines in a text that contain a hash of the text before them: a chain of hashes.
 //!
-//! A seal is a comment, `# sha256` with the SHA-256 (FIPS 180-4) of the text from the seal before it on, in hexadecimal
-//! digits. Since that text begins with the line of the seal before, a seal depends on everything before it.
+//! A seal is a comment: `# sha256` and the SHA-256 (FIPS 180-4), in hexadecimal digits, of the text from the previous
+//! seal on. Since that text begins with the previous seal's line, a seal depends on everything before it.
 //!
 //! [`Chain`] makes seals while a text is written. [`read_seals`] reads a text, and finds the first seal that is wrong.
 //!
@@ -12,7 +12,7 @@
 //! text.write_all(&chain.seal_end())?;
 //! ```
 //!
-//! `specs/Seals.antt` defines seals, and what they say.
+//! `specs/Seals.antt` defines seals, and how right and wrong ones are counted.
 #![tactic(auto)]
 
 mod chain;

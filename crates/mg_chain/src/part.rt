@@ -8,7 +8,8 @@ use memchr::memmem::rfind;
 /// A line feed and the beginning of a seal.
 const NEXT: &[u8] = b"\n# sha256 ";
 
-/// Returns where the last line begins that begins like a seal and isn't the first line, or `None` if there is none.
+/// Returns the start of the last line that begins like a seal, not counting the first line, or `None` if there is no
+/// such line.
 pub fn mark_start(text: &[u8]) -> Option<usize>
     ensures value { MatchOption result (has_mark text.now ≡ false) (λ start. IsStart text.now start) }
 {
@@ -21,7 +22,7 @@ pub fn mark_start(text: &[u8]) -> Option<usize>
     }
 }
 
-/// Returns where the last line begins that begins like a seal, or `None` if there is none.
+/// Returns the start of the last line that begins like a seal, or `None` if there is no such line.
 pub(crate) fn part_start(lines: &[u8]) -> Option<usize>
     ensures within { IfSome result (λ start. start ≤ length lines.now) }
     ensures value { (text : List ℕ) → is_whole text ≡ true →

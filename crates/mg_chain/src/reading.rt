@@ -6,7 +6,7 @@ use crate::seals::Seals;
 use std::alloc::Global;
 use std::io::{self, BufRead, Error, ErrorKind};
 
-/// Reads a text to its end, and returns what its seals say. The longest line has to fit in memory.
+/// Reads a text to its end, and returns the counts of its seals and lines. The longest line has to fit in memory.
 pub fn read_seals<R: BufRead>(alloc: Global, reader: &mut R) -> io::Result<Seals>
     ensures value { IfOk result (λ seals. IfSome (R.remaining reader.old) (λ text. seals ≡ seals_of text)) }
 {

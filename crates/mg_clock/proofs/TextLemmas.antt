@@ -1,4 +1,4 @@
--- The lines of one step more.
+-- The lines of one more step.
 use Rattle.std.proofs.Common.{◌≡◌, ℕ, zero, suc, ◌+◌, ◌*◌, ◌/◌, ◌%◌, ◌<◌, Bool, true, false, ◌==◌, nat_lt, List, [], ◌++◌, refl, sym, ap, ap₂, ◌∙◌, append_assoc, arith, ltb-true}
 use Rattle.std.proofs.lemmas.List.{append-nil}
 use Rattle.std.proofs.lemmas.Nat.{div-add-mod', div-mul-add, mod-mul-add, mod_below}
@@ -15,7 +15,7 @@ repeat_more n xs =
     let one : n + 1 ≡ suc n = omega arith in
     rw one (repeat_suc n xs)
 
--- the text at k whole periods and r polls
+-- The text after `k` complete periods and `r` polls.
 text_at : (polls k r : ℕ) → r < polls → text polls (k * polls + r) ≡ repeat k (period_lines polls) ++ repeat r poll_line
 unfolding text
 text_at polls k r lt = ap₂ (λ a b. repeat a (period_lines polls) ++ repeat b poll_line) (div-mul-add k polls r lt)
@@ -24,7 +24,7 @@ text_at polls k r lt = ap₂ (λ a b. repeat a (period_lines polls) ++ repeat b 
 not_zero : (n : ℕ) → (n + 1 == 0) ≡ false
 not_zero n = grind (arith, nat_tests)
 
--- a poll more
+-- A step that is only a poll adds the lines of that step.
 poll_more : (polls k r : ℕ) → r + 1 < polls →
     text polls (k * polls + r + 1) ≡ text polls (k * polls + r) ++ step_lines polls (k * polls + r + 1)
 poll_more polls k r lt =
@@ -36,7 +36,7 @@ poll_more polls k r lt =
     ∙ sym (append_assoc (repeat k (period_lines polls)) (repeat r poll_line) poll_line)
     ∙ ap₂ (λ (a b : List ℕ). a ++ b) (sym (text_at polls k r (omega (arith, lt)))) (sym lines)
 
--- a poll and a tick more
+-- A step that is both a poll and a tick adds the lines of that step.
 tick_more : (k r : ℕ) → text (r + 1) (k * (r + 1) + r + 1) ≡ text (r + 1) (k * (r + 1) + r) ++
     step_lines (r + 1) (k * (r + 1) + r + 1)
 tick_more k r =

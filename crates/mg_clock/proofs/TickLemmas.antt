@@ -32,7 +32,7 @@ keeps_appends (Some a) None c xs k h = absurd k
 keeps_appends (Some a) (Some b) None xs k h = absurd h
 keeps_appends (Some a) (Some b) (Some c) xs k h = h ∙ ap (λ l. l ++ xs) k
 
--- a reading more at which the tick isn't due, and a wait after it
+-- If the tick is not due at one more reading, and a wait follows it, the readings and waits still fit.
 pub read_more : (tick count t d : ℕ) (old : ClockSeen) (r w s v z x : Option (List ℕ)) →
     IsReadEarly tick count old (clock_seen r w) →
     Appends r s (t ∷ []) → Keeps w v → t < tick * period → t + d ≡ tick * period →
@@ -47,7 +47,7 @@ read_more tick count t d old r w s v z x so_far reads still early waits kept sle
   slept = Appends-trans old.waits w x so_far.waits (d ∷ []) so_far.slept (keeps_appends w v x (d ∷ []) still sleeps);
 }
 
--- the reading at which the tick is due
+-- Reading the clock ends with the first reading at which the tick is due.
 pub read_last : (tick count now : ℕ) (old : ClockSeen) (r w s v : Option (List ℕ)) →
     IsReadEarly tick count old (clock_seen r w) →
     Appends r s (now ∷ []) → Keeps w v → tick ≤ ticks_due now → IsReadUntilDue tick now old (clock_seen s v)
@@ -66,7 +66,7 @@ read_last tick count now old r w s v so_far reads still due = record {
   due = due;
 }
 
--- a step more
+-- A step after a sequence of steps extends the sequence.
 pub steps_more : (s u v : TickSchedule) (steps : List Step) (step : Step) (c d e : ClockSeen) →
     StepsBegin s steps c d u → StepBegins u d e step v → StepsBegin s (steps ++ step ∷ []) c e v
 steps_more s u v [] step c d e (same, is) begins = (

@@ -8,16 +8,15 @@ poll_line = codes "poll\n"
 abbrev pub tick_line : List ℕ
 tick_line = codes "tick\n"
 
--- the lines of the step with this number, counted from 1
+-- The lines of the step with this number, counted from 1.
 abbrev pub step_lines : ℕ → ℕ → List ℕ
 step_lines polls step = if step % polls == 0 then poll_line ++ tick_line else poll_line
 
--- the lines of 20 ms: the polls, and then the tick
+-- The lines of one period of 20 ms: its polls, and then the tick.
 abbrev pub period_lines : ℕ → List ℕ
 period_lines polls = repeat polls poll_line ++ tick_line
 
--- the lines of this many steps: the lines of all complete periods of 20 ms, and then the polls of
--- the current one
+-- The lines of this many steps: the lines of all complete periods of 20 ms, and then the polls of the current one.
 unfoldable pub text : ℕ → ℕ → List ℕ
 text polls steps =
     repeat (steps / polls) (period_lines polls) ++ repeat (steps % polls) poll_line

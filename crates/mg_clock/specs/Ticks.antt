@@ -1,4 +1,4 @@
--- When the ticks of a gateway begin, given a clock.
+-- The times at which a gateway's ticks begin, according to a clock.
 use Rattle.std.specs.Prelude.{◌≡◌, ℕ, ◌+◌, ◌*◌, ◌<◌, ◌≤◌, nat_lt, List, [], ◌∷◌, length}
 use Rattle.std.specs.Prelude.{Option, if◌then◌else◌}
 use Rattle.std.specs.Io.KnownBytes.{Appends}
@@ -9,7 +9,7 @@ use Rattle.mg_clock.specs.declared.timing.Timing.{Timing}
 use Rattle.mg_clock.specs.declared.timing.Timing.TheVariants.{OnTime, Late}
 use Rattle.mg_clock.specs.Due.{period, ticks_due}
 
--- what is known about a clock's readings and waits
+-- The known readings and waits of a clock.
 pub record ClockSeen : Type 0 where
   pub readings : Option (List ℕ)
   pub waits : Option (List ℕ)
@@ -25,7 +25,7 @@ WaitsForTick tick (t ∷ ts) (d ∷ ds) =
     (t < tick * period) × (t + d ≡ tick * period) × WaitsForTick tick ts ds
 WaitsForTick tick readings waits = ⊥
 
--- A clock was read this many times before a tick was due.
+-- The clock was read `count` times, and the tick was not due at any of these readings.
 pub record IsReadEarly (tick count : ℕ) (old new : ClockSeen) : Type 0 where
   pub early : List ℕ
   pub waits : List ℕ
@@ -34,7 +34,7 @@ pub record IsReadEarly (tick count : ℕ) (old new : ClockSeen) : Type 0 where
   pub readings : Appends old.readings new.readings early
   pub slept : Appends old.waits new.waits waits
 
--- A clock is read until a tick is due: the tick is due at this reading, but not at any earlier one.
+-- The clock was read until the tick was due, at the reading `now` and not at any earlier one.
 pub record IsReadUntilDue (tick now : ℕ) (old new : ClockSeen) : Type 0 where
   pub count : ℕ
   pub before : Option (List ℕ)
@@ -42,7 +42,7 @@ pub record IsReadUntilDue (tick now : ℕ) (old new : ClockSeen) : Type 0 where
   pub last : Appends before new.readings (now ∷ [])
   pub due : tick ≤ ticks_due now
 
--- whether a tick that begins at `now` counts as late: more than `allowed` ticks late
+-- Whether a tick that begins at `now` is on time or late. It is late if more than `allowed` later ticks are due too.
 abbrev pub timing_of : (tick allowed now : ℕ) → Timing
 timing_of tick allowed now = if nat_lt (tick + allowed) (ticks_due now) then Late else OnTime
 
@@ -52,8 +52,8 @@ pub record BeginsTick (tick allowed : ℕ) (old new : ClockSeen) (timing : Timin
   pub read : IsReadUntilDue tick now old new
   pub timing_is : timing ≡ timing_of tick allowed now
 
--- A schedule waits for a step. Either the next tick begins, or a message arrived before the tick
--- was due, which happens at most 20 times before each tick.
+-- A schedule waits for a step. Either the next tick begins, or a message arrived before the tick was due. At most 20
+-- messages are reported before each tick.
 abbrev pub StepBegins : TickSchedule → (old new : ClockSeen) → Step → TickSchedule → Type 0
 StepBegins s old new (Tick timing) next =
     BeginsTick (s.ticks + 1) s.allowed old new timing
@@ -62,7 +62,7 @@ StepBegins s old new Message next =
     (count : ℕ) × IsReadEarly (s.ticks + 1) count old new × (s.messages < 20)
     × (next ≡ record s { messages = s.messages + 1 })
 
--- steps one after another
+-- The steps begin one after another.
 abbrev pub StepsBegin : TickSchedule → List Step → (old new : ClockSeen) → TickSchedule → Type 0
 StepsBegin s [] old new last = (new ≡ old) × (last ≡ s)
 StepsBegin s (step ∷ steps) old new last =

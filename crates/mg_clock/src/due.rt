@@ -10,7 +10,7 @@ pub(crate) const PERIOD: u128 = 20_000_000;
 /// The maximum number of polls per 20 ms.
 pub const MAX_POLLS: u16 = 1000;
 
-/// Returns how many steps are due by `now`, at `polls` polls per 20 ms. `now` is in nanoseconds since the start.
+/// Returns the number of steps due by `now`, at `polls` polls per 20 ms. `now` is in nanoseconds since the start.
 pub fn steps_due(polls: u64, now: u64) -> u64
     requires few { polls ≤ MAX_POLLS }
     ensures value { result ≡ steps_due polls now }
@@ -19,8 +19,8 @@ pub fn steps_due(polls: u64, now: u64) -> u64
     (u128::from(now) * u128::from(polls) / PERIOD) as u64
 }
 
-/// Returns how long after `now` the next step is due, if `before` steps come before it. Returns zero if it is already
-/// due.
+/// Returns the time from `now` until the next step is due, if `before` steps come before it. Returns zero if the step
+/// is already due.
 #[tactic(auto, using(crate::proofs::DueLemmas::soon))]
 pub fn time_to_step(polls: u64, before: u64, now: u64) -> Duration
     requires some { 0 < polls }

@@ -14,8 +14,8 @@
 //! [`Watch`] is a clock that can wait, and [`SystemWatch`] is the system's monotonic clock. Times are in nanoseconds
 //! since the start.
 //!
-//! Contracts describe a clock by its readings and by how long it waits. A scripted clock's readings and waits are
-//! known; the system clock's are not.
+//! Contracts describe a clock by its readings and waits. Those of a scripted clock are known; those of the system clock
+//! are not.
 #![tactic(auto)]
 
 mod clock_failed;

@@ -1,6 +1,6 @@
 use crate::timing::Timing;
 
-/// Why a schedule stopped waiting.
+/// The reason why a schedule stopped waiting.
 #[derive(Clone, Copy, Debug, PartialEq, Eq)]
 pub enum Step {
     /// A message arrived before the next tick was due.

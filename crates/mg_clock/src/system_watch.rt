@@ -3,7 +3,8 @@ use crate::watch::Watch;
 use std::thread;
 use std::time::{Clock, Duration, Instant};
 
-/// The system's monotonic clock. It starts at its first reading, or when it is created. It can't detect messages.
+/// The system's monotonic clock. Its time starts at its first reading, or when it is created. This clock can't detect
+/// messages.
 #[derive(Drop)]
 pub struct SystemWatch<'a, C: Clock> {
     clock: &'a C,

@@ -14,11 +14,11 @@ const MAX_MESSAGES: u16 = 20;
 /// reading of the clock after that.
 #[derive(Clone, Copy, Debug, PartialEq, Eq)]
 pub struct TickSchedule {
-    /// How many ticks have begun.
+    /// The number of ticks that have begun.
     pub ticks: u64,
     /// How late a tick may be, in ticks of 20 ms, and still have its packets sent.
     pub allowed: u16,
-    /// How many messages have been reported since the last tick began.
+    /// The number of messages reported since the last tick began.
     pub messages: u16,
 }
 
@@ -63,7 +63,7 @@ impl TickSchedule {
     }
 }
 
-/// Waits until a tick is due. Returns the first clock reading that shows this, or `None` if `reports` is true and a
+/// Waits until a tick is due. Returns the first reading at which the tick is due, or `None` if `reports` is true and a
 /// message arrived first.
 fn wait_until_due<K: Watch>(
     tick: u64,

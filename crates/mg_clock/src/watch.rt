@@ -13,7 +13,7 @@ pub trait Watch {
     // The waits so far, in nanoseconds, if they are known.
     ghost waits: { Self → Option (List ℕ) } = { λ _. None };
 
-    // What is known about a clock that couldn't be read.
+    // A property of the clock that holds if reading it failed.
     ghost Fails: { Self → Type 0 } = { λ _. ⊤ };
 
     /// Returns the nanoseconds since the clock's start.

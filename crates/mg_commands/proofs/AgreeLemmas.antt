@@ -1,4 +1,4 @@
--- A request in two gateways that agree outside some terminations.
+-- Running the same request in two gateways that agree outside some terminations.
 use Rattle.std.proofs.Common.{◌≡◌, ℕ, Bool, ◌&&◌, ◌||◌, true, false, List, [], ◌∷◌, ◌++◌, map, Option, Some, None, Result, Ok, Err, refl, sym, ap, subst, ◌∙◌, if◌then◌else◌}
 use Rattle.std.specs.List.{list_any}
 use Rattle.std.specs.Option.{option_map, option_or}
@@ -48,7 +48,7 @@ use Rattle.mg_commands.specs.aids.Steps.{action_unless}
 abbrev reported : List Item → List Item
 reported items = map item_but_received items
 
--- more items of which the same is told
+-- If two pairs of lists are equal except for received packets, so are the two concatenations.
 told_more : (xs ys more others : List Item) → reported xs ≡ reported ys → reported more ≡ reported others →
     reported (xs ++ more) ≡ reported (ys ++ others)
 told_more xs ys more others h k =
@@ -62,7 +62,7 @@ abbrev fails : {A : Type 0} → ErrorNumber → Result A ErrorNumber
 fails e = Err e
 
 module _ (some : List ℕ) (edits : SameEditsKeepAgreement) (same_stats : SameStatsButReceived) where
-  -- both are refused alike, or done alike but for packets received that are told
+  -- Either both commands fail with the same error, or both succeed with results equal except for received packets.
   abbrev pub ServedAlike : CommandOutcome → CommandOutcome → Type 0
   ServedAlike (Ok p) (Ok q) = AgreeOutside some p.0 q.0 × (served_but p.1 ≡ served_but q.1)
   ServedAlike (Err e) (Err d) = e ≡ d
@@ -192,14 +192,14 @@ module _ (some : List ℕ) (edits : SameEditsKeepAgreement) (same_stats : SameSt
 
   -- ## Actions
 
-  -- two actions under way that agree
+  -- Two actions in progress agree.
   record RunsAgree (s t : ActionState) : Type 0 where
     gateway : AgreeOutside some s.gateway t.gateway
     target : s.target ≡ t.target
     made : s.made ≡ t.made
     items : reported s.items ≡ reported t.items
 
-  -- the same was done in both
+  -- The two actions agree, and both succeeded or both failed.
   record BothRan (x y : ActionState × Bool) : Type 0 where
     run : RunsAgree x.0 y.0
     done : x.1 ≡ y.1
@@ -329,7 +329,7 @@ module _ (some : List ℕ) (edits : SameEditsKeepAgreement) (same_stats : SameSt
       ap (λ (z : rooms.Registry). audit_pairs b (members_at z c)) h.rooms
   audit_if false a b c h = refl
 
-  -- the same is told of a context, or both are refused alike
+  -- Either both fail with the same error, or both report the same about a context, and the gateways agree.
   abbrev ToldAlike : Result (Gateway × List Item) ErrorNumber → Result (Gateway × List Item) ErrorNumber → Type 0
   ToldAlike x y = EndsAlike some x y
 

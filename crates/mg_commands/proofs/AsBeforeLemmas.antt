@@ -1,4 +1,4 @@
--- A request whose commands are all refused.
+-- A request whose commands are all rejected.
 use Rattle.std.proofs.lemmas.Bool.{and_parts}
 use Rattle.std.proofs.Common.{◌≡◌, ℕ, Bool, ◌&&◌, ◌||◌, not, true, false, List, [], ◌∷◌, ◌++◌, map, Option, Some, None, Result, Ok, Err, refl, sym, ap, subst, ◌∙◌, if◌then◌else◌}
 use Rattle.std.specs.List.{list_all, list_any}
@@ -41,11 +41,11 @@ or_none : (x y : Bool) → (x || y) ≡ false → (x ≡ false) × (y ≡ false)
 or_none true y h = absurd (cc h)
 or_none false y h = (refl, h)
 
--- nothing was told of what stood before, nor of what came after
+-- If the concatenation of two lists reports no success, neither list does.
 told_parts : (xs ys : List Item) → tells (xs ++ ys) ≡ false → (tells xs ≡ false) × (tells ys ≡ false)
 told_parts xs ys h = or_none (tells xs) (tells ys) (sym (list_any-append reports_success xs ys) ∙ h)
 
--- where nothing was done so far, the gateway is the one from before
+-- The gateway is unchanged, and no earlier item reports a success.
 record IsAsBefore (run after : ActionState) : Type 0 where
   gateway : after.gateway ≡ run.gateway
   before : tells run.items ≡ false
@@ -97,7 +97,7 @@ names_fail source c parameters x xs run h =
     (name_fails c.word (written_as (text_of source c.term) x) run
     (outcome c.word run.gateway run.target x parameters) rest.before)
 
--- a command is tried on one name at least
+-- A command that can be tried is tried on at least one name.
 data HasNames : Result Trial ErrorNumber → Type 0 where
   refused : (e : ErrorNumber) → HasNames (Err e)
   some : (parameters : CommandParameters) (x : Name) (xs : List Name) →
@@ -106,7 +106,7 @@ data HasNames : Result Trial ErrorNumber → Type 0 where
 trial_with : CommandParameters → List Name → Result Trial ErrorNumber
 trial_with parameters xs = Ok (record { parameters = parameters; names = xs })
 
--- names of which there is one
+-- A list of names, if there is no error, is not empty.
 data AreSome : Result (List Name) ErrorNumber → Type 0 where
   none_by : (e : ErrorNumber) → AreSome (Err e)
   one_of : (x : Name) (xs : List Name) → AreSome (Ok (x ∷ xs))
@@ -160,7 +160,7 @@ trial_fails source c run (Err e) (refused _) h = refl
 
 -- ## Commands
 
--- what is left of commands after the first, whether or not it ends them
+-- If the first command and the rest each keep the gateway without a success, so do both together.
 go_on_keeps : (rest : ActionState → ActionState × Bool) (run : ActionState) (x : ActionState × Bool) → Keeps run x.0 →
     ((s : ActionState) → Keeps s (rest s).0) → Keeps run (continue_with rest x).0
 go_on_keeps rest run (s, true) h k = kept_on run s (rest s).0 h (k s)
@@ -181,7 +181,7 @@ commands_keep source (c ∷ cs) run h =
 abbrev is_needed : Command → Bool
 is_needed c = not c.is_optional
 
--- where all that were tried were refused, and none ended them, all are optional
+-- If all tried commands were rejected and none of them ended the action, all of them are optional.
 optional_at : (source : List ℕ) (c : Command) (cs : List Command) (x : ActionState × Bool) (b : Bool) →
     c.is_optional ≡ b
     → (tells x.0.items ≡ false → x.1 ≡ false) → ((s : ActionState) → Keeps s (with_commands source cs s).0)
@@ -214,7 +214,7 @@ nothing_first (properties.ContextAudit ws ∷ ps) h = nothing_first ps h
 nothing_first (properties.Priority word ∷ ps) h = nothing_first ps h
 nothing_first (properties.Emergency word ∷ ps) h = nothing_first ps h
 
--- what is left of a gateway, if anything is done
+-- The gateway is unchanged if the operation succeeds.
 data Same {A : Type 0} (w : Gateway) : Result (Gateway × A) ErrorNumber → Type 0 where
   same : (p : Gateway × A) → p.0 ≡ w → Same w (Ok p)
   fault : (e : ErrorNumber) → Same w (Err e)
@@ -259,7 +259,7 @@ properties_keep : (run : ActionState) (r : Result (Gateway × List Item) ErrorNu
 properties_keep run (Ok p) (same _ e) h = (e, ended run p.0 p.1 h)
 properties_keep run (Err e) (fault _) h = (refl, ended run run.gateway (replies.Fault e ∷ []) h)
 
--- where a topology hangs on commands and none of them was done, it wasn't tried
+-- If a topology depends on commands and no command succeeded, the topology was not applied.
 commands_ended : (source : List ℕ) (ps : List ContextProperty) (cs : List Command) (x : ActionState × Bool) (b : Bool)
     → list_any is_topology ps ≡ b
     → (x.1 ≡ true → tells x.0.items ≡ false → list_any is_needed cs ≡ false) → (not b || list_any is_needed cs) ≡ true

@@ -1,4 +1,4 @@
--- What a command asks for, by what its descriptors do.
+-- Checking a command's text by checking its descriptors.
 use Rattle.std.proofs.Common.{◌≡◌, ℕ, List, refl}
 use Rattle.mg_words.specs.ResultSteps.{◌>>=◌}
 use Rattle.mg_words.specs.declared.error_number.ErrorNumber.TheVariants.{NotServed}

@@ -1,4 +1,4 @@
--- One step of a walk over parts, each looked at with those before it.
+-- One step of a walk over parts that compares each part with the parts before it.
 use Rattle.std.proofs.Common.{◌≡◌, ℕ, ◌+◌, ◌<◌, ◌≤◌, List, [], ◌∷◌, length, get_or, take, drop, Option, Some, None, false, refl}
 use Rattle.std.proofs.lemmas.List.{drop_more, drop_all, take_more}
 use Rattle.std.specs.List.{list_any}
@@ -29,7 +29,7 @@ pub walk_end : {X : Type 0} (f : List X → X → Option ErrorNumber) (xs : List
 unfolding first_after
 walk_end f xs i le = rw (drop_all i xs le) refl
 
--- a property that may stand again is the same as none
+-- A property that may be repeated never counts as a repetition.
 pub same_as_none : (source : List ℕ) (a : Span) (v : Option PropertyValue) (y : ControlPart) →
     is_jitter source a ≡ false → same_control source (controls.Property a v) y ≡ false
 same_as_none source a v (controls.Mode m) e = refl

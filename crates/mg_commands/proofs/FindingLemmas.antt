@@ -1,4 +1,4 @@
--- What a walk over descriptors finds is what searches through all their parts find.
+-- A walk over descriptors finds the same as searches through all their parts.
 use Rattle.std.proofs.Common.{◌≡◌, ℕ, ◌+◌, ◌<◌, ◌≤◌, Bool, true, false, ◌||◌, List, [], ◌∷◌, ◌++◌, length, get_or, take, drop, map, append-nil, Option, Some, None, Result, Ok, Err, refl, sym, ap, ◌∙◌}
 use Rattle.std.specs.Prelude.{IfNone}
 use Rattle.std.specs.List.{list_any, flat_map}
@@ -34,7 +34,7 @@ or_assoc : (a b c : Bool) → ((a || b) || c) ≡ (a || (b || c))
 or_assoc true b c = refl
 or_assoc false b c = refl
 
--- what is found in parts after others
+-- The findings after more parts.
 abbrev after_others : List ℕ → Findings → List Part → Findings
 after_others source a xs =
     let p = a.parameters in
@@ -53,7 +53,7 @@ after_others source a xs =
       fault = option_or a.fault (first_of (property_fault source) xs);
     }
 
--- what descriptors ask for, by what was found in them
+-- The parameters of a command's descriptors, or the fault in them.
 abbrev pub by_fault : Option ErrorNumber → Findings → Result CommandParameters ErrorNumber
 by_fault (Some e) a = Err e
 by_fault None a = Ok a.parameters
@@ -155,7 +155,7 @@ checked {source} {a} {r} xs h is = ap (λ (o : Option ErrorNumber). by_fault o a
 
 -- ## Walks
 
--- a walk that looks at each of xs after those before it has come to the i-th without a fault
+-- The walk has reached the i-th element without a fault, and its findings are those of the first `i` elements.
 pub record HasWalked {X : Type 0} (source : List ℕ) (f : List X → X → Option ErrorNumber) (g : X → List Part)
     (xs : List X) (i : ℕ) (a b : Findings) : Type 0 where
   pub walked : first_after f (take i xs) (drop i xs) ≡ first_after f [] xs

@@ -1,4 +1,4 @@
--- The fold over the steps of a transaction has the gateway and the items of the calls that the program makes.
+-- The fold over the steps of a transaction yields the gateway and items of the program's nested calls.
 use Rattle.std.proofs.Common.{◌≡◌, ℕ, Bool, true, false, not, ◌&&◌, ◌||◌, List, [], ◌∷◌, ◌++◌, Option, Some, None, Result, Ok, Err, refl, sym, ap, ◌∙◌, append_assoc}
 use Rattle.std.specs.List.{fold}
 use Rattle.std.specs.Option.{option_map_or}
@@ -26,7 +26,7 @@ use Rattle.mg_commands.specs.aids.Steps.{action_unless}
 
 -- ## Commands
 
--- an action, and whether all succeeded so far, as a state
+-- The transaction state of an action, given whether all commands so far succeeded.
 abbrev state_of : ActionState → Bool → TransactionState
 state_of run is_done = record {
   gateway = run.gateway;
@@ -117,7 +117,7 @@ commands_agree source (c ∷ cs) run =
 
 -- ## Actions
 
--- what a state shows between actions
+-- The gateway and the items of a transaction state.
 abbrev pub shown : TransactionState → ActionsState
 shown s = record { gateway = s.gateway; items = s.items }
 

@@ -1,4 +1,4 @@
--- What each edit of a gateway keeps, a request keeps.
+-- A request preserves each property that all edits of a gateway preserve.
 use Rattle.std.proofs.Common.{◌≡◌, ℕ, Bool, true, false, List, [], ◌∷◌, Option, Some, None, Result, Ok, Err, refl, subst}
 use Rattle.mg_words.specs.ResultSteps.{◌>>=◌}
 use Rattle.mg_words.specs.declared.command_word.CommandWord.{CommandWord}
@@ -28,7 +28,7 @@ use Rattle.mg_commands.specs.aids.ByActions.{ActionState, ActionsState, action_s
 use Rattle.mg_commands.specs.aids.Steps.{action_unless}
 use Rattle.mg_commands.proofs.FoldLemmas.{same_reply}
 
--- a result that was done, if there is one, has it
+-- If the operation succeeds, the new gateway has the property.
 data Left {A : Type 0} (P : A → Type 0) {B E : Type 0} : Result (A × B) E → Type 0 where
   done : (p : A × B) → P p.0 → Left P (Ok p)
   refused : (e : E) → Left P (Err e)
@@ -48,7 +48,7 @@ by_left : {A B C E : Type 0} (P : A → Type 0) (r : Result (A × B) E) (f : A �
 by_left P (Ok p) f (done _ k) h = h p k
 by_left P (Err e) f (refused _) h = refused e
 
--- what is kept of a gateway by each of its edits
+-- A property that each edit of a gateway preserves.
 module _ (P : Gateway → Type 0)
     (by_add : (w next : Gateway) (target : Target) (settings : Settings) (r : Record) → P w →
     add w target settings ≡ Ok (next, r) → P next)

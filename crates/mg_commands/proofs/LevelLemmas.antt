@@ -1,4 +1,4 @@
--- The first fault level by level is the first fault of the parts in their order.
+-- The first fault in the search level by level is the first fault of the parts in text order.
 use Rattle.std.proofs.lemmas.Bool.{or_parts}
 use Rattle.std.proofs.Common.{◌≡◌, ℕ, ◌==◌, Bool, true, false, ◌&&◌, ◌||◌, List, [], ◌∷◌, ◌++◌, map, Option, Some, None, refl, sym, ap, ◌∙◌, append_assoc, append-nil, eq-eqb}
 use Rattle.std.specs.List.{list_any, flat_map}
@@ -54,7 +54,7 @@ first_after-append f b (x ∷ xs) ys =
     ∙ ap (λ (l : List _). option_or (option_or (f b x) (first_after f (b ++ x ∷ []) xs)) (first_after f l ys))
     (append_assoc b (x ∷ []) xs)
 
--- where a level looks at the parts of each x after those before it, all levels are one list
+-- If each level searches the parts of an element after those of earlier elements, all levels together search one list.
 pub first_after-flat_map : {X : Type 0} (f : List Part → Part → Option ErrorNumber) (g : X → List Part)
     (level : List X → X → Option ErrorNumber) (c : List Part)
     → ((bs : List X) (x : X) → level bs x ≡ first_after f (c ++ flat_map g bs) (g x))
@@ -75,13 +75,13 @@ or_none : (p : Part → Bool) (xs ys : List Part) → list_any p xs ≡ false �
     list_any p (xs ++ ys) ≡ false
 or_none p xs ys e h = none_or p xs ys e ∙ h
 
--- what is found in no list is found in none of all
+-- If the parts of no element pass a test, none of the parts of all elements does.
 none_in_all : {X : Type 0} (p : Part → Bool) (g : X → List Part) → ((x : X) → list_any p (g x) ≡ false) →
     (xs : List X) → list_any p (flat_map g xs) ≡ false
 none_in_all p g e [] = refl
 none_in_all p g e (x ∷ xs) = or_none p (g x) (flat_map g xs) (e x) (none_in_all p g e xs)
 
--- what is found in a list as a test says is found in all as the test says of the lists
+-- Some part of all elements passes `p` if and only if some element passes `q`.
 any_in_all : {X : Type 0} (p : Part → Bool) (g : X → List Part) (q : X → Bool) → ((x : X) → list_any p (g x) ≡ q x) →
     (xs : List X) → list_any p (flat_map g xs) ≡ list_any q xs
 any_in_all p g q e [] = refl
@@ -96,7 +96,7 @@ pub or_none_else : {A : Type 0} (o : Option A) → option_or o None ≡ o
 or_none_else (Some x) = refl
 or_none_else None = refl
 
--- what comes after a word counts where the word did not stand before
+-- The fault after a word counts only if the word has not occurred before.
 unless_appeared : (b : Bool) (x : Part) (o w : Option ErrorNumber) → (b ≡ false → o ≡ w) →
     option_or (fault_of b x) o ≡ option_or (fault_of b x) w
 unless_appeared true x o w e = refl
@@ -141,7 +141,7 @@ module _ (source : List ℕ) where
   word_in_stream n x k (streams.Remote t) = or_false _
   word_in_stream n x k (streams.LocalControl ys) = simp (no_word_among_controls n x k ys, or_false)
 
-  -- a word is one of its own stream
+  -- A word of a stream is repeated only within that stream.
   own_stream : (n : ℕ) (x : StreamPart) (k : ℕ) (y : StreamPart) →
       is_same_word source (stream_word n x) k y ≡ ((n == k) && is_same_word source (stream_word n x) k y)
   own_stream n (streams.Local t) k (streams.Local u) = sym (and_same (n == k))
@@ -210,13 +210,13 @@ module _ (source : List ℕ) where
 
   -- ## Within a Media descriptor
 
-  -- parts of which none is like one within a Media descriptor
+  -- None of these parts is the same as a part within a Media descriptor.
   record IsOutside (c : List Part) : Type 0 where
     word : (n : ℕ) (x : StreamPart) → list_any (is_same_part source (stream_word n x)) c ≡ false
     control : (n : ℕ) (x : ControlPart) → list_any (is_same_part source (Control n x)) c ≡ false
     state : (b : Bool) → list_any (is_same_part source (TerminationState b)) c ≡ false
 
-  -- a part of a stream after a LocalControl or not, whatever stood before
+  -- A fault in a part of a stream is that of its keyword or, for a LocalControl, of the parts within.
   stream_step : (n : ℕ) (c : List Part) (x : StreamPart) → IsGuarded n c →
       option_or (part_fault source c (stream_word n x)) (first_after (control_level source n) [] (controls_within x))
       ≡ first_after (part_fault source) c (stream_parts n x)
@@ -311,7 +311,7 @@ module _ (source : List ℕ) where
     state = λ b. none_with_media _ refl (λ w. refl) (λ w b. refl) refl bs e;
   }
 
-  -- no part within a Media descriptor is like a descriptor
+  -- No part within a Media descriptor is the same as a descriptor's keyword.
   outer_in_stream : (d : Descriptor) (n : ℕ) (x : StreamPart) →
       list_any (is_same_part source (descriptor_word d)) (stream_parts n x) ≡ false
   outer_in_stream (descriptors.Media ms) n (streams.Local t) = refl
@@ -372,7 +372,7 @@ module _ (source : List ℕ) where
       rw (word_before (descriptors.Audit ws) bs, no_audited_fault (parts_of bs ++ Audit ∷ []) ws) refl
   descriptor_flat bs (descriptors.Other w h) = rw (word_before (descriptors.Other w h) bs) refl
 
-  -- the first fault level by level is the first of the parts
+  -- The search level by level finds the first fault of the parts.
   pub levels_are_parts : (xs : List Descriptor) →
       first_after (descriptor_level source) [] xs ≡ descriptors_fault source xs
   levels_are_parts xs = first_after-flat_map (part_fault source) descriptor_parts (descriptor_level source) []

@@ -1,4 +1,4 @@
--- Items put into a reply, one after another.
+-- Putting items into a reply one after another.
 use Rattle.std.proofs.Common.{◌≡◌, ℕ, arith, ◌+◌, ◌<◌, ◌≤◌, List, [], ◌∷◌, ◌++◌, length, map, get_or, drop, refl, sym, ap, ◌∙◌}
 use Rattle.std.proofs.lemmas.List.{drop_more, drop_all, drop-map, get_or-map, length-map}
 use Rattle.std.proofs.lemmas.Simd.{map-map}
@@ -13,12 +13,12 @@ pub after_all-append : (base : Answered) (xs ys : List Item) →
 after_all-append base [] ys = refl
 after_all-append base (x ∷ xs) ys = after_all-append (after_put base x) xs ys
 
--- an item put after others
+-- Putting one more item extends the list of items in the reply.
 pub put_next : (base before : Answered) (xs : List Item) (x : Item) → before ≡ after_all base xs →
     after_put before x ≡ after_all base (xs ++ x ∷ [])
 put_next base before xs x h = ap (λ (r : Answered). after_put r x) h ∙ sym (after_all-append base xs (x ∷ []))
 
--- items put after others
+-- Putting more items extends the list of items in the reply.
 pub put_more : (base before reported : Answered) (xs ys : List Item) → before ≡ after_all base xs →
     reported ≡ after_all before ys → reported ≡ after_all base (xs ++ ys)
 put_more base before reported xs ys h put = put ∙ ap (λ (r : Answered). after_all r ys) h ∙
@@ -36,7 +36,7 @@ member_told w xs i d before reported whole lt put h =
     ap (λ (r : Answered). after_all r rest) put ∙
     sym (after_all-append before (map (audit_pair w (get_or xs i d)) (drop (i + 1) xs)) rest) ∙ sym split ∙ h
 
--- the numbers of members
+-- The numbers of the members.
 abbrev pub numbers : List SeatedMember → List ℕ
 numbers ms = map (λ m. m.number) ms
 

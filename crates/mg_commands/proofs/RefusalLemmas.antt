@@ -1,4 +1,4 @@
--- What is refused changes nothing.
+-- Rejected commands and actions change nothing.
 use Rattle.std.proofs.Common.{◌≡◌, ◌∙◌, ℕ, Bool, true, false, List, [], ◌∷◌, Option, Some, None, Result, Ok, Err, ap, refl, if◌then◌else◌}
 use Rattle.std.specs.List.{fold}
 use Rattle.std.specs.Option.{option_map_or}
@@ -29,7 +29,7 @@ commands_refused source c s e going h =
     else unless_optional c (with_trial source c s (trial_of source s.gateway s.target c))) going
     ∙ ap (λ (r : Result Trial ErrorNumber). unless_optional c (with_trial source c s r)) h
 
--- an action, given whether it is rejected as a whole
+-- An action, given the error with which it is rejected as a whole, if there is one.
 abbrev unless_refused : List ℕ → Action → TransactionState → Option ErrorNumber → TransactionState
 unless_refused source a s o =
     option_map_or (λ e. with_item (with_error s (replies.Fault e)) (replies.Action a.context)) o

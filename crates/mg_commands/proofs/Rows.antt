@@ -1,4 +1,4 @@
--- What small requests come to, by computing.
+-- The results of small requests, by computation.
 use Rattle.std.proofs.Common.{◌≡◌, ℕ, List, [], ◌∷◌, None, refl, codes, true, false}
 use Rattle.mg_scan.specs.declared.span.Span.{Span}
 use Rattle.mg_words.specs.declared.command_word.CommandWord.{CommandWord}

@@ -1,4 +1,4 @@
--- What comes of the commands and actions of a request, step by step.
+-- The program's state after each step of a request represents the state in the definitions.
 use Rattle.std.proofs.Common.{if◌then◌else◌, ◌≡◌, ℕ, ◌+◌, ◌*◌, ◌<◌, ◌≤◌, Bool, true, false, ◌&&◌, ◌||◌, List, [], ◌∷◌, ◌++◌, length, map, get_or, drop, Option, Some, None, Result, Ok, Err, refl, sym, ap, subst, ◌∙◌, append_assoc}
 use Rattle.std.specs.List.{list_all}
 use Rattle.std.specs.Option.{option_or}
@@ -43,7 +43,7 @@ pub value_cases : (b : Bool) → (b ≡ false → true ≡ false) → b ≡ true
 value_cases true h = refl
 value_cases false h = sym (h refl)
 
--- what holds of all holds of each
+-- If all commands are proper, each command is proper.
 pub command_proper : (source : List ℕ) (cs : List Command) (i : ℕ) (d : Command) → i < length cs →
     list_all (command_is_proper source) cs ≡ true → command_is_proper source (get_or cs i d) ≡ true
 command_proper source cs i d lt all = value_cases (command_is_proper source (get_or cs i d))
@@ -106,7 +106,7 @@ name_done source c parameters name old new progress before reported s made repre
       },
     )
 
--- an action after one more item that tells an error stands where it stood
+-- An item that reports an error leaves the gateway and the action's progress unchanged.
 failed_stands : (c : Command) (term : List ℕ) (old new : EngineState) (progress : Progress) (before reported : Answered)
     (e : ErrorNumber) → new ≡ old → reported ≡ after_put before (item_failed c term e)
     → (base : Base) (run : ActionState) → IsActionRun base (action_kept old progress before) run →
@@ -150,7 +150,7 @@ members_end : (source : List ℕ) (c : Command) (parameters : CommandParameters)
 unfolding with_names
 members_end source c parameters members i run le = rw (drop_all i members le) refl
 
--- what was done of the first, of the second and of the rest
+-- Trying the rest after two successes or failures in a row is the same as trying it after their conjunction.
 and_then_twice : (rest : ActionState → ActionState × Bool) (a b : Bool) (run : ActionState) →
     and_then (λ x. and_then rest (x, b)) (run, a) ≡ and_then rest (run, a && b)
 and_then_twice rest true b run = refl
@@ -160,8 +160,8 @@ was_done : (run : ActionState) (a : Bool) → (let x : ActionState × Bool = (ru
 was_done run true = refl
 was_done run false = refl
 
--- The loop over members, at the member i. What it was entered with stood for actions; each came to one of those for
--- which what it has now stands.
+-- The loop over members, before member `i`. Each action represented by the state on entry leads to one that the current
+-- state represents.
 module _ (source : List ℕ) (c : Command) (parameters : CommandParameters) (members : List ℕ) (base : Base)
     (entered kept : ActionKept) (i : ℕ) (were_done : Bool)
     (inside : Leads (IsActionRun base) entered kept
@@ -237,7 +237,7 @@ with_checked source c run name r h is = ap (λ (r : Result CommandParameters Err
     (tried_with run.gateway run.target c (name_of (text_of source c.term)) r)) h ∙
     ap (λ (name : Name). with_trial source c run (tried_with run.gateway run.target c name r)) is
 
--- a command for one name
+-- Adding a success to a result leaves the result unchanged.
 alone : (x : ActionState × Bool) → (let y : ActionState × Bool = (x.0, x.1 && true) in y) ≡ x
 alone (run, is_done) = was_done run is_done
 
@@ -312,8 +312,8 @@ commands_end : (source : List ℕ) (cs : List Command) (i : ℕ) (run : ActionSt
 unfolding with_commands
 commands_end source cs i run le = rw (drop_all i cs le) refl
 
--- The loop over commands, at the command i. What it was entered with stood for actions; each came to one of those for
--- which what it has now stands.
+-- The loop over commands, before command `i`. Each action represented by the state on entry leads to one that the
+-- current state represents.
 module _ (source : List ℕ) (cs : List Command) (base : Base) (entered kept : ActionKept) (i : ℕ)
     (inside : Leads (IsActionRun base) entered kept
     (λ run now. with_commands source cs run ≡ with_commands source (drop i cs) now)) where
@@ -375,7 +375,7 @@ action_refused source a kept before fault reported e why first last base s h = (
   },
 )
 
--- the end of an action, by what was told of its context, for which no row was touched
+-- The end of an action, given the items that report about its context. The work counter is unchanged.
 module _ (base : Base) (before reported closed : Answered) (kept new : EngineState) (run : ActionState)
     (h : before ≡ after_all base.reply run.items) (paid : IsPaid base run.items kept)
     (same : new.sums.work ≡ kept.sums.work) (last : closed ≡ after_put reported (replies.Action (id_of run.target))) where
@@ -403,7 +403,7 @@ module _ (base : Base) (before reported closed : Answered) (kept new : EngineSta
     close run.gateway (replies.Fault e ∷ []) t.2 t.1,
   )
 
--- An action whose commands were tried.
+-- An action after its commands were tried.
 module _ (source : List ℕ) (a : Action) (old middle : EngineState) (before said : Answered) (progress : Progress)
     (were_done : Bool) (none : action_fault a ≡ None)
     (ran : (base : Base) → Leads (IsActionRun base) (action_kept old (first_progress a) before)
@@ -419,7 +419,7 @@ module _ (source : List ℕ) (a : Action) (old middle : EngineState) (before sai
   continues s run did = ap (λ (o : Option ErrorNumber). action_unless o source a s) none ∙
       ap (after_commands source a.properties) did
 
-  -- one failed, so nothing more was done
+  -- If a command failed, nothing more is executed.
   pub action_stopped : (new : EngineState) (reported closed : Answered) (is_done : Bool) → were_done ≡ false →
       is_done ≡ were_done → new ≡ middle → reported ≡ said →
       closed ≡ after_put reported (replies.Action (id_of progress.target))
@@ -435,7 +435,7 @@ module _ (source : List ℕ) (a : Action) (old middle : EngineState) (before sai
             (rw kept stands.gateway) said_so,
       )
 
-  -- all were done
+  -- If all commands succeeded, the properties of the action are applied.
   pub action_finished : (new : EngineState) (reported closed : Answered) (is_done : Bool) → were_done ≡ true →
       ((w : Gateway) → StandsFor middle w → ReportsProperties new said reported is_done w
       (context_outcome source progress.made a.properties w progress.target)) → new.sums.work ≡ middle.sums.work →

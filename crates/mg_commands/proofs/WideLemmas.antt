@@ -1,4 +1,4 @@
--- Each item of a reply is wide, and the last ends an action.
+-- Each item of a reply has a minimum length, and the last item ends an action.
 use Rattle.std.proofs.Common.{◌≡◌, ℕ, ◌+◌, ◌/◌, ◌%◌, ◌≤◌, zero, suc, Bool, true, false, ◌&&◌, ◌||◌, ◌==◌, not, List, [], ◌∷◌, ◌++◌, length, map, Option, Some, None, Result, Ok, Err, refl, ◌∙◌, length-append, arith, codes, decimal, if◌then◌else◌, subst, ap}
 use Rattle.std.specs.Fmt.{digits, digits_onto, digit_glyph}
 use Rattle.std.specs.List.{list_all, list_any}
@@ -160,7 +160,7 @@ by_bind : {A B E : Type 0} (P : Result B E → Type 0) (r : Result A E) (f : A �
 by_bind P (Ok x) f h e = h x
 by_bind P (Err y) f h e = e y
 
--- what a command tells, if it is done, is long enough by its word and its termination's name
+-- The item of a successful command has at least 9 bytes in its keyword and its termination's name.
 data IsLong (word : CommandWord) : CommandOutcome → Type 0 where
   done : (p : Gateway × Served) → 9 ≤ length (command_text word) + (1 + length p.1.term) → IsLong word (Ok p)
   failed : (e : ErrorNumber) → IsLong word (Err e)
@@ -278,7 +278,7 @@ audit_wide : (ps : List ContextProperty) (w : Gateway) (c : ℕ) → AreWide (au
 audit_wide ps w c = if_holds AreWide (list_any is_context_audit ps) (audit_pairs w (members_at w.rooms c)) []
     (pairs_wide w (members_at w.rooms c)) refl
 
--- what is told of a context, if its properties are done, is wide
+-- If the properties of a context are applied, the items that report about it have the minimum length.
 data TellsWide : Result (Gateway × List Item) ErrorNumber → Type 0 where
   reported : (p : Gateway × List Item) → AreWide p.1 → TellsWide (Ok p)
   refused : (e : ErrorNumber) → TellsWide (Err e)

@@ -1,4 +1,4 @@
--- What edits cost, by the items that tell of them.
+-- The cost of edits, counted from the items that report them.
 use Rattle.std.proofs.Common.{◌≡◌, ℕ, ◌+◌, ◌*◌, Bool, true, false, cond, List, [], ◌∷◌, ◌++◌, if◌then◌else◌, arith}
 use Rattle.std.proofs.lemmas.List.Sums.{sum_by-append, sum_by-cons}
 use Rattle.mg_words.specs.declared.command_word.CommandWord.{CommandWord}
@@ -24,7 +24,7 @@ paid_more base xs ys old new h k =
     rises_twice (4 * edits_reported xs) (4 * edits_reported ys) (4 * edits_reported (xs ++ ys)) base.work
     old.sums.work new.sums.work (omega (arith, edits-append xs ys)) h k
 
--- nothing more was done
+-- If the work counter is unchanged, the bound on the work still holds after more items.
 pub paid_still : (base : Base) (xs ys : List Item) (old new : EngineState) → IsPaid base xs old →
     new.sums.work ≡ old.sums.work → IsPaid base (xs ++ ys) new
 paid_still base xs ys old new h same = paid_more base xs ys old new h
@@ -34,7 +34,7 @@ four_each : (b : Bool) (x y : ℕ) → RisesAtMost (if b then 4 else 0) x y → 
 four_each true x y h = h
 four_each false x y h = h
 
--- one command was done
+-- After one more command, the bound on the work still holds.
 pub paid_one : (base : Base) (xs : List Item) (word : CommandWord) (term : List ℕ) (parts : Parts)
     (old new : EngineState) → IsPaid base xs old →
     RisesAtMost (if is_edit word then 4 else 0) old.sums.work new.sums.work →
@@ -45,6 +45,6 @@ paid_one base xs word term parts old new h k =
     old.sums.work new.sums.work (omega (arith, edits-one one))
     (four_each (is_edit word) old.sums.work new.sums.work k))
 
--- nothing was done yet
+-- Before any command, the bound on the work holds.
 pub paid_nothing : (base : Base) (engine : EngineState) → engine.sums.work ≡ base.work → IsPaid base [] engine
 paid_nothing base engine same = stays (4 * edits_reported []) base.work engine.sums.work same

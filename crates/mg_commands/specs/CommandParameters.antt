@@ -1,4 +1,4 @@
--- What a command's descriptors ask for (RFC 3525, sections 7.1.4 to 7.1.8 and 7.1.12).
+-- The parameters that a command's descriptors request (RFC 3525, sections 7.1.4 to 7.1.8 and 7.1.12).
 use Rattle.std.specs.Prelude.{ℕ, ◌+◌, ◌/◌, Bool, true, false, List, Option, Some, None}
 use Rattle.std.specs.Prelude.{Result, Ok, Err, if◌then◌else◌}
 use Rattle.std.specs.List.{list_any}
@@ -27,7 +27,7 @@ abbrev pub mode_in : Part → Option Mode
 mode_in (Control n (controls.Mode mode)) = Some mode
 mode_in _ = None
 
--- the depth, in frames of 20 ms, of a play list that holds this many milliseconds
+-- The depth, in frames of 20 ms, of a play list that holds this many milliseconds.
 abbrev pub frames_for : ℕ → ℕ
 frames_for jitter = (jitter + 19) / 20
 
@@ -36,7 +36,7 @@ depth_in source (Control n (controls.Property name value)) =
     if is_jitter source name then option_map frames_for (jitter_of source value) else None
 depth_in source _ = None
 
--- the alternatives in the content of a Local or Remote, unless the content is unreadable
+-- The alternatives in the content of a Local or Remote, unless the content is unreadable.
 abbrev pub offer_setting : Result (List (Option Offer)) SdpFault → MediaSetting
 offer_setting (Ok alternatives) = settings.Offer alternatives
 offer_setting (Err fault) = settings.Unreadable

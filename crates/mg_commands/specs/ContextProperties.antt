@@ -1,6 +1,5 @@
--- What an action requests for its context, in addition to its commands (RFC 3525, sections 7.1.18
--- and 8.2.1): a topology, and an audit of it. The error numbers and the order of the checks are
--- this project's own.
+-- The requests of an action for its context, in addition to its commands: a topology, and an audit of the topology (RFC
+-- 3525, sections 7.1.18 and 8.2.1). The error numbers and the order of the checks are this project's own.
 use Rattle.std.specs.Prelude.{ℕ, Bool, true, false, not, List, [], ◌∷◌, ◌++◌, map}
 use Rattle.std.specs.Prelude.{Option, Some, None, Result, Ok, if◌then◌else◌}
 use Rattle.std.specs.List.{list_any}
@@ -47,12 +46,12 @@ abbrev pub is_context_audit : ContextProperty → Bool
 is_context_audit (properties.ContextAudit ws) = true
 is_context_audit _ = false
 
--- only the topology of a context is reported
+-- Whether a word of a ContextAudit is Topology, the only one supported.
 abbrev pub is_topology_word : ContextWord → Bool
 is_topology_word words.Topology = true
 is_topology_word _ = false
 
--- the error for a property that is repeated or not supported, given the properties before it
+-- The error for a property that is repeated or not supported, given the properties before it.
 abbrev pub context_property_fault : List ContextProperty → ContextProperty
     → Option ErrorNumber
 context_property_fault before (properties.Topology xs) =
@@ -66,15 +65,15 @@ abbrev pub is_all : ContextId → Bool
 is_all contexts.All = true
 is_all _ = false
 
--- The error with which an action is rejected as a whole, if there is one: the action names all
--- contexts, or has a faulty property. The first faulty property in the text counts.
+-- The error with which an action is rejected as a whole, if there is one: the action names all contexts, or it has a
+-- faulty property. The first faulty property in the text counts.
 abbrev pub action_fault : Action → Option ErrorNumber
 action_fault a =
     if is_all a.context then Some NotServed else first_after context_property_fault [] a.properties
 
 -- ## After the commands
 
--- The meaning of a name in a triple; $ is the termination that the action's first Add created.
+-- The meaning of a name in a triple. `$` is the termination that the action's first Add created.
 abbrev pub term_of : Option ℕ → Name → TripleTerm
 term_of made names.Root = terms.Barred
 term_of (Some n) names.Choose = terms.Number n
@@ -95,12 +94,13 @@ abbrev pub triples_in : ContextProperty → Option (List NamedTriple)
 triples_in (properties.Topology xs) = Some xs
 triples_in _ = None
 
--- the triples of the topology, if there is one
+-- The triples of the topology, if there is one.
 abbrev pub triples_of : List ℕ → Option ℕ → List ContextProperty → List TopologyTriple
 triples_of source made ps =
     map (topology_triple_of source made) (unwrap_or (first_of triples_in ps) [])
 
--- which of two members hears the other: whether b hears a, and whether a hears b
+-- The item that reports which of two members hears the other. The flags say whether `b` hears `a`, and whether `a`
+-- hears `b`.
 abbrev pub pair_item : Bool → Bool → ℕ → ℕ → Item
 pair_item true true a b = replies.Triple (rtp_name a) (rtp_name b) Bothway
 pair_item true false a b = replies.Triple (rtp_name a) (rtp_name b) Oneway
@@ -110,18 +110,17 @@ pair_item false false a b = replies.Triple (rtp_name a) (rtp_name b) Isolate
 abbrev pub audit_pair : Gateway → ℕ → ℕ → Item
 audit_pair w a b = pair_item (hears w a b) (hears w b a) a b
 
--- each pair of members, in order of entry
+-- The items for all pairs of members, in order of entry.
 unfoldable pub audit_pairs : Gateway → List ℕ → List Item
 audit_pairs w [] = []
 audit_pairs w (a ∷ members) = map (audit_pair w a) members ++ audit_pairs w members
 
--- what the audit reports about a context, if the action has one
+-- The items with which the audit reports about a context, if the action has an audit.
 abbrev pub audit_items : List ContextProperty → Gateway → ℕ → List Item
 audit_items ps w c =
     if list_any is_context_audit ps then audit_pairs w (members_at w.rooms c) else []
 
--- the outcome of an action's properties, if it has any: its triples are applied, then its audit is
--- answered
+-- The outcome of an action's properties, if it has any: its triples are applied, and then its audit is answered.
 abbrev pub context_outcome : List ℕ → Option ℕ → List ContextProperty → Gateway → Target
     → Result (Gateway × List Item) ErrorNumber
 context_outcome source made [] w target = Ok (w, [])

@@ -25,7 +25,7 @@ same_other_word others.DigitMap others.DigitMap = true
 same_other_word others.EventBuffer others.EventBuffer = true
 same_other_word _ _ = false
 
--- of the named properties, only nt/jit must not be repeated
+-- Whether two parts of a LocalControl are a repetition. Of the named properties, only `nt/jit` must not be repeated.
 abbrev pub same_control : List ℕ → ControlPart → ControlPart → Bool
 same_control source (controls.Mode a) (controls.Mode b) = true
 same_control source (controls.ReservedValue a) (controls.ReservedValue b) = true
@@ -34,8 +34,7 @@ same_control source (controls.Property a v) (controls.Property b w) =
     is_jitter source a && is_jitter source b
 same_control source _ _ = false
 
--- whether a word is repeated; a word of a stream counts only within its stream, and Stream may be
--- repeated
+-- Whether two parts are a repetition. A word of a stream counts only within its stream, and Stream may be repeated.
 abbrev pub is_same_part : List ℕ → Part → Part → Bool
 is_same_part source parts.Media parts.Media = true
 is_same_part source parts.Audit parts.Audit = true
@@ -58,6 +57,6 @@ part_fault source before x = fault_of (list_any (is_same_part source x) before) 
 abbrev pub descriptors_fault : List ℕ → List Descriptor → Option ErrorNumber
 descriptors_fault source xs = first_after (part_fault source) [] (parts_of xs)
 
--- a fault in a stream's number or a property, which only counts if no descriptor is faulty
+-- A fault in a stream's number or in a property. It counts only if no descriptor is faulty.
 abbrev pub properties_fault : List ℕ → List Descriptor → Option ErrorNumber
 properties_fault source xs = first_of (property_fault source) (parts_of xs)

@@ -9,7 +9,7 @@ use Rattle.mg_words.specs.Term.{rtp_name}
 use Rattle.mg_commands.specs.declared.name.Name.{Name}
 use Rattle.mg_commands.specs.declared.name.Name.TheVariants.{Root, Choose, All, Number, Other}
 
--- after RTP/: $, *, or a number without a leading zero
+-- The meaning of the text after `RTP/`: `$`, `*`, or a number without a leading zero.
 unfoldable pub name_in_rtp : List ℕ → Name
 name_in_rtp text =
     if bytes_eq text (codes "$") then Choose
@@ -24,8 +24,8 @@ name_of text =
     else (if bytes_eq text (codes "*") then All
     else option_map_or name_in_rtp (after_prefix (codes "RTP/") text) Other))
 
--- the spelling of a name in a reply: the gateway's own spelling if the name has a meaning,
--- otherwise the name as received
+-- The spelling of a name in a reply: the gateway's own spelling if the name has a meaning, otherwise the name as
+-- received.
 abbrev pub written_as : List ℕ → Name → List ℕ
 written_as text Root = codes "ROOT"
 written_as text Choose = codes "$"

@@ -1,6 +1,6 @@
--- The outcome of a command: the error of the first check that fails, or the result (RFC 3525,
--- section 7.2). The error numbers and the order of the checks are this project's own. The order is:
--- support, the descriptors, the properties, the name, then terminations and contexts.
+-- The outcome of a command: its result, or the error of the first check that fails (RFC 3525, section 7.2). The error
+-- numbers and the order of the checks are this project's own: support, the descriptors, the properties, the name, then
+-- terminations and contexts.
 use Rattle.std.specs.Prelude.{ℕ, ◌&&◌, not, List, [], ◌∷◌, map, Option, Some}
 use Rattle.std.specs.Prelude.{None, is_some, Result, Ok, Err, codes, if◌then◌else◌}
 use Rattle.std.specs.Option.{option_map}
@@ -43,8 +43,8 @@ unless (Some e) = Err e
 
 -- ## Checks of the text
 
--- What a command asks for, if its text is supported. W-, which requests one reply for all matches
--- (RFC 3525, section 8.2.2), is not supported.
+-- The parameters of a command, if its text is supported. `W-`, which requests one reply for all matches (RFC 3525,
+-- section 8.2.2), is not supported.
 abbrev pub check_command : List ℕ → Command → Result CommandParameters ErrorNumber
 check_command source c = do
   _ ← passes (is_served_word c.word && not c.wants_wildcard) errors.NotServed
@@ -54,18 +54,18 @@ check_command source c = do
 
 -- ## The names that a command is tried on
 
--- the members of an action's context, in order of entry, or none if the context does not exist
+-- The members of an action's context, in order of entry. The list is empty if the context does not exist.
 abbrev pub members_in : Gateway → Target → List ℕ
 members_in w (targets.Number c) = members_at w.rooms c
 members_in w _ = []
 
--- the names that * matches, of which there must be at least one
+-- The names that `*` matches. There must be at least one.
 abbrev pub unless_empty : List Name → Result (List Name) ErrorNumber
 unless_empty [] = Err errors.WildcardMatchedNone
 unless_empty (x ∷ xs) = Ok (x ∷ xs)
 
--- The names that a command is tried on, in order: the name that it gives or, for *, the names of
--- the members when the command starts (RFC 3525, section 6.2.2).
+-- The names on which a command is tried, in order: the name in the command or, for `*`, the names of the members when
+-- the command starts (RFC 3525, section 6.2.2).
 abbrev pub names_for : Gateway → Target → CommandWord → Name → Result (List Name) ErrorNumber
 names_for w target word names.All =
     if takes_all word then unless_empty (map names.Number (members_in w target))
@@ -74,7 +74,7 @@ names_for w target word name = Ok (name ∷ [])
 
 -- ## Checks of the name
 
--- an Add creates a termination, so it does not name one
+-- Checks that an Add does not name an existing termination, because it creates one.
 abbrev pub check_new_name : Gateway → Name → Result (Unit {0}) ErrorNumber
 check_new_name w names.Choose = Ok tt
 check_new_name w (names.Number n) =
@@ -83,7 +83,7 @@ check_new_name w (names.Number n) =
 check_new_name w names.Other = Err errors.UnknownTermination
 check_new_name w _ = Err errors.IdentifierNotAllowed
 
--- the number of the termination that a command names
+-- The number of the termination that a command names.
 abbrev pub number_in : Name → Result ℕ ErrorNumber
 number_in (names.Number n) = Ok n
 number_in names.Other = Err errors.UnknownTermination
@@ -91,11 +91,11 @@ number_in _ = Err errors.IdentifierNotAllowed
 
 -- ## What is reported
 
--- all settings of a termination's media
+-- All settings of a termination's media.
 abbrev pub whole_media : Record → Media
 whole_media r = Whole (record { mode = r.mode; depth = r.depth }) r.local r.remote
 
--- the whole media of a termination, or only its Local
+-- All settings of a termination's media, or only its Local.
 abbrev pub reply_media : ReplyDescriptors → Record → Option Media
 reply_media descriptors r =
     if descriptors.media then Some (whole_media r)
@@ -113,21 +113,21 @@ reply_parts descriptors w r =
 abbrev pub CommandOutcome : Type 0
 CommandOutcome = Result (Gateway × Served) ErrorNumber
 
--- what is reported under a name
+-- The result of a command with this termination name and these parts.
 abbrev pub served_as : Target → List ℕ → Parts → Served
 served_as target term parts =
     record { target = target; made = None; term = term; parts = parts }
 
--- what is reported about a termination
+-- The result of a command on a termination.
 abbrev pub served_at : Gateway → Target → Record → ReplyDescriptors → Served
 served_at w target r descriptors =
     served_as target (rtp_name r.number) (reply_parts descriptors w r)
 
--- what is reported about a termination after it entered a context
+-- The result of a command after which the termination is in a new context.
 abbrev pub entered_at : Gateway → Record → ReplyDescriptors → Served
 entered_at w r descriptors = served_at w (targets.Number r.context) r descriptors
 
--- ROOT can be audited in the null context, and nothing is reported about it
+-- The audit of `ROOT`, which is allowed in the null context and has no parts.
 abbrev pub audit_root : Target → Result Served ErrorNumber
 audit_root targets.Null =
     Ok (served_as targets.Null (codes "ROOT") (record { media = None; statistics = None }))
@@ -140,7 +140,7 @@ audit_outcome w target name parameters = do
   r ← member w.rooms target n
   Ok (served_at w target r (descriptors_by_audit parameters))
 
--- the outcome of a command for one name, after its text has been checked
+-- The outcome of a command for one name, after its text has been checked.
 unfoldable pub outcome : CommandWord → Gateway → Target → Name → CommandParameters
     → CommandOutcome
 outcome words.Add w target name parameters = do
@@ -163,7 +163,7 @@ outcome words.AuditValue w target name parameters =
     audit_outcome w target name parameters >>= (λ s. Ok (w, s))
 outcome _ w target name parameters = Err errors.NotServed
 
--- what a command asks for, and the names that it is tried on
+-- The parameters of a command, and the names on which it is tried.
 pub record Trial : Type 0 where
   pub parameters : CommandParameters
   pub names : List Name

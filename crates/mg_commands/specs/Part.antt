@@ -12,13 +12,13 @@ use Rattle.mg_commands.specs.declared.part.Part.TheVariants.{Media, Audit, Audit
 use Rattle.mg_commands.specs.declared.part.Part.TheVariants.{TerminationState, Stream, Local}
 use Rattle.mg_commands.specs.declared.part.Part.TheVariants.{Remote, LocalControl, Control}
 
--- the parts within one part of stream n
+-- The parts within one part of stream `n`.
 abbrev pub stream_parts : ℕ → StreamPart → List Part
 stream_parts n (streams.Local text) = Local n text ∷ []
 stream_parts n (streams.Remote text) = Remote n text ∷ []
 stream_parts n (streams.LocalControl xs) = LocalControl n ∷ map (Control n) xs
 
--- the parts within one part of a Media descriptor; a part outside a Stream belongs to stream 1
+-- The parts within one part of a Media descriptor. A part outside a Stream belongs to stream 1.
 abbrev pub media_parts : MediaPart → List Part
 media_parts (media.Part x) = stream_parts 1 x
 media_parts (media.Stream n xs) = Stream n ∷ flat_map (stream_parts n) xs

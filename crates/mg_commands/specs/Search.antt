@@ -2,13 +2,12 @@
 use Rattle.std.specs.Prelude.{List, [], ◌∷◌, ◌++◌, Option, None}
 use Rattle.std.specs.Option.{option_or}
 
--- the first result for an element
+-- The first result for any element of a list.
 unfoldable pub first_of : {X A : Type 0} → (X → Option A) → List X → Option A
 first_of f [] = None
 first_of f (x ∷ xs) = option_or (f x) (first_of f xs)
 
--- the first result for an element and all elements before it; the search starts after the elements
--- `before`
+-- The first result for an element together with the elements before it. The search starts after the elements `before`.
 unfoldable pub first_after : {X A : Type 0} → (List X → X → Option A) → List X → List X → Option A
 first_after f before [] = None
 first_after f before (x ∷ xs) = option_or (f before x) (first_after f (before ++ x ∷ []) xs)

@@ -1,4 +1,4 @@
--- Which words of commands are supported. This is the project's choice.
+-- The supported keywords of commands. This is the project's choice.
 use Rattle.std.specs.Prelude.{ℕ, Bool, true, false, ◌==◌, ◌&&◌, List, Option, Some, None, codes}
 use Rattle.std.specs.Prelude.{is_some, if◌then◌else◌}
 use Rattle.std.specs.Str.{str_eq_ignore_ascii_case}
@@ -27,7 +27,7 @@ is_served_word words.Subtract = true
 is_served_word words.AuditValue = true
 is_served_word _ = false
 
--- a Modify, Subtract or AuditValue may name all members of its context
+-- Whether a command may name all members of its context: a Modify, Subtract or AuditValue may.
 abbrev pub takes_all : CommandWord → Bool
 takes_all words.Modify = true
 takes_all words.Subtract = true
@@ -36,7 +36,7 @@ takes_all _ = false
 
 -- ## Descriptors
 
--- an unsupported descriptor may be bare or have empty braces
+-- Whether a part is an unsupported descriptor with content. Without content, such a descriptor is accepted.
 abbrev pub is_unserved : Part → Bool
 is_unserved (parts.Other word has_content) = has_content
 is_unserved (parts.TerminationState has_content) = has_content
@@ -44,16 +44,16 @@ is_unserved _ = false
 
 -- ## Streams and properties
 
--- the one supported property, ignoring case
+-- Whether a property is `nt/jit`, the only supported one. Case is ignored.
 unfoldable pub is_jitter : List ℕ → Span → Bool
 is_jitter source name = str_eq_ignore_ascii_case (text_of source name) (codes "nt/jit")
 
--- the value of nt/jit in milliseconds: a word that is a number of one to five digits
+-- The value of `nt/jit` in milliseconds: a word that is a number of one to five digits.
 abbrev pub jitter_of : List ℕ → Option PropertyValue → Option ℕ
 jitter_of source (Some (values.Word word)) = uint16_of (text_of source word)
 jitter_of source _ = None
 
--- a reservation, a property that is not supported, or a value that is not allowed
+-- The fault in a part of a LocalControl: a reservation, an unsupported property, or a value that is not allowed.
 abbrev pub control_fault : List ℕ → ControlPart → Option ErrorNumber
 control_fault source (controls.Mode mode) = None
 control_fault source (controls.ReservedValue is_on) = if is_on then Some NotServed else None
@@ -62,7 +62,7 @@ control_fault source (controls.Property name value) =
     if is_jitter source name && is_some (jitter_of source value) then None
     else Some PropertyNotServed
 
--- the fault in a part: a stream other than 1, or a fault in a LocalControl
+-- The fault in a part: a stream other than 1, or a fault in a LocalControl.
 abbrev pub property_fault : List ℕ → Part → Option ErrorNumber
 property_fault source (parts.Stream n) = if n == 1 then None else Some NotServed
 property_fault source (parts.Control n x) = control_fault source x

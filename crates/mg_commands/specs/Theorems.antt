@@ -23,7 +23,7 @@ use Rattle.mg_commands.specs.Transaction.{with_action, closed}
 
 -- ## Rejections
 
--- a command that is rejected for a name adds an item with its error, and changes nothing else
+-- A command that is rejected for a name adds an item with its error, and changes nothing else.
 abbrev pub RefusedNamesChangeNothing : Type 0
 RefusedNamesChangeNothing =
     (source : List ℕ) (c : Command) (parameters : CommandParameters) (name : Name)
@@ -32,7 +32,7 @@ RefusedNamesChangeNothing =
     → with_name source c parameters s name
     ≡ with_error s (replies.Command c.word (written_as (text_of source c.term) name) (Failed e))
 
--- the same holds for a command that is not tried at all
+-- A command that cannot be tried at all adds an item with its error, and changes nothing else.
 abbrev pub RefusedCommandsChangeNothing : Type 0
 RefusedCommandsChangeNothing =
     (source : List ℕ) (c : Command) (s : TransactionState) (e : ErrorNumber)
@@ -40,7 +40,7 @@ RefusedCommandsChangeNothing =
     → with_command source s c ≡ unless_optional c
     (with_error s (replies.Command c.word (written_name (text_of source c.term)) (Failed e)))
 
--- an action that is rejected as a whole, before its commands, changes nothing
+-- An action that is rejected as a whole, before its commands, changes nothing.
 abbrev pub RefusedActionsChangeNothing : Type 0
 RefusedActionsChangeNothing =
     (source : List ℕ) (a : Action) (s : TransactionState) (e : ErrorNumber)
@@ -48,8 +48,7 @@ RefusedActionsChangeNothing =
     → with_action source s a
     ≡ with_item (with_error s (replies.Fault e)) (replies.Action a.context)
 
--- an action whose topology is rejected after its commands changes nothing except through its
--- commands
+-- An action whose topology is rejected after its commands changes nothing except through its commands.
 abbrev pub RefusedTopologiesChangeNothing : Type 0
 RefusedTopologiesChangeNothing =
     (source : List ℕ) (a : Action) (s after : TransactionState) (e : ErrorNumber)
@@ -58,8 +57,8 @@ RefusedTopologiesChangeNothing =
     → context_outcome source after.made a.properties after.gateway after.target ≡ Err e
     → with_action source s a ≡ closed (with_error after (replies.Fault e))
 
--- If a command is rejected for one of its names, the others are still tried on the same gateway,
--- and the command counts as failed.
+-- If a command is rejected for one of its names, the others are still tried on the same gateway, and the command counts
+-- as failed.
 abbrev pub OthersAreTried : Type 0
 OthersAreTried =
     (source : List ℕ) (c : Command) (parameters : CommandParameters) (x : Name) (xs : List Name)
@@ -70,18 +69,18 @@ OthersAreTried =
     (tried ≡ fold (with_name source c parameters) (with_error s item) xs)
     × (tried.has_stopped ≡ true)
 
--- whether an item reports a successful command
+-- Whether an item reports a successful command.
 abbrev pub reports_success : Item → Bool
 reports_success (replies.Command word term (Done parts)) = true
 reports_success _ = false
 
--- an action has no topology, or it has a command that is not optional, so that a failure prevents
--- the topology
+-- An action depends on its commands if it has no topology, or if it has a non-optional command whose failure prevents
+-- the topology.
 abbrev pub depends_on_commands : Action → Bool
 depends_on_commands a =
     not (list_any is_topology a.properties) || list_any (λ c. not c.is_optional) a.commands
 
--- if all commands that a request tried were rejected, the request leaves the gateway unchanged
+-- If all commands that a request tried were rejected, the request leaves the gateway unchanged.
 abbrev pub RefusedRequestsChangeNothing : Type 0
 RefusedRequestsChangeNothing =
     (source : List ℕ) (request : Request) (w : Gateway)
@@ -91,7 +90,7 @@ RefusedRequestsChangeNothing =
 
 -- ## Consistency
 
--- every request preserves consistency
+-- Every request preserves consistency.
 abbrev pub RequestsAreConsistent : Type 0
 RequestsAreConsistent =
     (source : List ℕ) (request : Request) (w : Gateway)

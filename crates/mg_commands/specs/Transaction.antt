@@ -1,5 +1,5 @@
--- A transaction: a request's commands and actions in order (RFC 3525, section 8.2.2). After an
--- error, nothing more is executed, unless the command that failed is optional.
+-- A transaction: a request's actions and their commands, in order (RFC 3525, section 8.2.2). After an error, nothing
+-- more is executed, unless the command that failed is optional.
 use Rattle.std.specs.Prelude.{ℕ, Bool, ◌&&◌, true, false, not, List, [], ◌∷◌, ◌++◌, Option}
 use Rattle.std.specs.Prelude.{None, Result, Ok, Err, if◌then◌else◌}
 use Rattle.std.specs.List.{fold}
@@ -42,7 +42,7 @@ with_error s item = record (with_item s item) { has_stopped = true }
 
 -- ## Commands
 
--- the state after a command for one name, with that name's spelling in the reply
+-- The state after a command for one name, which the reply spells as given.
 abbrev pub after_outcome : CommandWord → List ℕ → TransactionState → CommandOutcome
     → TransactionState
 after_outcome word name s (Ok p) = record s {
@@ -59,14 +59,14 @@ with_name source c parameters s name =
     after_outcome c.word (written_as (text_of source c.term) name) s
     (outcome c.word s.gateway s.target name parameters)
 
--- a command that can be tried is tried for each name: a failure for one does not stop the others
+-- A command that can be tried is tried for each of its names. A failure for one name does not stop the others.
 abbrev pub with_trial : List ℕ → Command → TransactionState → Result Trial ErrorNumber
     → TransactionState
 with_trial source c s (Ok trial) = fold (with_name source c trial.parameters) s trial.names
 with_trial source c s (Err e) =
     after_outcome c.word (written_name (text_of source c.term)) s (Err e)
 
--- an optional command (O-) that fails does not stop the transaction
+-- An optional command (`O-`) that fails does not stop the transaction.
 abbrev pub unless_optional : Command → TransactionState → TransactionState
 unless_optional c s = record s { has_stopped = s.has_stopped && not c.is_optional }
 
@@ -77,20 +77,20 @@ with_command source s c =
 
 -- ## Actions
 
--- the context that an action starts in; an action on all contexts is not run
+-- The context in which an action starts. An action on all contexts is never run.
 abbrev pub target_of : ContextId → Target
 target_of contexts.Null = targets.Null
 target_of contexts.Choose = targets.New
 target_of contexts.All = targets.Null
 target_of (contexts.Number n) = targets.Number n
 
--- the context that the reply names
+-- The context that the reply names.
 abbrev pub id_of : Target → ContextId
 id_of targets.Null = contexts.Null
 id_of targets.New = contexts.Choose
 id_of (targets.Number n) = contexts.Number n
 
--- the properties of an action are applied and answered
+-- The state after the properties of an action are applied and answered.
 abbrev pub after_properties : TransactionState → Result (Gateway × List Item) ErrorNumber
     → TransactionState
 after_properties s (Ok p) = record s { gateway = p.0; items = s.items ++ p.1 }
@@ -105,18 +105,18 @@ with_properties source a s =
     if s.has_stopped then s
     else after_properties s (context_outcome source s.made a.properties s.gateway s.target)
 
--- the context's number is the action's last item
+-- The state after the last item of an action, which has the context's number.
 abbrev pub closed : TransactionState → TransactionState
 closed s = with_item s (replies.Action (id_of s.target))
 
--- an action: its commands, then its properties, unless it is rejected as a whole
+-- An action: its commands and then its properties, unless the action is rejected as a whole.
 unfoldable pub with_action : List ℕ → TransactionState → Action → TransactionState
 with_action source s a =
     if s.has_stopped then s
     else option_map_or (λ e. with_item (with_error s (replies.Fault e)) (replies.Action a.context))
     (action_fault a) (closed (with_properties source a (with_commands source a s)))
 
--- the gateway after a request, and the items of its reply
+-- The gateway after a request, and the items of its reply.
 abbrev pub replied : List ℕ → Request → Gateway → TransactionState
 replied source request w =
     fold (with_action source)

@@ -1,4 +1,4 @@
-//! Why an action is rejected as a whole, before its commands are tried.
+//! Checks for which an action is rejected as a whole, before its commands are tried.
 
 ghost use Rattle.std.specs.Prelude.{◌≡◌, [], not};
 ghost use Rattle.std.specs.List.{list_any};
@@ -73,7 +73,7 @@ fn context_properties_fault(properties: &[ContextProperty]) -> Option<ErrorNumbe
     None
 }
 
-/// Returns why an action is rejected as a whole, or `None` if it isn't.
+/// Returns the error with which an action is rejected as a whole, or `None` if it isn't rejected.
 pub fn action_fault(action: &Action) -> Option<ErrorNumber>
     ensures value { result ≡ action_fault action.now }
 {

@@ -1,4 +1,4 @@
-//! The checks that are made before a command is run. They change nothing.
+//! Checks before a command is run. They change nothing.
 
 ghost use Rattle.std.specs.Prelude.{◌≡◌};
 ghost use Rattle.mg_words.specs.declared.error_number.ErrorNumber.TheVariants.{NotServed};
@@ -34,7 +34,7 @@ fn if_served(is_served: bool) -> Result<(), ErrorNumber>
     }
 }
 
-/// Returns what the descriptors ask for, or the first error in them.
+/// Returns the parameters that the descriptors request, or the first error in them.
 fn check_descriptors(
     source: &[u8],
     descriptors: &[Descriptor],
@@ -48,7 +48,7 @@ fn check_descriptors(
     }
 }
 
-/// Returns what a command asks for, or the first error in its text.
+/// Returns the parameters that a command requests, or the first error in its text.
 #[tactic(auto, using(crate::proofs::CheckLemmas::by_descriptors))]
 pub fn check_command(source: &[u8], command: &Command) -> Result<CommandParameters, ErrorNumber>
     ensures value { result ≡ check_command source.now command.now }

@@ -11,7 +11,7 @@ use mg_sdp::read_sessions;
 use mg_text::{AuditWord, ControlPart};
 use mg_words::FRAME_MS;
 
-/// What a command's descriptors ask for.
+/// The parameters that a command's descriptors request.
 #[derive(Drop)]
 pub struct CommandParameters {
     /// The settings that the command changes.

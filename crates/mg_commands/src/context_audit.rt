@@ -1,4 +1,4 @@
-//! The audit of a context: for each pair of members, it reports who hears whom.
+//! The audit of a context. It reports, for each pair of members, who hears whom.
 
 ghost use Rattle.std.specs.Prelude.{◌≡◌, All, map};
 ghost use Rattle.mg_reply.specs.Reply.{after_all};

@@ -1,4 +1,4 @@
-//! Applies the properties of an action, after its commands.
+//! Applying the properties of an action, after its commands.
 
 ghost use Rattle.std.specs.Prelude.{◌≡◌, ◌≤◌, [], OnErr, length, map, unwrap_or};
 ghost use Rattle.mg_reply.specs.Reply.{after_all};

@@ -1,4 +1,4 @@
-//! Reads a command's descriptors in one walk: it looks for the first fault, and collects what the command asks for.
+//! Reads a command's descriptors in one walk, which finds the first fault and collects the command's parameters.
 
 ghost use Rattle.std.specs.Prelude.{[], ◌∷◌};
 ghost use Rattle.std.specs.List.{flat_map};

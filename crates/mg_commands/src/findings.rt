@@ -8,10 +8,10 @@ use crate::part::Part;
 use crate::support::{is_unserved, property_fault};
 use mg_text::{AuditWord, ControlPart, ErrorNumber};
 
-/// What the walk over a command's descriptors has found so far.
+/// The findings so far of the walk over a command's descriptors.
 #[derive(Drop)]
 pub struct Findings {
-    /// What the command asks for, up to the fault.
+    /// The command's parameters, up to the fault.
     pub parameters: CommandParameters,
     /// The first fault in a property or a stream's number, if any. A faulty descriptor outranks it, even a later one.
     pub fault: Option<ErrorNumber>,
@@ -28,7 +28,7 @@ fn fault_of(appeared: bool, part: Part) -> Option<ErrorNumber>
 }
 
 impl Findings {
-    /// Returns what is found in a command without descriptors.
+    /// Returns the findings for a command without descriptors.
     pub fn nothing() -> Findings
         ensures value { result ≡ nothing_found }
     {
@@ -61,7 +61,7 @@ impl Findings {
 
     /// Adds a part of a LocalControl, unless it repeats a word. Returns the fault, if any.
     ///
-    /// A message can contain about 2,000 properties, so a part that follows a fault isn't even copied.
+    /// A message can contain about 2,000 properties, so a part that follows a fault is not even copied.
     pub fn add_control(
         &mut self,
         source: &[u8],

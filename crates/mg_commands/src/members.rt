@@ -23,7 +23,7 @@ fn members_in(engine: &Engine, target: Target) -> &[u32]
     }
 }
 
-/// Returns the members that a command for all members is tried on (RFC 3525, section 6.2.2). Fails if there are none,
+/// Returns the members on which a command for all members is tried (RFC 3525, section 6.2.2). Fails if there are none,
 /// or if the command may not name all members.
 pub fn all_members(
     engine: &Engine,

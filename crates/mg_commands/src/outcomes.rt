@@ -1,4 +1,4 @@
-//! Commands on one termination, and what a reply reports about each command.
+//! Commands on one termination, and the results that a reply reports.
 
 ghost use Rattle.std.specs.Prelude.{◌≡◌, OnErr, if◌then◌else◌};
 ghost use Rattle.mg_words.specs.declared.command_word.CommandWord.TheVariants.{Add, Modify, Move, Subtract};
@@ -20,7 +20,7 @@ use mg_engine::{Engine, Record, Target};
 use mg_reply::Parts;
 use mg_text::{CommandWord, ErrorNumber, Term};
 
-/// Returns what is reported about a termination. The record is the one that the command left, or subtracted.
+/// Returns the result of a command on a termination. The record is the one that the command left, or subtracted.
 fn served_at(
     engine: &Engine,
     target: Target,
@@ -38,7 +38,7 @@ fn served_at(
     }
 }
 
-/// Returns what is reported about a termination after it entered a context.
+/// Returns the result of a command after which the termination is in a new context.
 fn entered_at(engine: &Engine, termination: &Record, descriptors: ReplyDescriptors) -> Served
     ensures value { (w : Gateway) → HasStats engine.now w termination.now →
         result ≡ entered_at w termination.now descriptors }

@@ -12,7 +12,7 @@ pub enum Part {
     Audit,
     /// A word in an Audit descriptor.
     Audited(AuditWord),
-    /// A descriptor whose content is not kept, and whether there is any content.
+    /// A descriptor whose content is not kept, and whether it has any content.
     Other(OtherWord, bool),
     /// A TerminationState, and whether it has content.
     TerminationState(bool),

@@ -1,4 +1,4 @@
-//! Whether a word of a command's descriptors has already occurred, where it must not be repeated.
+//! Checks whether a word of a command's descriptors has already occurred and must not be repeated.
 
 ghost use Rattle.std.specs.Prelude.{◌≡◌, ℕ, List, ◌&&◌, ◌==◌};
 ghost use Rattle.std.specs.List.{list_any};
@@ -149,7 +149,8 @@ pub fn stream_of(part: &MediaPart) -> u32
 
 /// Returns the earlier parts of a Media descriptor that a part has to be compared with.
 ///
-/// There are none if the part's stream number exceeds all earlier ones, so streams in ascending order are not compared.
+/// There are none if the part's stream number exceeds all earlier ones. So streams in ascending order cause no
+/// comparisons.
 pub fn lookback<'a>(greatest: u32, before: &'a [MediaPart], part: &MediaPart) -> &'a [MediaPart]
     requires greatest { greatest ≡ greatest_stream before.now }
     ensures level { (source : List ℕ) → media_level source result.now part.now ≡

@@ -4,7 +4,7 @@ ghost use Rattle.mg_commands.specs.ReplyDescriptors.{is_offer, descriptors_after
 use crate::command_parameters::CommandParameters;
 use mg_engine::MediaSetting;
 
-/// What a reply reports about a termination.
+/// The descriptors with which a reply reports about a termination.
 #[derive(Clone, Copy)]
 pub struct ReplyDescriptors {
     /// Whether the reply includes all settings of the termination's media.
@@ -26,7 +26,7 @@ fn is_offer(setting: &Option<MediaSetting>) -> bool
 }
 
 impl ReplyDescriptors {
-    /// Returns what is reported after an Add, Modify or Move: what is audited, and the Local that was set.
+    /// Returns the descriptors after an Add, Modify or Move: those that it audits, and the Local that was set.
     pub fn after(parameters: &CommandParameters) -> ReplyDescriptors
         ensures value { result ≡ descriptors_after parameters.now }
     {
@@ -37,7 +37,7 @@ impl ReplyDescriptors {
         }
     }
 
-    /// Returns what is reported for an AuditValue: what is audited.
+    /// Returns the descriptors for an AuditValue: those that it audits.
     pub fn by_audit(parameters: &CommandParameters) -> ReplyDescriptors
         ensures value { result ≡ descriptors_by_audit parameters.now }
     {
@@ -48,7 +48,7 @@ impl ReplyDescriptors {
         }
     }
 
-    /// Returns what is reported before a Subtract: what is audited or, without an audit, the counters.
+    /// Returns the descriptors before a Subtract: those that it audits or, without an audit, the counters.
     pub fn before(parameters: &CommandParameters) -> ReplyDescriptors
         ensures value { result ≡ descriptors_before parameters.now }
     {

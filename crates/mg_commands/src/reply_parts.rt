@@ -35,7 +35,8 @@ fn reply_media(termination: &Record, descriptors: ReplyDescriptors) -> Option<Me
     }
 }
 
-/// Returns what a reply reports about a termination that the engine has, or had before it was subtracted.
+/// Returns the parts with which a reply reports about a termination that the engine has, or had before it was
+/// subtracted.
 pub fn reply_parts(engine: &Engine, termination: &Record, descriptors: ReplyDescriptors) -> Parts
     ensures value { (w : Gateway) → HasStats engine.now w termination.now →
         result ≡ reply_parts descriptors w termination.now }

@@ -11,6 +11,6 @@ pub struct Served {
     pub made: Option<u32>,
     /// The termination's name, as the reply spells it.
     pub term: Term,
-    /// What the reply reports about the termination.
+    /// The parts with which the reply reports about the termination.
     pub parts: Parts,
 }

@@ -1,4 +1,4 @@
-//! Which words are supported.
+//! The supported words.
 
 ghost use Rattle.std.specs.Prelude.{◌≡◌};
 ghost use Rattle.mg_commands.specs.Support.{is_served_word, takes_all, is_unserved, is_jitter, jitter_of, control_fault, property_fault};
@@ -36,7 +36,7 @@ pub fn takes_all(word: CommandWord) -> bool
     }
 }
 
-/// Returns whether a part is a descriptor that is only supported without content, and has some.
+/// Returns whether a part is a descriptor with content that is supported only without content.
 pub fn is_unserved(part: Part) -> bool
     ensures value { result ≡ is_unserved part }
 {

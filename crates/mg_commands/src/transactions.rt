@@ -59,9 +59,9 @@ fn try_name(
     }
 }
 
-/// Tries a command for several members, one after another. A failure for one does not stop the others.
+/// Tries a command on several members, one after another. A failure for one member does not stop the others.
 ///
-/// Returns the progress of the action, and whether the command succeeded for all of them.
+/// Returns the progress of the action, and whether the command succeeded for all members.
 fn try_members(
     engine: &mut Engine,
     source: &[u8],
@@ -258,7 +258,7 @@ pub fn transaction(engine: &mut Engine, source: &[u8], request: &Request, reply:
         × (reply.new ≡ after_all (new_reply request.now.number) (replied source.now request.now w).items)) }
     ensures whole { IsWhole reply.new }
 
-    // Each item has at least 10 bytes, including its comma, and the last one ends an action. So whether a reply is too
+    // Each item has at least 10 bytes, including its comma, and the last item ends an action. So whether a reply is too
     // long depends only on the length of its text.
     ensures wide { (w : Gateway) → list_all is_wide (replied source.now request.now w).items ≡ true }
     ensures ended { (w : Gateway) → (is_refusal (replied source.now request.now w).items

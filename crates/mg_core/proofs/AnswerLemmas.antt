@@ -1,4 +1,4 @@
--- What a gateway answers.
+-- The answers of a gateway to control datagrams.
 use Rattle.std.proofs.Common.{◌≡◌, ℕ, ◌+◌, ◌<◌, ◌≤◌, List, length, Option, Some, Result, Err, refl, inl, inr, sym, ap, subst, ◌∙◌, append_assoc, length-append, arith}
 use Rattle.std.proofs.lemmas.Bool.{cases_lt}
 use Rattle.mg_text.proofs.ReadLemmas.{IsAnswered}
@@ -18,7 +18,7 @@ use Rattle.mg_core.specs.Parsed.{IsReadingOf, ReadingsAreUnique}
 use Rattle.mg_core.specs.World.{World}
 use Rattle.mg_core.specs.aids.Steps.{refusal_of}
 
--- room that was left is room plus what was written
+-- The remaining room and the text written so far add up to the same total after every write.
 pub appended-total : (w : Written) (a : List ℕ) → length a ≤ w.room →
     (appended w a).room + length (appended w a).text ≡ w.room + length w.text
 appended-total w a le = omega (arith, length-append w.text a)
@@ -45,12 +45,12 @@ neither : (place : ℕ) (want : Result text.Message ReadFault) → (want ≡ Err
 neither place want apart (inl h) = cc h
 neither place want apart (inr h) = apart (sym h)
 
--- a refusal with this number answers the bytes, in any world
+-- The bytes are answered with this error, in any world.
 abbrev pub Refuses : List ℕ → ErrorNumber → Type 0
 Refuses bytes e = (w : World) → (reading : MessageReading) × IsMessageReading bytes reading ×
     (answered bytes reading w ≡ refused e w)
 
--- why a datagram isn't a message is its reading
+-- If parsing fails with a fault other than lack of memory, the bytes are read as the error of that fault.
 pub is_refused : (bytes : List ℕ) (f : ReadFault) (e : ErrorNumber) → refusal_of f ≡ Some e
     → (8192 < length bytes → read_fault f ≡ read_fault TooMany)
     → (read_fault f ≡ read_fault TooMany → IsTooMany bytes)
@@ -78,14 +78,14 @@ parsed_of readings.TooMany = Refused numbers.NotServed
 parsed_of (readings.OtherVersion n) = Refused numbers.Version
 parsed_of readings.NoMessage = Refused numbers.Syntax
 
--- a refusal with this number answers the bytes that it's the reading of
+-- If the reading of the bytes is an error, they are answered with that error.
 pub refuses : (bytes : List ℕ) (e : ErrorNumber) → IsReadingOf bytes (Refused e) → Refuses bytes e
 refuses bytes numbers.Syntax h w = (readings.NoMessage, h, refl)
 refuses bytes numbers.Version (n, h) w = (readings.OtherVersion n, h, refl)
 refuses bytes numbers.NotServed h w = (readings.TooMany, h, refl)
 refuses bytes _ h w = absurd h
 
--- each reading is that of the bytes as a message
+-- Each reading of the bytes as `Parsed` comes from a reading of them as a message.
 reads_as : (bytes : List ℕ) (p : Parsed) → IsReadingOf bytes p →
     (reading : MessageReading) × IsMessageReading bytes reading × (p ≡ parsed_of reading)
 reads_as bytes (Message m) h = (readings.Read m, h.0, refl)

@@ -1,4 +1,4 @@
--- Two worlds that differ in what some terminations received.
+-- Two worlds that differ only in what some terminations received.
 use Rattle.std.proofs.Common.{◌≡◌, ℕ, ◌-◌, eqb, leb, not, ◌&&◌, Bool, true, false, cond, List, [], ◌∷◌, ◌++◌, length, map, drop, Option, Some, None, refl, sym, ap, subst, ◌∙◌, append_assoc}
 use Rattle.std.specs.Prelude.{filter, find, filter_map, option_map, is_some}
 use Rattle.std.specs.List.{AllByRecursion, cons_option}
@@ -62,7 +62,7 @@ keys_filtered p (r ∷ rs) = step (p (key_of r)) (keys_filtered p rs)
     step true e = ap (λ (l : List Key). key_of r ∷ l) e
     step false e = e
 
--- whether one is kept is seen of the keys
+-- Whether a key in the list passes the test. So the keys alone determine whether a reply is kept.
 find_key : (p : Key → Bool) → List Key → Bool
 find_key p [] = false
 find_key p (k ∷ ks) = cond (p k) true (find_key p ks)
@@ -90,7 +90,7 @@ keys_newest count replies = keys_dropped (length replies - count) replies ∙
     ap (λ (n : ℕ). drop (n - count) (keys replies)) (sym (length-map replies key_of))
 
 module _ (some : List ℕ) where
-  -- the same keys
+  -- The two lists of replies have the same keys.
   abbrev SameKeys : List KeptReply → List KeptReply → Type 0
   SameKeys x y = keys x ≡ keys y
 
@@ -191,12 +191,13 @@ module _ (requests : RequestsKeepAgreement) (some : List ℕ) where
 abbrev OneReading : Type 0
 OneReading = (bytes : List ℕ) (a b : MessageReading) → IsMessageReading bytes a → IsMessageReading bytes b → a ≡ b
 
--- the same event, whatever it is, keeps agreement
+-- If two worlds agree outside some terminations, they still agree after the same event.
 abbrev pub SameEventKeepsAgreement : Type 0
 SameEventKeepsAgreement = (some : List ℕ) (a b x y : World) (event : Event) (s t : List Sent) →
     AgreeOutside some a b → Step a event s x → Step b event t y → AgreeOutside some x y
 
--- so does an RTP datagram to one of some terminations that comes to one of the worlds alone
+-- If two worlds agree outside some terminations, they still agree after one of them receives an RTP datagram for one of
+-- those terminations.
 abbrev OneArrivalKeepsAgreement : Type 0
 OneArrivalKeepsAgreement = (some : List ℕ) (a b x : World) (port : ℕ) (source : Peer) (bytes : List ℕ) (s : List Sent) →
     AgreeOutside some a b → IsPortAmong some a.gateway port → Step a (Media port source bytes) s x →
@@ -255,7 +256,7 @@ module _ (same : engine.SamePackets) (some : List ℕ) (port : ℕ) where
   cons_same None rest others e = e
   cons_same (Some d) rest others e = one_more (eqb d.from port) d (from rest) (from others) e
 
-  -- a packet of one that hasn't the port isn't seen
+  -- A termination with another port does not change the list of packets from this port.
   unseen_at : (w : Gateway) (r : Record) (to : Chosen) (o : Option TerminationMedia) (rest : List Datagram) →
       eqb (slot_port w.rooms.limits r.slot) port ≡ false →
       from (cons_option (option_map (packet w r to) o) rest) ≡ from rest
@@ -304,7 +305,8 @@ module _ (event : SameEventKeepsAgreement) (one : OneArrivalKeepsAgreement)
     (turned : (some : List ℕ) (a b : World) → AgreeOutside some a b →
     AgreeOutside some b a) (same : engine.SamePackets)
   where
-    -- lists that differ only in datagrams to some terminations keep agreement
+    -- If two lists of events differ only in RTP datagrams to some terminations, the worlds still agree outside these
+    -- terminations.
     agree_after : (some : List ℕ) (a b x y : World) (xs : List Happening) (s t : List Sent) → AgreeOutside some a b →
         DifferAtPortsOf some a xs → Run a (to_first xs) s x → Run b (to_second xs) t y → AgreeOutside some x y
     agree_after some a b x y [] s t h only (sent, is) (also, its) =
@@ -329,7 +331,7 @@ module _ (event : SameEventKeepsAgreement) (one : OneArrivalKeepsAgreement)
 
 -- ## Scripts
 
--- what is sent before a tick, in it and after it
+-- The datagrams sent around a tick are those sent before it, the packets of the tick, and those sent after it.
 around_tick : (w last : World) (events rest : List Event) (sent : List Sent) → Run w (events ++ (Tick ∷ rest)) sent last
     → (v : World) × (before after : List Sent) × Run w events before v
     × (sent ≡ before ++ (map Packet (packets_of v) ++ after))

@@ -1,4 +1,4 @@
--- The comment lines that tell what changed.
+-- The comment lines that report changes.
 use Rattle.std.proofs.Common.{◌≡◌, ◌==◌, ◌∙◌, ℕ, zero, suc, ◌+◌, ◌*◌, ◌<◌, ◌≤◌, ◌^◌, Bool, true, false, cond, List, [], ◌∷◌, ◌++◌, Option, Some, None, flat_map, get_or, take, length, length-append, append_assoc, refl, sym, ap, arith, lit≤}
 use Rattle.std.proofs.lemmas.Grind.{flat_map-append}
 use Rattle.std.proofs.lemmas.List.{append-nil, take_more}
@@ -39,7 +39,7 @@ some_cons : (b : Bool) (x y : Listener) (o u : Option Listener) → cond b (Some
 some_cons true x y o u n f = cc
 some_cons false x y o u n f = f n
 
--- none of the first has the number, nor has the next
+-- If neither the first `i` listeners nor the next one have the number, the first `i + 1` listeners don't have it.
 pub none_more : (xs : List Listener) (n i : ℕ) (x : Listener) → i < length xs → listener_at (take i xs) n ≡ None →
     x ≡ get_or xs i x → x.number == n ≡ false → listener_at (take (suc i) xs) n ≡ None
 none_more [] n i x lt none e f = refl
@@ -47,7 +47,7 @@ none_more (y ∷ ys) n zero x lt none e f = rw (← e, f) refl
 none_more (y ∷ ys) n (suc i) x lt none e f = none_cons (y.number == n) y (listener_at (take i ys) n)
     (listener_at (take (suc i) ys) n) none (λ m. none_more ys n i x (omega arith) m e f)
 
--- none of the first has the number, and the next has it
+-- If the first `i` listeners don't have the number and the next one does, `listener_at` returns that next one.
 pub found_at : (xs : List Listener) (n i : ℕ) (x : Listener) → i < length xs → listener_at (take i xs) n ≡ None →
     x ≡ get_or xs i x → x.number == n ≡ true → listener_at xs n ≡ Some x
 found_at [] n i x lt none e t = absurd (omega arith)
@@ -61,7 +61,7 @@ pub three_parts : (w x y z : Written) (a b l : List ℕ) → x ≡ appended w a 
     z ≡ appended w (a ++ (b ++ l))
 three_parts w x y z a b l h k m = after w x z a (b ++ l) h (after x y z b l k m)
 
--- one item more
+-- Taking one more element appends its text.
 each_more : {A : Type 0} (f : A → List ℕ) (xs : List A) (i : ℕ) (x : A) → i < length xs → x ≡ get_or xs i x →
     flat_map f (take (i + 1) xs) ≡ flat_map f (take i xs) ++ f x
 each_more f xs i x lt is = ap (flat_map f) (take_more xs i x lt) ∙ flat_map-append f (take i xs) (get_or xs i x ∷ []) ∙

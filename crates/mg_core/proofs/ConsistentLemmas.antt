@@ -1,4 +1,4 @@
--- What events keep: what requests keep of a gateway, and terminations and contexts that are consistent.
+-- Properties that all events preserve, and the consistency of terminations and contexts.
 use Rattle.std.proofs.Common.{ℕ, Bool, true, false, List, [], ◌∷◌, Option, Some, None, sym, ap, subst}
 use Rattle.mg_kept.specs.KeptReplies.{kept_text}
 use Rattle.mg_rooms.specs.Consistent.{IsConsistent}
@@ -28,7 +28,7 @@ abbrev pub ArrivalsAreConsistent : Type 0
 ArrivalsAreConsistent = (w next : engine.Gateway) (port : ℕ) (source bytes : List ℕ) (result : Taken) →
     IsConsistent w.rooms → Takes w port source bytes next result → IsConsistent next.rooms
 
--- what requests keep of a gateway, control datagrams keep
+-- Control datagrams preserve each property of a gateway that requests preserve.
 module _ (Q : engine.Gateway → Type 0) (requests : (source : List ℕ) (request : Request) (w : engine.Gateway) → Q w →
     Q (replied source request w).gateway)
   where
@@ -74,7 +74,7 @@ module _ (Q : engine.Gateway → Type 0) (requests : (source : List ℕ) (reques
     answer_keeps source NoMessage w h = h
 
 module _ (requests : RequestsAreConsistent) (arrivals : ArrivalsAreConsistent) where
-  -- each event keeps it
+  -- Each event preserves the consistency of terminations and contexts.
   pub step_keeps : (w : World) (event : Event) (sent : List Sent) (next : World) → IsConsistentWorld w →
       Step w event sent next → IsConsistentWorld next
   step_keeps w (Control source bytes) sent next h (answer, (reading, is, represents), reported) =

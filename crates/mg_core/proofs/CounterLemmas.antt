@@ -1,9 +1,9 @@
--- The counters of results: one list in a tally, two arrays in the counts.
+-- The counters of results, which are one list in a tally and two arrays in the counts.
 use Rattle.std.proofs.Common.{◌≡◌, ℕ, zero, suc, ◌+◌, ◌<◌, List, [], ◌∷◌, map, take, drop, refl, ap, ◌∙◌, arith}
 use Rattle.std.specs.Prelude.{slice_index, slice_set}
 use Rattle.mg_core.specs.World.{capped, one_more_at}
 
--- a counter after one more
+-- The counters after counter `k` was increased by one.
 abbrev pub raised : ℕ → List ℕ → List ℕ
 raised k counts = slice_set counts k (capped (slice_index counts k + 1))
 

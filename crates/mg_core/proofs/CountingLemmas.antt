@@ -101,7 +101,7 @@ taken_keeps taken t h =
 
 -- ## Events
 
--- a tally after events
+-- The counts after events are the earlier counts plus the numbers of these events.
 record Grows (t : Tally) (events : List Event) (after : Tally) : Type 0 where
   control : after.control ≡ t.control + count_by is_control events
   media : after.media ≡ t.media + count_by is_media events

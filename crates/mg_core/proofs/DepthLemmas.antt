@@ -1,4 +1,4 @@
--- The depth of a play list is the depth in its termination's record.
+-- The depth of each play list equals the depth in the record of its termination.
 use Rattle.std.proofs.Common.{◌≡◌, ℕ, ℤ, ◌+◌, ◌-◌, ◌≤◌, eqb, min, ◌||◌, Bool, true, false, cond, List, [], ◌∷◌, ◌++◌, length, map, take, drop, find, Option, Some, None, Result, Ok, Err, refl, sym, ap, subst, ◌∙◌, length-append, length-drop, length-take, length-set, arith}
 use Rattle.std.specs.Prelude.{int_le, int_lt, is_some, nat_abs, nat_le, neg_ℤ, not, ok_or, pos, unwrap_or}
 use Rattle.std.specs.List.{AllByRecursion}
@@ -219,7 +219,7 @@ sent_pair z (s ∷ ss) (r ∷ rs) h = (
   sent_pair z ss rs h.2,
 )
 
--- each record has a depth
+-- Each record has a depth of at least 1.
 abbrev AreDeep : List Record → Type 0
 AreDeep rs = AllByRecursion (λ r. 1 ≤ r.depth) rs
 
@@ -266,7 +266,7 @@ ok_or_is : {A E : Type 0} (o : Option A) (fault : E) (x : A) → ok_or o fault �
 ok_or_is (Some y) fault x e = cc e
 ok_or_is None fault x e = absurd (cc e)
 
--- what a command leaves of the number and the depth of a termination
+-- The record has this number. Its depth is the requested one or, if none was requested, the earlier one.
 abbrev Tuned : Option ℕ → ℕ → ℕ → Record → Type 0
 Tuned asked number depth r = (r.number ≡ number) × (r.depth ≡ depth_after asked depth)
 
@@ -315,7 +315,7 @@ add_is w after target settings d e =
           ∙ (settings_are w.limits settings (fresh w.next_termination slot place) r made).1,
     )
 
--- a termination was changed in its place
+-- A termination was changed in place.
 record IsChanged (w after : Registry) (n : ℕ) (settings : Settings) (d : Record) : Type 0 where
   old : Record
   found : record_at w n ≡ Some old

@@ -1,11 +1,11 @@
--- Reading a text with escapes in a loop.
+-- The loop that parses text with escapes.
 use Rattle.std.proofs.Common.{◌≡◌, ℕ, ◌+◌, ◌<◌, ◌≤◌, ◌≢◌, true, false, List, [], ◌∷◌, ◌++◌, length, get_or, drop, Option, Some, None, refl, ap, append_assoc}
 use Rattle.std.proofs.lemmas.List.{drop_more, drop_all, append-nil}
 use Rattle.std.proofs.lemmas.Bool.{eq-eqb, ne_eqb}
 use Rattle.std.specs.Option.{option_map}
 use Rattle.mg_core.specs.Script.{is_plain, escaped_byte, unescaped}
 
--- bytes in front of what the rest stands for
+-- The bytes parsed so far, followed by those of the rest of the text.
 abbrev pub in_front : List ℕ → Option (List ℕ) → Option (List ℕ)
 in_front bytes o = option_map (λ rest. bytes ++ rest) o
 
@@ -14,7 +14,7 @@ in_front-more : (bytes : List ℕ) (b : ℕ) (o : Option (List ℕ)) →
 in_front-more bytes b None = refl
 in_front-more bytes b (Some rest) = ap (λ (l : List ℕ). Some l) (append_assoc bytes (b ∷ []) rest)
 
--- one byte more: after a backslash, a backslash, a plain byte, and what is none of these
+-- The cases for the next byte: after a backslash, a backslash, a plain byte, and any other byte.
 pub behind_backslash : (bytes text : List ℕ) (i byte : ℕ) → i < length text →
     escaped_byte (get_or text i 0) ≡ Some byte →
     in_front (bytes ++ byte ∷ []) (unescaped false (drop (i + 1) text)) ≡ in_front bytes (unescaped true (drop i text))

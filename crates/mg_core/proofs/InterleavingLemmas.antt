@@ -1,4 +1,4 @@
--- Events that are the same to each port, in whatever order those of different ports come.
+-- Two lists of events that are the same to each port, in different orders.
 use Rattle.std.proofs.Common.{◌≡◌, ◌≢◌, ℕ, zero, suc, ◌+◌, eqb, not, ◌&&◌, Bool, true, false, List, [], ◌∷◌, ◌++◌, refl, sym, ap, subst, ◌∙◌}
 use Rattle.std.specs.List.{list_all}
 use Rattle.std.proofs.lemmas.Bool.{eqb-true, eq-eqb, and_parts}
@@ -37,7 +37,7 @@ both_true false y h k = h
 abbrev are_elsewhere : ℕ → List Event → Bool
 are_elsewhere port events = list_all (is_elsewhere port) events
 
--- a port of one who sees the event
+-- A port that sees the event.
 abbrev port_of : Event → ℕ
 port_of (Control source bytes) = 0
 port_of (Media port source bytes) = port
@@ -73,7 +73,7 @@ tails e f xs ys h = cc h
 
 -- ## Where a port sees its first event
 
--- an event stands behind others that the port doesn't see
+-- The event follows only events that the port does not see.
 record IsBehind (port : ℕ) (e : Event) (seen events : List Event) : Type 0 where
   before : List Event
   after : List Event
@@ -115,7 +115,7 @@ nothing_else : (f : Event) (b : List Event) → AreSameToEachPort [] (f ∷ b) �
 nothing_else f b same =
     let is : [] ≡ f ∷ seen_at (port_of f) b = same (port_of f) ∙ seen_first (port_of f) f b (sees_its_own f) in cc is
 
--- where the first is seen by all, the other list begins with it too
+-- If every port sees the first event, the other list begins with that event too.
 first_is : (e f : Event) (a b : List Event) → ((port : ℕ) → is_elsewhere port e ≡ false) →
     AreSameToEachPort (e ∷ a) (f ∷ b) → e ≡ f
 first_is e f a b all same =
@@ -137,7 +137,7 @@ at_port : (m n : ℕ) (b : Bool) → eqb m n ≡ b → not b ≡ false → m ≡
 at_port m n true e h = eqb-true m n e
 at_port m n false e h = absurd (cc h)
 
--- without a packet, in whatever place the others have it
+-- If the same packet is taken out of both lists, the lists are still the same to each port.
 without_at : (port at : ℕ) (source : Peer) (bytes : List ℕ) (a before after : List Event) (b : Bool) →
     is_elsewhere port (Media at source bytes) ≡ b → are_elsewhere at before ≡ true → seen_at at after ≡ seen_at at a →
     AreSameToEachPort (Media at source bytes ∷ a) (before ++ Media at source bytes ∷ after) →
@@ -167,7 +167,7 @@ module _ (steps_are_one : (w : World) (event : Event) (s t : List Sent) (x y : W
         Step w event sent next → IsConsistentWorld next
     keeps = step_keeps requests arrivals
 
-    -- two packets at two ports, turned round
+    -- The packets at two different ports arrive in the opposite order, with the same result.
     record AreTurned (w : World) (first second : Event) (last : World) (s t : List Sent) : Type 0 where
       between : World
       one : Step w second [] between
@@ -201,7 +201,7 @@ module _ (steps_are_one : (w : World) (event : Event) (s t : List Sent) (x y : W
           no_second = none_too;
         }
 
-    -- a packet before those at other ports
+    -- A packet can be moved in front of packets at other ports.
     in_front : (port : ℕ) (from : Peer) (bytes : List ℕ) (before after : List Event) (w last : World)
         (sent : List Sent) → are_elsewhere port before ≡ true → IsConsistentWorld w →
         Run w (before ++ Media port from bytes ∷ after) sent last →
@@ -226,7 +226,7 @@ module _ (steps_are_one : (w : World) (event : Event) (s t : List Sent) (x y : W
               ap (λ (l : List Sent). l ++ later) swap.no_second,
         )
 
-    -- runs of the same first event go on from one world
+    -- If two runs begin with the same event, their rests start in the same world.
     join : (w : World) (e : Event) (a b : List Event) (s t : List Sent) (v x : World) → Run w (e ∷ a) s v →
         Run w (e ∷ b) t x → ((next : World) (others rest : List Sent) (sent : List Sent) → Step w e sent next →
         Run next a others v → Run next b rest x → (others ≡ rest) × (v ≡ x)) → (s ≡ t) × (v ≡ x)
@@ -239,7 +239,7 @@ module _ (steps_are_one : (w : World) (event : Event) (s t : List Sent) (x y : W
     AreOne a = (b : List Event) (w v x : World) (s t : List Sent) → IsConsistentWorld w → AreSameToEachPort a b →
         Run w a s v → Run w b t x → (s ≡ t) × (v ≡ x)
 
-    -- the first is seen by all
+    -- If every port sees the first event, the claim follows from the claim for the rest of the list.
     seen_by_all : (e : Event) (a : List Event) → ((port : ℕ) → is_elsewhere port e ≡ false) → AreOne a → AreOne (e ∷ a)
     seen_by_all e a all again [] w v x s t h same run runs = absurd (nothing_else e a (λ port. sym (same port)))
     seen_by_all e a all again (f ∷ b) w v x s t h same run runs =

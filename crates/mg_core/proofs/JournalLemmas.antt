@@ -28,7 +28,7 @@ histories_have_same_flows agree config events s t v w one other talker listener 
 same_listeners : (a b : World) → AgreeExceptReceived a b → listeners_of a.gateway ≡ listeners_of b.gateway
 same_listeners a b h = λ i. listeners_of (record a.gateway { rooms = h.rooms i; edits = h.edits i })
 
--- the same change between two pairs of worlds
+-- In two pairs of worlds that agree except for what was received, the same changes are reported.
 same_changes : (a b x y : World) → AgreeExceptReceived a b → AgreeExceptReceived x y →
     changes_by a x ≡ changes_by b y
 same_changes a b x y h k =

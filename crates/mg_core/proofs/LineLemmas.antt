@@ -1,4 +1,4 @@
--- What is written for one line.
+-- The output for one line of a script.
 use Rattle.std.proofs.Common.{◌≡◌, ℕ, suc, ◌+◌, ◌≤◌, ◌-◌, ◌^◌, length, arith, List, [], ◌∷◌, ◌++◌, map, Option, Some, None, Result, Ok, Err, refl, sym, ap, subst, ◌∙◌, append_assoc}
 use Rattle.std.proofs.lemmas.List.{append-nil}
 use Rattle.std.specs.Prelude.{OnOk}
@@ -39,7 +39,7 @@ unfolding after_sent
 sent_both n [] b = refl
 sent_both n (s ∷ a) b = sent_both (capped (n + 1)) a b
 
--- a count within 64 bits rises by as many as were sent, and stays within them
+-- A 64-bit counter increases by the number of datagrams sent, up to its maximum.
 pub sent_at_once : (n : ℕ) (sent : List Sent) → n ≤ 2 ^ 64 - 1 → after_sent n sent ≡ capped (n + length sent)
 unfolding after_sent
 sent_at_once n [] within = omega (arith, within)
@@ -54,7 +54,7 @@ abbrev pub event_result : Result (Unit {0}) WriteFailed → Result (Unit {0}) Ev
 event_result (Ok done) = Ok tt
 event_result (Err failed) = Err events.Write
 
--- the lines for what is sent at an event, whole or cut short
+-- The lines for the datagrams sent at an event were written, completely or in part.
 pub written_ran : (event : Event) (sent : List Sent) (text : List ℕ) (w next : World) (n m : ℕ)
     (a b : Option (List ℕ)) (r : Result (Unit {0}) WriteFailed) → Step w event sent next → text ≡ lines_for sent →
     Writes text a b r → OnOk r (m ≡ after_sent n sent) → EventRan shows.Sent event w next n m a b (event_result r)
@@ -63,7 +63,7 @@ written_ran event sent text w next n m a b (Ok done) step is put more =
 written_ran event sent text w next n m a b (Err failed) step is put more =
     record { sent = sent; step = step; written = subst (λ (t : List ℕ). WritesFront t a b) is put }
 
--- an event that sends nothing
+-- An event that sends nothing leaves the output unchanged.
 pub silent_ran : (event : Event) (w next : World) (n m : ℕ) (a : Option (List ℕ)) → Step w event [] next → m ≡ n →
     EventRan shows.Sent event w next n m a a (Ok tt)
 unfolding after_sent
@@ -76,7 +76,7 @@ silent_steps event old new n m a same h w stands =
     let (next, step, left) = h w stands in
     (next, silent_ran event w next n m a step same, left)
 
--- an answer
+-- After a control datagram is answered, the line for its answer is written.
 pub answer_steps : (source : Peer) (bytes text line : List ℕ) (old new : CoreState) (n m : ℕ) (a b : Option (List ℕ))
     (r : Result (Unit {0}) WriteFailed) → Leads StandsFor old new
     (λ w next. Step w (Control source bytes) (answer_to source (Some text)) next) → line ≡ answer_line source text →
@@ -91,7 +91,7 @@ answer_steps source bytes text line old new n m a b r h is put more w stands =
       left,
     )
 
--- a tick
+-- After a tick, a line for each of its packets is written.
 pub tick_steps : (old new : CoreState) (outbox : List Datagram) (text : List ℕ) (n m : ℕ) (a b : Option (List ℕ))
     (r : Result (Unit {0}) WriteFailed) → ((w : World) → StandsFor old w → outbox ≡ packets_of w) →
     ((w : World) → StandsFor old w → StandsFor new (world_after_tick w)) → text ≡ lines_for (map Packet outbox) →
@@ -112,7 +112,7 @@ same_text shows.Sent w next sent none = refl
 same_text shows.SentAndFlows w next sent none =
     sym (ap (λ (l : List ℕ). lines_for sent ++ l) none ∙ append-nil (lines_for sent))
 
--- an event that changed nothing
+-- If an event changes nothing, showing changes adds nothing to its output.
 quiet_ran : (shown : Shown) (event : Event) (w next : World) (n m : ℕ) (a b : Option (List ℕ))
     (r : Result (Unit {0}) EventFault) → KeepsQuiet event → IsSound w.gateway.rooms →
     EventRan shows.Sent event w next n m a b r → EventRan shown event w next n m a b r
@@ -163,7 +163,8 @@ quiet_steps event old new kept after n m a b r quiet sound same h shown w f =
           (subst (λ (o : Option (List Listener)). AreKeptListeners shown o w) (sym same) f.same) stands,
     )
 
--- an event for which not even the lines of its datagrams were written, or for which there was no memory
+-- If the lines for an event's datagrams were not all written, or memory ran out, the same result holds when changes are
+-- shown.
 pub cut_ran : (shown : Shown) (event : Event) (w next : World) (n m : ℕ) (a b : Option (List ℕ)) (e : EventFault) →
     EventRan shows.Sent event w next n m a b (Err e) → EventRan shown event w next n m a b (Err e)
 cut_ran shows.Sent event w next n m a b e h = h
@@ -181,7 +182,7 @@ cut_ran shows.SentAndFlows event w next n m a b events.Write h = record {
 }
 cut_ran shows.SentAndFlows event w next n m a b events.NoMemory h = h
 
--- an event whose changes were written too, or in part
+-- After the lines for an event's datagrams, the lines for its changes were written, completely or in part.
 pub changed_ran : (shown : Shown) (event : Event) (w next : World) (n m : ℕ) (a b l : Option (List ℕ))
     (r : Result (Unit {0}) EventFault) → EventRan shows.Sent event w next n m a b (Ok tt) →
     ChangesWritten shown w next b l r → EventRan shown event w next n m a l r
@@ -217,7 +218,7 @@ follows_after : (shown : Shown) (new : CoreState) (kept : Option (List Listener)
 follows_after shown new kept next (Ok done) stands same = record { stands = stands; same = same }
 follows_after shown new kept next (Err e) stands same = tt
 
--- an event whose changes are written, where changes are shown
+-- Each followed world takes the step of an event, and the event's changes are written if changes are shown.
 pub changed_steps : (event : Event) (old mid new : CoreState) (kept before after : Option (List Listener))
     (n k m : ℕ) (a b l : Option (List ℕ)) (r : Result (Unit {0}) EventFault) → before ≡ kept → new ≡ mid → m ≡ k →
     Leads StandsFor old mid (λ w next. EventRan shows.Sent event w next n k a b (Ok tt)) →
@@ -234,7 +235,7 @@ changed_steps event old mid new kept before after n k m a b l r was is counts h 
       follows_after shown new after next r (subst (λ (x : CoreState). StandsFor x next) (sym is) stands) reported.1,
     )
 
--- an event whose datagrams were not all written, or for which there was no memory
+-- Each followed world takes the step of an event, although its datagrams were not all written or memory ran out.
 pub cut_steps : (event : Event) (old new : CoreState) (kept after : Option (List Listener)) (n m : ℕ)
     (a b : Option (List ℕ)) (e : EventFault) →
     Leads StandsFor old new (λ w next. EventRan shows.Sent event w next n m a b (Err e)) → (shown : Shown) →
@@ -244,7 +245,7 @@ cut_steps event old new kept after n m a b e h shown w f =
     let (next, ran, stands) = h w f.stands in
     (next, cut_ran shown event w next n m a b e ran, tt)
 
--- the text of one event
+-- The text for a list of one event is the text of that event.
 one_text : (shown : Shown) (event : Event) (w next : World) (sent : List Sent) → Step w event sent next →
     IsShownText shown w (event ∷ []) sent (event_text shown w sent next) next
 one_text shows.Sent event w next sent step = refl
@@ -274,7 +275,7 @@ pub one_line : (line : List ℕ) (e : Option Event) → event_of line ≡ Some e
 unfolding events_of
 one_line line e is = rw is refl
 
--- a line that stands for no event
+-- A comment line has no event, so the world and the output stay unchanged.
 pub comment_ran : (shown : Shown) (number : ℕ) (line : List ℕ) (w : World) (n : ℕ) (a : Option (List ℕ)) →
     event_of line ≡ Some None → LineRan shown number line w w n n a a (Ok tt)
 unfolding after_sent
@@ -291,7 +292,7 @@ comment_ran shown number line w n a is = record {
   counted = refl;
 }
 
--- a line that stands for an event
+-- A line with an event runs that event.
 event_line : (shown : Shown) (number : ℕ) (line : List ℕ) (event : Event) (w next : World) (n m : ℕ)
     (a b : Option (List ℕ))
     (r : Result (Unit {0}) EventFault) → event_of line ≡ Some (Some event) → EventRan shown event w next n m a b r →
@@ -323,7 +324,7 @@ event_line shown number line event w next n m a b (Err events.Write) is h = reco
 }
 event_line shown number line event w next n m a b (Err events.NoMemory) is h = h
 
--- a step that left the runner alone
+-- A step that changes nothing keeps each world.
 pub same_steps : {E : Type 0} (Kept : World → Type 0) (r : Result (Unit {0}) E) (R : World → World → Type 0) →
     ((w : World) → R w w) → LeadsOn Kept Kept r R
 same_steps Kept (Ok done) R f w stands = (w, f w, stands)

@@ -1,4 +1,4 @@
--- Those whose speech goes to a listener, as they are looked for.
+-- Searching for the talkers whose speech flows to a listener.
 use Rattle.std.proofs.Common.{◌≡◌, ◌==◌, ◌&&◌, ◌∙◌, ℕ, ◌+◌, ◌<◌, ◌≤◌, Bool, true, false, cond, List, [], ◌∷◌, ◌++◌, Option, Some, None, Result, Ok, Err, All, map, get_or, take, drop, length, length-append, refl, sym, ap, subst, arith}
 use Rattle.std.proofs.lemmas.List.{append-nil, take_more, take_more_set, take-append-drop, map-append}
 use Rattle.std.proofs.lemmas.List.Elements.{All-head, All-tail}
@@ -28,7 +28,7 @@ in_context : (w : Gateway) (listener : ℕ) (r : Record) → record_at w.rooms r
 in_context w listener r found h =
     subst (λ (o : Option Record). context_in o == context_of w listener ≡ true) found (and_left _ _ h)
 
--- speech stays in its talker's context
+-- Speech does not flow between different contexts.
 pub elsewhere : (w : Gateway) (r l : Record) → record_at w.rooms r.number ≡ Some r →
     record_at w.rooms l.number ≡ Some l → r.context == l.context ≡ false → flow w r.number l.number ≡ false
 elsewhere w r l there listening apart =
@@ -94,7 +94,7 @@ front_few p rs k =
       length-append (filter p (map (λ x. x.number) front)) (filter p (map (λ x. x.number) back)),
     )
 
--- its speech goes elsewhere
+-- If the next termination's speech does not flow to the listener, the talkers found so far stay the same.
 pub not_taken : (p : ℕ → Bool) (rs : List Record) (i : ℕ) (r : Record) (ns : List ℕ) → i < length rs →
     get_or rs i r ≡ r → p r.number ≡ false → ns ≡ filter p (map (λ x. x.number) (take i rs)) →
     ns ≡ filter p (map (λ x. x.number) (take (i + 1) rs))
@@ -102,7 +102,7 @@ not_taken p rs i r ns lt is away h =
     h ∙ sym (one_more p rs i r lt is ∙ ap (λ b. filter p (map (λ x. x.number) (take i rs)) ++
     cond b (r.number ∷ []) []) away ∙ append-nil (filter p (map (λ x. x.number) (take i rs))))
 
--- its speech goes to the listener, so there is a place for it
+-- If the next termination's speech flows to the listener, there is room to store it as a talker.
 pub is_taken : {E : Type 0} (p : ℕ → Bool) (rs : List Record) (i : ℕ) (r : Record) (ns new : List ℕ)
     (pushed : Result (Unit {0}) E) → i < length rs → get_or rs i r ≡ r → p r.number ≡ true →
     length (filter p (map (λ x. x.number) rs)) ≤ member_limit → ns ≡ filter p (map (λ x. x.number) (take i rs)) →

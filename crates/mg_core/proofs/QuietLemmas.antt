@@ -1,4 +1,4 @@
--- RTP datagrams and ticks change nothing of terminations, nor of who hears whom.
+-- RTP datagrams and ticks change neither the terminations nor who hears whom.
 use Rattle.std.proofs.Common.{◌≡◌, ◌==◌, ◌∙◌, ℕ, ℤ, ◌<◌, Bool, true, false, cond, List, [], ◌∷◌, Option, Some, None, Ok, Err, All, flat_map, get_or, map, length, refl, sym, ap, subst, arith}
 use Rattle.std.specs.List.{find}
 use Rattle.std.specs.Option.{option_map}
@@ -124,7 +124,7 @@ by_keeps : (w : Gateway) (o : Option Record) (source : List ℕ) (reading : Read
 by_keeps w None source reading = record { rooms = refl; edits = refl }
 by_keeps w (Some r) source reading = taken_keeps w r.number (arrived r source reading)
 
--- the terminations are as they were, and no change is told
+-- The terminations are unchanged, and no change is reported.
 pub record IsQuiet (w next : World) : Type 0 where
   pub same : listeners_of next.gateway ≡ listeners_of w.gateway
   pub none : changes_by w next ≡ []

@@ -1,4 +1,4 @@
--- What is written of an event is read as that event.
+-- The line written for an event is parsed as that event.
 use Rattle.std.proofs.Common.{◌≡◌, ℕ, zero, suc, ◌/◌, ◌%◌, ◌<◌, ◌≤◌, Bool, true, not, eqb, List, [], ◌∷◌, ◌++◌, length, slice_index, Some, None, All, refl, ap, ◌∙◌, length-append, arith, codes, decimal}
 use Rattle.std.proofs.lemmas.Bool.{lt-ltb, le-ltb, le-leb, ne_eqb, and_parts, and_from, not_from_false}
 use Rattle.std.proofs.lemmas.List.Elements.{All-head, All-tail}
@@ -21,18 +21,17 @@ use Rattle.mg_core.specs.Recording.{Happened, IsDatagram, IsRecorded}
 
 -- ## Tests that all bytes pass
 
--- a byte at any place, where 0 stands after the last
+-- If all bytes of a text and 0 pass a test, the byte at any index passes it. The byte after the end counts as 0.
 pub at_passes : (p : ℕ → Bool) (xs : List ℕ) (i : ℕ) → p 0 ≡ true → list_all p xs ≡ true → p (slice_index xs i) ≡ true
 at_passes p [] i z h = z
 at_passes p (x ∷ xs) zero z h = (and_parts (p x) (list_all p xs) h).0
 at_passes p (x ∷ xs) (suc i) z h = at_passes p xs i z (and_parts (p x) (list_all p xs) h).1
 
--- another byte than this one
+-- Whether `b` is a byte other than `byte`.
 abbrev pub is_not : ℕ → ℕ → Bool
 is_not byte b = not (eqb b byte)
 
--- What the bytes of a line pass: the digits, the marks between its parts, and the key words. What stands after the last
--- byte passes it too.
+-- All bytes of a line pass the test: digits, separators and keywords. So does 0, which stands for the end of the line.
 pub record Passes (p : ℕ → Bool) : Type 0 where
   pub zero_passes : p 0 ≡ true
   pub decimals : (c : ℕ) → 48 ≤ c → c ≤ 57 → p c ≡ true
@@ -76,7 +75,7 @@ no_return = record {
   tick = refl;
 }
 
--- hexadecimal digits
+-- Hexadecimal digits pass the test.
 digits_pass : (p : ℕ → Bool) → p 0 ≡ true → list_all p lower_digits ≡ true → (bytes : List ℕ) →
     list_all p (encode_lower bytes) ≡ true
 unfolding encode_with
@@ -86,7 +85,7 @@ digits_pass p z h (b ∷ bs) =
     let low = at_passes p lower_digits (b % 16) z h in
     rw (high, low, digits_pass p z h bs) refl
 
--- an address
+-- The bytes of an address pass the test.
 address_passes : (p : ℕ → Bool) → ((c : ℕ) → 48 ≤ c → c ≤ 57 → p c ≡ true) → p 46 ≡ true → (address : List ℕ) →
     IsBytes address → list_all p (address_text address) ≡ true
 address_passes p h dot address small =
@@ -94,7 +93,7 @@ address_passes p h dot address small =
     λ i. decimal_passes p h (slice_index address i) (omega (arith, small i)) in
     simp (list_all-append, at 0, at 1, at 2, at 3, dot)
 
--- a peer
+-- The bytes of a peer pass the test.
 peer_passes : (p : ℕ → Bool) → ((c : ℕ) → 48 ≤ c → c ≤ 57 → p c ≡ true) → p 46 ≡ true → p 58 ≡ true → (source : Peer)
     → IsBytes source.address → source.port < 65536 → list_all p (peer_text source) ≡ true
 peer_passes p h dot colon source small port =
@@ -104,7 +103,7 @@ peer_passes p h dot colon source small port =
 
 -- ## Texts in two parts
 
--- a text is cut at the first such byte
+-- `cut` splits a text at the first occurrence of the byte.
 pub cut_seam : (byte : ℕ) (xs ys : List ℕ) → eqb byte byte ≡ true → list_all (is_not byte) xs ≡ true →
     cut byte (xs ++ byte ∷ ys) ≡ Some (xs, ys)
 cut_seam byte xs ys same h =
@@ -157,7 +156,7 @@ bytes_from_all [] h i = omega arith
 bytes_from_all (x ∷ xs) h zero = All-head (λ b. b < 256) x xs h
 bytes_from_all (x ∷ xs) h (suc i) = bytes_from_all xs (All-tail (λ b. b < 256) x xs h) i
 
--- a peer, a space and the digits
+-- The part of a line with a peer, a space and the hexadecimal digits of a datagram.
 abbrev pub datagram_part : Peer → List ℕ → List ℕ
 datagram_part source bytes = peer_text source ++ (32 ∷ encode_lower bytes)
 
@@ -221,7 +220,7 @@ rtp_read port source bytes h d =
 
 -- ## Events
 
--- the line for an event, without its line feed
+-- The line for an event, without its line feed.
 abbrev pub event_text : Event → List ℕ
 event_text (Control source bytes) = codes "control " ++ datagram_part source bytes
 event_text (Media port source bytes) = codes "rtp " ++ (decimal port ++ (32 ∷ datagram_part source bytes))
@@ -278,7 +277,7 @@ event_read (Control source bytes) d = control_line_read source bytes d
 event_read (Media port source bytes) d = rtp_line_read port source bytes d.0 d.1
 event_read Tick d = tick_read
 
--- a line that begins with # and isn't too long
+-- A line that begins with `#` is a comment, unless it is too long.
 pub comment_read : (rest : List ℕ) → length rest < 140000 → event_of (35 ∷ rest) ≡ Some None
 unfolding event_of
 comment_read rest short = rw (le-ltb 140000 (length (35 ∷ rest)) (omega arith)) refl

@@ -48,7 +48,7 @@ erased_twice : (some : List ℕ) (xs : List TerminationMedia) → erased (map (u
 erased_twice some [] = refl
 erased_twice some (s ∷ xs) = λ i. erased_at s (has some s.number) i ∷ erased_twice some xs i
 
--- those that are alike outside some are alike without what was received
+-- Media that agree outside some terminations also agree if received packets are ignored for all terminations.
 same_erased : (some : List ℕ) (xs ys : List TerminationMedia) →
     map (unless_among some) xs ≡ map (unless_among some) ys → erased xs ≡ erased ys
 same_erased some xs ys h = sym (erased_twice some xs) ∙ ap erased h ∙ erased_twice some ys
@@ -88,7 +88,7 @@ same_numbers : (xs : List TerminationMedia) → numbers (erased xs) ≡ numbers 
 same_numbers [] = refl
 same_numbers (s ∷ xs) = ap (λ (ns : List ℕ). s.number ∷ ns) (same_numbers xs)
 
--- those that are alike without what was received are alike outside all of them
+-- Media that agree if received packets are ignored agree outside the set of all their terminations.
 same_outside : (xs ys : List TerminationMedia) → erased xs ≡ erased ys →
     map (unless_among (numbers xs)) xs ≡ map (unless_among (numbers xs)) ys
 same_outside xs ys h =
@@ -229,7 +229,7 @@ agrees_itself w = record {
   ticks = refl;
 }
 
--- the depths of play lists are those in the records
+-- The depths of play lists equal those in the records.
 pub in_histories : RtpChangesSpeechOnly → ConsistentSteps → ((config : Config) → IsStart config →
     IsConsistent (rooms_at_start config)) → RtpChangesSpeechOnlyInHistories
 in_histories worlds consistent starts config events s t v w one other start (run, stands) (runs, too) =

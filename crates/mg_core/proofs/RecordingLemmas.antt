@@ -1,4 +1,4 @@
--- Recordings are scripts of their events.
+-- A recording is a script of its events.
 use Rattle.std.proofs.Common.{◌≡◌, ◌≢◌, ◌⊎◌, inl, inr, ℕ, suc, ◌-◌, ◌≤◌, Bool, true, false, cond, eqb, List, [], ◌∷◌, ◌++◌, length, take, slice_index, Option, Some, None, All, refl, sym, ap, subst, ◌∙◌, append_assoc, append-nil, length-take, arith, codes}
 use Rattle.std.proofs.lemmas.Bool.{ne_eqb, and_parts, and_from, not-true, not_from_false}
 use Rattle.std.proofs.lemmas.List.Elements.{All-head, All-tail}
@@ -12,7 +12,7 @@ use Rattle.mg_core.proofs.ReadBackLemmas.{is_not, at_passes, no_feed, no_return,
 
 -- ## Lines
 
--- a line, and what stands after it
+-- A text that starts with a line consists of that line and the lines after it.
 line_then : (ended : Bool) (partial line rest : List ℕ) → list_all (is_not 10) line ≡ true →
     lines_after ended partial (line ++ 10 ∷ rest) ≡ without_return (partial ++ line) ∷ lines_after ended [] rest
 unfolding lines_after
@@ -26,7 +26,7 @@ line_then ended partial (b ∷ bs) rest h =
     ap (λ (l : List ℕ). without_return l ∷ lines_after ended [] rest) (append_assoc partial (b ∷ []) bs) in
     rw (not-true (eqb b 10) two.0) grown
 
--- no line ends
+-- A text without a line feed has no complete line.
 none_whole : (partial front : List ℕ) → list_all (is_not 10) front ≡ true → lines_after false partial front ≡ []
 unfolding lines_after
 none_whole partial [] h = either (eqb (length partial) 0)
@@ -41,13 +41,13 @@ none_whole partial (b ∷ bs) h =
     let two = and_parts (is_not 10 b) (list_all (is_not 10) bs) h in
     rw (not-true (eqb b 10) two.0) (none_whole (partial ++ b ∷ []) bs two.1)
 
--- a line without a carriage return at its end
+-- A line without carriage returns is returned unchanged.
 whole_line : (line : List ℕ) → list_all (is_not 13) line ≡ true → without_return line ≡ line
 whole_line line h =
     rw (not-true (eqb (slice_index line (length line - 1)) 13) (at_passes (is_not 13) line (length line - 1) refl h))
     refl
 
--- where a text is cut, in its first line or after it
+-- The place where a text is cut off: in its first line, or after that line.
 abbrev CutIn : (line more front rest : List ℕ) → Type 0
 CutIn line more front rest =
     (list_all (is_not 10) front ≡ true) ⊎
@@ -73,12 +73,12 @@ cut_in (b ∷ line) more (x ∷ front) rest h e =
 
 -- ## Entries
 
--- the line of an entry, without its line feed
+-- The line of an entry, without its line feed.
 abbrev entry_text : Entry → List ℕ
 entry_text (Happened event) = event_text event
 entry_text (Noted text) = codes "# " ++ text
 
--- the event of an entry, if it is one
+-- The event of an entry, or `None` if the entry is a comment.
 abbrev event_in : Entry → Option Event
 event_in (Happened event) = Some event
 event_in (Noted text) = None
@@ -104,7 +104,7 @@ entry_goes_on : (entry : Entry) → IsRecorded entry → list_all (is_not 10) (e
 entry_goes_on (Happened event) r = event_passes (is_not 10) no_feed event r
 entry_goes_on (Noted text) r = no_feeds text r.1
 
--- a comment, with a carriage return at its end or without
+-- A comment is parsed as one, with or without a carriage return at its end.
 note_read : (text : List ℕ) → length text ≤ 1000 → event_of (without_return (35 ∷ 32 ∷ text)) ≡ Some None
 note_read text short = either (eqb (slice_index (35 ∷ 32 ∷ text) (length (35 ∷ 32 ∷ text) - 1)) 13)
     (length (35 ∷ 32 ∷ text) - 1) (length text) (omega arith)
@@ -129,7 +129,7 @@ events_then : (line : List ℕ) (lines : List (List ℕ)) (event : Option Event)
 unfolding events_of
 events_then line lines event events h k = rw (h, k) refl
 
--- an entry, and what stands after it
+-- The events of an entry and the text after it are the event of the entry and the events of that text.
 entry_lines : (ended : Bool) (entry : Entry) (rest : List ℕ) (events : List Event) → IsRecorded entry →
     events_of (lines_after ended [] rest) ≡ Some events →
     events_of (lines_after ended [] (entry_text entry ++ 10 ∷ rest)) ≡ Some (then_all (event_in entry) events)
@@ -151,7 +151,7 @@ recordings_are_read (entry ∷ entries) all =
     entry_lines true entry (recording_of entries) (events_in entries) first others ∙
     ap Some (sym (events_in_then entry entries))
 
--- what is read of the front of a recording
+-- The complete lines in the prefix of a recording are a script of the first events.
 abbrev IsFrontRead : List Entry → List ℕ → Type 0
 IsFrontRead entries front =
     (first : List Entry) × (others : List Entry) × (entries ≡ first ++ others)

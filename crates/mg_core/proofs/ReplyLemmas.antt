@@ -1,4 +1,4 @@
--- Replies after one another.
+-- Writing the replies of a message one after another.
 use Rattle.std.specs.List.{list_all}
 use Rattle.std.proofs.Common.{◌≡◌, ◌&&◌, eqb, if◌then◌else◌, ℕ, ◌+◌, ◌-◌, ◌^◌, ◌<◌, ◌≤◌, ltb, ◌||◌, Bool, true, false, List, [], ◌∷◌, ◌++◌, length, get_or, drop, Option, Some, None, Result, Ok, Err, refl, sym, ap, ◌∙◌, append_assoc, length-append, arith}
 use Rattle.std.specs.Prelude.{is_err, IsOk}
@@ -34,7 +34,7 @@ use Rattle.mg_reply.specs.aids.Width.{TooLongByText, AllItemsAreKept, is_wide, i
 use Rattle.mg_core.specs.Answer.{with_front, item_replied, mark_after, replied_to, request_replied, run_and_kept, sent_text, without_ranges}
 use Rattle.mg_core.specs.aids.Answers.{unless_kept}
 
--- the error in the place of a reply is short
+-- The error that replaces a reply that is too long is short.
 pub refusal_short : (n : ℕ) → n < 2 ^ 32 → length (reply_text n (Fault ReplyTooLong ∷ [])) ≤ 16000
 unfolding error_text error_row
 refusal_short n small = simp length-append (omega (
@@ -49,7 +49,7 @@ ok_from (Err x) e = absurd cc
 
 pub ruleset sending = (refusal_short, ok_from, le-ltb)
 
--- what is written for an item has room
+-- The separator fits in the room, because it fits together with a reply of maximum length.
 pub fits_marks : (n marks room : ℕ) → n + marks ≤ 1 + room → n ≡ 16001 → marks ≤ room
 fits_marks n marks room le is = omega (arith, le, is)
 
@@ -94,7 +94,7 @@ put_is_sent alone there n xs wide whole =
     (number_kept n (new_reply n) xs refl)
     (alone n xs wide whole) refl (there n xs)
 
--- a request that was run, and whose reply was written and kept
+-- A request is run, and its reply is written and kept.
 pub request_run : TooLongByText → AllItemsAreKept → (source sender : List ℕ) (request : Request) (old new : CoreState)
     (reply : Answered) (before text : List ℕ)
     → ((w : Gateway) → list_all is_wide (replied source request w).items ≡ true) →
@@ -133,7 +133,7 @@ kept_in : (state : CoreState) (w : World) (sender : List ℕ) (n : ℕ) (o : Opt
     kept_text state.kept sender n ≡ o → kept_text w.replies sender n ≡ o
 kept_in state w sender n o h is = ap (λ (l : List KeptReply). kept_text l sender n) h.replies ∙ is
 
--- a request that came again, for which the kept text was written
+-- A retransmitted request is answered with the kept reply.
 pub request_again : (source sender : List ℕ) (request : Request) (state : CoreState) (before reported text : List ℕ) →
     kept_text state.kept sender request.number ≡ Some reported
     → text ≡ before ++ reported → TextGrows state state before text (request_replied source sender request)
@@ -148,7 +148,7 @@ request_again source sender request state before reported text kept is w h = (
   h,
 )
 
--- one for which none is kept
+-- A request without a kept reply is run.
 pub request_new : (source sender : List ℕ) (request : Request) (old new : CoreState) (before text : List ℕ) →
     kept_text old.kept sender request.number ≡ None
     → TextGrows old new before text (λ w. run_and_kept sender request.number w (replied source request w.gateway)) →
@@ -166,7 +166,7 @@ request_new source sender request old new before text none ran w h =
       stands,
     )
 
--- with its mark in front
+-- The separator is written in front of the reply.
 pub request_put : (source sender mark : List ℕ) (request : Request) (old new : CoreState) (before text : List ℕ)
     → TextGrows old new (before ++ mark) text (request_replied source sender request) →
     TextGrows old new before text (item_replied source sender mark (items.Request request))
@@ -175,7 +175,7 @@ request_put source sender mark request old new before text ran w h =
     let (out, represents, is) = wrote in
     (next, (mark ++ out, ap (with_front mark) represents, is ∙ append_assoc before mark out), stands)
 
--- replies that were acknowledged
+-- An acknowledgement drops the kept replies in its ranges.
 pub ranges_taken : (source sender mark : List ℕ) (ranges : List Range) (old new : CoreState) (text : List ℕ) →
     new.engine ≡ old.engine → new.counts ≡ old.counts → new.kept ≡ without_ranges sender ranges old.kept
     → TextGrows old new text text (item_replied source sender mark (items.Acknowledgement ranges))
@@ -200,7 +200,7 @@ requests_more : (xs : List MessageItem) (x : MessageItem) → requests_in (x ∷
 requests_more xs (items.Request r) = refl
 requests_more xs (items.Acknowledgement r) = omega arith
 
--- how many requests there are from one item on
+-- The number of requests from index `i` on.
 pub requests_from : (xs : List MessageItem) (i : ℕ) (d : MessageItem) → i < length xs →
     requests_in (drop i xs) ≡ requests_in (get_or xs i d ∷ []) + requests_in (drop (i + 1) xs)
 requests_from xs i d lt = ap requests_in (drop_more xs i d lt) ∙ requests_more (drop (i + 1) xs) (get_or xs i d)
@@ -210,7 +210,8 @@ requests_from xs i d lt = ap requests_in (drop_more xs i d lt) ∙ requests_more
 abbrev pub answering : Option (List ℕ) → World → Option (List ℕ) × World
 answering answer w = (answer, w)
 
--- The loop over items: it was entered with a state that stood for each world w, and f w is what is written for them.
+-- The loop over items. For each world `w` that the state on entry represents, `f w` is the part already written,
+-- followed by `rest` of the current world.
 abbrev pub IsUnderWay : CoreState → CoreState → List ℕ → List ℕ → (World → List ℕ × World) →
     (World → List ℕ × World) → Type 0
 IsUnderWay entered kept before text f rest = (w : World) → StandsFor entered w → (now : World) × (out : List ℕ) ×

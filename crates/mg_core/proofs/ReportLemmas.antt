@@ -1,4 +1,4 @@
--- What is reported of an outcome determines it.
+-- The report of changes determines their outcome.
 use Rattle.std.proofs.Common.{◌≡◌, ◌==◌, ◌∙◌, ℕ, suc, ◌<◌, ◌≤◌, Bool, true, false, cond, List, [], ◌∷◌, ◌++◌, Option, Some, None, All, flat_map, get_or, map, length, refl, sym, ap, subst, arith}
 use Rattle.std.specs.Prelude.{IsSome, is_some}
 use Rattle.std.specs.List.{AllPairs}
@@ -26,7 +26,7 @@ use Rattle.mg_core.proofs.ReportLineLemmas.{AreShort, Ended, Entry, Hears, InMod
 
 -- ## A report as a list of entries
 
--- an entry, unless nothing of that kind changed
+-- The list with this entry, or the empty list if nothing of its kind changed.
 abbrev unless_same : Bool → Entry → List Entry
 unless_same b e = cond b [] (e ∷ [])
 
@@ -104,7 +104,7 @@ same_mode_is SendReceive SendReceive h = refl
 same_mode_is Loopback Loopback h = refl
 same_mode_is a b h = absurd (cc h)
 
--- two that are the same but for their ports
+-- Two listeners that are equal except for their ports.
 pub record AreSame (x y : Listener) : Type 0 where
   number : x.number ≡ y.number
   context : x.context ≡ y.context
@@ -120,7 +120,7 @@ same_but_port x y h = λ i. record {
   talkers = h.talkers i;
 }
 
--- it was there, and it was the same
+-- The listener existed before, and is unchanged except for its port.
 abbrev WasThere : List Listener → Listener → Type 0
 WasThere xs y = (x : Listener) × (listener_at xs y.number ≡ Some x) × AreSame x y
 
@@ -145,7 +145,7 @@ later_rise x xs h = λ i j d lt within. h (suc i) (suc j) d (omega (arith, lt)) 
 all_later : (x : Listener) (xs : List Listener) → Rises (x ∷ xs) → All (λ y. x.number < y.number) xs
 all_later x xs h = λ k d lt. h 0 (suc k) d (omega arith) (omega (arith, lt))
 
--- no number that is found is below the first
+-- A number that is found in a list of rising numbers is not below the first number.
 least_step : (b : Bool) (n m : ℕ) (x : Listener) (o : Option Listener) → (b ≡ true → m ≡ n) →
     (is_some o ≡ true → m ≤ n) → is_some (cond b (Some x) o) ≡ true → m ≤ n
 least_step true n m x o f g h = omega (arith, f refl)
@@ -160,7 +160,7 @@ least x (y ∷ ys) n rise h = least_step (x.number == n) n x.number x (listener_
       All-head (λ z. x.number < z.number) y ys (all_later x (y ∷ ys) rise),
     )) h
 
--- a number above the first is found behind it
+-- A number above the first is found in the rest of the list.
 behind : (x : Listener) (xs : List Listener) (n : ℕ) → x.number < n → listener_at (x ∷ xs) n ≡ listener_at xs n
 behind x xs n lt = rw (ne_eqb x.number n (λ e. absurd (omega (arith, e, lt)))) refl
 
@@ -245,7 +245,7 @@ neither : {A : Type 0} (b : Bool) (o : Option A) → o ≡ None → cond b None 
 neither true o h = refl
 neither false o h = h
 
--- entries of another termination say nothing of this one
+-- The entries of another termination contain nothing about this one.
 not_about : {A : Type 0} (n : ℕ) (g : Said → Option A) (o : Option Listener) (y : Listener) → y.number == n ≡ false →
     first (about n g) (new_entries o y) ≡ None
 not_about n g None y h = rw h (first_unless (about n g) (length y.talkers == 0) (entry y (Hears y.talkers)) ∙
@@ -265,7 +265,7 @@ none_later n (y ∷ ys) h =
     rw (ne_eqb y.number n (λ e. absurd (omega (arith, e, lt))))
     (none_later n ys (All-tail (λ z. n < z.number) y ys h))
 
--- of terminations whose numbers rise, what is said first of one is in its own entries
+-- If numbers rise, the first fact about a termination is in its own entries.
 first_of_news : {A : Type 0} (n : ℕ) (g : Said → Option A) (before ys : List Listener) → Rises ys →
     first (about n g) (flat_map (news before) ys) ≡
     option_and_then (λ y. first (about n g) (news before y)) (listener_at ys n)
@@ -288,7 +288,7 @@ first_of_news {A = A} n g before (y ∷ ys) rise =
         none_in (about n g) (news before y) (flat_map (news before) ys)
         (not_about n g (listener_at before y.number) y is) ∙ rest
 
--- that one ended is said only of one that isn't there
+-- Entries about ended terminations contain only the fact that they ended.
 first_of_old : {A : Type 0} (n : ℕ) (g : Said → Option A) (after xs : List Listener) → g Ended ≡ None →
     first (about n g) (flat_map (old_entries after) xs) ≡ None
 first_of_old n g after [] none = refl
@@ -343,7 +343,7 @@ abbrev rebuild : ℕ → Option Listener → List Entry → Option Listener
 rebuild n o es = rebuilt n o (first (about n is_end) es) (first (about n its_context) es) (first (about n its_mode) es)
     (first (about n its_talkers) es)
 
--- what the entries of one say first of it
+-- The first fact of a kind in the entries of one termination.
 abbrev own : {A : Type 0} → (Said → Option A) → Option Listener → Listener → Option A
 own g None y = option_or (g (MadeIn y.context y.port))
     (option_or (g (InMode y.mode)) (cond (length y.talkers == 0) None (g (Hears y.talkers))))
@@ -440,7 +440,7 @@ rebuilt_own n (Some old) y e number none =
       talkers = talkers i;
     }))
 
--- of one that is there it isn't said that it ended
+-- If a termination still exists, there is no entry that it ended.
 not_ended : (n : ℕ) (y : Listener) (after xs : List Listener) → listener_at after n ≡ Some y →
     first (about n is_end) (flat_map (old_entries after) xs) ≡ None
 not_ended n y after [] is = refl
@@ -456,7 +456,7 @@ not_ended n y after (x ∷ xs) is =
         (ap (listener_at after) (eqb-true x.number n same) ∙ is)
     by_test false other = neither (is_some (listener_at after x.number)) None refl
 
--- of one that is there no more it is said
+-- If a termination no longer exists, there is an entry that it ended.
 has_ended : (n : ℕ) (old : Listener) (after xs : List Listener) → listener_at after n ≡ None →
     listener_at xs n ≡ Some old → first (about n is_end) (flat_map (old_entries after) xs) ≡ Some tt
 has_ended n old after [] none was = absurd (cc was)

@@ -1,4 +1,4 @@
--- What the lines of a report say is read back from their text.
+-- The text of a report determines its entries.
 use Rattle.std.proofs.Common.{◌≡◌, ◌∙◌, ℕ, ◌^◌, ◌<◌, true, List, [], ◌∷◌, ◌++◌, Some, All, flat_map, get_or, length, refl, sym, ap, append_assoc, arith, codes, decimal}
 use Rattle.std.specs.List.{list_all}
 use Rattle.std.proofs.lemmas.Bool.{eq-eqb, ne_eqb}
@@ -23,7 +23,7 @@ pub data Said : Type 0 where
   InMode : (mode : Mode) → Said
   Hears : (talkers : List ℕ) → Said
 
--- of which termination it is said
+-- A fact about the termination with this number.
 pub record Entry : Type 0 where
   pub number : ℕ
   pub said : Said
@@ -38,7 +38,7 @@ said_text (Hears talkers) = codes "hears" ++ names_in_line talkers
 abbrev pub line_of : ℕ → Entry → List ℕ
 line_of ticks e = line_head ticks e.number ++ ((32 ∷ said_text e.said) ++ codes "\n")
 
--- decimals are read back below this bound
+-- A number below this bound is determined by its decimal text.
 abbrev pub IsShort : ℕ → Type 0
 IsShort n = n < 2 ^ 64
 
@@ -58,7 +58,7 @@ pub record IsShortEntry (e : Entry) : Type 0 where
 pair_same : (p q : List ℕ × List ℕ) → Some p ≡ Some q → p ≡ q
 pair_same p q e = cc
 
--- two texts that are cut at the same byte
+-- If two texts are equal, so are their parts before and after the first occurrence of a byte.
 two_parts : (byte : ℕ) (a b s t : List ℕ) → list_all (is_not byte) a ≡ true → list_all (is_not byte) b ≡ true →
     a ++ byte ∷ s ≡ b ++ byte ∷ t → (a ≡ b) × (s ≡ t)
 two_parts byte a b s t h k e =
@@ -70,7 +70,7 @@ two_parts byte a b s t h k e =
 decimal_plain : (byte n : ℕ) → byte < 48 → IsShort n → list_all (is_not byte) (decimal n) ≡ true
 decimal_plain byte n small short = decimal_passes (is_not byte) (decimals_above byte small) n short
 
--- two numbers, with a space after each
+-- If two texts that start with a number and a space are equal, so are the numbers and the rests.
 number_then : (m n : ℕ) (s t : List ℕ) → IsShort m → IsShort n → decimal m ++ 32 ∷ s ≡ decimal n ++ 32 ∷ t →
     (m ≡ n) × (s ≡ t)
 number_then m n s t h k e =
@@ -80,7 +80,7 @@ number_then m n s t h k e =
 
 -- ## Names
 
--- names, with a space after each
+-- Names with a space after each of them.
 abbrev after_space : List ℕ → List ℕ
 after_space [] = []
 after_space (n ∷ ns) = codes "RTP/" ++ (decimal n ++ 32 ∷ after_space ns)
@@ -155,7 +155,7 @@ names_plain : (ns : List ℕ) → All IsShort ns → list_all (is_not 10) (names
 names_plain [] h = refl
 names_plain (n ∷ ns) h = rw (named_all n ns) (name_plain (n ∷ ns) h)
 
--- no line ends within what is said
+-- The text of a fact has no line feed.
 said_plain : (s : Said) → AreShort s → list_all (is_not 10) (said_text s) ≡ true
 said_plain Ended h = refl
 said_plain (MadeIn context port) h = all_append (is_not 10) (decimal context) (codes " at port " ++ decimal port)
@@ -166,7 +166,7 @@ said_plain (Hears talkers) h = names_plain talkers h
 
 -- ## Lines
 
--- what stands after the number of ticks in a line, and after the line
+-- The rest of a line after its number of ticks, and the text after that line.
 abbrev named : Entry → List ℕ → List ℕ
 named e rest = codes " ticks: RTP/" ++ (decimal e.number ++ 32 ∷ (said_text e.said ++ 10 ∷ rest))
 
@@ -187,7 +187,7 @@ line_same ticks e f rest others h k same =
     let is = said_same e.said f.said h.said k.said said.0 in
     (λ i. record { number = number.0 i; said = is i }, said.1)
 
--- lines say the same only where they are the same
+-- If the lines of two lists of entries are equal, so are the entries.
 pub lines_same : (ticks : ℕ) (es fs : List Entry) → All IsShortEntry es → All IsShortEntry fs →
     flat_map (line_of ticks) es ≡ flat_map (line_of ticks) fs → es ≡ fs
 lines_same ticks [] [] h k same = refl

@@ -1,4 +1,4 @@
--- A script that is resumed: its notes, the bytes that they come in, and how far it was read.
+-- Resuming a script: its notes, the bytes of its lines, and how far it was read.
 use Rattle.std.proofs.Common.{◌≡◌, ◌≢◌, ℕ, zero, suc, ◌+◌, ◌<◌, ◌≤◌, Bool, true, false, List, [], ◌∷◌, ◌++◌, length, codes, eqb, get_or, replicate, take, drop, Option, Some, None, Result, Ok, Err, refl, sym, ap, subst, ◌∙◌, append_assoc, length-append, length-take, arith, inl, inr, ◌⊎◌}
 use Rattle.std.proofs.lemmas.Bool.{eq-eqb, eqb-true, ne_eqb, true≢false}
 use Rattle.std.proofs.lemmas.List.{append-nil, drop-drop, get_or-take, length-replicate, replicate-append-replicate, take-append-drop}
@@ -98,7 +98,7 @@ events_in_ticks : (n : ℕ) → events_in (ticks_of n) ≡ replicate n Tick
 events_in_ticks zero = refl
 events_in_ticks (suc n) = ap (λ (l : List Event). Tick ∷ l) (events_in_ticks n)
 
--- a gateway at which these events arrived
+-- The state is that of a gateway at which these events arrived.
 abbrev HasRunEvents : Config → CoreState → List Event → Type 0
 HasRunEvents config state events = (sent : List Sent) × (w : World) × HasHistory config events sent w state
 
@@ -234,12 +234,12 @@ ended_long count text le more = (long_line text (10 ∷ more) le, refl)
 
 -- ## The bytes of lines
 
--- a text is a part without a line feed, a line feed, and more
+-- The text consists of a part without a line feed, a line feed, and the rest.
 pub record IsCut (rest part next : List ℕ) : Type 0 where
   pub parts : part ++ (10 ∷ next) ≡ rest
   pub plain : (k : ℕ) → k < length part → get_or part k 0 ≢ 10
 
--- a search for a line feed finds the first, or none
+-- Splitting a text at the first line feed that a search finds, if there is one.
 pub cut_at_feed : (rest part tail next : List ℕ) (n : ℕ) → IsFirstByte (is_byte 10) rest (Some n) →
     part ≡ take n rest → tail ≡ drop n rest → next ≡ drop 1 tail → IsCut rest part next
 cut_at_feed rest part tail next n h front back after =
@@ -298,7 +298,7 @@ ticks_then n m text rest next h more =
     ∙ ap (λ (l : List ℕ). l ++ next) (sym (concat-append (replicate n line) (replicate m line))
     ∙ ap concat (replicate-append-replicate n m line))
 
--- sixteen lines at once
+-- Sixteen `tick` lines are counted at once.
 pub sixteen_more : (n : ℕ) (text rest next : List ℕ) → IsAfterTicks n text rest →
     pointwise nat_eq (take 80 rest) SIXTEEN_TICKS.now ≡ true → next ≡ drop 80 rest → IsAfterTicks (n + 16) text next
 sixteen_more n text rest next h same after =
@@ -336,7 +336,7 @@ bytes_ticks n m p k partial bytes rest next Old Mid New h more are adds =
           (record { notes = ticks_of k; are = notes_of_ticks k; adds = adds });
     }
 
--- a bad line after the lines so far
+-- If a bad line follows the lines so far, it is the first bad line of the bytes.
 bad_after : (n m k : ℕ) (partial bytes left rest : List ℕ) (Old Mid : List Note → Type 0) →
     BytesRun n m partial bytes left rest Old Mid →
     ((more : List ℕ) → StartsBad m (lines_after true left (rest ++ more)) k) → BytesBad n partial bytes k
@@ -384,7 +384,7 @@ bytes_long n m partial bytes left rest Old Mid h plain long =
     (λ more. subst (λ (l : List (List ℕ)). StartsBad m l (m + 1)) (sym (unbroken rest plain true left more))
     (long_line (left ++ rest) more long, refl))
 
--- the bytes after the last line feed, which are kept, or make the line too long
+-- The bytes after the last line feed are kept, unless they make the line too long.
 pub bytes_last : (s : Bool) (n m : ℕ) (partial bytes left rest kept : List ℕ) (Old Mid : List Note → Type 0)
     (r : Result (Unit {0}) LineFault) → BytesRun n m partial bytes left rest Old Mid →
     ((k : ℕ) → k < length rest → get_or rest k 0 ≢ 10) → OnOk r (kept ≡ left ++ rest) →
@@ -399,7 +399,7 @@ bytes_last s n m partial bytes left rest kept Old Mid (Err fault) h plain same l
 
 -- ## How far the script was read
 
--- a text was read, the lines that end in it have these notes, and the next line has a part already
+-- The text that was read has these notes in its complete lines, and ends with this partial line.
 pub record Far (input remaining : Option (List ℕ)) (partial : List ℕ) (count : ℕ) (notes : List Note) : Type 0 where
   pub text : List ℕ
   pub consumed : Consumes input remaining text
@@ -408,7 +408,7 @@ pub record Far (input remaining : Option (List ℕ)) (partial : List ℕ) (count
   pub counted : count ≡ length lines
   pub are : notes_of lines ≡ Some notes
 
--- the notes of such lines, with which a gateway and a follower keep up
+-- The text was read so far, and its notes satisfy `Old`.
 abbrev pub Reaches : (Old : List Note → Type 0) → (input remaining : Option (List ℕ)) → List ℕ → ℕ → Type 0
 Reaches Old input remaining partial count =
     (notes : List Note) × Far input remaining partial count notes × Old notes
@@ -622,7 +622,7 @@ pub not_err : {A E : Type 0} (r : Result A E) (X : Type 0) → is_err r ≡ fals
 not_err (Ok value) X none h = h
 not_err (Err e) X none h = absurd (true≢false none)
 
--- as far as a script was read, a follower was not done
+-- The text was read so far. At its end, the follower was not done.
 abbrev pub Waits : {F : Type 0} → (F → Bool) → (F → List Note → Type 0) → (Old : List Note → Type 0)
     → (input remaining : Option (List ℕ)) → List ℕ → ℕ → Type 0
 Waits done Follows Old input remaining partial count =
@@ -664,14 +664,14 @@ unfolding lines_after
 no_part [] = refl
 no_part (b ∷ bs) = rw (ne_eqb (length (b ∷ bs)) 0 (λ e. absurd (omega arith))) refl
 
--- the notes of the lines that have ended
+-- The notes of the complete lines of the text.
 ended_notes : (i x : Option (List ℕ)) (partial : List ℕ) (n : ℕ) (notes : List Note) (p : Far i x partial n notes) →
     notes_of (lines_of false p.text) ≡ Some notes
 ended_notes i x partial n notes p =
     ap notes_of (ap (lines_after false []) (sym (append-nil p.text)) ∙ p.split false []
     ∙ ap (λ (l : List (List ℕ)). p.lines ++ l) (no_part partial) ∙ append-nil p.lines) ∙ p.are
 
--- one more piece was read, and its ticks were run
+-- One more piece of the script was read, and its ticks were run.
 pub record Advances {F : Type 0} (config : Config) (state : CoreState) (done : F → Bool)
     (Follows : F → List Note → Type 0) (now : F) (i x y : Option (List ℕ)) (front piece left : List ℕ) (m : ℕ)
     : Type 0 where

@@ -1,4 +1,4 @@
--- How long a request is answered by the reply that was kept for it.
+-- How long the kept reply answers retransmissions of a request.
 use Rattle.std.proofs.Common.{◌≡◌, ℕ, ◌+◌, ◌<◌, ◌≤◌, Bool, true, false, ◌&&◌, cond, eqb, leb, List, [], ◌∷◌, length, Option, Some, None, is_none, refl, sym, ap, ◌∙◌, subst, arith, inl, inr}
 use Rattle.std.specs.List.{AllByRecursion, list_any}
 use Rattle.std.specs.Str.{str_eq_ignore_ascii_case, str_to_ascii_lowercase}
@@ -25,13 +25,13 @@ use Rattle.mg_core.specs.Retransmissions.{AcknowledgedAreDropped, DroppedRequest
 use Rattle.mg_core.specs.Step.{Run, Sent, Step}
 use Rattle.mg_core.specs.World.{World, start_of, with_control}
 
--- what a request is answered, by whether a reply is kept for it
+-- Whether a reply is kept for a request determines how the request is answered.
 pub replied_by : (source sender : List ℕ) (request : Request) (w : World) (o : Option (List ℕ)) →
     kept_text w.replies sender request.number ≡ o →
     request_replied source sender request w ≡ unless_kept o source sender request w
 replied_by source sender request w o is = ap (λ (x : Option (List ℕ)). unless_kept x source sender request w) is
 
--- the reply that is kept for a request that was run
+-- The reply that is kept after a request was run.
 abbrev reply_of : List ℕ → List ℕ → Request → World → KeptReply
 reply_of source sender request w = record {
   sender = sender;
@@ -39,7 +39,7 @@ reply_of source sender request w = record {
   text = (run_and_kept sender request.number w (replied source request w.gateway)).0;
 }
 
--- a name is itself, and the case of letters makes no difference either way
+-- Comparing names while ignoring case is reflexive and symmetric.
 own : (a : List ℕ) → str_eq_ignore_ascii_case a a ≡ true
 own a = (bytes_eq-Decides (str_to_ascii_lowercase a) (str_to_ascii_lowercase a)).1 refl
 
@@ -51,7 +51,7 @@ asked_world : (b : Bool) (head : List ℕ) (p : List ℕ × World) → (if_asked
 asked_world true head p = refl
 asked_world false head p = refl
 
--- the world after an answer, by what the items of a message do
+-- A property that the items of a message preserve also holds after the message is answered.
 answer_world : (P : World → Type 0) (source : List ℕ) (reading : MessageReading) (w : World) → P w
     → ((m : Message) → reading ≡ Read m → P (replied_to source (text_of source m.sender) [] (items_of m.body) w).1) →
     P (answered source reading w).1
@@ -69,7 +69,7 @@ has_history w next bytes reading answer represents P h = subst P (ap (λ (p : Op
 -- ## A reply that stays
 
 module _ (few : FewNewerStay) (unnamed : UnnamedStay) (sender text : List ℕ) (number : ℕ) where
-  -- the reply is kept, and at most n are newer
+  -- The reply is kept, and at most `n` replies are newer.
   abbrev Stays : ℕ → List KeptReply → Type 0
   Stays n replies = (kept_text replies sender number ≡ Some text) × (length (newer_than replies sender number) ≤ n)
 

@@ -1,4 +1,4 @@
--- Lines one after another, and the bytes that they come in.
+-- Running lines one after another, and the bytes of these lines.
 use Rattle.std.proofs.Common.{◌≡◌, ◌≢◌, ℕ, ◌+◌, ◌<◌, ◌≤◌, Bool, true, false, List, [], ◌∷◌, ◌++◌, length, get_or, take, drop, Option, Some, None, Result, Ok, Err, refl, sym, ap, subst, ◌∙◌, append_assoc, length-append, arith}
 use Rattle.std.proofs.lemmas.Grind.{flat_map-append}
 use Rattle.std.proofs.lemmas.List.{append-nil, take_more}
@@ -93,7 +93,7 @@ texts_both shows.Sent w v u es fs a b s t h k =
     ap (λ (l : List ℕ). l ++ t) h ∙ ap (λ (l : List ℕ). lines_for a ++ l) k ∙ sym (lines_both a b)
 texts_both shows.SentAndFlows w v u es fs a b s t h k = tells_both w v u es fs s t h k
 
--- a runner whose core stands for the world, and that keeps its terminations
+-- The runner's state represents the world, and the runner stores the world's terminations.
 abbrev pub Followed : Shown → LineRunner → World → Type 0
 Followed shown r w = Follows shown r.core.state r.watched w
 
@@ -101,7 +101,7 @@ pub on_ok : {E A B : Type 0} (r : Result (Unit {0}) E) → (A → B) → OnOk r 
 on_ok (Ok done) f a = f a
 on_ok (Err e) f a = tt
 
--- the result of a whole script, given that of its last line
+-- The result of a whole script, given the result of its last line.
 abbrev pub script_result : Result (Unit {0}) LineFault → Result (Unit {0}) ScriptFault
 script_result (Ok done) = Ok tt
 script_result (Err fault) = Err (script_fault_of fault)
@@ -120,7 +120,7 @@ module _ (shown : Shown) where
     written = appends_then a b c h.text k.text h.written k.written;
   }
 
-  -- nothing more was written, and the world is as it was
+  -- If nothing more is written and the world is unchanged, the lines were run as before.
   ran_kept : (w v u : World) (xs : List (List ℕ)) (a b c : Option (List ℕ)) → Ran shown w xs v a b → Keeps b c → u ≡ v →
       Ran shown w xs u a c
   ran_kept w v u xs a b c h k same = subst (λ (x : World). Ran shown w xs x a c) (sym same)
@@ -134,7 +134,7 @@ module _ (shown : Shown) where
         written = appends_keeps a b c h.text h.written k;
       })
 
-  -- the same with what was sent counted
+  -- The lemmas below also count the datagrams sent.
 
   counted_both : (w v u : World) (xs ys : List (List ℕ)) (s t z : ℕ) (a b c : Option (List ℕ)) →
       RanCounted shown w xs v s t a b → RanCounted shown v ys u t z b c → RanCounted shown w (xs ++ ys) u s z a c
@@ -177,12 +177,12 @@ module _ (shown : Shown) where
     counted = same;
   }
 
-  -- no bytes yet
+  -- Before the first byte, no line has been run.
   pub bytes_start : (n : ℕ) (partial : List ℕ) (w : World) (s : ℕ) (a : Option (List ℕ)) →
       BytesRan shown n n partial [] partial w w s s a a (Ok tt)
   bytes_start n partial w s a = ([], λ ended more. refl, omega arith, counted_nothing w s s a refl)
 
-  -- a byte that ends no line
+  -- A byte other than a line feed ends no line.
   pub bytes_plain : (n m : ℕ) (partial front left : List ℕ) (w v : World) (s t : ℕ) (a b : Option (List ℕ)) (x : ℕ) →
       x ≢ 10 → BytesRan shown n m partial front left w v s t a b (Ok tt) →
       BytesRan shown n m partial (front ++ x ∷ []) (left ++ x ∷ []) w v s t a b (Ok tt)
@@ -194,7 +194,7 @@ module _ (shown : Shown) where
     h.3,
   )
 
-  -- a byte that ends a line, which was run
+  -- A line feed ends a line, which was run.
   pub bytes_line : (n m : ℕ) (partial front left : List ℕ) (w v u : World) (s t z : ℕ) (a b c : Option (List ℕ))
       (number : ℕ) → BytesRan shown n m partial front left w v s t a b (Ok tt) →
       LineRan shown number (without_return left) v u t z b c (Ok tt) →
@@ -212,7 +212,7 @@ module _ (shown : Shown) where
         counted_both w v u h.0 (line ∷ []) s t z a b c h.3 k,
       )
 
-  -- a line that was not run
+  -- A line feed ends a line, which was not run.
   pub bytes_stop : (n m p : ℕ) (partial front left back other : List ℕ) (w v u : World) (s t z : ℕ)
       (a b c : Option (List ℕ)) (e : LineFault) → BytesRan shown n m partial front left w v s t a b (Ok tt) →
       LineRan shown (m + 1) (without_return left) v u t z b c (Err e) →
@@ -246,7 +246,7 @@ module _ (shown : Shown) where
     ran_kept w v u h.0 a b c h.3.ran l.0 l.1,
   )
 
-  -- a byte that makes a line too long
+  -- One more byte makes the line too long.
   pub bytes_long : (n m p : ℕ) (partial front left back other : List ℕ) (w v : World) (s t z : ℕ) (a b : Option (List ℕ))
       (x : ℕ) → x ≢ 10 → 140001 ≤ length left → BytesRan shown n m partial front left w v s t a b (Ok tt) →
       BytesRan shown n p partial (front ++ (x ∷ back)) other w v s z a b (Err (faults.Bad (m + 1)))
@@ -269,8 +269,8 @@ module _ (shown : Shown) where
         h.3.ran,
       )
 
-  -- How far a run of a script has come: a text was read, the lines that end in it were run on a new gateway, and the
-  -- line after them is begun.
+  -- How far a script was run. The complete lines of the text that was read were run on a new gateway, and the text ends
+  -- with this partial line.
   pub record Progress (config : Config) (input remaining : Option (List ℕ)) (partial : List ℕ) (count : ℕ) (now : World)
       (sent : ℕ) (old new : Option (List ℕ)) : Type 0 where
     pub text : List ℕ
@@ -306,14 +306,14 @@ module _ (shown : Shown) where
     ran = counted_both (start_of config) v u p.lines h.0 0 s t a b c p.ran h.3;
   }
 
-  -- what was read, where nothing follows it
+  -- If the input ends here, the partial line is its last line.
   split_at_end : (config : Config) (i x : Option (List ℕ)) (partial : List ℕ) (n : ℕ) (v : World) (s : ℕ)
       (a b : Option (List ℕ)) (ended : Bool) (p : Progress config i x partial n v s a b) →
       lines_of ended p.text ≡ p.lines ++ lines_after ended partial []
   split_at_end config i x partial n v s a b ended p = ap (lines_after ended []) (sym (append-nil p.text)) ∙ p.split ended
       []
 
-  -- the lines that were run are those that end in what was read
+  -- The lines that were run are the complete lines of the text that was read.
   all_run : (config : Config) (i x : Option (List ℕ)) (partial : List ℕ) (n : ℕ) (v : World) (s : ℕ)
       (a b : Option (List ℕ)) (p : Progress config i x partial n v s a b) → lines_of false p.text ≡ p.lines
   all_run config i x partial n v s a b p = split_at_end config i x partial n v s a b false p ∙
@@ -322,7 +322,7 @@ module _ (shown : Shown) where
   not_ended : {A : Type 0} → false ≡ true → A
   not_ended e = absurd (cc e)
 
-  -- the lines that were run before and in the last bytes
+  -- The lines that were run include all those that were complete before the last bytes were read.
   run_in_bytes : (config : Config) (i x : Option (List ℕ)) (partial bytes : List ℕ) (n : ℕ) (v : World) (s : ℕ)
       (a b : Option (List ℕ)) (lines : List (List ℕ)) → length bytes ≤ 4096 →
       (p : Progress config i x partial n v s a b) → RanBeforeMore (p.text ++ bytes) false (p.lines ++ lines)
@@ -336,7 +336,7 @@ module _ (shown : Shown) where
     lines_are = ap (λ (l : List (List ℕ)). l ++ lines) (sym (all_run config i x partial n v s a b p));
   }
 
-  -- the line after those that were run, where it is among the last bytes
+  -- A line in the last bytes follows the lines that were run.
   line_in_bytes : (config : Config) (i x : Option (List ℕ)) (partial bytes line : List ℕ) (n : ℕ) (v : World) (s : ℕ)
       (a b : Option (List ℕ)) (lines others : List (List ℕ)) → lines_after false partial bytes ≡ lines ++ line ∷ others →
       (p : Progress config i x partial n v s a b) → lines_of false (p.text ++ bytes) ≡ (p.lines ++ lines) ++ line ∷ others
@@ -393,7 +393,7 @@ module _ (shown : Shown) where
     };
   }
 
-  -- reading failed
+  -- Reading failed, after all complete lines of the text were run.
   pub progress_unread : (config : Config) (i x y : Option (List ℕ)) (partial : List ℕ) (n : ℕ) (v : World) (s : ℕ)
       (a b : Option (List ℕ)) → Progress config i x partial n v s a b → Keeps x y → RanAllRead config shown i y a b
   progress_unread config i x y partial n v s a b p same = record {
@@ -520,13 +520,13 @@ module _ (shown : Shown) where
   progress_end config i x y (k ∷ ks) n m state v u s t a b c r p end stands h =
       line_end config i x y k ks n m state v u s t a b c r p end stands h.0 h.1
 
-  -- the same steps by the index of a byte
+  -- The steps below use the index of a byte.
 
-  -- what a call leaves of a runner, by the worlds that it follows
+  -- The effect of a call on a runner, in terms of the worlds that the runner follows.
   abbrev pub Leaves : LineRunner → LineRunner → Result (Unit {0}) LineFault → (World → World → Type 0) → Type 0
   Leaves old new r Comes = LeadsOn (Followed shown old) (Followed shown new) r Comes
 
-  -- So far, the lines that end in the first bytes were run, by an engine that was entered for each world w.
+  -- The complete lines in the first bytes were run, from each world that the runner followed on entry.
   abbrev pub HasRun : ℕ → ℕ → List ℕ → List ℕ → List ℕ → LineRunner → LineRunner → ℕ → ℕ → Option (List ℕ) →
       Option (List ℕ) → Result (Unit {0}) LineFault → Type 0
   HasRun n m partial bytes left entered kept s t a b r =
@@ -595,7 +595,7 @@ module _ (shown : Shown) where
 
   -- ## How far a run has come, by an engine
 
-  -- a run of the script came this far, and the engine stands for the world that it came to
+  -- The script was run this far, and the runner follows the resulting world.
   abbrev pub Comes : Config → Option (List ℕ) → Option (List ℕ) → List ℕ → ℕ → LineRunner → ℕ → Option (List ℕ) →
       Option (List ℕ) → Type 0
   Comes config input remaining partial count kept s old new = (now : World) ×

@@ -107,7 +107,7 @@ module _ (config : Config) (shown : Shown) (input rest old new : Option (List �
     stops = (refl, inl (h.line, (h.up_to.others, h.up_to.line_is)));
   }
 
--- a gateway that was not started read and ran nothing
+-- If the gateway could not be started, nothing was read, run or written.
 nothing_ran : (config : Config) (shown : Shown) (input a : Option (List ℕ)) (fault : RunFault) →
     Stops fault shown [] false [] (start_of config) a a → RanToFault config shown input input a a fault
 unfolding events_of lines_after
@@ -154,7 +154,7 @@ script_fault config shown input rest state count n a b faults.Read h = all_read 
 script_fault config shown input rest state count n a b faults.Write h = at_cut_line config shown input rest a b h
 script_fault config shown input rest state count n a b faults.NoMemory h = at_unrun_line config shown input rest a b h
 
--- a fault of a script is no fault of the configuration
+-- A fault of a script is never a fault of the configuration.
 pub not_bad : {A : Type 0} (r : Result A RunFault) (e : RunFault) (fault : ScriptFault) → r ≡ Err e → e ≡ run_fault_of fault →
     r ≡ Err ends.BadConfig → ⊥
 not_bad r e (faults.Bad n) is from bad = cc (is, from, bad)

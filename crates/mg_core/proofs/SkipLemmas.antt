@@ -9,7 +9,7 @@ use Rattle.mg_core.specs.World.{World, packets_of, start_of, world_after_tick, w
 use Rattle.mg_core.specs.aids.Stands.{StandsFor}
 use Rattle.mg_core.proofs.RunLemmas.{run_both}
 
--- a world with another gateway, and ticks counted
+-- The world after `n` ticks: its gateway has passed them, and its tally has counted them.
 abbrev counted : ℕ → World → World
 counted n w = record w {
   gateway = after_ticks n w.gateway;
@@ -52,7 +52,7 @@ ticks_counted (suc n) w =
       };
     })
 
--- ticks are events, and each sends its packets
+-- Ticks are events, and each tick sends its packets.
 ticks_run : (n : ℕ) (w : World) → (sent : List Sent) × Run w (replicate n Tick) sent (world_after_ticks n w)
 ticks_run zero w = ([], (refl, refl))
 ticks_run (suc n) w =

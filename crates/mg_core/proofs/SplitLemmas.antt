@@ -1,4 +1,4 @@
--- How bytes form lines.
+-- Splitting bytes into lines.
 use Rattle.std.proofs.Common.{◌≡◌, ◌≢◌, ℕ, suc, ◌+◌, ◌-◌, ◌<◌, ◌≤◌, Bool, true, false, cond, eqb, List, [], ◌∷◌, ◌++◌, length, get_or, take, drop, None, refl, sym, ap, ◌∙◌, append_assoc, length-append, length-take, arith}
 use Rattle.std.proofs.lemmas.List.{append-nil, take-append-drop, drop_more}
 use Rattle.std.proofs.lemmas.Bool.{ne_eqb, lt-ltb}
@@ -20,7 +20,7 @@ line_feed ended partial bytes = refl
 pub regroup : (front : List ℕ) (x : ℕ) (rest : List ℕ) → (front ++ x ∷ []) ++ rest ≡ front ++ (x ∷ rest)
 regroup front x rest = append_assoc front (x ∷ []) rest
 
--- the lines after some bytes, where a line feed stands after the first of them
+-- A line feed after the first bytes ends the partial line, and the next line starts after the line feed.
 pub at_feed : (ended : Bool) (partial front left back more : List ℕ) (lines : List (List ℕ)) →
     ((ended : Bool) (more : List ℕ) → lines_after ended partial (front ++ more) ≡ lines ++ lines_after ended left more)
     → lines_after ended partial ((front ++ (10 ∷ back)) ++ more) ≡ lines ++ without_return left ∷
@@ -29,14 +29,14 @@ at_feed ended partial front left back more lines h =
     ap (lines_after ended partial) (append_assoc front (10 ∷ back) more) ∙ h ended (10 ∷ (back ++ more)) ∙
     ap (λ (l : List (List ℕ)). lines ++ l) (line_feed ended left (back ++ more))
 
--- the same where nothing stands after them
+-- A line feed ends the partial line, if no text follows the bytes.
 pub at_last_feed : (partial front left back : List ℕ) (lines : List (List ℕ)) →
     ((ended : Bool) (more : List ℕ) → lines_after ended partial (front ++ more) ≡ lines ++ lines_after ended left more)
     → lines_after false partial (front ++ (10 ∷ back)) ≡ lines ++ without_return left ∷ lines_after false [] back
 at_last_feed partial front left back lines h =
     h false (10 ∷ back) ∙ ap (λ (l : List (List ℕ)). lines ++ l) (line_feed false left back)
 
--- a line that is too long is bad, wherever it ends
+-- A line that is too long is bad, with or without a carriage return.
 long_bad : (line : List ℕ) → 140001 ≤ length line → event_of line ≡ None
 unfolding event_of
 long_bad line le = rw (lt-ltb 140000 (length line) (omega arith)) refl
@@ -67,7 +67,7 @@ long_line partial [] le = rw (ne_eqb (length partial) 0 (λ e. absurd (omega ari
 long_line partial (x ∷ bytes) le = long_step (eqb x 10) partial x bytes refl le
     (long_line (partial ++ x ∷ []) bytes (omega (arith, length-append partial (x ∷ []))))
 
--- a bad line after some lines stands after those before them too
+-- If a bad line follows some lines, it also follows these lines together with the lines before them.
 pub bad_later : (before lines others all : List (List ℕ)) → all ≡ before ++ others → HasBadAfter lines others →
     HasBadAfter (before ++ lines) all
 bad_later before lines others all is h = record {
@@ -82,7 +82,7 @@ unfolding lines_after
 unfinished [] = refl
 unfinished (b ∷ bs) = rw (ne_eqb (length (b ∷ bs)) 0 (λ e. absurd (omega (arith, e)))) refl
 
--- the end of the script
+-- At the end of a script, a non-empty partial line is the last line.
 pub last_line : (b : ℕ) (bs : List ℕ) → lines_after true (b ∷ bs) [] ≡ (b ∷ bs) ∷ []
 unfolding lines_after
 last_line b bs = rw (ne_eqb (length (b ∷ bs)) 0 (λ e. absurd (omega arith))) refl
@@ -91,7 +91,7 @@ pub no_line : lines_after true [] [] ≡ []
 unfolding lines_after
 no_line = refl
 
--- bytes without a line feed, after a partial line
+-- Bytes without a line feed extend the partial line.
 pub unbroken : (text : List ℕ) → ((k : ℕ) → k < length text → get_or text k 0 ≢ 10) → (ended : Bool)
     (partial more : List ℕ) → lines_after ended partial (text ++ more) ≡ lines_after ended (partial ++ text) more
 unbroken [] h ended partial more = ap (λ (l : List ℕ). lines_after ended l more) (sym (append-nil partial))
@@ -100,6 +100,6 @@ unbroken (x ∷ text) h ended partial more =
     ∙ unbroken text (λ k lt. h (suc k) (omega arith)) ended (partial ++ x ∷ []) more
     ∙ ap (λ (l : List ℕ). lines_after ended l more) (regroup partial x text)
 
--- a text around one of its bytes
+-- A text consists of the bytes before an index, the byte at the index, and the bytes after it.
 pub around : (bytes : List ℕ) (i : ℕ) → i < length bytes → take i bytes ++ (get_or bytes i 0 ∷ drop (i + 1) bytes) ≡ bytes
 around bytes i lt = ap (λ (l : List ℕ). take i bytes ++ l) (sym (drop_more bytes i 0 lt)) ∙ take-append-drop i bytes

@@ -1,4 +1,4 @@
--- What the edits of a control datagram cost.
+-- The cost of the edits of a control datagram.
 use Rattle.std.proofs.Common.{◌≡◌, ℕ, ◌+◌, ◌*◌, ◌<◌, ◌≤◌, List, [], ◌∷◌, length, get_or, drop, Option, None, refl, sym, ap, subst, ◌∙◌, arith}
 use Rattle.std.proofs.lemmas.List.{drop_more, drop_all}
 use Rattle.mg_kept.specs.KeptReplies.{KeptReply, kept_text}
@@ -16,7 +16,7 @@ use Rattle.mg_core.specs.aids.Stands.{StandsFor}
 use Rattle.mg_core.specs.Work.{edits_by_item, edits_by_items, edits_unless_kept}
 use Rattle.mg_core.specs.aids.Steps.{TextGrows}
 
--- the work rose by at most four for each edit, in each world that the state stood for
+-- In each world that the old state represents, the work counter increased by at most four for each edit.
 abbrev pub IsPaid : CoreState → CoreState → (World → ℕ) → Type 0
 IsPaid old new edits = (w : World) → StandsFor old w →
     RisesAtMost (4 * edits w) old.engine.sums.work new.engine.sums.work
@@ -28,7 +28,7 @@ kept_in : (state : CoreState) (w : World) (sender : List ℕ) (n : ℕ) (o : Opt
     kept_text state.kept sender n ≡ o → o ≡ kept_text w.replies sender n
 kept_in state w sender n o h is = sym is ∙ ap (λ (l : List KeptReply). kept_text l sender n) (sym h.replies)
 
--- a request that was run
+-- A request without a kept reply costs its edits.
 pub request_paid : (source sender : List ℕ) (request : Request) (old new : CoreState) →
     kept_text old.kept sender request.number ≡ None
     → IsPaid old new (λ w. edits_reported (replied source request w.gateway).items) →
@@ -37,20 +37,20 @@ request_paid source sender request old new none paid w h =
     subst (λ (o : Option (List ℕ)). RisesAtMost (4 * edits_of source request o w) old.engine.sums.work
     new.engine.sums.work) (kept_in old w sender request.number None h none) (paid w h)
 
--- no row was touched
+-- If the work counter is unchanged, any number of edits is paid for.
 pub nothing_paid : (old new : CoreState) (edits : World → ℕ) → new.engine.sums.work ≡ old.engine.sums.work →
     IsPaid old new edits
 nothing_paid old new edits same w h = stays (4 * edits w) old.engine.sums.work new.engine.sums.work same
 
 -- ## The loop over items
 
--- It was entered with a state that stood for each world w, and of the edits that f counts rest counts those that are
--- left.
+-- The loop over items. In each world that the state on entry represents, the edits done so far are paid for, and `rest`
+-- counts the remaining edits.
 abbrev pub IsPaidSoFar : CoreState → CoreState → (World → ℕ) → (World → ℕ) → Type 0
 IsPaidSoFar entered kept f rest = (w : World) → StandsFor entered w → (now : World) × (done : ℕ) ×
     (f w ≡ done + rest now) × RisesAtMost (4 * done) entered.engine.sums.work kept.engine.sums.work × StandsFor kept now
 
--- the world after an item, whatever stands before its reply
+-- The world after an item does not depend on the separator before its reply.
 after_item : (source sender mark : List ℕ) (x : MessageItem) (w : World) →
     (item_replied source sender mark x w).1 ≡ (item_replied source sender [] x w).1
 after_item source sender mark (items.Request request) w = refl

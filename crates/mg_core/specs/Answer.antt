@@ -26,8 +26,7 @@ use Rattle.mg_core.specs.World.{World}
 
 -- ## A reply
 
--- the text of a reply that is sent: the whole reply if it is at most 16,000 bytes long, otherwise
--- an error
+-- The text of a reply: the whole reply if it is at most 16,000 bytes long, otherwise an error.
 abbrev pub sent_text : ℕ → List Item → List ℕ
 sent_text n items =
     if nat_lt reply_limit (length (reply_text n items))
@@ -57,8 +56,8 @@ run_and_kept sender n w s =
       },
     )
 
--- The reply to a sender's request, and the world after it (RFC 3525, section 8.2). If a reply to it
--- is kept, that reply is sent and the world is unchanged.
+-- The reply to a sender's request, and the world after it (RFC 3525, section 8.2). If a reply to the request is kept,
+-- that reply is sent and the world is unchanged.
 abbrev pub request_replied : List ℕ → List ℕ → Request → World → List ℕ × World
 request_replied source sender request w =
     option_map_or (λ text. (text, w)) (kept_text w.replies sender request.number)
@@ -66,30 +65,30 @@ request_replied source sender request w =
 
 -- ## An item of a message
 
--- the kept replies that remain after a sender acknowledged these ranges of numbers
+-- The kept replies that remain after a sender acknowledged these ranges of numbers.
 abbrev pub without_ranges : List ℕ → List Range → List KeptReply → List KeptReply
 without_ranges sender [] replies = replies
 without_ranges sender (x ∷ xs) replies =
     without_ranges sender xs (without_range sender x.first x.last replies)
 
--- what is written, with this text in front
+-- The written text with this text in front, and the world.
 abbrev pub with_front : List ℕ → List ℕ × World → List ℕ × World
 with_front text p = (text ++ p.0, p.1)
 
--- What is written for an item from a sender, and the world after it. For a request: a separator and
--- its reply. For an acknowledgement: nothing.
+-- The text written for an item from a sender, and the world after it. For a request, this is a separator and the reply.
+-- For an acknowledgement, nothing is written.
 abbrev pub item_replied : List ℕ → List ℕ → List ℕ → MessageItem → World → List ℕ × World
 item_replied source sender mark (items.Request request) w =
     with_front mark (request_replied source sender request w)
 item_replied source sender mark (items.Acknowledgement ranges) w =
     ([], record w { replies = without_ranges sender ranges w.replies })
 
--- the separator before the next reply: a line feed after the first reply
+-- The separator before the next reply: a line feed after the first reply.
 abbrev pub mark_after : List ℕ → MessageItem → List ℕ
 mark_after mark (items.Request request) = 10 ∷ []
 mark_after mark (items.Acknowledgement ranges) = mark
 
--- what is written next, in the world that the first part left
+-- The text of the first part, followed by that of the rest, which starts in the world that the first part left.
 abbrev pub followed : (World → List ℕ × World) → List ℕ × World → List ℕ × World
 followed rest p = with_front p.0 (rest p.1)
 
@@ -102,22 +101,22 @@ replied_to source sender mark (x ∷ xs) w =
 
 -- ## A datagram
 
--- the head of an answer
+-- The head of an answer.
 abbrev pub answer_head : World → List ℕ
 answer_head w = head_text w.gateway.config.control_address w.gateway.config.control_port
 
--- an answer with what was written for requests; no answer if there was no request
+-- An answer with the replies after its head, or no answer if there was no request.
 abbrev pub if_asked : Bool → List ℕ → List ℕ × World → Option (List ℕ) × World
 if_asked true head p = (Some (head ++ p.0), p.1)
 if_asked false head p = (None, p.1)
 
--- The answer to a message in the world w, if there is an answer, and the world after it.
+-- The answer to a message in the world `w`, if there is an answer, and the world after it.
 abbrev pub to_message : List ℕ → Message → World → Option (List ℕ) × World
 to_message source m w =
     if_asked (has_requests (items_of m.body)) (answer_head w)
     (replied_to source (text_of source m.sender) [] (items_of m.body) w)
 
--- a datagram that is rejected as a whole does not change the world
+-- The answer to a datagram that is rejected as a whole. The world does not change.
 abbrev pub refused : ErrorNumber → World → Option (List ℕ) × World
 refused number w = (Some (answer_head w ++ error_text number), w)
 
@@ -127,8 +126,7 @@ answered source TooMany w = refused NotServed w
 answered source (OtherVersion n) w = refused Version w
 answered source NoMessage w = refused Syntax w
 
--- the answer to a datagram, if there is an answer, and the world after it, depending on how the
--- datagram is read
+-- The answer to a datagram, if there is an answer, and the world after it, according to the datagram's reading.
 abbrev pub Answers : List ℕ → World → Option (List ℕ) → World → Type 0
 Answers source w answer next =
     (reading : MessageReading) × IsMessageReading source reading

@@ -1,5 +1,5 @@
--- Isolation over time. In each tick, a listener's packet does not depend on anything ever received
--- from terminations that the listener does not hear in that tick.
+-- Isolation over time. In each tick, a listener's packet does not depend on anything ever received from terminations
+-- that the listener does not hear in that tick.
 use Rattle.std.specs.Prelude.{◌≡◌, ℕ, ◌==◌, List, [], ◌∷◌, ◌++◌, filter, map, Option}
 use Rattle.std.specs.List.{AllByRecursion}
 use Rattle.mg_kept.specs.KeptReplies.{KeptReply}
@@ -22,7 +22,7 @@ use Rattle.mg_core.specs.World.{World, packets_of, start_of}
 
 -- ## Agreement
 
--- what a kept reply answers
+-- The sender and the number of the request that a kept reply answers.
 abbrev pub key_of : KeptReply → List ℕ × ℕ
 key_of reply = (reply.sender, reply.number)
 
@@ -35,11 +35,11 @@ pub record AgreeOutside (some : List ℕ) (a b : World) : Type 0 where
 
 -- ## The next tick
 
--- the packets that the next tick sends from a port
+-- The packets that the next tick sends from a port.
 abbrev pub next_packets : ℕ → World → List Datagram
 next_packets port w = filter (λ d. d.from == port) (packets_of w)
 
--- in the next tick, the termination with this port hears none of these terminations
+-- In the next tick, the termination with this port hears none of these terminations.
 abbrev pub HearsNoneAt : List ℕ → Gateway → ℕ → Type 0
 HearsNoneAt some w port =
     AllByRecursion (λ r. slot_port w.rooms.limits r.slot ≡ port → HearsNone some w r.number)
@@ -53,7 +53,7 @@ NextTickIsSame some port a b =
 
 -- ## Two lists of events
 
--- an event in both lists, or an RTP datagram in one of them
+-- An event in both lists, or an RTP datagram in one of them.
 pub data Happening : Type 0 where
   Both : (event : Event) → Happening
   FirstOnly : (port : ℕ) (source : Peer) (bytes : List ℕ) → Happening
@@ -71,8 +71,7 @@ to_second (Both event ∷ xs) = event ∷ to_second xs
 to_second (FirstOnly port source bytes ∷ xs) = to_second xs
 to_second (SecondOnly port source bytes ∷ xs) = Media port source bytes ∷ to_second xs
 
--- each RTP datagram that is in only one of the lists arrives at the port of one of these
--- terminations
+-- Each RTP datagram that is in only one of the lists arrives at the port of one of these terminations.
 abbrev pub DifferAtPortsOf : List ℕ → World → List Happening → Type 0
 DifferAtPortsOf some w [] = Unit {0}
 DifferAtPortsOf some w (Both event ∷ xs) =
@@ -95,7 +94,7 @@ UnheardChangesNothing =
     → Run a (to_first xs) s x → Run b (to_second xs) t y
     → AgreeOutside some x y × NextTickIsSame some port x y
 
--- This holds after two histories of gateways that started with the same configuration.
+-- `UnheardChangesNothing` holds after two histories of gateways that started with the same configuration.
 abbrev pub UnheardInHistories : Type 0
 UnheardInHistories =
     (some : List ℕ) (port : ℕ) (config : Config) (xs : List Happening) (s t : List Sent)
@@ -104,15 +103,14 @@ UnheardInHistories =
     → HasHistory config (to_first xs) s v one → HasHistory config (to_second xs) t w other
     → NextTickIsSame some port v w
 
--- The first events lead to the world w, and a tick follows. The first events, this tick and
--- everything after it send these datagrams.
+-- The first events lead to the world `w`, and a tick follows. The first events, this tick and everything after it send
+-- these datagrams.
 abbrev pub HasTickAfter : Config → List Event → List Sent → World → Type 0
 HasTickAfter config events sent w =
     (before after : List Sent) × Run (start_of config) events before w
     × (sent ≡ before ++ (map Packet (packets_of w) ++ after))
 
--- The same holds in each tick of two scripts that were run to the end, whatever comes after the
--- tick.
+-- `NextTickIsSame` holds in each tick of two scripts that were run to the end, whatever comes after the tick.
 abbrev pub UnheardInScripts : Type 0
 UnheardInScripts =
     (some : List ℕ) (port : ℕ) (config : Config) (xs : List Happening) (rest others : List Event)

@@ -18,9 +18,9 @@ abbrev pub is_tick : Event → Bool
 is_tick Tick = true
 is_tick _ = false
 
--- After any sequence of events, the counts of control datagrams, RTP datagrams and ticks equal
--- their numbers, and each RTP datagram has one outcome. The step of a datagram says which outcome,
--- and the step of a tick says which frames it conceals.
+-- After any sequence of events, the counts of control datagrams, RTP datagrams and ticks equal their numbers, and each
+-- RTP datagram has one outcome. The step of a datagram determines its outcome, and the step of a tick determines the
+-- frames that it conceals.
 pub record CountsOf (events : List Event) (w : World) : Type 0 where
   pub control : w.tally.control ≡ count_by is_control events
   pub media : w.tally.media ≡ count_by is_media events

@@ -1,4 +1,4 @@
--- RTP datagrams change only speech: what terminations received, and nothing that a controller set.
+-- RTP datagrams change only speech: the packets that terminations received, and nothing that a controller set.
 use Rattle.std.specs.Prelude.{◌≡◌, ℕ, not, List, filter, map}
 use Rattle.mg_playout.specs.Playout.{depth_of}
 use Rattle.mg_engine.specs.declared.config.Config.{Config}
@@ -11,12 +11,11 @@ use Rattle.mg_core.specs.Headline.{HasHistory, IsStart}
 use Rattle.mg_core.specs.Step.{Sent, Run}
 use Rattle.mg_core.specs.World.{World}
 
--- Two worlds agree except for what was received. They have the same configuration, terminations,
--- contexts and topology. The media of each termination are equal, except for its play list, current
--- frame and counters of received packets. So the numbers of its ticks and sent packets are equal,
--- and the header of its next packet follows from these. The worlds keep replies to the same
--- requests, in the same order, but nothing is said about the texts of these replies, which may
--- report received packets. They have counted the same numbers of control datagrams and ticks.
+-- Two worlds agree except for what was received. They have the same configuration, terminations, contexts and topology.
+-- The media of each termination are equal, except for its play list, current frame and counters of received packets. So
+-- the numbers of its ticks and sent packets are equal, and determine the header of its next packet. The worlds keep
+-- replies to the same requests, in the same order, but the texts of these replies may differ, because they can report
+-- received packets. They have counted the same numbers of control datagrams and ticks.
 pub record AgreeExceptReceived (a b : World) : Type 0 where
   pub config : a.gateway.config ≡ b.gateway.config
   pub rooms : a.gateway.rooms ≡ b.gateway.rooms
@@ -26,7 +25,7 @@ pub record AgreeExceptReceived (a b : World) : Type 0 where
   pub control : a.tally.control ≡ b.tally.control
   pub ticks : a.tally.ticks ≡ b.tally.ticks
 
--- the events, without the RTP datagrams
+-- The events without the RTP datagrams.
 abbrev pub without_rtp : List Event → List Event
 without_rtp events = filter (λ e. not (is_media e)) events
 
@@ -38,12 +37,12 @@ RtpChangesSpeechOnly =
     → AgreeExceptReceived a b → Run a events s x → Run b (without_rtp events) t y
     → AgreeExceptReceived x y
 
--- the depths of the play lists
+-- The depths of the play lists.
 abbrev pub depths_in : World → List ℕ
 depths_in w = map (λ s. depth_of s.play) w.gateway.media
 
--- So the worlds agree after two such histories of gateways that started with the same
--- configuration. Their play lists also have the same depths, because only commands set these.
+-- After two such histories of gateways that started with the same configuration, the worlds agree except for what was
+-- received. Their play lists also have the same depths, because only commands set these.
 abbrev pub RtpChangesSpeechOnlyInHistories : Type 0
 RtpChangesSpeechOnlyInHistories =
     (config : Config) (events : List Event) (s t : List Sent) (v w : World)

@@ -1,5 +1,5 @@
--- How an event changes the terminations and who hears whom, as comment lines in a script's output.
--- The format of the lines is this gateway's own.
+-- The changes of an event to terminations and to who hears whom, as comment lines in a script's output. The format of
+-- the lines is this gateway's own.
 use Rattle.std.specs.Prelude.{◌≡◌, ℕ, ◌==◌, Bool, true, false, List, [], ◌++◌, length, filter}
 use Rattle.std.specs.Prelude.{find, flat_map, map, Option, Some, None, is_some, codes, decimal}
 use Rattle.std.specs.Prelude.{if◌then◌else◌}
@@ -17,8 +17,8 @@ use Rattle.mg_core.specs.World.{World, capped}
 
 -- ## Listeners
 
--- a termination with its context, its UDP port and its mode, and the numbers of the talkers whose
--- speech flows to it, in ascending order
+-- A termination with its context, its UDP port and its mode, and the numbers of the talkers whose speech flows to it,
+-- in ascending order.
 pub record Listener : Type 0 where
   pub number : ℕ
   pub context : ℕ
@@ -35,7 +35,7 @@ listener_of w r = record {
   talkers = filter (λ n. flow w n r.number) (numbers_of w);
 }
 
--- all terminations, in order of their numbers
+-- All terminations, in order of their numbers.
 abbrev pub listeners_of : Gateway → List Listener
 listeners_of w = map (listener_of w) w.rooms.terminations
 
@@ -52,7 +52,7 @@ is_same_mode a b = false
 
 -- ## Lines
 
--- the start of each line: how many ticks have passed, and the termination that the line is about
+-- The start of each line: the number of ticks so far, and the termination that the line is about.
 abbrev pub line_head : ℕ → ℕ → List ℕ
 line_head ticks n = codes "# " ++ (decimal ticks ++ (codes " ticks: RTP/" ++ decimal n))
 
@@ -84,12 +84,12 @@ hearing ticks x = change_line ticks x (codes " hears" ++ names_in_line x.talkers
 
 -- ## Changes
 
--- the line for a termination that no longer exists
+-- The line for an earlier termination, if it no longer exists.
 abbrev pub lines_of_old : ℕ → List Listener → Listener → List ℕ
 lines_of_old ticks after x = if is_some (listener_at after x.number) then [] else ended_line ticks x
 
--- A new termination is reported completely. For an existing one, only what changed is reported: its
--- context, its mode, and whose speech flows to it.
+-- The lines for a termination that exists. A new one is reported completely. For an older one, only changes are
+-- reported: to its context, its mode, and the talkers whose speech flows to it.
 abbrev pub lines_of_new : ℕ → Option Listener → Listener → List ℕ
 lines_of_new ticks None x =
     made_line ticks x ++ (in_mode ticks x ++
@@ -99,20 +99,20 @@ lines_of_new ticks (Some old) x =
     ((if is_same_mode old.mode x.mode then [] else in_mode ticks x) ++
     (if bytes_eq old.talkers x.talkers then [] else hearing ticks x))
 
--- all changes from the earlier to the later state of the terminations
+-- All changes from the earlier to the later state of the terminations.
 abbrev pub changes : ℕ → List Listener → List Listener → List ℕ
 changes ticks before after =
     flat_map (lines_of_old ticks after) before
     ++ flat_map (λ x. lines_of_new ticks (listener_at before x.number) x) after
 
--- the changes that an event made between two worlds
+-- The changes that an event made between two worlds.
 abbrev pub changes_by : World → World → List ℕ
 changes_by w next =
     changes (capped next.tally.ticks) (listeners_of w.gateway) (listeners_of next.gateway)
 
 -- ## Everything that changed, and nothing else
 
--- a termination without its port, which never changes while the termination exists
+-- A termination without its port, which never changes while the termination exists.
 abbrev pub but_port : Listener → Listener
 but_port x = record x { port = 0 }
 

@@ -1,4 +1,4 @@
--- A follower learns, note by note, what a gateway does while a script is run.
+-- A follower sees, note by note, what a gateway does while a script is run.
 use Rattle.std.specs.Prelude.{◌≡◌, ℕ, true, List, Option, Some}
 use Rattle.std.specs.Prelude.{replicate}
 use Rattle.mg_engine.specs.declared.config.Config.{Config}
@@ -17,12 +17,12 @@ abbrev pub HasRun : Config → List Note → CoreState → Type 0
 HasRun config notes state =
     (sent : List Sent) × (w : World) × HasHistory config (events_in notes) sent w state
 
--- this many ticks
+-- The notes of this many ticks.
 abbrev pub ticks_of : ℕ → List Note
 ticks_of count = replicate count (Happened Tick)
 
--- The input was read to its end, and its text is a script of these notes. The state is that of a
--- gateway at which their events arrived, and a follower has followed all the notes.
+-- The input was read to its end, and its text is a script of these notes. The state is that of a gateway at which their
+-- events arrived, and a follower has followed all the notes.
 pub record IsFollowed (config : Config) (input rest : Option (List ℕ)) (state : CoreState)
     (Follows : List Note → Type 0) : Type 0 where
   pub script : List ℕ

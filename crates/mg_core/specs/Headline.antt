@@ -1,5 +1,5 @@
--- The headline theorem: the flows, totals and packets of a gateway after any sequence of events,
--- and what follows for those who must not be heard.
+-- The headline theorem: the flows, totals and packets of a gateway after any sequence of events, and the consequences
+-- for participants who must not be heard.
 use Rattle.std.specs.Prelude.{◌≡◌, ℕ, ◌<◌, ◌^◌, ℤ, Bool, true, false, List, [], ◌∷◌, ◌++◌, Option}
 use Rattle.std.specs.Prelude.{replicate}
 use Rattle.std.specs.List.{list_all}
@@ -16,47 +16,46 @@ use Rattle.mg_core.specs.World.{World, packets_of, start_of}
 use Rattle.mg_core.specs.aids.Stands.{StandsFor}
 use Rattle.mg_core.specs.Step.{Sent, Run}
 
--- A gateway was started with this configuration, these events arrived, one after another, and
--- these datagrams were sent. The result is the world w, and the state represents it.
+-- A gateway was started with this configuration, these events arrived one after another, and these datagrams were sent.
+-- The result is the world `w`, and the state represents it.
 abbrev pub HasHistory : Config → List Event → List Sent → World → CoreState → Type 0
 HasHistory config events sent w state = Run (start_of config) events sent w × StandsFor state w
 
--- Such a list of events determines the world and the datagrams sent.
+-- A list of events determines the resulting world and the datagrams sent.
 abbrev pub EventsDetermineOutcome : Type 0
 EventsDetermineOutcome =
     (config : Config) (events : List Event) (s t : List Sent) (v w : World) (state : CoreState)
     → HasHistory config events s v state → HasHistory config events t w state → (s ≡ t) × (v ≡ w)
 
--- one more event arrived and these datagrams were sent in response, whatever happened before
+-- One more event arrived and these datagrams were sent in response, whatever happened before.
 abbrev pub ExtendsHistory : CoreState → CoreState → Event → List Sent → Type 0
 ExtendsHistory old new event sent =
     (config : Config) (events : List Event) (before : List Sent) (w : World)
     → HasHistory config events before w old
     → (next : World) × HasHistory config (events ++ event ∷ []) (before ++ sent) next new
 
--- this many ticks passed, whatever happened before, and the datagrams of each are those of a tick
+-- This many ticks passed, whatever happened before, and each tick sent its packets.
 abbrev pub ExtendsByTicks : CoreState → CoreState → ℕ → Type 0
 ExtendsByTicks old new count = (config : Config) (events : List Event) (before : List Sent)
     (w : World) → HasHistory config events before w old → (sent : List Sent) × (next : World)
     × HasHistory config (events ++ replicate count Tick) (before ++ sent) next new
 
--- After any sequence of events, the flow that is returned equals the one recomputed from the
--- context, the modes, and all edits of contexts.
+-- After any sequence of events, the returned flow equals the one recomputed from the context, the modes, and all edits
+-- of contexts.
 abbrev pub FlowIsRecomputed : CoreState → ℕ → ℕ → Bool → Type 0
 FlowIsRecomputed state talker listener answer =
     (config : Config) (events : List Event) (sent : List Sent) (w : World)
     → HasHistory config events sent w state → answer ≡ flow w.gateway talker listener
 
--- After any sequence of events, the total that is returned equals the one recomputed from the
--- members of the context, their modes and their current frames.
+-- After any sequence of events, the returned total equals the one recomputed from the members of the context, their
+-- modes and their current frames.
 abbrev pub TotalIsRecomputed : CoreState → ℕ → ℕ → Option ℤ → Type 0
 TotalIsRecomputed state context i answer =
     (config : Config) (events : List Event) (sent : List Sent) (w : World)
     → HasHistory config events sent w state → answer ≡ total_at w.gateway context i
 
--- After any sequence of events, the packets of a tick are exactly the recomputed ones, in order of
--- the terminations' numbers. Each byte of a payload encodes the sum, saturated once, of everyone
--- whose flow to the listener is open.
+-- After any sequence of events, the packets of a tick are exactly the recomputed ones, in order of the terminations'
+-- numbers. Each byte of a payload encodes the sum, saturated once, of everyone whose flow to the listener is open.
 abbrev pub PacketsAreRecomputed : CoreState → List Datagram → Type 0
 PacketsAreRecomputed state outbox =
     (config : Config) (events : List Event) (sent : List Sent) (w : World)
@@ -64,10 +63,9 @@ PacketsAreRecomputed state outbox =
 
 -- ## After a rejected command
 
--- A rejected command leaves the gateway unchanged, and adds a kept reply. Flows, totals and the
--- packets of a tick depend only on the gateway. So take two worlds with the same gateway, whatever
--- replies they keep. The same RTP datagrams and ticks lead to the same packets in both worlds, and
--- both worlds end with the same gateway.
+-- A rejected command leaves the gateway unchanged, and adds a kept reply. Flows, totals and the packets of a tick
+-- depend only on the gateway. So if two worlds have the same gateway, the same RTP datagrams and ticks lead to the same
+-- packets in both, whatever replies they keep. Both worlds end with the same gateway.
 abbrev pub is_of_media : Event → Bool
 is_of_media (Control source bytes) = false
 is_of_media _ = true
@@ -80,7 +78,7 @@ GatewayDeterminesFuture =
 
 -- ## The order of terminations
 
--- a gateway can start with this configuration, and its first number fits in 32 bits
+-- A gateway can start with this configuration, and its first termination number fits in 32 bits.
 abbrev pub IsStart : Config → Type 0
 IsStart config = IsValidConfig config × (config.first_termination < 2 ^ 32)
 

@@ -11,17 +11,17 @@ use Rattle.mg_core.specs.Run.{RanToEnd}
 use Rattle.mg_core.specs.Step.{Sent, Run}
 use Rattle.mg_core.specs.World.{World, start_of}
 
--- an RTP datagram at another port
+-- Whether an event is an RTP datagram at another port.
 abbrev pub is_elsewhere : ℕ → Event → Bool
 is_elsewhere port (Media other source bytes) = not (other == port)
 is_elsewhere port _ = false
 
--- the events that a port sees: all except RTP datagrams at other ports
+-- The events that a port sees: all except RTP datagrams at other ports.
 abbrev pub seen_at : ℕ → List Event → List Event
 seen_at port events = filter (λ e. not (is_elsewhere port e)) events
 
--- The control datagrams and ticks are the same, in the same order. Between any two of them, before
--- the first and after the last, each port receives the same RTP datagrams in the same order.
+-- Both lists have the same control datagrams and ticks, in the same order. Between any two of them, before the first
+-- and after the last, each port receives the same RTP datagrams in the same order.
 abbrev pub AreSameToEachPort : List Event → List Event → Type 0
 AreSameToEachPort a b = (port : ℕ) → seen_at port a ≡ seen_at port b
 
@@ -33,15 +33,14 @@ PortOrderIsIrrelevant =
     → IsStart config → AreSameToEachPort a b
     → Run (start_of config) a s v → Run (start_of config) b t w → (s ≡ t) × (v ≡ w)
 
--- The same holds for two gateways that started with the same configuration.
+-- Two gateways that started with the same configuration send the same datagrams, and end in the same world.
 abbrev pub PortOrderInHistories : Type 0
 PortOrderInHistories =
     (config : Config) (a b : List Event) (s t : List Sent) (v w : World) (one other : CoreState)
     → IsStart config → AreSameToEachPort a b
     → HasHistory config a s v one → HasHistory config b t w other → (s ≡ t) × (v ≡ w)
 
--- The same holds for two scripts that were run to the end, in either form: they write the same
--- datagrams.
+-- Two scripts that were run to the end, in either form, write the same datagrams, and end in the same world.
 abbrev pub PortOrderInScripts : Type 0
 PortOrderInScripts =
     (config : Config) (first second : Shown) (one other : List ℕ) (counts more : Counts)

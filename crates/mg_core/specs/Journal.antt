@@ -20,7 +20,7 @@ AgreementHasSameFlows =
     (a b : World) (talker listener : ℕ) → AgreeExceptReceived a b
     → flow a.gateway talker listener ≡ flow b.gateway talker listener
 
--- So the same speech flows after two histories that differ only in RTP datagrams.
+-- After two histories that differ only in RTP datagrams, the same speech flows.
 abbrev pub HistoriesHaveSameFlows : Type 0
 HistoriesHaveSameFlows =
     (config : Config) (events : List Event) (s t : List Sent) (v w : World)
@@ -30,8 +30,8 @@ HistoriesHaveSameFlows =
 
 -- ## Reports
 
--- Events run one after another, and the text reports what each of them changed. This is the text of
--- `ReportsChanges` without the lines for the datagrams that are sent.
+-- Events run one after another, and the text reports the changes of each of them. This is the text of `ReportsChanges`
+-- without the lines for the datagrams that are sent.
 abbrev pub ReportsOnlyChanges : World → List Event → List ℕ → World → Type 0
 ReportsOnlyChanges w [] text last = (text ≡ []) × (last ≡ w)
 ReportsOnlyChanges w (event ∷ events) text last =
@@ -39,16 +39,15 @@ ReportsOnlyChanges w (event ∷ events) text last =
     × Step w event sent next × ReportsOnlyChanges next events others last
     × (text ≡ changes_by w next ++ others)
 
--- Suppose two worlds agree except for what was received, and their terminations and contexts are
--- consistent. Then events cause the same changes in both, even if only the first world receives the
--- RTP datagrams.
+-- Suppose two worlds agree except for what was received, and their terminations and contexts are consistent. Then
+-- events cause the same changes in both, even if only the first world receives the RTP datagrams.
 abbrev pub AgreementHasSameReports : Type 0
 AgreementHasSameReports =
     (a b x y : World) (events : List Event) (s t : List ℕ)
     → IsConsistent a.gateway.rooms → AgreeExceptReceived a b
     → ReportsOnlyChanges a events s x → ReportsOnlyChanges b (without_rtp events) t y → s ≡ t
 
--- So the reports of two histories that differ only in RTP datagrams are equal.
+-- The reports of two histories that differ only in RTP datagrams are equal.
 abbrev pub HistoriesHaveSameReports : Type 0
 HistoriesHaveSameReports =
     (config : Config) (events : List Event) (s t : List ℕ) (v w : World) → IsStart config

@@ -1,25 +1,25 @@
--- What the lines of a script say: events, and comments between them.
+-- The content of a script's lines: events, and comments between them.
 use Rattle.std.specs.Prelude.{◌≡◌, ℕ, List, [], ◌∷◌, Option, Some, None}
 use Rattle.std.specs.Option.{option_map}
 use Rattle.mg_words.specs.OptionSteps.{◌>>=◌}
 use Rattle.mg_core.specs.declared.event.Event.{Event}
 use Rattle.mg_core.specs.Script.{event_of, events_of}
 
--- a comment or an empty line, without its line end; or an event
+-- A note: a comment or an empty line, without its line end; or an event.
 pub data Note : Type 0 where
   Comment : (line : List ℕ) → Note
   Happened : (event : Event) → Note
 
--- the note of a line, given its event, if there is one
+-- The note of a line, given its event, if there is one.
 abbrev pub noted : List ℕ → Option Event → Note
 noted line None = Comment line
 noted line (Some event) = Happened event
 
--- the note of a line, unless the line is bad
+-- The note of a line, unless the line is bad.
 abbrev pub note_of : List ℕ → Option Note
 note_of line = option_map (noted line) (event_of line)
 
--- the notes of lines, in order, unless a line is bad
+-- The notes of lines, in order, unless a line is bad.
 unfoldable pub notes_of : List (List ℕ) → Option (List Note)
 notes_of [] = Some []
 notes_of (line ∷ lines) = do
@@ -27,7 +27,7 @@ notes_of (line ∷ lines) = do
   notes ← notes_of lines
   Some (note ∷ notes)
 
--- the events, without the comments
+-- The events without the comments.
 abbrev pub events_in : List Note → List Event
 events_in [] = []
 events_in (Comment line ∷ notes) = events_in notes

@@ -1,4 +1,4 @@
--- How a control datagram is read: as a message, or as an error that rejects it as a whole.
+-- The reading of a control datagram: a message, or an error with which it is rejected as a whole.
 use Rattle.std.specs.Prelude.{◌≡◌, ℕ, ◌≤◌, true, List, length}
 use Rattle.mg_scan.specs.Span.{text_of}
 use Rattle.mg_words.specs.declared.error_number.ErrorNumber.TheVariants.{Syntax, Version, NotServed}
@@ -9,9 +9,8 @@ use Rattle.mg_text.specs.Proper.{are_proper}
 use Rattle.mg_core.specs.declared.parsed.Parsed.{Parsed}
 use Rattle.mg_core.specs.declared.parsed.Parsed.TheVariants.{Message, Refused}
 
--- The bytes are a message with this tree, which is proper; or they do not follow the grammar, have
--- a head of another version, or exceed a limit, and the error says which. No other error rejects a
--- datagram as a whole.
+-- The bytes are a message with this tree, which is proper. Otherwise they do not follow the grammar, have a head of
+-- another version, or exceed a limit, and the error says which. No other error rejects a datagram as a whole.
 abbrev pub IsReadingOf : List ℕ → Parsed → Type 0
 IsReadingOf bytes (Message m) =
     IsMessage bytes m

@@ -1,4 +1,4 @@
--- How peers are written.
+-- The text form of peers.
 use Rattle.std.specs.Prelude.{ℕ, List, ◌++◌, Option, Some, codes, decimal}
 use Rattle.mg_words.specs.Numbers.{port_of}
 use Rattle.mg_words.specs.OptionSteps.{◌>>=◌}
@@ -10,7 +10,7 @@ use Rattle.mg_words.specs.declared.peer.Peer.{Peer}
 abbrev pub peer : List ℕ → ℕ → Peer
 peer address port = record { address = address; port = port }
 
--- an address, a colon and a port
+-- The peer with this text: an address, a colon and a port.
 unfoldable pub peer_of : List ℕ → Option Peer
 peer_of text = do
   parts ← cut 58 text
@@ -18,6 +18,6 @@ peer_of text = do
   port ← port_of parts.1
   Some (peer address port)
 
--- the text of a peer, in decimal without leading zeros
+-- The text of a peer, in decimal without leading zeros.
 abbrev pub peer_text : Peer → List ℕ
 peer_text p = address_text p.address ++ (codes ":" ++ decimal p.port)

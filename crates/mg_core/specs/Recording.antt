@@ -11,19 +11,19 @@ use Rattle.mg_lines.specs.Lines.{lines_of}
 
 -- ## Lines
 
--- a peer, a space, a datagram's bytes in lower-case hexadecimal, and a line feed
+-- A peer, a space, a datagram's bytes in lower-case hexadecimal, and a line feed.
 abbrev pub datagram_text : Peer → List ℕ → List ℕ
 datagram_text source bytes =
     peer_text source ++ (codes " " ++ (encode_lower bytes ++ codes "\n"))
 
--- the line for an event
+-- The line for an event.
 abbrev pub event_line : Event → List ℕ
 event_line (Control source bytes) = codes "control " ++ datagram_text source bytes
 event_line (Media port source bytes) =
     codes "rtp " ++ (decimal port ++ (codes " " ++ datagram_text source bytes))
 event_line Tick = codes "tick\n"
 
--- an entry of a recording: an event, or a comment
+-- An entry of a recording: an event, or a comment.
 pub data Entry : Type 0 where
   Happened : (event : Event) → Entry
   Noted : (text : List ℕ) → Entry
@@ -32,11 +32,11 @@ abbrev pub entry_line : Entry → List ℕ
 entry_line (Happened event) = event_line event
 entry_line (Noted text) = codes "# " ++ (text ++ codes "\n")
 
--- the text of a recording
+-- The text of a recording.
 abbrev pub recording_of : List Entry → List ℕ
 recording_of entries = flat_map entry_line entries
 
--- the events of a recording
+-- The events of a recording.
 abbrev pub events_in : List Entry → List Event
 events_in [] = []
 events_in (Happened event ∷ entries) = event ∷ events_in entries
@@ -44,7 +44,7 @@ events_in (Noted text ∷ entries) = events_in entries
 
 -- ## What can be read back
 
--- a datagram that can arrive: from an IPv4 address and a 16-bit port, at most 65,535 bytes long
+-- A datagram that can arrive. It comes from an IPv4 address and a 16-bit port, and is at most 65,535 bytes long.
 pub record IsDatagram (source : Peer) (bytes : List ℕ) : Type 0 where
   pub four : length source.address ≡ 4
   pub parts : All (λ b. b < 256) source.address
@@ -52,7 +52,7 @@ pub record IsDatagram (source : Peer) (bytes : List ℕ) : Type 0 where
   pub length_is : length bytes ≤ 65535
   pub bytes_are : All (λ b. b < 256) bytes
 
--- an event that can arrive, or a comment of one line that is not too long
+-- The entry is an event that can arrive, or a comment of one line that is not too long.
 abbrev pub IsRecorded : Entry → Type 0
 IsRecorded (Happened (Control source bytes)) = IsDatagram source bytes
 IsRecorded (Happened (Media port source bytes)) = (port < 65536) × IsDatagram source bytes

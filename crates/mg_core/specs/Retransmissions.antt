@@ -20,8 +20,7 @@ use Rattle.mg_core.specs.Answer.{item_replied, request_replied, run_and_kept}
 use Rattle.mg_core.specs.Step.{Sent, Step, Run}
 use Rattle.mg_core.specs.World.{World, start_of, with_control}
 
--- While the reply to a request is kept, it answers the request, whatever the request says, and
--- nothing is executed.
+-- While the reply to a request is kept, it answers the request, whatever the request contains, and nothing is executed.
 abbrev pub KeptRepliesAreSent : Type 0
 KeptRepliesAreSent =
     (source sender : List ℕ) (request : Request) (w : World) (text : List ℕ)
@@ -48,32 +47,32 @@ OthersAreRun =
 
 -- ## Over time
 
--- whether an item from a sender acknowledges the reply to this sender's request with this number
+-- Whether an item from a sender acknowledges the reply to this sender's request with this number.
 abbrev pub acknowledges : List ℕ → ℕ → List ℕ → MessageItem → Bool
 acknowledges sender number from (items.Request request) = false
 acknowledges sender number from (items.Acknowledgement ranges) =
     list_any (λ x. nat_le x.first number && nat_le number x.last
     && str_eq_ignore_ascii_case sender from) ranges
 
--- whether an item is this request
+-- Whether an item is this sender's request with this number.
 abbrev pub is_request_for : List ℕ → ℕ → List ℕ → MessageItem → Bool
 is_request_for sender number from (items.Request request) =
     (request.number == number) && str_eq_ignore_ascii_case sender from
 is_request_for sender number from (items.Acknowledgement ranges) = false
 
--- how many replies an item adds to those kept: one if it is a request that is run
+-- The number of replies that an item adds to the kept ones: 1 if it is a request that is run, otherwise 0.
 abbrev pub kept_for : List ℕ → MessageItem → World → ℕ
 kept_for from (items.Request request) w =
     if is_none (kept_text w.replies from request.number) then 1 else 0
 kept_for from (items.Acknowledgement ranges) w = 0
 
--- how many replies the items of a message add, in order
+-- The number of replies that the items of a message add to the kept ones, in order.
 abbrev pub kept_for_all : List ℕ → List ℕ → List MessageItem → World → ℕ
 kept_for_all source from [] w = 0
 kept_for_all source from (x ∷ xs) w =
     kept_for from x w + kept_for_all source from xs (item_replied source from [] x w).1
 
--- An event preserves a reply: it does not acknowledge the reply, and adds at most n other replies.
+-- An event preserves a reply: it does not acknowledge the reply, and adds at most `n` other replies.
 abbrev pub PreservesReply : List ℕ → ℕ → World → Event → ℕ → Type 0
 PreservesReply sender number w (Control source bytes) n =
     (m : Message) → IsMessage bytes m
@@ -81,7 +80,7 @@ PreservesReply sender number w (Control source bytes) n =
     × (kept_for_all bytes (text_of bytes m.sender) (items_of m.body) (with_control w) ≤ n)
 PreservesReply sender number w _ n = Unit {0}
 
--- Events preserve a reply one after another, and add at most n other replies in total.
+-- Events preserve a reply one after another, and add at most `n` other replies in total.
 abbrev pub AllPreserveReply : List ℕ → ℕ → World → List Event → ℕ → Type 0
 AllPreserveReply sender number w [] n = Unit {0}
 AllPreserveReply sender number w (event ∷ events) n =
@@ -89,8 +88,8 @@ AllPreserveReply sender number w (event ∷ events) n =
     × ((sent : List Sent) (next : World) → Step w event sent next
     → AllPreserveReply sender number next events others)
 
--- A request gets the same answer, and is not run again, until an acknowledgement names its reply or
--- 32 other replies have been kept. Time does not matter.
+-- A request gets the same answer, and is not run again, until an acknowledgement names its reply or 32 other replies
+-- have been kept. The time that passes does not matter.
 abbrev pub RepliesPersist : Type 0
 RepliesPersist =
     (sender text : List ℕ) (number : ℕ) (w last : World) (events : List Event) (sent : List Sent)
@@ -115,7 +114,7 @@ AcknowledgedAreDropped =
     → acknowledges sender number from item ≡ true
     → kept_text (item_replied source from mark item w).1.replies sender number ≡ None
 
--- Another request that is run while 31 replies are newer than a reply also drops that reply.
+-- If 31 replies are newer than a reply, running one more request drops that reply.
 abbrev pub EvictedAreDropped : Type 0
 EvictedAreDropped =
     (source sender from : List ℕ) (number : ℕ) (request : Request) (w : World)
@@ -124,14 +123,14 @@ EvictedAreDropped =
     → is_request_for sender number from (items.Request request) ≡ false
     → kept_text (request_replied source from request w).1.replies sender number ≡ None
 
--- no message among the events contains the request
+-- No message in the event contains the request.
 abbrev pub IsNotRequested : List ℕ → ℕ → Event → Type 0
 IsNotRequested sender number (Control source bytes) =
     (m : Message) → IsMessage bytes m
     → list_any (is_request_for sender number (text_of bytes m.sender)) (items_of m.body) ≡ false
 IsNotRequested sender number _ = Unit {0}
 
--- After that, the request is run and answered again if it is retransmitted.
+-- After a reply was dropped, the request is run again if it is retransmitted.
 abbrev pub DroppedRequestsAreRerun : Type 0
 DroppedRequestsAreRerun =
     (sender : List ℕ) (number : ℕ) (w last : World) (events : List Event) (sent : List Sent)

@@ -1,4 +1,4 @@
--- What running a script writes.
+-- The output of running a script.
 use Rattle.std.specs.Prelude.{◌≡◌, ◌⊎◌, ℕ, ◌+◌, ◌≤◌, Bool, true, false, List, [], ◌∷◌, ◌++◌}
 use Rattle.std.specs.Prelude.{length, flat_map, Option, Some, None, Result, Ok, Err, codes}
 use Rattle.std.specs.Prelude.{decimal}
@@ -23,12 +23,12 @@ use Rattle.mg_core.specs.Script.{event_of, events_of, escaped}
 
 -- ## Lines of the output
 
--- the line for an answer to a peer
+-- The line for an answer to a peer.
 abbrev pub answer_line : Peer → List ℕ → List ℕ
 answer_line peer text =
     codes "say " ++ (peer_text peer ++ (codes " " ++ (escaped text ++ codes "\n")))
 
--- the line for a packet, with its bytes in lower-case hexadecimal
+-- The line for a packet, with its bytes in lower-case hexadecimal.
 abbrev pub packet_line : Datagram → List ℕ
 packet_line d =
     codes "rtp " ++ (decimal d.from ++
@@ -50,12 +50,12 @@ ReportsChanges w (event ∷ events) text last =
     × Step w event sent next × ReportsChanges next events others last
     × (text ≡ lines_for sent ++ (changes_by w next ++ others))
 
--- the text that is written for events that send these datagrams
+-- The text that is written for events that send these datagrams.
 abbrev pub IsShownText : Shown → World → List Event → List Sent → List ℕ → World → Type 0
 IsShownText shows.Sent w events sent text last = text ≡ lines_for sent
 IsShownText shows.SentAndFlows w events sent text last = ReportsChanges w events text last
 
--- in each form, a world and the events that run in it determine the text
+-- In each form of output, a world and the events that run in it determine the text.
 abbrev pub TextIsDetermined : Type 0
 TextIsDetermined =
     (shown : Shown) (w x y : World) (events : List Event) (s t : List Sent) (a b : List ℕ)
@@ -64,8 +64,8 @@ TextIsDetermined =
 
 -- ## Lines of the input
 
--- Lines were run, starting in the world w. Their events send these datagrams and lead to the last
--- world, and a writer has received their text.
+-- Lines were run, starting in the world `w`. Their events send these datagrams and lead to the last world, and their
+-- text was written.
 pub record Ran (shown : Shown) (w : World) (lines : List (List ℕ)) (last : World)
     (old new : Option (List ℕ)) : Type 0 where
   pub events : List Event
@@ -78,14 +78,14 @@ pub record Ran (shown : Shown) (w : World) (lines : List (List ℕ)) (last : Wor
 
 -- ## How far a script was read
 
--- this text was read from an input, up to its end if the input has ended
+-- This text was read from an input. If `ended`, the input has no more bytes.
 pub record HasRead (input rest : Option (List ℕ)) (text : List ℕ) (ended : Bool) : Type 0 where
   pub consumed : Consumes input rest text
   pub at_end : ended ≡ true → IsAtEnd rest
 
--- These lines of the text were run before more of it was read. They are all lines that end before
--- the last piece that was read, and perhaps some that end within it. That piece is at most 4096
--- bytes long, or is just the end.
+-- These lines of the text were run before more of it was read. They are all lines that are complete before the last
+-- piece that was read, and perhaps some that are completed within it. That piece is at most 4096 bytes long. If the
+-- text has ended, the piece is empty.
 pub record RanBeforeMore (text : List ℕ) (ended : Bool) (lines : List (List ℕ)) : Type 0 where
   pub before : List ℕ
   pub given : List ℕ
@@ -97,7 +97,7 @@ pub record RanBeforeMore (text : List ℕ) (ended : Bool) (lines : List (List �
 
 -- ## The result of running a script on a new gateway
 
--- the whole script was run, and its lines, its events and the datagrams sent were counted
+-- The whole script was run, and its lines, its events and the datagrams sent were counted.
 pub record RanToEnd (config : Config) (shown : Shown) (script : List ℕ) (counts : Counts)
     (old new : Option (List ℕ)) : Type 0 where
   pub last : World
@@ -106,43 +106,43 @@ pub record RanToEnd (config : Config) (shown : Shown) (script : List ℕ) (count
   pub sent : counts.sent ≡ capped (length ran.sent)
   pub counted : record counts { lines = 0; sent = 0; failed = 0 } ≡ counts_of last.tally
 
--- a bad line follows these lines
+-- A bad line follows these lines.
 pub record HasBadAfter (lines all : List (List ℕ)) : Type 0 where
   pub bad : List ℕ
   pub others : List (List ℕ)
   pub parts : all ≡ lines ++ bad ∷ others
   pub is_bad : event_of bad ≡ None
 
--- the line that follows those that were run
+-- This line follows the lines that were run.
 abbrev pub IsNextLine : (text : List ℕ) → (ended : Bool) → (lines : List (List ℕ)) → List ℕ → Type 0
 IsNextLine text ended lines line =
     (others : List (List ℕ)) × (lines_of ended text ≡ lines ++ line ∷ others)
 
--- Why a run stopped after these lines of the text, in the world w. A writer had the content `held`
--- after their output.
+-- The reason why a run stopped after these lines of the text, in the world `w`. A writer had the content `held` after
+-- their output.
 abbrev pub Stops : RunFault → Shown → (text : List ℕ) → (ended : Bool) → (lines : List (List ℕ))
     → World → (held new : Option (List ℕ)) → Type 0
--- The next line has this number and is bad, whatever text may follow; nothing follows the end.
+-- The next line has this number and is bad, whatever text may follow. No text follows if the input has ended.
 Stops (faults.Script number) shown text ended lines w held new =
     (number ≡ length lines + 1) × (new ≡ held)
     × ((more : List ℕ) → (ended ≡ true → more ≡ [])
     → HasBadAfter lines (lines_of true (text ++ more)))
--- all lines that end in the text were run
+-- All complete lines of the text were run.
 Stops faults.Read shown text ended lines w held new =
     (ended ≡ false) × (lines ≡ lines_of false text) × (new ≡ held)
--- the next line was run too, but only a proper prefix of its output was written
+-- The next line was run too, but only a proper prefix of its output was written.
 Stops faults.Write shown text ended lines w held new =
     (line output : List ℕ) × (last : World) × IsNextLine text ended lines line
     × Ran shown w (line ∷ []) last (Some []) (Some output) × WritesFront output held new
--- the next line had no effect, or nothing was read
+-- The next line had no effect, or nothing was read.
 Stops faults.NoMemory shown text ended lines w held new =
     (new ≡ held) × (((line : List ℕ) × IsNextLine text ended lines line)
     ⊎ ((text ≡ []) × (lines ≡ [])))
--- nothing was read
+-- Nothing was read.
 Stops faults.BadConfig shown text ended lines w held new =
     (new ≡ held) × (text ≡ []) × (lines ≡ [])
 
--- A run that stopped at a fault: these lines of the text that was read were run completely.
+-- A run stopped at a fault, after these lines of the text that was read were run completely.
 pub record RanToFault (config : Config) (shown : Shown) (input rest old new : Option (List ℕ))
     (fault : RunFault) : Type 0 where
   pub text : List ℕ
@@ -155,8 +155,7 @@ pub record RanToFault (config : Config) (shown : Shown) (input rest old new : Op
   pub ran : Ran shown (start_of config) lines now old held
   pub stops : Stops fault shown text ended lines now held new
 
--- The result of a run: how far it has read, which lines it has run, and what it has written for
--- them.
+-- The result of a run: how far the input was read, the lines that were run, and the text that was written for them.
 abbrev pub ScriptRan : Config → Shown → (input rest old new : Option (List ℕ))
     → Result Counts RunFault → Type 0
 ScriptRan config shown input rest old new (Ok counts) =

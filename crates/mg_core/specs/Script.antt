@@ -15,18 +15,18 @@ use Rattle.mg_core.specs.declared.script.Spelling.{Spelling}
 use Rattle.mg_core.specs.declared.script.Spelling.TheVariants.{Text, Digits}
 use Rattle.mg_core.specs.Peer.{peer_of}
 
--- a visible ASCII byte or a space
+-- Whether a byte is visible ASCII or a space.
 abbrev pub is_plain : ℕ → Bool
 is_plain b = nat_le 32 b && nat_le b 126
 
--- the byte that a backslash and this byte denote
+-- The byte that a backslash and this byte denote.
 abbrev pub escaped_byte : ℕ → Option ℕ
 escaped_byte b =
     if b == 110 then Some 10 else (if b == 114 then Some 13
     else (if b == 92 then Some 92 else None))
 
--- The bytes of text with escapes: \n, \r and \\ are a line feed, a carriage return and a backslash.
--- The flag says whether a backslash precedes the text.
+-- The bytes of text with escapes: `\n`, `\r` and `\\` are a line feed, a carriage return and a backslash. The flag says
+-- whether a backslash precedes the text.
 unfoldable pub unescaped : Bool → List ℕ → Option (List ℕ)
 unescaped true [] = None
 unescaped false [] = Some []
@@ -36,7 +36,7 @@ unescaped false (b ∷ bs) =
     if b == 92 then unescaped true bs
     else (if is_plain b then option_map (λ rest. b ∷ rest) (unescaped false bs) else None)
 
--- the escaped form of a byte
+-- The escaped form of a byte.
 abbrev pub escape_of : ℕ → List ℕ
 escape_of b =
     if b == 10 then codes "\\n" else
@@ -45,22 +45,22 @@ escape_of b =
 abbrev pub escaped : List ℕ → List ℕ
 escaped bytes = flat_map escape_of bytes
 
--- the value, if there is one
+-- The bytes, unless decoding failed.
 abbrev pub ok_of : Result (List ℕ) FromHexError → Option (List ℕ)
 ok_of (Ok bytes) = Some bytes
 ok_of (Err e) = None
 
--- a datagram is at most 65,535 bytes long
+-- The bytes of a datagram, which is at most 65,535 bytes long.
 abbrev pub datagram : List ℕ → Option (List ℕ)
 datagram bytes = if nat_le (length bytes) 65535 then Some bytes else None
 
--- how a datagram's bytes are spelled, according to the first word of a line
+-- The spelling of a datagram's bytes, which the first word of a line determines.
 unfoldable pub spelling_of : List ℕ → Option Spelling
 spelling_of key =
     if bytes_eq key (codes "say") then Some Text
     else (if bytes_eq key (codes "control") then Some Digits else None)
 
--- the bytes of a line's last part: text with escapes, or hexadecimal digits in either case
+-- The bytes of a line's last part: text with escapes, or hexadecimal digits in either case.
 abbrev pub spelled_bytes : Option Spelling → List ℕ → Option (List ℕ)
 spelled_bytes (Some Text) spelled = unescaped false spelled
 spelled_bytes (Some Digits) spelled = ok_of (decode_of spelled)
@@ -72,7 +72,7 @@ bytes_of key spelled = spelled_bytes (spelling_of key) spelled
 abbrev pub an_event : Event → Option (Option Event)
 an_event e = Some (Some e)
 
--- three parts, separated by single spaces: a media port, a peer, and hexadecimal digits
+-- The RTP datagram in three parts, separated by single spaces: a media port, a peer, and hexadecimal digits.
 unfoldable pub rtp_of : List ℕ → Option (Option Event)
 rtp_of parts = do
   first ← cut 32 parts
@@ -83,7 +83,7 @@ rtp_of parts = do
   bytes ← datagram bytes
   an_event (Media port source bytes)
 
--- the rest of a line after its first word: a peer, one space, and the bytes of a datagram
+-- The control datagram in the rest of a line after its first word: a peer, one space, and the bytes.
 unfoldable pub control_of : List ℕ → List ℕ → Option (Option Event)
 control_of key rest = do
   parts ← cut 32 rest
@@ -95,13 +95,13 @@ control_of key rest = do
 abbrev pub datagram_by : List ℕ → List ℕ → Option (Option Event)
 datagram_by key rest = if bytes_eq key (codes "rtp") then rtp_of rest else control_of key rest
 
--- a first word, a space, and the parts that belong to it
+-- The datagram in a line: a first word, a space, and the parts that the word requires.
 unfoldable pub datagram_of : List ℕ → Option (Option Event)
 datagram_of line = do
   parts ← cut 32 line
   datagram_by parts.0 parts.1
 
--- an empty line, or one that starts with #
+-- Whether a line is empty or starts with `#`.
 abbrev pub is_comment : List ℕ → Bool
 is_comment [] = true
 is_comment (b ∷ bs) = b == 35
@@ -115,12 +115,12 @@ event_of line =
     else (if bytes_eq line (codes "tick") then an_event Tick
     else datagram_of line))
 
--- the events, with this event in front if there is one
+-- The events, with this event in front if there is one.
 abbrev pub then_all : Option Event → List Event → List Event
 then_all None events = events
 then_all (Some event) events = event ∷ events
 
--- the events of lines, in order, unless a line is bad
+-- The events of lines, in order, unless a line is bad.
 unfoldable pub events_of : List (List ℕ) → Option (List Event)
 events_of [] = Some []
 events_of (line ∷ lines) = do

@@ -1,4 +1,4 @@
--- A gateway as seen from outside.
+-- The state of a gateway as seen from outside.
 use Rattle.std.specs.Prelude.{◌≡◌, ℕ, ◌+◌, ◌-◌, ◌^◌, min, List, [], map, replicate, take, drop}
 use Rattle.std.specs.Prelude.{slice_index, slice_set}
 use Rattle.std.specs.Fn.{iterate}
@@ -15,8 +15,8 @@ use Rattle.mg_engine.specs.Tick.{after_tick, concealed_in_tick, sent_in_tick}
 use Rattle.mg_engine.specs.Gateway as engine
 use Rattle.mg_core.specs.declared.counts.Counts.{Counts}
 
--- The numbers of control datagrams, RTP datagrams and ticks, of RTP datagrams with each outcome,
--- and of frames played in place of missing ones.
+-- The numbers of control datagrams, RTP datagrams and ticks, of RTP datagrams with each outcome, and of frames played
+-- in place of missing ones.
 pub record Tally : Type 0 where
   pub control : ℕ
   pub media : ℕ
@@ -24,8 +24,7 @@ pub record Tally : Type 0 where
   pub results : List ℕ
   pub concealed : ℕ
 
--- the gateway with its terminations and contexts; the kept replies, oldest first; and the counts
--- of events
+-- A world: the gateway with its terminations and contexts; the kept replies, oldest first; and the counts of events.
 pub record World : Type 0 where
   pub gateway : engine.Gateway
   pub replies : List KeptReply
@@ -35,13 +34,13 @@ abbrev pub no_events : Tally
 no_events =
     record { control = 0; media = 0; ticks = 0; results = replicate 11 0; concealed = 0 }
 
--- the world before any event
+-- The world before any event.
 abbrev pub start_of : Config → World
 start_of config = record { gateway = engine.start_of config; replies = []; tally = no_events }
 
 -- ## Counting
 
--- the index of an outcome's count in the list
+-- The index of an outcome's count in the list.
 abbrev pub result_place : Taken → ℕ
 result_place (takens.Placed placed.Started) = 0
 result_place (takens.Placed placed.Placed) = 1
@@ -62,15 +61,15 @@ abbrev pub with_taken : Taken → Tally → Tally
 with_taken result t =
     record t { media = t.media + 1; results = one_more_at (result_place result) t.results }
 
--- a tick that conceals this many frames
+-- The counts after a tick that conceals this many frames.
 abbrev pub with_tick : ℕ → Tally → Tally
 with_tick concealed t = record t { ticks = t.ticks + 1; concealed = t.concealed + concealed }
 
--- a count that reaches the largest 64-bit value stays there
+-- A count, limited to the largest 64-bit value.
 abbrev pub capped : ℕ → ℕ
 capped n = min n (2 ^ 64 - 1)
 
--- the counts of events, without what the runner counts
+-- The counts of events. The counts that the runner keeps are 0.
 abbrev pub counts_of : Tally → Counts
 counts_of t = record {
   lines = 0;
@@ -86,17 +85,17 @@ counts_of t = record {
 
 -- ## Events
 
--- the world with one more control datagram counted
+-- The world after one more control datagram was counted.
 abbrev pub with_control : World → World
 with_control w = record w { tally = record w.tally { control = w.tally.control + 1 } }
 
--- the outcome of an RTP datagram at a port, and the world after it
+-- The outcome of an RTP datagram at a port, and the world after it.
 abbrev pub TakesMedia : World → ℕ → Peer → List ℕ → World → Taken → Type 0
 TakesMedia w port source bytes after result =
     (g : engine.Gateway) × Takes w.gateway port source.address bytes g result
     × (after ≡ record w { gateway = g; tally = with_taken result w.tally })
 
--- the world after a tick
+-- The world after a tick.
 abbrev pub world_after_tick : World → World
 world_after_tick w =
     record w {
@@ -104,7 +103,7 @@ world_after_tick w =
       tally = with_tick (concealed_in_tick w.gateway) w.tally;
     }
 
--- the world after this many ticks
+-- The world after this many ticks.
 abbrev pub world_after_ticks : ℕ → World → World
 world_after_ticks count w = iterate world_after_tick count w
 

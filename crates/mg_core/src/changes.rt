@@ -40,8 +40,8 @@ const TALKER_LIMIT: usize = 5 + NUMBER_LIMIT;
 /// The maximum length, in bytes, of the names of all members of a context.
 const TALKERS_LIMIT: usize = MEMBERS * TALKER_LIMIT;
 
-/// The maximum length, in bytes, of the line that says whom a termination hears: its start, ` hears`, names and a line
-/// feed.
+/// The maximum length, in bytes, of the line that reports whom a termination hears: its start, ` hears`, names and a
+/// line feed.
 const HEARING_LIMIT: usize = 7 + LINE_HEAD_LIMIT + TALKERS_LIMIT;
 
 /// The maximum length, in bytes, of all lines for a new termination.

@@ -14,7 +14,7 @@ use std::marker::Model;
 /// The maximum number of hexadecimal digits in a datagram.
 const DIGITS_ROOM: usize = 2 * DATAGRAM_LIMIT;
 
-/// The maximum length, in bytes, of what surrounds a datagram's digits: a peer, a space and a line feed.
+/// The maximum length, in bytes, of the text around a datagram's digits: a peer, a space and a line feed.
 const DATAGRAM_START: usize = 2 + PEER_LIMIT;
 
 /// The maximum length of a line, in bytes: `rtp`, two spaces, a port, a peer, and the digits of a datagram.

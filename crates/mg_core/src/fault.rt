@@ -8,7 +8,7 @@ use thiserror::Error;
 #[error("out of memory")]
 pub struct NoMemory;
 
-/// Why the lines for an event were not written completely.
+/// The reason why the lines for an event were not written completely.
 #[derive(Clone, Copy, Debug, PartialEq, Eq)]
 pub enum EventFault {
     Write,
@@ -16,7 +16,7 @@ pub enum EventFault {
     NoMemory,
 }
 
-/// Why a line was not run, or why its output is incomplete.
+/// The reason why a line was not run, or why its output is incomplete.
 #[derive(Clone, Copy, Debug, PartialEq, Eq)]
 pub enum LineFault {
     /// The line with this number, counted from 1, is not a script line.
@@ -26,7 +26,7 @@ pub enum LineFault {
     NoMemory,
 }
 
-/// Why a script did not run to its end after the gateway had started.
+/// The reason why a script did not run to its end after the gateway had started.
 #[derive(Clone, Copy, Debug, PartialEq, Eq)]
 pub enum ScriptFault {
     /// The line with this number, counted from 1, is not a script line.
@@ -36,7 +36,7 @@ pub enum ScriptFault {
     NoMemory,
 }
 
-/// Why a script did not run to its end.
+/// The reason why a script did not run to its end.
 #[derive(Clone, Copy, Debug, PartialEq, Eq, Error)]
 pub enum RunFault {
     /// The line with this number, counted from 1, is not a script line.

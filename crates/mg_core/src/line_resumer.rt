@@ -18,7 +18,7 @@ use std::alloc::Global;
 #[derive(Drop)]
 pub struct LineResumer {
     pub core: Core,
-    /// How many ticks have been counted but not run yet. These ticks come after everything that has been run.
+    /// The number of ticks that have been counted but not run yet. They come after everything that has been run.
     pub ticks: u64,
 }
 
@@ -34,7 +34,7 @@ impl LineResumer {
         Ok(LineResumer { core, ticks: 0 })
     }
 
-    /// Tells the follower about the ticks that have been counted but not run yet, and then runs them.
+    /// Reports the ticks that have been counted but not run yet to the follower, and then runs them.
     pub fn run_ticks<F: Follower>(&mut self, follower: &mut F) -> Result<(), Stopped>
         ensures value { (start : F) (config : Config) (notes : List Note) →
             KeepsUp config self.old.core.state self.old.ticks (HasFollowed F.follows start follower.old config) notes →

@@ -57,7 +57,7 @@ fn outputs(alloc: Global, shown: Shown) -> Result<(Bytes, Option<Watched>), Allo
 pub struct LineRunner {
     pub core: Core,
     pub output: Bytes,
-    /// How many answers and packets were written.
+    /// The number of answers and packets that were written.
     pub sent: u64,
     /// The terminations after the last event, if changes are shown.
     pub watched: Option<Watched>,
@@ -138,7 +138,7 @@ impl LineRunner {
         Ok(())
     }
 
-    /// Writes what a control datagram changed, if changes are shown.
+    /// Writes the changes of a control datagram, if changes are shown.
     fn show_changes<W: Write>(&mut self, writer: &mut W) -> Result<(), EventFault>
         ensures core { self.new.core ≡ self.old.core }
         ensures sent { self.new.sent ≡ self.old.sent }

@@ -19,8 +19,8 @@ use mg_reply::Bytes;
 use std::alloc::Global;
 use std::io::Read;
 
-/// Returns the index of the first line feed, or `None` if there is none. Most lines of a journal are `tick`, so this
-/// line is tried first.
+/// Returns the index of the first line feed, or `None` if there is none. Most lines of a journal are `tick`, so a
+/// comparison with that line comes first.
 fn line_end(text: &[u8]) -> Option<usize>
     ensures value { IsFirstByte (is_byte 10) text.now result }
 {
@@ -34,7 +34,7 @@ fn line_end(text: &[u8]) -> Option<usize>
 const SIXTEEN_TICKS: &[u8; 80] =
     b"tick\ntick\ntick\ntick\ntick\ntick\ntick\ntick\ntick\ntick\ntick\ntick\ntick\ntick\ntick\ntick\n";
 
-/// Counts the `tick` lines that a text begins with, sixteen at a time. At most the last fifteen aren't counted.
+/// Counts the `tick` lines at the start of a text, sixteen at a time. Up to fifteen of them may remain uncounted.
 fn leading_ticks(text: &[u8]) -> usize
     ensures value { IsAfterTicks result text.now (drop (5 * result) text.now) }
     ensures within { 5 * result ≤ length text.now }
@@ -62,7 +62,7 @@ fn is_tick(partial: &Bytes, part: &[u8]) -> bool
 #[derive(Drop)]
 pub struct Resumer {
     pub runner: LineResumer,
-    /// How many lines were run.
+    /// The number of lines that were run.
     pub lines: u64,
     pub partial: Bytes,
     ghost partial_size: { partial.room + length partial.text ≡ PARTIAL_LIMIT },
@@ -135,7 +135,7 @@ impl Resumer {
         Ok(())
     }
 
-    /// Counts the `tick` lines that a text begins with, or most of them. Returns the rest of the text.
+    /// Counts the `tick` lines at the start of a text, except up to fifteen of them. Returns the rest of the text.
     fn take_ticks<'a>(&mut self, text: &'a [u8]) -> &'a [u8]
         requires few { self.old.lines + length text.now < 2 ^ 64 }
         requires ticks { self.old.runner.ticks ≤ self.old.lines }

@@ -20,14 +20,14 @@ use std::io::{Read, Write};
 /// that exactly the datagrams sent in response to its events were written. The result counts the script's lines, events
 /// and datagrams.
 ///
-/// A fault says how much of the text read so far was run. The run stopped at one line. All earlier lines were run, and
-/// their output was written completely before any more input was read:
+/// A fault determines how much of the text read so far was run. The run stopped at one line. All earlier lines were
+/// run, and their output was written completely before any more input was read:
 /// - `Script`: carries the number of the first bad line; the lines before it were run.
 /// - `Read`: the lines that had been read completely were run, and no others. A run also ends with `Read` after
 ///   4,294,967,295 reads.
 /// - `Write`: the output of the last line that was run was written only in part.
 /// - `NoMemory`: memory ran out at a line, which had no effect; the lines before it were run. Or memory ran out before
-///   anything was read.
+///   Anything was read.
 /// - `BadConfig`: returned if and only if the configuration is invalid. Nothing was read.
 pub fn run<R: Read, W: Write>(
     alloc: Global,

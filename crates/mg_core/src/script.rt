@@ -16,7 +16,7 @@ pub const LINE_LIMIT: usize = 140000;
 /// The maximum length of a datagram, in bytes: the limit of UDP itself.
 pub const DATAGRAM_LIMIT: usize = 65535;
 
-/// Why a line was not parsed.
+/// The reason why a line was not parsed.
 #[derive(Clone, Copy, Debug, PartialEq, Eq)]
 pub enum ParseFault {
     /// The line is not a script line.
@@ -53,7 +53,7 @@ fn is_plain(b: u8) -> bool
     matches!(b, 0x20..=0x7E)
 }
 
-/// Returns the byte that a backslash and this byte stand for, or `None` if they are not an escape.
+/// Returns the byte that a backslash and this byte denote, or `None` if they are not an escape.
 fn escaped_byte(b: u8) -> Option<u8>
     ensures value { result ≡ escaped_byte b }
 {
@@ -104,7 +104,7 @@ fn unhex(alloc: Global, digits: &[u8]) -> Result<Vec<u8>, ParseFault>
     }
 }
 
-/// How a script line encodes a datagram. The first word of the line determines the encoding.
+/// The encoding of a datagram in a script line. The first word of the line determines it.
 #[derive(Clone, Copy, Debug, PartialEq, Eq)]
 enum Spelling {
     /// Text with escapes.

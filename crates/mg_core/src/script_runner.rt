@@ -26,7 +26,7 @@ pub const PARTIAL_LIMIT: usize = LINE_LIMIT + 1;
 #[derive(Drop)]
 pub struct ScriptRunner {
     pub runner: LineRunner,
-    /// How many lines were run.
+    /// The number of lines that were run.
     pub lines: u64,
     pub partial: Bytes,
     ghost partial_size: { partial.room + length partial.text ≡ PARTIAL_LIMIT },

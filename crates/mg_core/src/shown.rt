@@ -1,4 +1,4 @@
-/// What is written for each event of a script.
+/// The output that is written for each event of a script.
 #[derive(Clone, Copy, Debug, PartialEq, Eq)]
 pub enum Shown {
     /// The datagrams that are sent in response to the event.

@@ -6,7 +6,7 @@ use crate::counts::Counts;
 use mg_commands::Kept;
 use mg_engine::{Engine, Taken};
 
-/// What a gateway keeps between events: terminations and contexts, kept replies, and the counts of events.
+/// The state that a gateway keeps between events: terminations and contexts, kept replies, and the counts of events.
 #[derive(Drop)]
 pub struct CoreState {
     pub engine: Engine,

@@ -51,7 +51,7 @@ impl Watched {
         })
     }
 
-    /// Writes what changed in a core since the last call, and stores its current terminations.
+    /// Writes the changes of a core since the last call, and stores its current terminations.
     #[tactic(auto, using(crate::proofs::AnswerLemmas::totals))]
     pub fn write_changes<W: Write>(
         &mut self,

@@ -1,4 +1,4 @@
--- Lines after a seal and a date.
+-- Lines appended after a seal and a date.
 use Rattle.std.proofs.Common.{◌≡◌, ◌≢◌, ◌⊎◌, ℕ, List, [], ◌++◌, codes, Result, refl, ap, ◌∙◌, subst, inl, inr, arith, append_assoc, length-append}
 use Rattle.std.proofs.lemmas.List.Elements.{All-append}
 use Rattle.mg_chain.proofs.SealLemmas.{plain}
@@ -17,13 +17,13 @@ grouped seal mark text feed lines =
     ∙ (append_assoc seal ((mark ++ text) ++ feed) lines
     ∙ ap (λ (l : List ℕ). seal ++ (l ++ lines)) (append_assoc mark text feed)))
 
--- lines were appended without a comment
+-- Appending the lines by themselves, without a seal or a date, satisfies `AppendsDated`.
 pub undated : (lines : List ℕ) (durability : Durability) (old new : JournalState)
     (result : Result (Unit {0}) AppendFault) → Appends lines durability old new result
     → AppendsDated lines durability old new result
 undated lines durability old new result appends = ([], [], inl refl, inl refl, appends)
 
--- lines were appended after the line for a date, perhaps after a seal
+-- Appending the lines after a line for a date, perhaps with a seal before the date, satisfies `AppendsDated`.
 pub dates : (seal text lines written : List ℕ) (durability : Durability) (old new : JournalState)
     (result : Result (Unit {0}) AppendFault) → (seal ≡ []) ⊎ IsSeal (text_to_seal old) seal → IsShortLine text
     → written ≡ (((seal ++ codes "# time ") ++ text) ++ codes "\n") ++ lines

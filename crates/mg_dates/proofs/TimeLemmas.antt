@@ -1,4 +1,4 @@
--- Dates in comments, and timelines of more notes.
+-- Dates in comments, and how timelines change with more notes.
 use Rattle.std.proofs.Common.{◌≡◌, ◌≢◌, ℕ, ◌+◌, ◌-◌, ◌^◌, ◌≤◌, suc, zero, Bool, true, false, ◌&&◌, cond, List, [], ◌∷◌, ◌++◌, codes, drop, length, min, take, Option, Some, None, refl, sym, ap, ◌∙◌, subst, arith}
 use Rattle.std.specs.Prelude.{reverse, IsUtf8}
 use Rattle.std.specs.Option.{option_map_or}

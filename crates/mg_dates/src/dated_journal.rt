@@ -13,13 +13,13 @@ use std::alloc::{AllocError, Global};
 use std::marker::Model;
 use std::time::Clock;
 
-/// The room for the lines after a date, in bytes. Every message's line fits.
+/// The space for the lines after a date, in bytes. Every message's line fits.
 const LINES_ROOM: usize = 140_000;
 
-/// What stands before the text of a date.
+/// The beginning of a line with a date.
 const DATE: &[u8] = b"# time ";
 
-/// The length of that and a line feed, in bytes.
+/// The length of `DATE` and a line feed, in bytes.
 const MARKS: usize = 8;
 
 /// The length of a seal's line, in bytes.
@@ -42,7 +42,7 @@ const MAX_AGE: u64 = 60_000;
 pub struct DatedJournal<'a, J: Journal, C: Clock> {
     journal: J,
     clock: &'a C,
-    /// The lines being appended, with their date.
+    /// A buffer for the lines that are being appended, with their seal and date.
     text: Bytes,
     last: Option<Date>,
     /// The date of the last seal.
@@ -61,13 +61,13 @@ impl<'a, J: Journal, C: Clock> Model for DatedJournal<'a, J, C> {
     ghost invariant = { λ d. d.text.room + length d.text.text ≡ TEXT_ROOM };
 }
 
-/// Returns whether lines begin with a message.
+/// Returns whether the first of these lines is a message.
 fn is_message(lines: &[u8]) -> bool {
     lines.starts_with(b"control")
 }
 
-/// Returns the time of the events in lines that are being appended. For ticks, this is when the first of them began:
-/// each line of 5 bytes stands for 20 ms.
+/// Returns the time of the events in lines that are being appended. For ticks, this is the time at which the first tick
+/// began: each line of 5 bytes is one tick of 20 ms.
 fn date_of(lines: &[u8], now: Date) -> Date {
     if is_message(lines) {
         return now;

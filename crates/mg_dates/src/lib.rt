@@ -1,7 +1,7 @@
 //! Dates in a journal, and the number of ticks missed since the journal's last line.
 //!
-//! A [`DatedJournal`] adds dates and seals (`mg_chain`) to the lines that it appends to a journal. [`Timeline`] reads the
-//! dates while a journal is run again, so that the gateway can skip the ticks that it missed:
+//! A [`DatedJournal`] adds dates and seals (`mg_chain`) to the lines that it appends to a journal. [`Timeline`] reads
+//! the dates while a journal is replayed, so that the gateway can skip the ticks that it missed:
 //!
 //! ```rust
 //! let mut timeline = Timeline::new();

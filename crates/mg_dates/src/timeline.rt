@@ -19,10 +19,10 @@ const TICK: u64 = 20;
 /// difference is greater, the system's clock was changed, or the ticks were late.
 const TOLERANCE: u64 = 1000;
 
-/// When the ticks of a journal happened: a date, and how many ticks followed it.
+/// The time at which a journal's next tick is due, as a date and the number of ticks since that date.
 ///
-/// Ticks are counted from the first date that the later dates agree with. So if one restart of the gateway loses time
-/// to rounding, the next one makes up for it.
+/// Ticks are counted from a date for as long as the later dates agree with the count. So if one restart of the gateway
+/// loses time to rounding, the next restart makes up for it.
 #[derive(Clone, Copy, Debug, PartialEq, Eq)]
 pub struct Timeline {
     /// The date from which ticks are counted, or `None` before the first date.
@@ -31,7 +31,7 @@ pub struct Timeline {
     pub ticks: u64,
 }
 
-/// Returns how many ticks were missed between a date and now, if `ticks` ticks followed the date. If the clock has been
+/// Returns how many ticks were missed between `date` and `now`, if `ticks` ticks followed `date`. If the clock has been
 /// set back since then, returns the number of ticks that a crash can lose.
 fn missed_ticks(date: Date, ticks: u64, now: Date) -> u64
     ensures value { result ≡ missed_ticks date.millis ticks now.millis }
@@ -89,7 +89,7 @@ impl Timeline {
         Some(Date { millis })
     }
 
-    /// Takes note of a date, and returns how it compares with the time computed from the ticks before it.
+    /// Records a date, and returns how it compares with the time computed from the ticks before it.
     pub fn pass_date(&mut self, date: Date) -> Agreement
         ensures value { self.new ≡ after_date self.old date }
         ensures agreement { result ≡ agreement_of (next_tick self.old) date }
@@ -105,7 +105,7 @@ impl Timeline {
         agreement
     }
 
-    /// Takes note of a comment or an empty line, given without its line end. Only a date has an effect.
+    /// Records a comment or an empty line, given without its line end. Only a date has an effect.
     pub fn pass_comment(&mut self, line: &[u8])
         ensures value { self.new ≡ option_map_or (after_date self.old) (date_in line.now) self.old }
     {

@@ -1,4 +1,4 @@
--- What keeps two gateways in agreement outside some terminations.
+-- Two gateways that agree outside some terminations still agree after an edit, a datagram or a tick.
 use Rattle.mg_engine.proofs.Common.{◌≡◌, ℕ, ℤ, eqb, Bool, true, false, cond, ◌&&◌, List, [], ◌∷◌, ◌++◌, map, find, Option, Some, None, Result, Ok, Err, refl, sym, ap, subst, ◌∙◌, eqb-true, option_to_list, option_map, ◌>>=◌, ErrorNumber, Header, Reading, Record, Settings, Target, change, members_at, TopologyTriple, Arrived, arrived, at_port, frame_placed, taken_at, frame_placed_at, taken_by, has, Gateway, TerminationMedia, ContextEdit, Enter, Leave, media_of, new_media, frame_in, added, modified, moved, subtracted, existing_context, done_with, tuned, all_played, played, sends_at, sent, check_triples, true≢false, Registry, map-append, all_ended, AgreeOutside, IsPortAmong, SamePackets, but_received, unless_among, without_arrivals, EndsAlike, SameEditsKeepAgreement, AgreementIsMutual, SameStatsButReceived, SameTickKeepsAgreement, hears_itself, progress_of, false_from_ne_true, arith, nat_tests}
 use Rattle.mg_rooms.specs.Outcome as commands
 use Rattle.mg_engine.specs.Outcome.{apply_triples}
@@ -13,7 +13,7 @@ module _ (some : List ℕ) where
   abbrev mask : TerminationMedia → TerminationMedia
   mask = unless_among some
 
-  -- what does not depend on arrivals stays
+  -- Masking the media keeps everything that does not depend on arrivals.
   stays : {A : Type 0} (g : TerminationMedia → A) → ((s : TerminationMedia) → g (without_arrivals s) ≡ g s) →
       (s : TerminationMedia) → g (mask s) ≡ g s
   stays g same s = grind (arith, nat_tests, same s)
@@ -21,7 +21,7 @@ module _ (some : List ℕ) where
   number_stays : (s : TerminationMedia) → (mask s).number ≡ s.number
   number_stays = stays (λ s. s.number) (λ s. refl)
 
-  -- a step of media that sees only what the mask leaves
+  -- A step of media that depends only on what the mask keeps.
   abbrev IsBlind : (TerminationMedia → TerminationMedia) → Type 0
   IsBlind f = (s : TerminationMedia) → mask (f (mask s)) ≡ mask (f s)
 
@@ -47,7 +47,7 @@ module _ (some : List ℕ) where
   placed_blind : (p : Header × List ℤ) → IsBlind (frame_placed p.0 p.1)
   placed_blind p = blind (frame_placed p.0 p.1) (λ s. refl) (λ s. refl)
 
-  -- what comes to one of some changes nothing else
+  -- A frame for one of these terminations changes only what the mask removes.
   one_placed : (p : Header × List ℤ) (s : TerminationMedia) → has some s.number ≡ true →
       mask (frame_placed p.0 p.1 s) ≡ mask s
   one_placed p s is_one = rw is_one refl
@@ -93,7 +93,7 @@ module _ (some : List ℕ) where
   found n xs ys e = sym (found_in_map (λ s. s.number) mask n xs number_stays) ∙
       ap (find (λ s. eqb s.number n)) e ∙ found_in_map (λ s. s.number) mask n ys number_stays
 
-  -- what does not depend on arrivals is the same of both
+  -- Everything that does not depend on arrivals is equal in both media.
   seen : {A : Type 0} (g : TerminationMedia → A) → ((s : TerminationMedia) → g (without_arrivals s) ≡ g s) →
       (o k : Option TerminationMedia) → AreBothLike o k → option_map g o ≡ option_map g k
   seen {A} g same o k e = sym (each o) ∙ ap (option_map g) e ∙ each k
@@ -110,7 +110,7 @@ module _ (some : List ℕ) where
   ends f g (Ok p) h = (h p.0 p.1, refl)
   ends f g (Err e) h = refl
 
-  -- a command on the terminations and contexts, which are the same
+  -- A command has the same outcome in both gateways if their terminations and contexts are equal.
   ends_on : (f g : Registry → Record → Gateway)
       (command : Registry → Result (Registry × Record) ErrorNumber) (x y : Registry) → x ≡ y →
       ((z : Registry) (r : Record) → AgreeOutside some (f z r) (g z r)) →
@@ -162,7 +162,7 @@ module _ (some : List ℕ) where
   one_changes n p (s ∷ xs) is_one =
       grind (arith, nat_tests, one_placed p s, one_changes n p xs is_one, eqb-true s.number n)
 
-  -- the media of one of some changed in one of two that agree
+  -- If the media of one of these terminations change in one gateway, the two gateways still agree.
   one_places : (n : ℕ) (p : Header × List ℤ) (a b : Gateway) (o : Option TerminationMedia) → has some n ≡ true →
       AgreeOutside some a b → AgreeOutside some (place n p a o) b
   one_places n p a b None is_one h = h
@@ -221,7 +221,7 @@ pub ticks_keep : SameTickKeepsAgreement
 ticks_keep some a b h =
     let after = all_play some a b h in (after, all_end some (all_played a) (all_played b) after)
 
--- the same datagram, read as it is
+-- After the same datagram with the same reading, the two gateways still agree.
 pub taken_alike : (some : List ℕ) (a b : Gateway) (port : ℕ) (source : List ℕ) (reading : Reading) →
     AgreeOutside some a b → AgreeOutside some (taken_by a (at_port a.rooms port) source reading).0
     (taken_by b (at_port b.rooms port) source reading).0
@@ -239,7 +239,7 @@ taken_by_one some a b port source reading (r, at, is_one) h =
 -- ## Packets
 
 module _ (some : List ℕ) where
-  -- one that isn't among them has the same media
+  -- A termination outside the list has the same media in both gateways.
   media_same : (a b : Gateway) (n : ℕ) → AgreeOutside some a b → has some n ≡ false → media_of a n ≡ media_of b n
   media_same a b n h out = sym (kept a.media (media_of a n) refl) ∙ found some n a.media b.media h.media ∙
       kept b.media (media_of b n) refl

@@ -1,4 +1,4 @@
--- An engine stands for the world after an RTP datagram.
+-- After an RTP datagram, an engine represents the gateway after that datagram.
 use Rattle.mg_engine.proofs.Common.{◌≡◌, ℕ, ◌<◌, List, ℤ, [], ◌∷◌, length, get_or, set, Some, Ok, Err, refl, sym, ap, subst, ◌∙◌, option_map, Header, PlayList, Record, IsSound, change, record_at, Config, Taken, Gateway, TerminationMedia, media_of, Arrived, frame_placed, taken_at, frame_placed_at, EngineState, StandsFor, IsMediaOf, media_at, find-change_other, received, SlotMedia, PlacedAt, placed, slot_placed}
 use Rattle.mg_engine.specs.declared.taken.Taken.TheVariants.{Placed}
 use Rattle.mg_engine.proofs.EditLemmas.{media_set}
@@ -58,7 +58,7 @@ took_stands k w r after (Ok a) result sound found lt p h =
       subst (λ (ms : List SlotMedia). StandsFor (with_media k ms) now) (sym p.0) stands,
     )
 
--- an engine whose media alone changed
+-- If only the media of an engine changed, the new state is the old state with the new media.
 pub media_alone : (old new : EngineState) → new.config ≡ old.config → new.rooms ≡ old.rooms → new.flows ≡ old.flows →
     new.sums ≡ old.sums → new.shares ≡ old.shares → with_media old new.media ≡ new
 media_alone old new config same flows frames shares = λ i. record {

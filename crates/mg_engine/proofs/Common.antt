@@ -1,4 +1,4 @@
--- The names that most proofs of this crate cite, passed on from one place. Declares nothing.
+-- Names that most proofs of this crate use, exported from one place.
 pub use Rattle.std.proofs.Common.{Bool, Err, IsTrue, List, None, Ok, Option, Result, Some, [], ap, arith, cond, drop, eqb, false, find, get_or, if◌then◌else◌, inl, inr, length, length-append, map, min, nat_lt, not, pos, refl, replicate, rules, set, subst, suc, sym, take, take-append-drop, true, w32, zero, ℕ, ℤ, ◌%◌, ◌&&◌, ◌*◌, ◌++◌, ◌+ℤ◌, ◌+◌, ◌-◌, ◌<◌, ◌==◌, ◌^◌, ◌||◌, ◌∙◌, ◌∷◌, ◌≡◌, ◌≢◌, ◌≤◌}
 pub use Rattle.mg_engine.specs.Apart.{AgreeOutside, IsPortAmong, SamePackets, but_received, unless_among, without_arrivals}
 pub use Rattle.mg_engine.specs.Arrival.{Arrived, Takes, arrived, at_port, frame_placed, taken, taken_at}

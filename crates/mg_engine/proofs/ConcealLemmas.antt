@@ -1,4 +1,4 @@
--- How many frames of a tick are concealed, by slots and by terminations.
+-- The number of frames that a tick conceals, counted by slots and by terminations.
 use Rattle.mg_engine.proofs.Common.{◌≡◌, ℕ, ◌+◌, ◌<◌, Bool, true, false, cond, List, length, map, get_or, take, Some, refl, sym, ap, ◌∙◌, arith, count_by, is_concealed, PlayList, Record, Gateway, EngineState, StandsFor, media_at, Registry, record_at, SlotMedia, conceals_in, ticked, is_concealing, conceals, concealed_in_tick, from_bool, sum_by_more, IsSound}
 use Rattle.mg_engine.proofs.GatewayLemmas.{has_media}
 use Rattle.mg_engine.proofs.SumLemmas.{sum_by-agree, sum_by-map}
@@ -13,14 +13,14 @@ byte_is : (b : Bool) → from_bool b ≡ cond b 1 0
 byte_is true = refl
 byte_is false = refl
 
--- with the next slot, one more is concealed where its frame is
+-- The count with one more slot increases by one if the frame of that slot is concealed.
 pub counted_more : (kept : List SlotMedia) (slots : List ℕ) (i : ℕ) (b : Bool) → i < length slots →
     b ≡ conceals_slot kept (get_or slots i 0) →
     count_by (conceals_slot kept) (take i slots) + from_bool b ≡ count_by (conceals_slot kept) (take (i + 1) slots)
 counted_more kept slots i b within is =
     omega (arith, byte_is b, ap one is, sum_by_more (λ slot. cond (conceals_slot kept slot) 1 0) slots i 0 within)
 
--- a termination's play list conceals a frame where its slot's does
+-- The play list of a termination conceals a frame if and only if the play list of its slot does.
 same_concealing : (k : EngineState) (w : Gateway) → StandsFor k w → (n : ℕ) (r : Record) →
     record_at k.rooms n ≡ Some r → conceals_slot k.media r.slot ≡ conceals w n
 same_concealing k w h n r found =

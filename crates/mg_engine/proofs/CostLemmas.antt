@@ -1,4 +1,4 @@
--- What mixes cost, by what an engine keeps and in the worlds that it stands for.
+-- The cost of mixes in an engine equals the cost in each gateway that it represents.
 use Rattle.mg_engine.proofs.Common.{◌≡◌, ℕ, ◌+◌, Bool, cond, map, get_or, Some, sym, ap, ◌∙◌, count_by, sum_by, is_some, Record, record_at, Gateway, is_loopback, place_of, EngineState, StandsFor, sent_to, sending_work, HasMembers, silenced_now, sending_work_now, Registry, is_silenced_between, silenced_for, IsSound}
 use Rattle.mg_engine.specs.Flow.{is_silenced}
 use Rattle.mg_engine.proofs.FlowLemmas.{silenced_places}

@@ -1,4 +1,5 @@
--- An engine stands for the worlds that its edits lead to, and stays whole. Re-exports what the proofs of edits cite.
+-- After an edit, an engine represents the gateway after that edit, and its invariant still holds. This file also
+-- exports names for the proofs of edits.
 use Rattle.mg_engine.proofs.Common.{◌≡◌, ◌≢◌, ℕ, ◌<◌, ◌≤◌, eqb, not, Bool, true, false, ℤ, List, [], ◌∷◌, ◌++◌, length, map, get_or, set, Option, Some, None, refl, sym, ap, subst, ◌∙◌, arith, count_by, option_map, view, eqb-true, eq-eqb, ne_eqb, same_Some, length-map, map-append, get_or-set_same, get_or-set_other, PlayList, Limits, Record, Settings, change, IsSound, record_at, Config, silence, Gateway, TerminationMedia, ContextEdit, Enter, new_media, media_of, idle, tuned, media_with, added, subtracted, EngineState, StandsFor, IsMediaOf, media_at, find, filter, set-set, length_push, Registry, RoomFlows, play_after, media_without, SlotMedia, SumsState, find-change_other, find-push_other, initial_media, Inside, IsWholeEngine, slot_tuned}
 use Rattle.std.proofs.lemmas.Option.{slice_get-get_or}
 use Rattle.mg_words.specs.declared.limits.TheConstants.{TERMINATIONS}
@@ -54,7 +55,7 @@ pub slot_fits : (e : Inside) (new : Registry) (n : ℕ) (d : Record) → IsWhole
 slot_fits e new n d h sound same found =
     omega (arith, ap (λ (l : Limits). l.slots) (same ∙ h.limits), h.media, (sound.termination n d found).1.slot)
 
--- the counters of a termination are in its slot
+-- The counters of a termination are stored in its slot.
 pub has_stats : (e : Inside) (w : Gateway) (n : ℕ) (r : Record) → IsWholeEngine e → StandsFor (view e) w →
     record_at e.rooms n ≡ Some r → HasStats (view e) w r
 has_stats e w n r whole h there =
@@ -75,14 +76,14 @@ pub held_added : (old new : Registry) (d : Record) (held now : List ℕ) → Add
 held_added old new d held now a before pushed = pushed ∙ ap (λ (slots : List ℕ). slots ++ d.slot ∷ []) before ∙
     sym (map-append (λ r. r.slot) old.terminations (d ∷ [])) ∙ ap (map (λ r. r.slot)) (sym a.terminations)
 
--- media that begin and are tuned
+-- The media of a slot after they are reset and the depth is set.
 pub begun_tuned : (kept first after : List SlotMedia) (slot : ℕ) (m : SlotMedia) (depth : Option ℕ) →
     slot < length kept → first ≡ set kept slot m → after ≡ set first slot (slot_tuned depth (media_at first slot)) →
     after ≡ set kept slot (slot_tuned depth m)
 begun_tuned kept first after slot m depth lt one two =
     rw (two, one, get_or-set_same kept slot m idle lt) (set-set kept slot m (slot_tuned depth m))
 
--- no termination had the number before
+-- Before an Add, no termination has the number of the new termination.
 pub unknown_before : (old new : Registry) (d : Record) → Adds old new d → IsSound new →
     record_at old d.number ≡ None
 unknown_before old new d a sound =
@@ -133,7 +134,7 @@ added_stands k new flows kept w settings d a sound others made lt in_rows silent
 
 -- ## A Modify and a Move
 
--- it is done on the termination that was named
+-- A changed termination has the number that the command names.
 pub changed_at : (k : EngineState) (new : Registry) (n : ℕ) (d : Record) → Changes k.rooms new n d → d.number ≡ n
 changed_at k new n d a = a.same ∙ found_key (λ x. x.number) n k.rooms.terminations a.was a.there
 
@@ -142,7 +143,7 @@ left_with : (k : EngineState) (new : Registry) (n : ℕ) (d : Record) (a : Chang
 left_with k new n d a = a.terminations ∙
     ap (λ (m : ℕ). change (λ x. x.number) m (λ _. Some d) k.rooms.terminations) (changed_at k new n d a)
 
--- the termination has its new record
+-- The termination has its new record.
 pub changed_is : (k : EngineState) (new : Registry) (n : ℕ) (d : Record) (a : Changes k.rooms new n d) →
     record_at new n ≡ Some d
 changed_is k new n d a = ap (find (λ x. eqb x.number n)) (left_with k new n d a) ∙
@@ -157,7 +158,7 @@ pub held_changed : (k : EngineState) (new : Registry) (n : ℕ) (d : Record) (he
     Changes k.rooms new n d → held ≡ map (λ r. r.slot) k.rooms.terminations → held ≡ map (λ r. r.slot) new.terminations
 held_changed k new n d held a before = before ∙ sym (kept_by (λ r. r.slot) k new n d a a.slot)
 
--- the world after a command on a termination
+-- The gateway after a command that changes a termination.
 abbrev pub with_tuned : Gateway → Registry → Settings → ℕ → List ContextEdit → Gateway
 with_tuned w new settings n es = record w { rooms = new; media = media_with settings n w.media; edits = es }
 
@@ -208,7 +209,7 @@ held_removed k new n d held now a sound before left = left ∙ ap (filter (λ s.
     (sound.consistent.terminations.one_slot d.slot) a.there refl ∙
     ap (map (λ r. r.slot)) (sym (left_terminations k new n d a))
 
--- who was subtracted is there no longer
+-- After a Subtract, the termination does not exist.
 pub gone : (k : EngineState) (new : Registry) (n : ℕ) (d : Record) → Removes k.rooms new n d → IsSound k.rooms →
     record_at new n ≡ None
 gone k new n d a sound = ap (find (λ x. eqb x.number n)) (left_terminations k new n d a) ∙

@@ -1,13 +1,13 @@
--- What a command on a termination leaves of a context that it isn't about.
+-- A command does not change a context that it does not concern.
 use Rattle.mg_engine.proofs.Common.{◌≡◌, ◌≢◌, ℕ, ◌<◌, eqb, false, Some, Ok, refl, sym, ap, subst, ◌∙◌, arith, IsSome, Record, Settings, Target, is_number, Registry, record_at, context_at, members_at, IsSound, has, eqb-false, Enters, add_done, modify_done, move_done, subtract_done, next_is_new, record_replaced, add_lasts, move_lasts, subtract_lasts, add, modify, move_to, subtract, LeavesOthers, false_from_ne_true, true≢false}
 use Rattle.mg_engine.proofs.MemberLemmas.{some_context}
 
--- a termination that is no member of a context is in another
+-- A termination that is not a member of a context is in another context.
 in_another : (w : Registry) (c n : ℕ) (r : Record) → IsSound w → record_at w n ≡ Some r →
     has (members_at w c) n ≡ false → c ≢ r.context
 in_another w c n r h found out same = true≢false (sym ((h.members c n).1 (r, found, sym same)) ∙ out)
 
--- the termination that is made next is no member of any context before
+-- The next termination to be created is not a member of any context.
 newcomer : (w : Registry) (c n : ℕ) → IsSound w → n ≡ w.next_termination → has (members_at w c) n ≡ false
 newcomer w c n h next = false_from_ne_true (has (members_at w c) n) (λ e.
     let (r, found, _) = (h.members c n).0 e in
@@ -19,13 +19,13 @@ below_next w c h there =
     let (number, is) = h.context c x found in
     omega (arith, number, is.below)
 
--- The context c is as it was, and so is each termination but n, which isn't a member of c.
+-- The context c is unchanged, and so is each termination except n, which is not a member of c.
 pub record Spares (w next : Registry) (c n : ℕ) : Type 0 where
   pub context : context_at next c ≡ context_at w c
   pub records : (m : ℕ) → eqb n m ≡ false → record_at next m ≡ record_at w m
   pub apart : has (members_at w c) n ≡ false
 
--- a context that a command isn't about
+-- If a command changes only other contexts and a termination that is not a member of c, the context c is unchanged.
 spared : (w next : Registry) (c n a b : ℕ) → LeavesOthers w next n a b → c ≢ a → c ≢ b →
     has (members_at w c) n ≡ false → Spares w next c n
 spared w next c n a b others not_a not_b out = record {
@@ -34,7 +34,7 @@ spared w next c n a b others not_a not_b out = record {
   apart = out;
 }
 
--- a place that is entered is in another context than one that is there and that isn't the action's
+-- A termination enters a context other than c, if c exists and is not the action's context.
 elsewhere : (w : Registry) (target : Target) (place : _) (c d : ℕ) → IsSound w → IsSome (context_at w c) →
     is_number target c ≡ false → Enters w target place → d ≡ place.context → c ≢ d
 elsewhere w target place c d h there apart enters is same =

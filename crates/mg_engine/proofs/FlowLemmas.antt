@@ -1,4 +1,4 @@
--- Who hears whom in the worlds that an engine stands for.
+-- An engine and the gateways that it represents agree on who hears whom.
 use Rattle.mg_engine.proofs.Common.{◌≡◌, ℕ, ◌&&◌, not, eqb, Bool, true, false, List, Some, refl, sym, ap, subst, ◌∙◌, is_some, eqb-true, eq-eqb, ne_eqb, Record, record_at, Place, Gateway, IsOnPlace, EngineState, StandsFor, ShareContext, HasMembers, IsSound, flows_between, Registry, flows_now, context_in, mode_or_inactive, mode_of, context_of, arith, nat_tests}
 use Rattle.mg_flow.specs.aids.Table as flow
 use Rattle.mg_engine.specs.Flow.{share_context, is_silenced}
@@ -78,8 +78,8 @@ module _ (k : EngineState) (w : Gateway) (sound : IsSound k.rooms) (all : HasMem
         mode_found k w talker t h s.first.found,
       ) refl
 
-  -- A test of two places agrees with a test of the members on them if it does for a single member, for two members of
-  -- a context, and for members of different contexts, which are in different rooms.
+  -- A test of two places agrees with a test of the members there, if it does in three cases: for a single member, for
+  -- two members of a context, and for members of different contexts, which are in different rooms.
   module _ (places : Place → Place → Bool) (members : ℕ → ℕ → Bool)
       (itself : (n : ℕ) (r : Record) (p : Place) → record_at k.rooms n ≡ Some r → places p p ≡ members n n)
       (together : (m n : ℕ) (t l : Record) (p q : Place) → ShareContext k.rooms m n t l p q → places p q ≡ members m n)
@@ -119,7 +119,7 @@ module _ (k : EngineState) (w : Gateway) (sound : IsSound k.rooms) (all : HasMem
       sym (flow_places talker listener t l p q from to) ∙
       λ i. flows_between k.flows (sym from.place i) (sym to.place i)
 
-  -- whether one hears another, and whether one is silenced for another, by the places of both
+  -- The table and the gateway agree on whether a member hears another, and on whether it is silenced for the other.
   pub hears_places : (talker listener : ℕ) (t l : Record) (p q : Place) → IsOnPlace k.rooms talker t p →
       IsOnPlace k.rooms listener l q → flow.hears k.flows p q ≡ worlds.hears w talker listener
   hears_places = by_places (flow.hears k.flows) (worlds.hears w) (λ n r p found. nobody_hears_itself k.flows p ∙

@@ -1,4 +1,4 @@
--- What is looked up in a world that an engine stands for.
+-- Lookups in a gateway that an engine represents.
 use Rattle.mg_engine.proofs.Common.{inl, inr, ◌≡◌, ℕ, suc, ◌<◌, eqb, Bool, length, get_or, arith, List, [], ◌∷◌, map, Option, Some, None, refl, sym, option_map, eqb-true, same_Some, Record, record_at, Gateway, TerminationMedia, media_of, EngineState, StandsFor, IsMediaOf, media_at, find, cases_Bool, nat_tests, frame_of_row}
 use Rattle.mg_rooms.proofs.OrderLemmas as orders
 
@@ -8,7 +8,7 @@ some x = Some x
 -- ## What is found by a key
 
 module _ {A : Type 0} (key : A → ℕ) where
-  -- f keeps the key
+  -- If f keeps the key, a search in the mapped list finds the mapped item.
   pub found_in_map : (f : A → A) (n : ℕ) (xs : List A) → ((x : A) → key (f x) ≡ key x) →
       find (λ x. eqb (key x) n) (map f xs) ≡ option_map f (find (λ x. eqb (key x) n) xs)
   found_in_map f n [] same = refl
@@ -20,7 +20,7 @@ module _ {A : Type 0} (key : A → ℕ) where
 abbrev pub Placed : {A : Type 0} → List A → A → A → Type 0
 Placed xs y d = (i : ℕ) × (i < length xs) × (get_or xs i d ≡ y)
 
--- what is found stands at a place
+-- An item that is found is in the list at some index.
 pub found_place : {A : Type 0} (p : A → Bool) (xs : List A) (y d : A) → find p xs ≡ Some y → Placed xs y d
 found_place p [] y d h = absurd (cc h)
 found_place p (x ∷ xs) y d h = elim (cases_Bool (p x)) [
@@ -28,7 +28,7 @@ found_place p (x ∷ xs) y d h = elim (cases_Bool (p x)) [
   | inr e ↦ let (i, lt, is) = found_place p xs y d (rw e at h) in (suc i, omega arith, is)
 ]
 
--- two lists with the same keys: what is found in the one has its like in the other
+-- If two lists have the same keys, a key that is found in one list is found in the other.
 pub found_too : {A B : Type 0} (key : A → ℕ) (name : B → ℕ) (n : ℕ) (xs : List A) (ys : List B) →
     map key xs ≡ map name ys → (x : A) → find (λ x. eqb (key x) n) xs ≡ Some x →
     (y : B) × (find (λ y. eqb (name y) n) ys ≡ Some y)
@@ -42,7 +42,7 @@ found_too key name n (a ∷ xs) (b ∷ ys) h x e =
       | inr is ↦ let (y, found) = found_too key name n xs ys tails x (rw (heads, is) at e) in (y, rw is found)
     ]
 
--- each termination has its stream
+-- Each termination has media, and they are stored in its slot.
 pub has_media : (k : EngineState) (w : Gateway) (n : ℕ) (r : Record) → StandsFor k w → record_at k.rooms n ≡ Some r →
     (s : TerminationMedia) × (media_of w n ≡ Some s) ×
     IsMediaOf k.config (media_at k.media r.slot) (frame_of_row k.sums r.slot) s

@@ -1,4 +1,4 @@
--- The slots that are held, in the order of their terminations' numbers.
+-- The slots that terminations hold, in order of termination number.
 use Rattle.mg_engine.proofs.Common.{◌≡◌, ℕ, ◌<◌, ◌≤◌, eqb, List, length, map, get_or, Some, sym, ap, ◌∙◌, arith, get_or-map, length-map, Record, Registry, IsSound, record_at, AreApart, subst}
 use Rattle.mg_engine.proofs.GatewayLemmas.{found_place}
 use Rattle.mg_engine.proofs.KeyLemmas.{one_place}
@@ -27,7 +27,7 @@ module _ (w : Registry) (held : List ℕ) (is : held ≡ map (λ r. r.slot) w.te
       (sound.one_slot x.number y.number x y (sound.by_number a nobody i) (sound.by_number b nobody j)
       (sym (slot_at a i) ∙ same ∙ slot_at b j))
 
-  -- what holds for each held slot holds for the slot of each termination
+  -- A property of each held slot is a property of each termination's slot.
   pub each_held : (P : ℕ → Type 0) → ((i : ℕ) → i < length held → P (get_or held i 0)) → (n : ℕ) (r : Record) →
       record_at w n ≡ Some r → P r.slot
   each_held P all n r found =

@@ -1,4 +1,4 @@
--- Who isn't heard.
+-- Speech that does not flow to a listener does not change the packets to that listener.
 use Rattle.mg_engine.proofs.Common.{◌≡◌, ℕ, ℤ, pos, ◌+◌, ◌-◌, ◌*◌, ◌%◌, ◌^◌, ◌<◌, eqb, not, ◌&&◌, Bool, true, false, List, [], ◌∷◌, ◌++◌, length, map, get_or, Option, Some, None, refl, sym, ap, ◌∙◌, arith, if◌then◌else◌, range_with_len, option_map, same_Some, byte_of, header_bytes, plain, Chosen, Record, slot_port, map_agree, sum_of-same, Datagram, Gateway, TerminationMedia, ContextEdit, Enter, Leave, Apply, media_of, frame_in, may_hear, played_sample, sent_to, type_of, slice_index_or, list_all, Registry, part_of_mix, heard, mix, mixed, get_or-append-add, get_or-map-range_with_len, packet_to, frame_of, mode_of, numbers_of, packet, header_of, NoneHearsItself, leaves_isolated, IsolatedAreNotHeard, replayed, with_frame, hears_itself, progress_of, PacketsDependOnHeard, OwnSpeechChangesNoPacket, UnheardChangesNoPacket, PayloadsAreMixes, Isolate, map-map, or_comm, and_right, ne_eqb, true≢false, nat_tests, sum_of}
 use Rattle.mg_engine.proofs.GatewayLemmas.{found_in_map, found_key}
 use Rattle.mg_engine.specs.Flow.{flow, is_forward, mentions}
@@ -117,7 +117,7 @@ module _ (t : ℕ) (frame : List ℤ) where
   media_stays : (w : Gateway) (n : ℕ) → media_of (with_frame w t frame) n ≡ option_map (replayed t frame) (media_of w n)
   media_stays w n = found_in_map (λ s. s.number) (replayed t frame) n w.media number_stays
 
-  -- another's frame stays
+  -- The frames of other terminations are unchanged.
   frame_stays : (w : Gateway) (n : ℕ) → eqb n t ≡ false → frame_of (with_frame w t frame) n ≡ frame_of w n
   frame_stays w n apart = ap frame_in (media_stays w n) ∙ kept (media_of w n) refl where
     kept : (o : Option TerminationMedia) → media_of w n ≡ o → frame_in (option_map (replayed t frame) o) ≡ frame_in o
@@ -125,7 +125,7 @@ module _ (t : ℕ) (frame : List ℤ) where
     kept (Some s) e = ap (λ (b : Bool). (if b then record s { frame = frame } else s).frame)
         (ap (λ (k : ℕ). eqb k t) (found_key (λ x. x.number) n w.media s e) ∙ apart)
 
-  -- whoever flows to one to whom t doesn't isn't t
+  -- If the speech of t does not flow to a listener, a talker whose speech does flow to it is not t.
   not_it : (w : Gateway) (listener k : ℕ) → flow w t listener ≡ false → flow w k listener ≡ true → eqb k t ≡ false
   not_it w listener k none some =
       ne_eqb k t (λ same. true≢false (sym some ∙ ap (λ (x : ℕ). flow w x listener) same ∙ none))

@@ -1,4 +1,4 @@
--- The rooms that the rows of terminations are joined to, when one of them changes.
+-- The rooms that rows are joined to, when a termination enters, changes or leaves.
 use Rattle.mg_engine.proofs.Common.{◌≡◌, ◌≢◌, ℕ, eqb, Bool, true, false, cond, List, Option, Some, None, refl, sym, ap, ◌∙◌, eqb-true, eq-eqb, ne_eqb, IsSound, Limits, Record, Registry, record_at, Place, IsOnPlace, AreJoined, SetsRow, room_for, start_of, room_of_row}
 use Rattle.mg_engine.proofs.MemberLemmas.{SameOthers, no_record, another, unequal}
 use Rattle.mg_engine.proofs.PlaceLemmas.{one_record, one_place}
@@ -6,7 +6,7 @@ use Rattle.mg_engine.proofs.PlaceLemmas.{one_record, one_place}
 no_room : (room : ℕ) → Option.Some room ≡ None → ⊥
 no_room room h = cc h
 
--- one is on a place, with the slot that it had if it was there before
+-- A termination enters or changes. If it existed before, its slot is the same.
 module _ (old new : Registry) (n : ℕ) (r : Record) (p : Place) (before after : List (Option ℕ)) (sound : IsSound new)
     (same : SameOthers old new n) (on : IsOnPlace new n r p)
     (mine : (was : Record) → record_at old n ≡ Some was → was.slot ≡ r.slot)
@@ -40,7 +40,7 @@ module _ (old new : Registry) (n : ℕ) (r : Record) (p : Place) (before after :
     nobody = λ row room joined. nobody_case row room joined (eqb row r.slot) refl;
   }
 
--- one is there no longer
+-- A termination ends.
 module _ (old new : Registry) (n : ℕ) (was : Record) (before after : List (Option ℕ)) (sound : IsSound old)
     (same : SameOthers old new n) (there : record_at old n ≡ Some was) (gone : record_at new n ≡ None)
     (set : SetsRow before after was.slot None) (h : AreJoined old before) where
@@ -70,7 +70,7 @@ module _ (old new : Registry) (n : ℕ) (was : Record) (before after : List (Opt
     nobody = λ row room joined. nobody_left row room joined (eqb row was.slot) refl;
   }
 
--- nobody is there, and no row is joined
+-- In a new gateway, no row is joined to a room.
 pub joined_nowhere : (w : Registry) (limits : Limits) (joined : List (Option ℕ)) → w ≡ start_of limits →
     ((row : ℕ) → room_of_row joined row ≡ None) → AreJoined w joined
 joined_nowhere w limits joined e none = record {

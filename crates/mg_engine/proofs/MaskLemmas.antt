@@ -1,4 +1,4 @@
--- Sums over the seats of a mask, as sums over the terminations that are on them.
+-- Sums over the seats of a mask, as sums over the terminations in these seats.
 use Rattle.mg_engine.proofs.Common.{◌≡◌, ℕ, ◌≤◌, ◌&&◌, eqb, Bool, true, false, cond, ℤ, pos, List, map, get_or, Option, Some, None, refl, sym, ap, ◌∙◌, arith, range_with_len, option_map, eqb-true, eq-eqb, ne_eqb, seat_limit, has_seat, Record, record_at, context_at, IsSound, Place, sibling_place, nearest_sample, sum_of-same, place_of, IsOnPlace, slot_at, AreSeated, sample_at, flows_between, heard_now, byte_of, map_agree, EngineState, IsTrue, count_by, and_from, Registry, RoomFlows, flows, is_seated_in, sits_among, heard_on, payload_on, count-found, sum_of}
 use Rattle.mg_topology.specs.Mask.{seats_of}
 use Rattle.mg_g711.specs.declared.law.Law.{Law}
@@ -8,7 +8,7 @@ use Rattle.mg_engine.proofs.SeatSums.{sum-seats_of, seat_sums}
 
 -- ## Who sits on the seats of a mask
 
--- a test tells the seats of the mask, and nobody in another room
+-- The test holds for the places in the room whose seats are in the mask, and for no place in another room.
 module _ (p : Place) (mask : ℕ) (test : Place → Bool)
     (kept : (seat : ℕ) → has_seat mask seat ≡ test (sibling_place p seat))
     (apart : (q : Place) → eqb q.room p.room ≡ false → test q ≡ false) where
@@ -31,14 +31,14 @@ module _ (k : EngineState) (l : Record) (p : Place) (mask : ℕ) (on : place_of 
   flows_by (Some q) = sym (seated_is p mask (λ x. flows k.flows x p) kept (λ x e. flows_apart k.flows x p e) q)
   flows_by None = refl
 
-  -- it is what those on the open seats say
+  -- A listener hears the members whose seats are in the mask of open talkers.
   pub heard_is_on : (i : ℕ) → heard_now k l i ≡ heard_on k p.room mask i
   heard_is_on i = sum_of-same _ _ k.rooms.terminations (λ t.
       ap (λ (o : Option Place). cond (flows_between k.flows (place_of k.rooms t) o) (sample_at k.sums.frames t.slot i)
       (pos 0)) on
       ∙ ap (λ (b : Bool). cond b (sample_at k.sums.frames t.slot i) (pos 0)) (flows_by (place_of k.rooms t)))
 
-  -- and the payload is that of them
+  -- The listener's payload is the payload for these members.
   pub payload_is_on : (law : Law) → map (byte_of law)
       (map (λ i. nearest_sample (heard_now k l i)) (range_with_len 0 160)) ≡ payload_on k p.room mask law
   payload_is_on law = ap (λ (xs : List ℤ). map (byte_of law) xs)
@@ -60,7 +60,7 @@ module _ (w : Registry) (seating : List ℕ) (l : Record) (p : Place) (mask : �
   abbrev pub seated_part : Record → ℤ
   seated_part t = cond (sits_among w p.room mask t) (f t.slot) (pos 0)
 
-  -- one in the listener's context is on a seat beside it
+  -- A termination in the listener's context has its place in the listener's room.
   beside_it : (t : Record) → t.context ≡ l.context → place_of w t ≡ Some (sibling_place p t.seat)
   beside_it t same =
       let a = at w l p here in
@@ -82,7 +82,7 @@ module _ (w : Registry) (seating : List ℕ) (l : Record) (p : Place) (mask : �
       ap (λ (b : Bool). cond (b && has_seat mask q.seat) (f t.slot) (pos 0)) (ne_eqb q.room p.room
       (λ same. unequal t.context l.context e (in_one_context w t l q p sound on.place here same)))
 
-  -- a seat of the mask is that of a member of the listener's context
+  -- Each seat of the mask belongs to a member of the listener's context.
   counted : (seat : ℕ) → IsTrue (has_seat mask seat) →
       1 ≤ count_by (λ t. eqb t.context l.context && eqb t.seat seat) w.terminations
   counted seat h =

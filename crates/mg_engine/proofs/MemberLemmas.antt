@@ -1,4 +1,4 @@
--- The table of who hears whom when one member enters, leaves or has another mode.
+-- The table of flows after a member enters, leaves or changes its mode.
 use Rattle.mg_engine.proofs.Common.{◌≡◌, ◌≢◌, ℕ, eqb, ◌||◌, Bool, true, false, cond, List, [], ◌∷◌, Option, Some, None, refl, sym, ap, subst, ◌∙◌, is_some, option_map, eqb-true, eq-eqb, ne_eqb, Context, Record, Limits, Registry, record_at, context_at, Place, RoomFlows, hears, ContextEdit, Enter, may_hear, IsOnPlace, ShareContext, AreSeated, HasMembers, IsSound, IsTrue, IsFalse, start_of, Lasts, is_same_place, are_together, holds, talks_at, listens_at, SetsPlace, talks, listens, and_parts, true≢false, false_from_ne_true}
 use Rattle.mg_flow.specs.aids.Table as flow
 use Rattle.mg_engine.specs.aids.Members.{Enters, Leaves, TakesMode, SaysOf}
@@ -12,7 +12,7 @@ is_place p q h =
     let (room, seat) = and_parts (eqb p.room q.room) (eqb p.seat q.seat) h in
     λ i. record { room = eqb-true p.room q.room room i; seat = eqb-true p.seat q.seat seat i }
 
--- two members of one context are on different seats
+-- Two members of a context have different seats.
 pub seats_differ : (w : Registry) (talker listener : ℕ) (t l : Record) (a b : Place) → IsSound w →
     ShareContext w talker listener t l a b → eqb a.seat b.seat ≡ false
 seats_differ w talker listener t l a b sound s = ne_eqb a.seat b.seat (λ same.
@@ -22,7 +22,7 @@ seats_differ w talker listener t l a b sound s = ne_eqb a.seat b.seat (λ same.
 pub unequal : (m n : ℕ) → eqb m n ≡ false → m ≢ n
 unequal m n e same = true≢false (sym (eq-eqb m n same) ∙ e)
 
--- members on different places are different
+-- Members at different places are different.
 unlike : (w : Registry) (m n : ℕ) (x r : Record) (q p : Place) → IsOnPlace w m x q → IsOnPlace w n r p →
     is_same_place q p ≡ false → m ≢ n
 unlike w m n x r q p there on e same = true≢false
@@ -31,13 +31,13 @@ unlike w m n x r q p there on e same = true≢false
 pub no_record : (r : Record) → Option.Some r ≡ None → ⊥
 no_record r h = cc h
 
--- a termination that exists differs from one that doesn't
+-- A termination that exists differs from one that does not exist.
 pub another : (w : Registry) (m n : ℕ) (r : Record) → record_at w m ≡ Some r → record_at w n ≡ None → m ≢ n
 another w m n r found none same = no_record r (sym found ∙ ap (record_at w) same ∙ none)
 
 -- ## Others than one
 
--- the others are where they were, with the same records
+-- All terminations except n have the same records and places in both registries.
 abbrev pub SameOthers : Registry → Registry → ℕ → Type 0
 SameOthers old new n = (m : ℕ) (r : Record) (p : Place) → m ≢ n
     → (IsOnPlace old m r p → IsOnPlace new m r p) × (IsOnPlace new m r p → IsOnPlace old m r p)
@@ -52,7 +52,7 @@ pub some_context : (o : Option Context) → is_some o ≡ true → (x : Context)
 some_context (Some x) h = (x, refl)
 some_context None h = absurd (cc h)
 
--- a member keeps its place if its context and seat are unchanged
+-- A member keeps its place if its context and seat are unchanged.
 carried : (old new : Registry) (m : ℕ) (r q : Record) (p : Place) → IsSound new → KeepsRooms old new →
     record_at new m ≡ Some q → q.context ≡ r.context → q.seat ≡ r.seat → IsOnPlace old m r p → IsOnPlace new m q p
 carried old new m r q p sound keeps found context seat on =
@@ -70,19 +70,19 @@ same_others old new n before after keeps others m r p apart =
       λ on. carried new old m r r p before back (sym (others m apart) ∙ on.found) refl refl on,
     )
 
--- one with another record, in the same context, was on the same place
+-- A termination with a new record in the same context is still at the same place.
 pub stayed_at : (old new : Registry) (n : ℕ) (r q : Record) (p : Place) → IsSound old → Lasts old new →
     record_at old n ≡ Some r → q.context ≡ r.context → IsOnPlace new n q p → IsOnPlace old n r p
 stayed_at old new n r q p sound lasts was context on =
     carried new old n q r p sound (λ c x y a b. sym (lasts.room c y x b a)) was (sym context)
     (sym (lasts.seat n r q was on.found context)) on
 
--- the table has the members other than n, and nobody else
+-- The table contains all members except n, and no other members.
 pub record HasOthers (w : Registry) (n : ℕ) (table : List RoomFlows) : Type 0 where
   pub each : (m : ℕ) (r : Record) (p : Place) → m ≢ n → IsOnPlace w m r p → SaysOf table r p
   pub nobody : (p : Place) → IsTrue (holds table p) → (m : ℕ) × (r : Record) × (m ≢ n) × IsOnPlace w m r p
 
--- who hears whom among the members other than n
+-- The table and the edits agree on who hears whom among the members other than n.
 abbrev pub HearsOthers : Registry → ℕ → List RoomFlows → List ContextEdit → Type 0
 HearsOthers w n table es = (talker listener : ℕ) (t l : Record) (p q : Place) → talker ≢ n → listener ≢ n →
     ShareContext w talker listener t l p q → hears table p q ≡ may_hear es talker listener
@@ -107,7 +107,7 @@ hears_carry old new n table es same h talker listener t l p q one two s = h talk
   apart = s.apart;
 })
 
--- one that isn't there is none of the members
+-- If n does not exist, the members of the table are all members other than n.
 pub unknown : (w : Registry) (n : ℕ) (table : List RoomFlows) → record_at w n ≡ None → HasMembers w table →
     HasOthers w n table
 unknown w n table none h = record {
@@ -119,7 +119,7 @@ pub hears_some : (w : Registry) (n : ℕ) (table : List RoomFlows) (es : List Co
     HearsOthers w n table es
 hears_some w n table es h talker listener t l p q one two s = h talker listener t l p q s
 
--- where one isn't there, the others are all
+-- If n does not exist, all members other than n are all members.
 pub members_all : (w : Registry) (n : ℕ) (table : List RoomFlows) → record_at w n ≡ None → HasOthers w n table →
     HasMembers w table
 members_all w n table none h = record {
@@ -149,7 +149,7 @@ module _ (old new : List RoomFlows) (p : Place) (held does_talk does_listen : Bo
   held_here : holds new p ≡ held
   held_here = set.held p ∙ ap (λ (b : Bool). cond b held (holds old p)) (same_is p)
 
--- the table has the other members, and the place of one is set to its mode
+-- The table contains the other members, and the place of n is set to the mode of n.
 module _ (w : Registry) (n : ℕ) (r : Record) (p : Place) (old new : List RoomFlows) (sound : IsSound w)
     (on : IsOnPlace w n r p) (set : SetsPlace old new p true (talks r.mode) (listens r.mode))
     (each : (m : ℕ) (x : Record) (q : Place) → m ≢ n → IsOnPlace w m x q → SaysOf old x q)
@@ -227,7 +227,7 @@ module _ (w : Registry) (n : ℕ) (r : Record) (p : Place) (old new : List RoomF
     seats_differ w talker listener t l a b sound s,
   ) refl
 
-  -- whether the place of one is the newcomer's
+  -- A member is at the newcomer's place if and only if it is the newcomer.
   is_newcomer : (m : ℕ) (x : Record) (q : Place) → IsOnPlace w m x q → (b : Bool) → eqb m n ≡ b → is_same_place q p ≡ b
   is_newcomer m x q there true e = rw (one_place w m n x r q p there on (eqb-true m n e)) (same_is p)
   is_newcomer m x q there false e = apart_places w m n x r q p sound there on (unequal m n e)
@@ -258,7 +258,7 @@ module _ (old new : Registry) (n : ℕ) (was r : Record) (p : Place) (before aft
       (λ q e held. let (m, x, is) = h.nobody q held in
       (m, x, (same m x q (unlike old m n x was q p is there e)).0 is))
 
-  -- each is on its place, and was there, perhaps with another record, in the same context
+  -- Each member was at the same place before, in the same context, but its record may have changed.
   stayed_by : (m : ℕ) (x : Record) (q : Place) → IsOnPlace new m x q → (b : Bool) → eqb m n ≡ b →
       (y : Record) × IsOnPlace old m y q × (y.context ≡ x.context)
   stayed_by m x q is true e =

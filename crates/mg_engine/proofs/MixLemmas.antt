@@ -1,4 +1,4 @@
--- A total without the listener itself and those silenced for it is what the listener hears.
+-- The total of a room, without the listener and the talkers silenced for it, is what the listener hears.
 use Rattle.mg_engine.proofs.Common.{◌≡◌, ◌≢◌, ℕ, ◌<◌, ◌&&◌, not, eqb, Bool, true, false, cond, ℤ, pos, ◌+ℤ◌, List, [], ◌∷◌, length, map, get_or, Option, Some, None, refl, sym, ap, ◌∙◌, arith, All, range_with_len, eqb-true, eq-eqb, get_or-map, length-map, sum_by-cons, seat_limit, has_seat, Record, record_at, Place, sibling_place, SumsState, total_of, nearest_sample, sum_of-cons, sum_of-same, place_of, IsOnPlace, EngineState, Inside, IsWholeEngine, view, talks, listens, slot_at, sample_at, heard_now, silenced_now, map_agree, IsTrue, AllPairs, count_by, All-cons, All-map, filter_passes, All-weaker, sits_among, is_seated_in, ints, length-range_with_len, get_or-range_with_len, sum_of-map, sum_of-nil, sum_of-plus, is_silenced_between, part_now, and-false, and_parts, count-found, sum_of-ones, sum_of-agree, true≢false, sum_of}
 use Rattle.std.proofs.lemmas.List.Kept.{AllPairs-cons, AllPairs-filter}
 use Rattle.mg_topology.specs.Mask.{seats_of}
@@ -13,7 +13,7 @@ use Rattle.mg_engine.proofs.SeatSums.{one_passes}
 
 -- ## One part of a total
 
--- a part of the total is the listener's own, one that is silenced, or one that is heard
+-- A part of the total is the listener's own, that of a silenced talker, or that of a heard talker.
 abbrev Splits : ℤ → Bool → Bool → Bool → Bool → Type 0
 Splits z joined own silenced heard =
     cond joined z (pos 0) ≡ (cond own z (pos 0) +ℤ cond silenced z (pos 0)) +ℤ cond heard z (pos 0)
@@ -46,7 +46,7 @@ seats_pass : (mask : ℕ) → All (λ seat. IsTrue (has_seat mask seat)) (seats_
 unfolding seats_of
 seats_pass mask = filter_passes (has_seat mask) (range_with_len 0 seat_limit)
 
--- numbers that are different where those that they come from are
+-- Mapping different numbers with an injective function yields different numbers.
 mapped_apart : (f : ℕ → ℕ) (P : ℕ → Type 0) (xs : List ℕ) → All P xs → ((a b : ℕ) → P a → P b → f a ≡ f b → a ≡ b) →
     AllPairs (λ a b. a ≢ b) xs → AllPairs (λ a b. a ≢ b) (map f xs)
 mapped_apart f P xs all inj apart i j d lt within same =
@@ -68,7 +68,7 @@ same_number m n e = cc e
 
 -- ## A listener's mix
 
--- a total is the sum over the rows that are left out, and what is heard without them
+-- A total is the sum of the rows that are left out plus the sum of the rows that are heard.
 abbrev pub IsLeftAndHeard : SumsState → ℕ → List ℕ → Type 0
 IsLeftAndHeard kept room out = (i : ℕ) → total_of kept room i ≡
     sum_of (sample_in kept.frames i) out +ℤ heard_of kept room out i
@@ -99,7 +99,7 @@ module _ (inside : Inside) (l : Record) (p : Place) (mask : ℕ) (whole : IsWhol
 
   -- ## Which rows are left out
 
-  -- whose seat is silenced talks in the room
+  -- A member whose seat is silenced talks.
   talks_there : (seat : ℕ) (n : ℕ) (r : Record) → IsTrue (has_seat mask seat) →
       IsOnPlace k.rooms n r (sibling_place p seat) → talks r.mode ≡ true
   talks_there seat n r h at = sym (whole.members.each n r (sibling_place p seat) at).talks
@@ -129,7 +129,7 @@ module _ (inside : Inside) (l : Record) (p : Place) (mask : ℕ) (whole : IsWhol
   minus_apart = mapped_apart row_on (λ seat. IsTrue (has_seat mask seat)) (seats_of mask) (seats_pass mask)
       rows_differ (seats_apart mask)
 
-  -- a listener isn't silenced for itself
+  -- A listener is not silenced for itself.
   own_apart : (seat : ℕ) → IsTrue (has_seat mask seat) → l.slot ≢ row_on seat
   own_apart seat h same =
       let (n, r, at) = held seat h in
@@ -263,7 +263,7 @@ module _ (inside : Inside) (l : Record) (p : Place) (mask : ℕ) (whole : IsWhol
   same_rest : (a b c d : ℤ) → a ≡ b +ℤ c → a ≡ b +ℤ d → c ≡ d
   same_rest a b c d e f = omega (arith, ints, e, f)
 
-  -- what is left of the total is what the listener hears
+  -- The total minus the rows that are left out is what the listener hears.
   pub mix_is : IsLeftAndHeard k.sums p.room (left_out_by base minus)
       → mix_of k.sums p.room (left_out_by base minus) ≡
       map (λ i. nearest_sample (heard_now k l i)) (range_with_len 0 160)

@@ -1,4 +1,4 @@
--- Packets at two ports, in one order and in the other; and what holds of the terminations in any world.
+-- Datagrams at two ports have the same effect in either order. The last lemmas are about commands.
 use Rattle.mg_engine.proofs.Common.{ne_eqb, ◌≡◌, ◌≢◌, ℕ, eqb, Bool, true, false, ℤ, List, [], ◌∷◌, Option, Some, None, Result, Ok, Err, refl, sym, ap, ◌∙◌, arith, eqb-true, eq-eqb, same_Some, ErrorNumber, Header, Reading, Record, Target, change, slot_port, Taken, TopologyTriple, Arrived, Takes, arrived, at_port, frame_placed, taken_at, frame_placed_at, taken_by, Gateway, TerminationMedia, media_of, done_with, find, eqb-false, Registry, find-change_other, find-found, nat_tests, IsConsistent}
 use Rattle.mg_engine.specs.aids.Order.{ArrivalOrderIsIrrelevant}
 use Rattle.mg_engine.specs.Outcome.{apply_triples}
@@ -6,14 +6,14 @@ use Rattle.mg_rooms.proofs.OrderLemmas.{found_key}
 
 -- ## One of each number
 
--- what a test finds passes it
+-- An item that is found passes the test.
 pub found_passes : {A : Type 0} (q : A → Bool) (xs : List A) (y : A) → find q xs ≡ Some y → q y ≡ true
 found_passes q xs y found = found_key q xs y found
 
 abbrev has_port : Registry → ℕ → Record → Bool
 has_port w port r = eqb (slot_port w.limits r.slot) port
 
--- terminations at two ports have two numbers
+-- Terminations with different ports have different numbers.
 apart_at : (w : Registry) (port other : ℕ) (r d : Record) → IsConsistent w → port ≢ other →
     at_port w port ≡ Some r → at_port w other ≡ Some d → eqb r.number d.number ≡ false
 apart_at w port other r d h ports here there = ne_eqb r.number d.number (λ same.
@@ -39,7 +39,7 @@ two_changes : (n m : ℕ) (p q : Header × List ℤ) (list : List TerminationMed
 two_changes n m p q [] apart = refl
 two_changes n m p q (x ∷ xs) apart = grind (arith, nat_tests, two_changes n m p q xs apart)
 
--- the media of the one stay where those of the other change
+-- Changing the media of one termination does not change the media of another.
 pub other_media : (w : Gateway) (n m : ℕ) (p : Header × List ℤ) → eqb n m ≡ false →
     media_of (record w { media = played_at n p w.media }) m ≡ media_of w m
 other_media w n m p apart =
@@ -50,7 +50,7 @@ turned_numbers n m apart = ne_eqb m n (λ same. eqb-false n m apart (sym same))
 
 -- ## Two packets
 
--- both orders lead to one gateway, and the same becomes of each packet
+-- Both orders end in the same gateway, and each datagram has the same outcome in both.
 abbrev AreSwapped : (first second : Gateway × Taken) (after : Gateway → Gateway × Taken)
     (before : Gateway → Gateway × Taken) → Type 0
 AreSwapped first second after before = (last : Gateway) × (after first.0 ≡ (last, second.1)) ×
@@ -146,14 +146,14 @@ order_of_two w between last port other from source bytes list a b h ports (x, is
 
 -- ## An edit, and the terminations and contexts after it
 
--- a command that was done on a gateway was done on its terminations
+-- If a command succeeded on a gateway, it succeeded on the gateway's terminations and contexts.
 pub done_is : (f : Registry → Record → Gateway) (o : Result (Registry × Record) ErrorNumber)
     (next : Gateway) (r : Record) → done_with f o ≡ Ok (next, r) → (z : Registry) × (o ≡ Ok (z, r)) ×
     (next ≡ f z r)
 done_is f (Ok p) next r e = grind (arith, nat_tests, p.1, p.0)
 done_is f (Err x) next r e = absurd (cc e)
 
--- what holds of each outcome of a command on the terminations holds of the gateway after it
+-- A property of the gateway after each successful outcome is a property of the gateway after the command.
 pub done_gives : (P : Gateway → Type 0) (f : Registry → Record → Gateway)
     (o : Result (Registry × Record) ErrorNumber) (next : Gateway) (r : Record) → done_with f o ≡ Ok (next, r) →
     ((z : Registry) → o ≡ Ok (z, r) → P (f z r)) → P next

@@ -1,4 +1,4 @@
--- What is written to a packet of an outbox.
+-- Overwriting a packet of an outbox.
 use Rattle.mg_engine.proofs.Common.{◌≡◌, ℕ, ◌++◌, ◌∷◌, [], List, length, take, drop, sym, ap, ◌∙◌, refill, length-set, Datagram, set-append_seam, take-append_seam, set}
 
 pub refilled : (xs : List Datagram) (at : ℕ) (y : Datagram) → refill (length xs) xs (set xs at y) ≡ set xs at y

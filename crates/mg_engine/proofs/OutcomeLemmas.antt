@@ -1,4 +1,4 @@
--- What a command on a termination does to the records of terminations.
+-- The effect of a command on the records of terminations.
 use Rattle.mg_engine.proofs.Common.{◌≡◌, ℕ, [], ◌∷◌, ◌++◌, Option, Some, None, Ok, refl, Record, Settings, Target, Registry, record_at, change, add_done, modify_done, move_done, subtract_done, entered_terminations, inserted, replaced, add, modify, move_to, subtract}
 use Rattle.mg_rooms.specs.declared.place.EntryPlace.{EntryPlace}
 use Rattle.mg_rooms.specs.aids.Entering.{entered_at}
@@ -8,12 +8,12 @@ entered_limits : (w : Registry) (place : EntryPlace) (n : ℕ) (made : Option �
 entered_limits w place n (Some room) = refl
 entered_limits w place n None = refl
 
--- a termination more
+-- The new registry has one more termination, d.
 pub record Adds (old new : Registry) (d : Record) : Type 0 where
   pub terminations : new.terminations ≡ old.terminations ++ d ∷ []
   pub limits : new.limits ≡ old.limits
 
--- the termination has another record, with the slot that it had
+-- The termination n has the new record d, with the same slot as before.
 pub record Changes (old new : Registry) (n : ℕ) (d : Record) : Type 0 where
   pub was : Record
   pub there : record_at old n ≡ Some was
@@ -22,7 +22,7 @@ pub record Changes (old new : Registry) (n : ℕ) (d : Record) : Type 0 where
   pub terminations : new.terminations ≡ change (λ x. x.number) d.number (λ _. Some d) old.terminations
   pub limits : new.limits ≡ old.limits
 
--- it is there no longer
+-- The termination d is removed from the registry.
 pub record Removes (old new : Registry) (n : ℕ) (d : Record) : Type 0 where
   pub there : record_at old n ≡ Some d
   pub terminations : new.terminations ≡ change (λ x. x.number) d.number (λ _. None) old.terminations
@@ -37,7 +37,7 @@ add_adds w target settings new d e =
       limits = entered_limits (inserted w d) a.place d.number a.place.made;
     })
 
--- the same, and it stays in its context
+-- The termination n has a new record and stays in its context.
 abbrev pub Stays : Registry → Registry → ℕ → Record → Type 0
 Stays w new n d = (a : Changes w new n d) × (d.context ≡ a.was.context)
 

@@ -12,11 +12,11 @@ no_slot : (base port a n slot : ℕ) → find (λ s. eqb (base + 2 * s) port) (r
 no_slot base port a zero slot none from to = absurd (omega arith)
 no_slot base port a (suc n) slot none from to = grind (arith, nat_tests, none, no_slot base port (a + 1) n slot)
 
--- no slot has a port that has no slot
+-- If no slot is found for a port, no slot has this port.
 pub has_no_slot : (l : Limits) (port slot : ℕ) → slot_at l port ≡ None → slot < l.slots → slot_port l slot ≢ port
 has_no_slot l port slot none to = no_slot l.base_port port 0 l.slots slot none (omega arith) (omega arith)
 
--- the slot of a port is that of the termination that has it
+-- The termination in the slot of a port is the termination with this port.
 pub at_slot_of : (w : Registry) (port slot : ℕ) → slot_at w.limits port ≡ Some slot → holder_of w slot ≡ at_port w port
 at_slot_of w port slot found =
     let is = eqb-true (slot_port w.limits slot) port

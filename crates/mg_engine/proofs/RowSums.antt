@@ -1,11 +1,11 @@
--- Sums over rows that are joined to a room, as sums over terminations.
+-- Sums over the rows that are joined to a room, as sums over terminations.
 use Rattle.mg_engine.proofs.Common.{◌≡◌, ℕ, ◌&&◌, eqb, Bool, true, false, cond, ℤ, pos, List, length, get_or, Option, Some, None, refl, ap, ◌∙◌, arith, range_with_len, eq-eqb, talks, termination_limit, Record, IsSound, Registry, Place, SumsState, total_of, AreJoined, room_for, sample_at, count_by, sum_of-filter, room_of_row, count-found, nat_tests, sum_of}
 use Rattle.mg_sums.specs.Sums.{sample_in, is_room, is_joined, joined_rows}
 use Rattle.mg_engine.proofs.SeatSums.{seat_sums}
 
 -- ## Rows that are joined to a room
 
--- the row of one on a place is joined to a room where it talks and the place is in it
+-- The row of a termination is joined to a room if and only if the termination talks and is in the room.
 pub joined_is : (joined : List (Option ℕ)) (r : Record) (p : Place) (room : ℕ) →
     room_of_row joined r.slot ≡ room_for r.mode p.room →
     is_joined joined room r.slot ≡ (talks r.mode && eqb p.room room)
@@ -23,7 +23,7 @@ module _ (w : Registry) (kept : SumsState) (room i : ℕ) (sound : IsSound w) (j
   abbrev pub joined_part : Record → ℤ
   joined_part t = cond (is_joined kept.rooms room t.slot) (sample_at kept.frames t.slot i) (pos 0)
 
-  -- a row whose slot nobody holds is joined nowhere
+  -- A row whose slot no termination holds is not joined to a room.
   silent_row : (row : ℕ) (b : Bool) → is_joined kept.rooms room row ≡ b →
       count_by (λ t. eqb t.slot row) w.terminations ≡ 0 → cond b (sample_at kept.frames row i) (pos 0) ≡ pos 0
   silent_row row true e none =
@@ -42,7 +42,7 @@ module _ (w : Registry) (kept : SumsState) (room i : ℕ) (sound : IsSound w) (j
       sum_of-filter (is_joined kept.rooms room) (sample_in kept.frames i) (range_with_len 0 (length kept.rooms))
       ∙ ap (λ (n : ℕ). sum_of row_part (range_with_len 0 n)) long
 
-  -- the total of a room is the sum over the terminations whose rows are joined to it
+  -- The total of a room is the sum over the terminations whose rows are joined to the room.
   pub total_by_terminations : total_of kept room i ≡ sum_of joined_part w.terminations
   total_by_terminations = total_by_rows
       ∙ seat_sums w.terminations (λ t. true) (λ t. t.slot) termination_limit row_part joined_part

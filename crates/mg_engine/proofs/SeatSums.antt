@@ -1,4 +1,4 @@
--- Sums over the seats of a room, and over the terminations that are on them.
+-- Sums over the seats of a room, and over the terminations in these seats.
 use Rattle.mg_engine.proofs.Common.{◌≡◌, ℕ, zero, suc, ◌+◌, ◌<◌, ◌≤◌, ◌&&◌, eqb, Bool, true, false, cond, ℤ, pos, ◌+ℤ◌, List, [], ◌∷◌, inl, inr, get_or, refl, sym, ap, ◌∙◌, arith, range_with_len, cases_eq, eq-eqb, seat_limit, has_seat, sum_of-cons, sum_of-same, count_by, nat_tests, ints, sum_of-filter, sum_of-nil, sum_of-none, sum_of-plus, All, sum_of-agree, count-cons, sum_of}
 use Rattle.mg_topology.specs.Mask.{seats_of}
 
@@ -12,7 +12,7 @@ swapped f (r ∷ rs) ks = sum_of-plus (λ k. sum_of (λ t. f t k) (r ∷ rs)) (f
     (λ k. sum_of-cons (λ t. f t k) r rs) ∙ ap (λ (z : ℤ). sum_of (f r) ks +ℤ z) (swapped f rs ks)
     ∙ sym (sum_of-cons (λ t. sum_of (f t) ks) r rs)
 
--- what seats of a mask add up to, over all seats
+-- The sum over the seats of a mask is the sum over all seats, with 0 for seats that are not in the mask.
 pub sum-seats_of : (mask : ℕ) (f : ℕ → ℤ) →
     sum_of f (seats_of mask) ≡ sum_of (λ seat. cond (has_seat mask seat) (f seat) (pos 0)) (range_with_len 0 seat_limit)
 unfolding seats_of
@@ -73,8 +73,8 @@ module _ {A : Type 0} (p : A → Bool) (z : ℤ) where
 
 -- ## Seats and those who are on them
 
--- Each of those that are in has a seat below n, no two have the same, and a seat that nobody is on
--- adds nothing.
+-- The sum over n seats is the sum over the items in these seats. Each item has a seat below n, no two items have the
+-- same seat, and a seat without an item adds 0.
 pub seat_sums : {A : Type 0} (rs : List A) (is_in : A → Bool) (seat : A → ℕ) (n : ℕ) (h : ℕ → ℤ) (g : A → ℤ)
     → All (λ t. seat t < n) rs → All (λ t. g t ≡ cond (is_in t) (h (seat t)) (pos 0)) rs
     → ((s : ℕ) → count_by (λ t. is_in t && eqb (seat t) s) rs ≤ 1)

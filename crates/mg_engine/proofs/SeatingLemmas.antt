@@ -1,9 +1,9 @@
--- The slots of members by their places.
+-- The slots of members, by their places.
 use Rattle.mg_engine.proofs.Common.{arith, ◌≡◌, ◌≢◌, ℕ, ◌<◌, eqb, Bool, true, false, List, length, set, None, refl, sym, ◌∙◌, eqb-true, get_or-set_same, get_or-set_other, Record, IsSound, Registry, record_at, Place, IsOnPlace, place_count, slot_at, AreSeated, index_of}
 use Rattle.mg_engine.proofs.PlaceLemmas.{within, one_member, one_place, one_record}
 use Rattle.mg_engine.proofs.MemberLemmas.{SameOthers, another, unequal}
 
--- the others have the slots that they had
+-- The places of all members except n have the members' slots.
 abbrev pub OthersSeated : Registry → ℕ → List ℕ → Type 0
 OthersSeated w n seating = (m : ℕ) (x : Record) (q : Place) → m ≢ n → IsOnPlace w m x q → slot_at seating q ≡ x.slot
 
@@ -33,12 +33,12 @@ module _ (w : Registry) (n : ℕ) (r : Record) (p : Place) (seating : List ℕ) 
   pub seated_put : OthersSeated w n seating → AreSeated w (set seating (index_of p) r.slot)
   seated_put h m x q there = put_case h m x q there (eqb m n) refl
 
--- where one isn't there, the others are all
+-- If n does not exist, the places of all members have the members' slots.
 pub seated_all : (w : Registry) (n : ℕ) (seating : List ℕ) → record_at w n ≡ None → OthersSeated w n seating →
     AreSeated w seating
 seated_all w n seating none h m x q on = h m x q (another w m n x on.found none) on
 
--- one has another record, with the same slot
+-- The termination n has a new record, with the same slot and place.
 module _ (old new : Registry) (n : ℕ) (was r : Record) (p : Place) (seating : List ℕ) (same : SameOthers old new n)
     (there : IsOnPlace old n was p) (on : IsOnPlace new n r p) (slot : r.slot ≡ was.slot) where
   mode_case : AreSeated old seating → (m : ℕ) (x : Record) (q : Place) → IsOnPlace new m x q → (b : Bool) →

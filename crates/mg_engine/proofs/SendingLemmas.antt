@@ -1,4 +1,4 @@
--- What is sent in a tick, part by part.
+-- The packets that a tick sends, one termination after another.
 use Rattle.mg_engine.proofs.Common.{◌≡◌, ℕ, ◌+◌, ◌<◌, [], ◌∷◌, length, get_or, take, ◌%◌, ◌^◌, List, ◌++◌, map, Option, Some, None, refl, ap, ◌∙◌, filter_map, option_to_list, take_more, byte_of, Header, header_bytes, plain, Chosen, Record, slot_port, Datagram, packet_now, mixed_now, EngineState, media_at, type_of, SlotMedia, filter_map-append}
 use Rattle.mg_words.specs.declared.mode.Mode.TheVariants.{Inactive}
 use Rattle.mg_engine.specs.aids.MediaSteps as media_steps
@@ -29,7 +29,7 @@ found r = Some r
 pub found_is : (r s : Record) → found r ≡ found s → r ≡ s
 found_is r s h = cc h
 
--- what stands for a termination where there is none
+-- A default record for lookups past the end of a list.
 abbrev pub nobody : Record
 nobody = record { number = 0; context = 0; slot = 0; seat = 0; mode = Inactive; depth = 0; local = None; remote = None }
 
@@ -37,7 +37,7 @@ one_of : {A B : Type 0} (f : A → Option B) (x : A) (o : Option B) → f x ≡ 
 one_of f x (Some y) e = rw e refl
 one_of f x None e = rw e refl
 
--- what is gathered of one more part
+-- Filtering and mapping one more item appends its result, if it has one.
 pub one_more : {A B : Type 0} (f : A → Option B) (xs : List A) (k : ℕ) (d : A) → k < length xs →
     filter_map f (take (k + 1) xs) ≡ filter_map f (take k xs) ++ option_to_list (f (get_or xs k d))
 one_more f xs k d lt =

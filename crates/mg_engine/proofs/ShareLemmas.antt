@@ -1,9 +1,9 @@
--- Packets that lend their payloads keep them.
+-- The packets whose payloads are shared keep their payloads.
 use Rattle.mg_engine.proofs.Common.{◌≡◌, ℕ, zero, suc, ◌<◌, eqb, Bool, true, false, cond, List, [], ◌∷◌, ◌++◌, length, replicate, refl, sym, ap, subst, ◌∙◌, arith, nat_lt, All, eqb-true, get_or-set_same, get_or-set_other, Datagram, Share, EngineState, with_mixes, AreShared, context_limit, member_limit, length_push, get_or-append_seam, All-nil, All-weaker, All-push, IsShared, one_more, packet_at, payload_of, payload_on, shares_in, with_share, get_or_append_left}
 use Rattle.mg_engine.specs.aids.Datagram.{blank}
 use Rattle.mg_engine.proofs.MemberLemmas.{unequal}
 
--- one packet more
+-- Shared payloads are unchanged after one more packet is appended.
 module _ (k : EngineState) (outbox : List Datagram) (sent : Datagram) (work : ℕ) (shares : List (List Share)) where
   abbrev now : EngineState
   now = with_mixes k work shares
@@ -19,12 +19,12 @@ module _ (k : EngineState) (outbox : List Datagram) (sent : Datagram) (work : �
   all_still room list h = All-weaker (IsShared k outbox room) (IsShared now (outbox ++ sent ∷ []) room) (still room)
       list h
 
--- nothing else is lent
+-- Appending a packet without a new share keeps the shares correct.
 pub still_shared : (k : EngineState) (outbox : List Datagram) (sent : Datagram) → AreShared k outbox →
     AreShared k (outbox ++ sent ∷ [])
 still_shared k outbox sent h room = all_still k outbox sent k.sums.work k.shares room (shares_in k.shares room) (h room)
 
--- the packet lends its payload too
+-- Appending a packet together with its share keeps the shares correct.
 module _ (k : EngineState) (outbox : List Datagram) (sent : Datagram) (work at : ℕ) (share : Share)
     (there : at < length k.shares) (packet : share.packet ≡ length outbox)
     (payload : payload_of sent ≡ payload_on k at share.talkers share.law) (h : AreShared k outbox) where

@@ -1,4 +1,4 @@
--- Ticks at once are ticks one after another, while no play list has a frame.
+-- Many ticks in one step have the same effect as single ticks, if all play lists are idle.
 use Rattle.mg_engine.proofs.Common.{◌≡◌, ℕ, zero, suc, ◌+◌, ◌*◌, ◌%◌, ◌^◌, ◌<◌, Bool, true, false, cond, List, ℤ, [], ◌∷◌, map, get_or, Option, Some, None, refl, sym, ap, subst, ◌∙◌, arith, count_by, option_map, sum_by-cons, is_concealed, PlayList, Record, record_at, silence, Config, Gateway, TerminationMedia, media_of, HasPassed, IsIdleEngine, EngineState, StandsFor, IsMediaOf, media_at, played, sent, sends_at, after_ticks, concealed_in_ticks, IsTrue, Registry, counted_up, SlotMedia, slot_sends, option_map_or, map-map, sound_of, ticked, ticked_in, is_idle, frame_or_silence, numbers_of, frame_played, slot_ended, slot_played, slot_ticked, slot_passed, after_tick, conceals, concealed_in_tick, nat_tests, IsSound, eqb, find, map_agree}
 use Rattle.std.specs.Fn.{iterate}
 use Rattle.mg_playout.specs.declared.phase.Phase.{Phase}
@@ -37,7 +37,7 @@ idle_ticks list idle = in_idle list.phase list idle
 abbrev IsIdleMedia : SlotMedia → Type 0
 IsIdleMedia m = IsTrue (is_idle m.play.phase)
 
--- the media a tick later, if the play list is idle
+-- The media one tick later, if the play list is idle.
 abbrev later : SlotMedia → SlotMedia
 later m = record m { timestamp = (m.timestamp + 160) % 2 ^ 32 }
 
@@ -86,7 +86,7 @@ more_passed false n m = λ i. record m { timestamp = more_time n m.timestamp i; 
 ticked_once : (b : Bool) (m : SlotMedia) → IsIdleMedia m → slot_ticked b m ≡ slot_passed b 1 m
 ticked_once b m idle = ap (slot_ended b) (idle_played m idle) ∙ one_passed b m
 
--- ticks at once, at least one, of a slot whose play list is idle
+-- For a slot with an idle play list, n + 1 ticks in one step are n + 1 single ticks.
 pub passed_is : (b : Bool) (n : ℕ) (m : SlotMedia) → IsTrue (is_idle m.play.phase) →
     iterate (slot_ticked b) (suc n) m ≡ slot_passed b (suc n) m
 passed_is b zero m idle = ticked_once b m idle
@@ -101,7 +101,7 @@ passed_by b (suc n) m some idle = sym (passed_is b n m idle)
 
 -- ## The gateway after ticks
 
--- the media of a termination after a tick
+-- The media of a termination after a tick.
 abbrev ticked_media : Registry → TerminationMedia → TerminationMedia
 ticked_media w s = sent (sends_at w s.number) (played s)
 
@@ -161,7 +161,7 @@ module _ (config : Config) (w : Registry) (b : Bool) (row : List ℤ) (silent : 
   many_stand (suc n) m s idle sends h = many_stand n (slot_ticked b m) (ticked_media w s) (idle_kept b m idle)
       (ap (sends_at w) (sent_number (sends_at w s.number) (played s)) ∙ sends) (one_stands m s idle sends h)
 
--- ticks were counted for the slot of each termination
+-- This many ticks were counted for the slot of each termination.
 abbrev pub HavePassed : Registry → ℕ → List SlotMedia → List SlotMedia → Type 0
 HavePassed w count old new = (n : ℕ) (r : Record) → record_at w n ≡ Some r → HasPassed w count old new r.slot
 
@@ -180,7 +180,7 @@ passed_stands k w count new sound some idle passed h = stands_mapped k w (after_
 
 -- ## Nothing is concealed
 
--- the play list of each termination is idle
+-- The play list of each termination is idle.
 abbrev IsIdleGateway : Gateway → Type 0
 IsIdleGateway w = (n : ℕ) (s : TerminationMedia) → media_of w n ≡ Some s → IsTrue (is_idle s.play.phase)
 

@@ -1,4 +1,4 @@
--- An engine stands for the world after each step of a tick.
+-- After each step of a tick, an engine represents the gateway after that step.
 use Rattle.mg_engine.proofs.Common.{◌≡◌, ℕ, ◌≤◌, Bool, true, false, List, ℤ, [], map, get_or, Option, Some, None, refl, sym, ap, subst, ◌∙◌, arith, option_map, same_Some, PlayList, Record, record_at, Config, Share, Gateway, TerminationMedia, media_of, played, all_played, sent, sends_at, IsPlayed, with_mixes, IsEnded, EngineState, StandsFor, IsMediaOf, media_at, Registry, transmitted, SlotMedia, SumsState, slot_sends, has_destination, map-map, sound_of, frame_or_silence, frame_played, slot_ended, slot_played, all_ended, HaveTicked, IsSound, map_agree, may_hear, ContextEdit}
 use Rattle.mg_playout.specs.Playout as play_lists
 use Rattle.mg_engine.proofs.GatewayLemmas.{found_in_map, found_key}
@@ -27,7 +27,8 @@ pub from_mapped : (f : TerminationMedia → TerminationMedia) (P : TerminationMe
 from_mapped f P (Some t) s e h = subst P (same_Some (f t) s e) (h t refl)
 from_mapped f P None s e h = absurd (cc e)
 
--- One function changes the media of each termination, and the media and the frame of its slot change accordingly.
+-- If a function changes the media of each termination and the slots change accordingly, the engine represents the
+-- changed gateway.
 pub stands_mapped : (k : EngineState) (w v : Gateway) (new : List SlotMedia) (kept : SumsState)
     (f : TerminationMedia → TerminationMedia) →
     (v.config ≡ w.config) × (v.rooms ≡ w.rooms) × (v.edits ≡ w.edits) →
@@ -49,7 +50,7 @@ stands_mapped k w v new kept f same numbers mapped step h = record {
       ap (λ (es : List ContextEdit). may_hear es talker listener) (sym same.2);
 }
 
--- each termination's play list has ticked
+-- The play list of each termination has advanced.
 abbrev pub ArePlayed : EngineState → List SlotMedia → List (List ℤ) → Type 0
 ArePlayed k new frames = (n : ℕ) (r : Record) → record_at k.rooms n ≡ Some r → IsPlayed k.media new frames r.slot
 
@@ -81,13 +82,13 @@ sent_number false s = refl
 abbrev sent_at : Registry → TerminationMedia → TerminationMedia
 sent_at w s = sent (sends_at w s.number) s
 
--- whether a termination sends, by its slot and by its number
+-- A termination sends according to its slot if and only if it sends according to its number.
 pub same_sender : (k : EngineState) (w : Gateway) (n m : ℕ) (r : Record) → IsSound k.rooms → StandsFor k w →
     record_at k.rooms n ≡ Some r → m ≡ n → slot_sends k.rooms r.slot ≡ sends_at w.rooms m
 same_sender k w n m r sound h found same = ap has_destination (sound.holder n r found ∙ sym found) ∙
     ap (λ (x : Registry). sends_at x n) (sym h.rooms) ∙ ap (sends_at w.rooms) (sym same)
 
--- what is kept of each termination's media after the packets of a tick
+-- The tick of each termination has ended.
 abbrev pub AreEnded : Registry → List SlotMedia → List SlotMedia → Type 0
 AreEnded w old new = (n : ℕ) (r : Record) → record_at w n ≡ Some r → IsEnded w old new r.slot
 
@@ -100,12 +101,12 @@ ended_stands k w new sound ended h = stands_mapped k w (all_ended w) new k.sums 
     (λ n r t found same is. rw (ended n r found, same_sender k w n t.number r sound h found same)
     (ended_is k.config (sends_at w.rooms t.number) (media_at k.media r.slot) (get_or k.sums.frames r.slot []) t is)) h
 
--- mixes and packets that lend their payloads change nothing that the world has
+-- Mixing and sharing payloads do not change the gateway that the engine represents.
 pub mixed_stands : (k : EngineState) (w : Gateway) (work : ℕ) (shares : List (List Share)) → StandsFor k w →
     StandsFor (with_mixes k work shares) w
 mixed_stands k w work shares h = assumption
 
--- a stream whose frame was played is a tick old at least
+-- After frames are played, each termination has had at least one tick.
 pub played_old : (w : Gateway) → HaveTicked (all_played w)
 played_old w n s there = from_mapped played (λ t. 1 ≤ t.ticks) (media_of w n) s
     (sym (found_in_map (λ x. x.number) played n w.media (λ t. refl)) ∙ there) (λ t was. omega arith)

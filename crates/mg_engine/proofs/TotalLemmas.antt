@@ -1,4 +1,4 @@
--- The totals that are kept are those of the world.
+-- The stored totals are those of the gateway.
 use Rattle.mg_engine.proofs.Common.{◌≡◌, ℕ, ◌+◌, ◌<◌, ◌&&◌, eqb, Bool, true, false, cond, ℤ, pos, get_or, Option, Some, None, refl, sym, ap, ◌∙◌, nat_lt, arith, is_some, range_with_len, option_map, eqb-true, eq-eqb, ne_eqb, same_Some, Context, Record, talks, IsSound, record_at, context_at, members_at, Place, total_of, Gateway, IsOnPlace, EngineState, StandsFor, sample_at, count_by, lt-ltb, last_termination, Registry, IsMember, part_of_total, total, total_at, find-none, All, Inside, IsWholeEngine, list_any_at, sum_of-agree, view, counted_any, false_from_ne_true, sum_of}
 use Rattle.mg_engine.proofs.FlowLemmas.{mode_found}
 use Rattle.mg_engine.proofs.MemberLemmas.{unequal}
@@ -17,7 +17,7 @@ member_of : (c : ℕ) (o : Option Record) → in_context c o ≡ true → (r : R
 member_of c (Some r) e = (r, refl, eqb-true r.context c e)
 member_of c None e = absurd (cc e)
 
--- a sum over the members of a context is one over the terminations in it
+-- A sum over the members of a context is a sum over the terminations in that context.
 module _ (w : Registry) (c : ℕ) (f : ℕ → ℤ) (sound : IsSound w) where
   abbrev numbers : ℕ
   numbers = last_termination + 1

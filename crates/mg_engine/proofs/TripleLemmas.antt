@@ -80,7 +80,7 @@ oneway_is Isolate h = absurd (cc h)
 oneway_is Oneway h = refl
 oneway_is Bothway h = absurd (cc h)
 
--- a member matches both terms where some seat is in both masks
+-- Some member matches both terms of a triple if and only if its two masks share a seat.
 module _ (w : Registry) (c : ℕ) (members : List ℕ) (x : TopologyTriple) (y : Triple)
     (law : IsTrue (overlaps y) ↔ Overlaps y) (m : IsMatched w c members x y) where
   by_terms : terms.overlaps members x ≡ true → overlaps y ≡ true
@@ -158,7 +158,7 @@ has_still w old new keeps h = record {
 
 module _ (w : Registry) (c : ℕ) (members : List ℕ) (talker listener : ℕ) (t l : Record) (p q : Place)
     (s : ShareContext w talker listener t l p q) where
-  -- one triple, of two in its context: whether it speaks of them, and what it says
+  -- A triple by seats has the same effect on two members of the context as the triple by terms.
   one_word : (x : TopologyTriple) (y : Triple) (es : List ContextEdit) (b : Bool) → t.context ≡ c → l.context ≡ c →
       IsMatched w c members x y → b ≡ may_hear es talker listener
       → cond (mentions y p.seat q.seat) (word_of y p.seat q.seat) b ≡
@@ -182,7 +182,7 @@ module _ (w : Registry) (c : ℕ) (members : List ℕ) (talker listener : ℕ) (
       (one_word x y es b here there m.0 e)
   all_words xs ys es b here there m e = absurd m
 
--- a triple of another context says nothing of one
+-- A triple in one context does not name a member of another context.
 not_named : (w : Registry) (c : ℕ) (names : List ℕ) (mask n : ℕ) (r : Record) → Matches w c names mask →
     record_at w n ≡ Some r → (r.context ≡ c → ⊥) → has names n ≡ false
 not_named w c names mask n r m found elsewhere = false_from_ne_true (has names n) (λ e.

@@ -1,4 +1,4 @@
--- What an edit and an RTP datagram leave alone.
+-- An edit or an RTP datagram elsewhere does not affect a context.
 use Rattle.mg_engine.proofs.Common.{◌≡◌, ℕ, ℤ, pos, eqb, not, ◌&&◌, Bool, true, false, cond, List, [], ◌∷◌, Option, Some, None, Result, Ok, Err, refl, sym, ap, subst, ◌∙◌, IsSome, is_some, eq-eqb, ne_eqb, same_Some, talks, ErrorNumber, Header, Reading, Context, Record, Settings, Target, is_number, record_at, context_at, members_at, IsSound, Taken, TopologyTriple, Arrived, Takes, arrived, at_port, taken_at, frame_placed_at, taken_by, has, may_hear, Gateway, TerminationMedia, ContextEdit, Apply, Enter, media_of, new_media, frame_in, added, modified, moved, subtracted, existing_context, tuned, check_triples, with_triples, slice_index_or, Registry, total, part_of_total, find-change_other, find-push_other, listens, context_in, mode_or_inactive, check_triple, matched, names_others, bind_ok, false_from_ne_true, not-false, true≢false, get_or, list_any_at, sum_of-agree, arith, nat_tests, sum_of}
 use Rattle.mg_rooms.specs.declared.target.Target.TheVariants.{Null, New, Number}
 use Rattle.mg_rooms.specs.Outcome as commands
@@ -17,7 +17,7 @@ use Rattle.mg_engine.proofs.OrderLemmas.{done_gives, other_media}
 
 -- ## A context of which each record and each stream is as it was
 
--- who hears whom, and whose speech goes to whom, by the records of both and the last word on them
+-- Who hears whom and whose speech flows to whom, given the records of the two and the last word on them.
 abbrev share : Option Record → Option Record → ℕ → ℕ → Bool
 share r q a b = is_some r && (is_some q && (eqb (context_in r) (context_in q) && not (eqb a b)))
 
@@ -53,20 +53,20 @@ module _ (w next : Gateway) (c : ℕ) (context : context_at next.rooms c ≡ con
   alone : IsUnaffected w next c
   alone = assumption (hears_same, flows_same, total_same)
 
--- a gateway that hasn't changed
+-- A gateway that has not changed is unaffected.
 same_alone : (w : Gateway) (c : ℕ) → IsUnaffected w w c
 same_alone w c = alone w w c refl (λ n there. refl) (λ n there. refl) (λ a b one two. refl)
 
 -- ## Commands
 
--- a member is another than one that is no member
+-- A member differs from a termination that is not a member.
 apart_from : (w : Gateway) (c n m : ℕ) → is_member w c n ≡ false → is_member w c m ≡ true → eqb n m ≡ false
 apart_from w c n m out within = ne_eqb n m (λ same. true≢false (sym within ∙ ap (is_member w c) (sym same) ∙ out))
 
 turned_from : (w : Gateway) (c n m : ℕ) → is_member w c n ≡ false → is_member w c m ≡ true → eqb m n ≡ false
 turned_from w c n m out within = ne_eqb m n (λ same. true≢false (sym within ∙ ap (is_member w c) same ∙ out))
 
--- the last word on two looks at no entry of a third one
+-- An Enter of a termination that is not a member does not change the last word on two members.
 entry_elsewhere : (w : Gateway) (c n : ℕ) (es : List ContextEdit) → is_member w c n ≡ false → (a b : ℕ) →
     is_member w c a ≡ true → is_member w c b ≡ true → may_hear (Enter n ∷ es) a b ≡ may_hear es a b
 entry_elsewhere w c n es out a b one two = rw (turned_from w c n a out one, turned_from w c n b out two) refl
@@ -101,7 +101,7 @@ module _ (w : Gateway) (z : Registry) (d : Record) (c : ℕ) (s : Spares w.rooms
 
 -- ## Triples
 
--- a term that names nobody but members matches nobody but members
+-- A term that names only members does not match a termination that is not a member.
 unmatched : (members : List ℕ) (term : TripleTerm) (a : ℕ) → names_others members term ≡ false →
     has members a ≡ false → has (matched members term) a ≡ false
 unmatched members terms.Every a names out = out
@@ -118,7 +118,7 @@ unsaid : (first second : List ℕ) (association : _) (es : List ContextEdit) (a 
     has first b ≡ false → may_hear (Apply first second association ∷ es) a b ≡ may_hear es a b
 unsaid first second association es a b one two = rw (one, two) refl
 
--- the last word on two looks at no triple of others
+-- Triples among the members do not change the last word on two terminations that are not members.
 words_elsewhere : (members : List ℕ) (xs : List TopologyTriple) (es : List ContextEdit) (a b : ℕ) (u : Unit {0}) →
     check_triples members xs ≡ Ok u → has members a ≡ false → has members b ≡ false →
     may_hear (with_triples members xs es) a b ≡ may_hear es a b
@@ -131,7 +131,7 @@ words_elsewhere members (x ∷ xs) es a b u e one two =
     ∙ unsaid (matched members x.first) (matched members x.second) x.association es a b
     (unmatched members x.first a names one) (unmatched members x.first b names two)
 
--- a member of one context is none of another
+-- A member of one context is not a member of another.
 one_context : (w : Gateway) (c t n : ℕ) → IsSound w.rooms → eqb t c ≡ false → is_member w c n ≡ true →
     is_member w t n ≡ false
 one_context w c t n h apart within = false_from_ne_true (is_member w t n) (λ e.
@@ -165,7 +165,7 @@ triples_alone w next target xs t c h done apart =
 
 -- ## Edits
 
--- what an edit was done on is what its outcome is
+-- If an edit succeeded, the command that it requests succeeded with the same gateway.
 pub as_done : {A : Type 0} (f : A → Done) (o : Result (Gateway × A) ErrorNumber) (next : Gateway) (done : Done) →
     done_as f o ≡ Ok (next, done) → (x : A) × (o ≡ Ok (next, x))
 as_done f (Ok p) next done e = (p.1, grind (arith, nat_tests))

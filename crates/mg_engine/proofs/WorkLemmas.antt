@@ -1,4 +1,4 @@
--- Numbers that rise, one step after another.
+-- Bounds on the increase of a counter over several steps.
 use Rattle.mg_engine.proofs.Common.{◌≡◌, ℕ, ◌+◌, ◌≤◌, arith, RisesAtMost}
 
 pub rises_twice : (a b most x y z : ℕ) → a + b ≤ most → RisesAtMost a x y → RisesAtMost b y z → RisesAtMost most x z

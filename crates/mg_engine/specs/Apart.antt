@@ -1,4 +1,4 @@
--- What some terminations receive does not change the packets to anyone who does not hear them.
+-- Packets to listeners that do not hear certain terminations do not depend on what those terminations receive.
 use Rattle.std.specs.Prelude.{◌≡◌, ℕ, ◌&&◌, true, false, List, map, Some, if◌then◌else◌}
 use Rattle.mg_words.specs.declared.stats.Stats.{Stats}
 use Rattle.mg_playout.specs.Playout.{first_list}
@@ -12,17 +12,17 @@ use Rattle.mg_engine.specs.Tick.{all_played, packet_of}
 
 -- ## Agreement
 
--- counters, as if no packet had been received
+-- The counters as they would be if no packet had been received.
 abbrev pub but_received : Stats → Stats
 but_received s = record s { pr = 0; or_ = 0 }
 
--- media, as if their termination had received nothing: no frame waits, none is played, and no
--- packet was received
+-- The media as they would be if their termination had received nothing: no frame waits, none is played, and no packet
+-- was received.
 abbrev pub without_arrivals : TerminationMedia → TerminationMedia
 without_arrivals s =
     record s { play = first_list; frame = silence; stats = but_received s.stats }
 
--- the media without arrivals for a termination in the list, and the media unchanged for any other
+-- The media without arrivals for a termination in the list, and the unchanged media for any other termination.
 abbrev pub unless_among : List ℕ → TerminationMedia → TerminationMedia
 unless_among some s = if has some s.number then without_arrivals s else s
 
@@ -34,19 +34,19 @@ pub record AgreeOutside (some : List ℕ) (a b : Gateway) : Type 0 where
   pub edits : a.edits ≡ b.edits
   pub media : map (unless_among some) a.media ≡ map (unless_among some) b.media
 
--- the port belongs to one of these terminations
+-- The port belongs to one of these terminations.
 abbrev pub IsPortAmong : List ℕ → Gateway → ℕ → Type 0
 IsPortAmong some w port =
     (r : Record) × (at_port w.rooms port ≡ Some r) × (has some r.number ≡ true)
 
 -- ## What agreement implies for packets
 
--- the listener hears none of these terminations, and is not one of them in Loopback
+-- The listener hears none of these terminations, and is not one of them in Loopback.
 pub record HearsNone (some : List ℕ) (w : Gateway) (listener : ℕ) : Type 0 where
   pub others : (talker : ℕ) → has some talker ≡ true → flow w talker listener ≡ false
   pub own : (has some listener && hears_itself w listener) ≡ false
 
--- a tick sends the same packet, byte for byte, to a listener that hears none of these terminations
+-- A tick of either gateway sends the same packet, byte for byte, to a listener that hears none of these terminations.
 abbrev pub SamePackets : Type 0
 SamePackets =
     (some : List ℕ) (a b : Gateway) (r : Record)

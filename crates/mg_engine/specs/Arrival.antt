@@ -1,5 +1,5 @@
--- What an RTP datagram that arrives at a media port does (RFC 3550, section 5.1). The causes of a
--- drop and their order are this project's own.
+-- The effect of an RTP datagram that arrives at a media port (RFC 3550, section 5.1). The causes of a drop and their
+-- order are this project's own.
 use Rattle.std.specs.Prelude.{◌≡◌, ℕ, ℤ, ◌==◌, not, Bool, false, List, map, length}
 use Rattle.std.specs.Prelude.{find, Option, Some, Result, Ok, Err, if◌then◌else◌}
 use Rattle.std.specs.Option.{option_map_or}
@@ -23,11 +23,11 @@ use Rattle.mg_engine.specs.Gateway.{Gateway, TerminationMedia, media_of}
 use Rattle.mg_engine.specs.Steps.{received}
 use Rattle.mg_engine.specs.Tick.{type_of}
 
--- a frame with its packet's header, or the reason why there is none
+-- A frame with its packet's header, or the cause of the drop.
 abbrev pub Arrived : Type 0
 Arrived = Result (Header × List ℤ) DropCause
 
--- the frame of a packet, if its payload is one frame in this law
+-- The frame of a packet, if its payload is one frame in this law.
 abbrev pub decoded : Law → Header × List ℕ → Arrived
 decoded law p =
     if not (p.0.payload_type == type_of law) then Err causes.PayloadType
@@ -37,23 +37,23 @@ abbrev pub frame_by_law : Law → Reading → Arrived
 frame_by_law law (Ok p) = decoded law p
 frame_by_law law (Err fault) = Err (causes.Rtp fault)
 
--- a termination with a Remote accepts packets only from the Remote's address
+-- Whether a packet comes from an address other than the one in the termination's Remote.
 abbrev pub is_stray_source : Option Chosen → List ℕ → Bool
 is_stray_source remote source = option_map_or (λ to. not (bytes_eq to.address source)) remote false
 
--- the law of the payloads that a termination accepts from a source
+-- The law of the payloads that a termination accepts from a source.
 abbrev pub law_for : Record → List ℕ → Result Law DropCause
 law_for r source =
     if is_stray_source r.remote source then Err causes.Stray
     else option_map_or (λ local. Ok local.law) r.local (Err causes.NoLocal)
 
--- the frame that a termination gets from a datagram
+-- The frame that a termination gets from a datagram.
 abbrev pub arrived : Record → List ℕ → Reading → Arrived
 arrived r source reading = do
   law ← law_for r source
   frame_by_law law reading
 
--- a frame is placed in the play list, and counted
+-- The media after a frame is placed in the play list and counted.
 abbrev pub frame_placed : Header → List ℤ → TerminationMedia → TerminationMedia
 frame_placed header frame s =
     record s {
@@ -61,7 +61,7 @@ frame_placed header frame s =
       stats = received s.stats;
     }
 
--- the gateway after a termination got a frame or none, and the outcome of the datagram
+-- The gateway and the outcome of a datagram, given the frame that the termination got or the cause of the drop.
 abbrev pub taken_at : Gateway → ℕ → Arrived → Gateway × Taken
 taken_at w n (Ok p) = option_map_or (λ s. (
   record w { media = change (λ s. s.number) n (λ s. Some (frame_placed p.0 p.1 s)) w.media },
@@ -69,11 +69,11 @@ taken_at w n (Ok p) = option_map_or (λ s. (
 )) (media_of w n) (w, Dropped causes.NoTermination)
 taken_at w n (Err cause) = (w, Dropped cause)
 
--- the termination with this port
+-- The termination with this port.
 abbrev pub at_port : rooms.Registry → ℕ → Option Record
 at_port w port = find (λ r. slot_port w.limits r.slot == port) w.terminations
 
--- the gateway after a datagram arrived at a port from an address, and the outcome of the datagram
+-- The gateway after a datagram arrives at a port from an address, and the outcome of the datagram.
 abbrev pub taken : Gateway → ℕ → List ℕ → Reading → Gateway × Taken
 taken w port source reading =
     option_map_or (λ r. taken_at w r.number (arrived r source reading)) (at_port w.rooms port)

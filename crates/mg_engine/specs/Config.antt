@@ -5,7 +5,7 @@ use Rattle.mg_rooms.specs.declared.limits.Limits.{Limits}
 use Rattle.mg_rooms.specs.Limits.{slot_at, AreValidLimits}
 use Rattle.mg_engine.specs.declared.config.Config.{Config}
 
--- the configuration of a gateway on this machine, with all slots
+-- The configuration of a gateway on the local machine, with all slots.
 abbrev pub standard : Config
 standard = record {
   address = 127 ∷ 0 ∷ 0 ∷ 1 ∷ [];
@@ -20,7 +20,7 @@ standard = record {
   timestamp = 0;
 }
 
--- the limits on terminations and contexts
+-- The limits on terminations and contexts.
 abbrev pub limits_of : Config → Limits
 limits_of c =
     record {
@@ -31,12 +31,12 @@ limits_of c =
       first_context = c.first_context;
     }
 
--- the control port is not 0, and no slot has it
+-- The control port is not 0, and no slot has this port.
 pub record HasControlPort (c : Config) : Type 0 where
   pub some : 0 < c.control_port
   pub apart : slot_at (limits_of c) c.control_port ≡ None
 
--- a gateway can start with this configuration
+-- A gateway can start with this configuration.
 pub record IsValidConfig (c : Config) : Type 0 where
   pub limits : AreValidLimits (limits_of c)
   pub control_port : HasControlPort c

@@ -13,9 +13,8 @@ use Rattle.mg_words.specs.declared.stats.Stats.{Stats}
 use Rattle.mg_words.specs.Stats.{no_packets}
 use Rattle.mg_sums.specs.Samples.{silence}
 
--- The media of one termination: its play list, the frame that this tick plays (160 samples), its
--- counters, the number of its ticks, the number of packets it has sent, and whether its last tick
--- sent one.
+-- The media of one termination: its play list, the frame that this tick plays (160 samples), its counters, the number
+-- of its ticks, the number of packets that it has sent, and whether its last tick sent a packet.
 pub record TerminationMedia : Type 0 where
   pub number : ℕ
   pub play : PlayList
@@ -25,22 +24,22 @@ pub record TerminationMedia : Type 0 where
   pub packets : ℕ
   pub sent_last : Bool
 
--- What happens in contexts (RFC 3525, section 7.1.18): a member enters or leaves, or a triple is
--- applied. A triple lists the members that its two names matched at that time.
+-- An edit of a context (RFC 3525, section 7.1.18): a member enters or leaves, or a triple is applied. A triple lists
+-- the members that its two names matched at that time.
 pub data ContextEdit : Type 0 where
   Enter : (member : ℕ) → ContextEdit
   Leave : (member : ℕ) → ContextEdit
   Apply : (first second : List ℕ) → (association : Association) → ContextEdit
 
--- The configuration; the terminations and contexts; the media of each termination, in order of
--- their numbers; and everything that happened to the members of all contexts, newest first.
+-- The state of a gateway: its configuration, its terminations and contexts, the media of each termination in order of
+-- number, and the edits of all contexts, newest first.
 pub record Gateway : Type 0 where
   pub config : Config
   pub rooms : rooms.Registry
   pub media : List TerminationMedia
   pub edits : List ContextEdit
 
--- a new gateway
+-- A new gateway, without terminations.
 abbrev pub start_of : Config → Gateway
 start_of config = record {
   config = config;
@@ -49,7 +48,7 @@ start_of config = record {
   edits = [];
 }
 
--- the media of a new termination
+-- The media of a new termination.
 abbrev pub new_media : ℕ → TerminationMedia
 new_media n = record {
   number = n;
@@ -66,7 +65,7 @@ new_media n = record {
 abbrev pub media_of : Gateway → ℕ → Option TerminationMedia
 media_of w n = find (λ s. s.number == n) w.media
 
--- the counters of a termination, if it exists
+-- The counters of a termination, if it exists.
 abbrev pub stats_of : Gateway → ℕ → Option Stats
 stats_of w n = option_map (λ s. s.stats) (media_of w n)
 
@@ -78,7 +77,7 @@ mode_of w n = option_map_or (λ r. r.mode) (rooms.record_at w.rooms n) Inactive
 abbrev pub context_of : Gateway → ℕ → ℕ
 context_of w n = option_map_or (λ r. r.context) (rooms.record_at w.rooms n) 0
 
--- the frame that this tick plays
+-- The frame that this tick plays.
 abbrev pub frame_of : Gateway → ℕ → List ℤ
 frame_of w n = option_map_or (λ s. s.frame) (media_of w n) silence
 

@@ -1,5 +1,4 @@
--- The outcome of an edit: its error, or the gateway after the edit together with what the edit
--- changed.
+-- The outcome of an edit: its error, or the gateway after the edit together with what the edit changed.
 use Rattle.std.specs.Prelude.{ℕ, List, ◌++◌, [], ◌∷◌, Some, None, Result, Ok, Err}
 use Rattle.mg_rooms.specs.declared.record.Record.{Record}
 use Rattle.mg_rooms.specs.declared.target.Target.{Target}
@@ -34,7 +33,7 @@ media_without n list = change (λ s. s.number) n (λ _. None) list
 
 -- ## Commands on a termination
 
--- the outcome, given the outcome for the terminations and contexts
+-- The outcome for the gateway, given the outcome for the terminations and contexts.
 abbrev pub done_with : (rooms.Registry → Record → Gateway)
     → Result (rooms.Registry × Record) ErrorNumber → Result (Gateway × Record) ErrorNumber
 done_with f (Ok p) = Ok (f p.0 p.1, p.1)
@@ -80,14 +79,14 @@ subtract w target n = done_with (subtracted w) (outcomes.subtract w.rooms target
 
 -- ## Triples
 
--- the number of the action's context, if it exists
+-- The number of the action's context, if the context exists.
 abbrev pub existing_context : rooms.Registry → Target → Result ℕ ErrorNumber
 existing_context w (targets.Number c) = do
   _ ← outcomes.there w c
   Ok c
 existing_context w _ = Err UnknownContext
 
--- either all triples are applied to the current members, or none
+-- The outcome of applying triples to the current members: either all triples are applied, or none.
 unfoldable pub apply_triples : Gateway → Target → List TopologyTriple
     → Result (Gateway × ℕ) ErrorNumber
 apply_triples w target xs = do
@@ -100,7 +99,7 @@ apply_triples w target xs = do
 abbrev pub Outcome : Type 0
 Outcome = Result (Gateway × Done) ErrorNumber
 
--- the change that was made, as the result of an edit
+-- The outcome of a command as the outcome of an edit.
 abbrev pub done_as : {A : Type 0} → (A → Done) → Result (Gateway × A) ErrorNumber → Outcome
 done_as f (Ok p) = Ok (p.0, f p.1)
 done_as f (Err e) = Err e

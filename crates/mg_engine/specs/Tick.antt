@@ -1,5 +1,4 @@
--- What a tick of 20 ms does, and the packets that it sends (RFC 3550, section 5.1; RFC 3551,
--- sections 4.1 and 6).
+-- The effects of a tick of 20 ms, and the packets that it sends (RFC 3550, section 5.1; RFC 3551, sections 4.1 and 6).
 use Rattle.std.specs.Prelude.{ℕ, zero, suc, ◌+◌, ◌-◌, ◌*◌, ◌%◌, ◌^◌, Bool, true, false, not, List}
 use Rattle.std.specs.Prelude.{◌++◌, map}
 use Rattle.std.specs.Prelude.{count_by, filter_map, Option, None, is_some, if◌then◌else◌}
@@ -27,7 +26,7 @@ use Rattle.mg_engine.specs.Mix.{mixed}
 
 -- ## Frames
 
--- the play list advances, and what it plays is the frame of this tick
+-- The media after the play list advances. The frame that it plays is the frame of this tick.
 abbrev pub played : TerminationMedia → TerminationMedia
 played s =
     let after = play_lists.ticked s.play in
@@ -36,24 +35,24 @@ played s =
 abbrev pub all_played : Gateway → Gateway
 all_played w = record w { media = map played w.media }
 
--- whether a termination's play list conceals a missing frame in this tick
+-- Whether a termination's play list conceals a missing frame in this tick.
 abbrev pub conceals : Gateway → ℕ → Bool
 conceals w n =
     option_map_or (λ s. is_concealed ((play_lists.ticked s.play).1)) (media_of w n) false
 
--- how many play lists conceal a missing frame in this tick
+-- The number of play lists that conceal a missing frame in this tick.
 abbrev pub concealed_in_tick : Gateway → ℕ
 concealed_in_tick w = count_by (conceals w) (numbers_of w)
 
 -- ## Packets
 
--- whether a termination in this mode sends to its peer
+-- Whether a termination in this mode sends to its peer.
 abbrev pub sends : Mode → Bool
 sends Inactive = false
 sends ReceiveOnly = false
 sends _ = true
 
--- the destination of a termination's packets, if it sends
+-- The destination of a termination's packets, if the termination sends.
 abbrev pub sent_to : Record → Option Chosen
 sent_to r = if sends r.mode then r.remote else None
 
@@ -61,8 +60,8 @@ abbrev pub type_of : Law → ℕ
 type_of Mu = 0
 type_of A = 8
 
--- The header of a termination's next packet, in its current tick. The marker is set if its last
--- tick didn't send a packet.
+-- The header of a termination's next packet, in its current tick. The marker is set if the last tick didn't send a
+-- packet.
 abbrev pub header_of : Gateway → Chosen → TerminationMedia → Header
 header_of w to s = record {
   marker = not s.sent_last;
@@ -72,7 +71,7 @@ header_of w to s = record {
   ssrc = (w.config.ssrc + s.number) % 2 ^ 32;
 }
 
--- the packet of a termination to its peer: the encoding of what it is sent
+-- The packet of a termination to its peer, which contains the encoding of the termination's mix.
 abbrev pub packet : Gateway → Record → Chosen → TerminationMedia → Datagram
 packet w r to s = record {
   from = slot_port w.rooms.limits r.slot;
@@ -80,13 +79,13 @@ packet w r to s = record {
   bytes = header_bytes plain (header_of w to s) ++ map (byte_of to.law) (mixed w r.number);
 }
 
--- the packet of a termination, if it sends
+-- The packet of a termination, if the termination sends.
 abbrev pub packet_of : Gateway → Record → Option Datagram
 packet_of w r = do
   to ← sent_to r
   option_map (packet w r to) (media_of w r.number)
 
--- the packets of a tick after its frames were played, in order of the terminations' numbers
+-- The packets of a tick after its frames were played, in order of termination number.
 abbrev pub packets : Gateway → List Datagram
 packets w = filter_map (packet_of w) w.rooms.terminations
 
@@ -99,7 +98,7 @@ abbrev pub sent : Bool → TerminationMedia → TerminationMedia
 sent true s = record s { stats = transmitted s.stats; packets = s.packets + 1; sent_last = true }
 sent false s = record s { sent_last = false }
 
--- the gateway after a tick whose frames were played
+-- The gateway after a tick whose frames were played.
 abbrev pub all_ended : Gateway → Gateway
 all_ended w = record w { media = map (λ s. sent (sends_at w.rooms s.number) s) w.media }
 
@@ -116,7 +115,7 @@ sent_in_tick w = packets (all_played w)
 abbrev pub after_ticks : ℕ → Gateway → Gateway
 after_ticks count w = iterate after_tick count w
 
--- how many missing frames this many ticks conceal
+-- The number of missing frames that this many ticks conceal.
 abbrev pub concealed_in_ticks : ℕ → Gateway → ℕ
 concealed_in_ticks zero w = 0
 concealed_in_ticks (suc count) w =

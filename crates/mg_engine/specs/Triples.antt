@@ -1,6 +1,5 @@
--- The triples of a topology descriptor in an edit: which members their terms match, and which
--- errors they cause (RFC 3525, section 7.1.18). The error numbers and the order of the checks are
--- this project's own.
+-- The triples of a topology descriptor in an edit, the members that their terms match, and the errors that they cause
+-- (RFC 3525, section 7.1.18). The error numbers and the order of the checks are this project's own.
 use Rattle.std.specs.Prelude.{ℕ, Bool, true, false, not, ◌&&◌, ◌||◌, List, [], ◌∷◌, Result, Ok}
 use Rattle.std.specs.List.{list_any}
 use Rattle.mg_words.specs.declared.association.Association.TheVariants.{Isolate}
@@ -16,15 +15,15 @@ use Rattle.mg_engine.specs.declared.topology_triple.TopologyTriple.{TopologyTrip
 use Rattle.mg_engine.specs.Gateway.{ContextEdit, Apply}
 use Rattle.mg_engine.specs.Flow.{has}
 
--- the maximum number of triples in an edit; a datagram cannot hold more
+-- The maximum number of triples in an edit. A datagram cannot hold more.
 abbrev pub triple_limit : ℕ
 triple_limit = 1200
 
--- a triple that causes its edit to fail
+-- A triple that causes its edit to fail.
 abbrev pub barred_triple : TopologyTriple
 barred_triple = record { first = Barred; second = Barred; association = Isolate }
 
--- the members of a context that a term matches
+-- The terminations that a term matches: all members, or the termination that the term names.
 abbrev pub matched : List ℕ → TripleTerm → List ℕ
 matched members Every = members
 matched members (Number n) = n ∷ []
@@ -34,18 +33,18 @@ abbrev pub is_barred : TripleTerm → Bool
 is_barred Barred = true
 is_barred _ = false
 
--- whether a term names anything other than members
+-- Whether a term is the number of a termination that is not a member, or a name that no termination has.
 abbrev pub names_others : List ℕ → TripleTerm → Bool
 names_others members (Number n) = not (has members n)
 names_others members Stranger = true
 names_others members _ = false
 
--- whether a Oneway triple has a member that matches both terms
+-- Whether a Oneway triple has a member that matches both terms.
 abbrev pub overlaps : List ℕ → TopologyTriple → Bool
 overlaps members x =
     is_oneway x.association && list_any (has (matched members x.second)) (matched members x.first)
 
--- the first error in a triple
+-- The first error in a triple.
 abbrev pub check_triple : List ℕ → TopologyTriple → Result (Unit {0}) ErrorNumber
 check_triple members x = do
   _ ← passes (not (is_barred x.first || is_barred x.second)) errors.IdentifierNotAllowed
@@ -53,14 +52,14 @@ check_triple members x = do
       errors.NotInContext
   passes (not (overlaps members x)) errors.IllegalCombination
 
--- the first error in the triples, in order
+-- The first error in the triples, in order.
 abbrev pub check_triples : List ℕ → List TopologyTriple → Result (Unit {0}) ErrorNumber
 check_triples members [] = Ok tt
 check_triples members (x ∷ xs) = do
   _ ← check_triple members x
   check_triples members xs
 
--- the edits followed by the triples in order, each with the members that its terms match
+-- The edits followed by the triples in order, each with the members that its terms match.
 abbrev pub with_triples : List ℕ → List TopologyTriple → List ContextEdit → List ContextEdit
 with_triples members [] es = es
 with_triples members (x ∷ xs) es =

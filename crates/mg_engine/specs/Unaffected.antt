@@ -1,5 +1,4 @@
--- Which contexts an edit or an RTP datagram does not affect, and in what respects (not from a
--- standard).
+-- The contexts that an edit or an RTP datagram does not affect (not from a standard).
 use Rattle.std.specs.Prelude.{◌≡◌, ℕ, Bool, true, false, List, Some, IsSome, Ok}
 use Rattle.mg_rooms.specs.declared.record.Record.{Record}
 use Rattle.mg_rooms.specs.declared.target.Target.{Target}
@@ -16,7 +15,7 @@ use Rattle.mg_engine.specs.Gateway.{Gateway, media_of}
 use Rattle.mg_engine.specs.Mix.{total}
 use Rattle.mg_engine.specs.Outcome.{outcome}
 
--- whether n is a member of the context c
+-- Whether n is a member of the context c.
 abbrev pub is_member : Gateway → ℕ → ℕ → Bool
 is_member w c n = has (members_at w.rooms c) n
 
@@ -35,13 +34,13 @@ pub record IsUnaffected (w next : Gateway) (c : ℕ) : Type 0 where
 
 -- ## Edits and datagrams elsewhere
 
--- a command does not concern the context c: c is not the action's context, and the command doesn't
--- name a member of c
+-- The command does not concern the context c: c is not the action's context, and the command doesn't name a member of
+-- c.
 abbrev pub IsElsewhere : Gateway → ℕ → Target → ℕ → Type 0
 IsElsewhere w c target n = (is_number target c ≡ false) × (is_member w c n ≡ false)
 
--- An edit does not concern the context c. An Add doesn't name a termination, and triples name
--- members of the action's context, so only the action's context matters for these.
+-- The edit does not concern the context c. An Add doesn't name a termination, and triples name members of the action's
+-- context, so only the action's context matters for these two.
 abbrev pub IsEditElsewhere : Gateway → ℕ → Edit → Type 0
 IsEditElsewhere w c (Add target settings) = is_number target c ≡ false
 IsEditElsewhere w c (Modify target n settings) = IsElsewhere w c target n
@@ -49,21 +48,21 @@ IsEditElsewhere w c (Move target n settings) = IsElsewhere w c target n
 IsEditElsewhere w c (Subtract target n) = IsElsewhere w c target n
 IsEditElsewhere w c (Triples target xs) = is_number target c ≡ false
 
--- no member of the context c has the port
+-- No member of the context c has the port.
 abbrev pub IsPortElsewhere : Gateway → ℕ → ℕ → Type 0
 IsPortElsewhere w c port =
     (r : Record) → at_port w.rooms port ≡ Some r → is_member w c r.number ≡ false
 
 -- ## The theorems
 
--- an edit does not affect an existing context that it does not concern
+-- An edit does not affect an existing context that it does not concern.
 abbrev pub EditsDoNotAffectOthers : Type 0
 EditsDoNotAffectOthers =
     (w next : Gateway) (edit : Edit) (done : Done) (c : ℕ) → IsConsistent w.rooms
     → outcome w edit ≡ Ok (next, done) → IsSome (context_at w.rooms c) → IsEditElsewhere w c edit
     → IsUnaffected w next c
 
--- an RTP datagram does not affect a context in which no member has the datagram's port
+-- An RTP datagram does not affect a context in which no member has the datagram's port.
 abbrev pub DatagramsDoNotAffectOthers : Type 0
 DatagramsDoNotAffectOthers =
     (w next : Gateway) (port : ℕ) (source bytes : List ℕ) (result : Taken) (c : ℕ)

@@ -1,7 +1,7 @@
 use crate::topology_triple::TopologyTriples;
 use mg_rooms::{Settings, Target};
 
-/// What a command asks the gateway to do. The target is the action's context (RFC 3525, section 7.2).
+/// A change that a command asks the gateway to make. The target is the action's context (RFC 3525, section 7.2).
 #[derive(Debug, Drop)]
 pub enum Edit {
     /// Creates a termination in the context.

@@ -722,7 +722,7 @@ impl Engine {
         }
     }
 
-    /// Appends a packet with what the member at a place hears.
+    /// Appends a packet with the sound that the member at a place hears.
     ///
     /// Listeners that hear the same talkers and use the same law share a payload, which is computed once.
     fn put_heard(&mut self, listener: &Record, place: Place, law: Law, outbox: &mut Outbox)

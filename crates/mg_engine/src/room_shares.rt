@@ -45,7 +45,7 @@ impl RoomShares {
 
     /// Finds a recent packet that mixes exactly these talkers and uses this law. Returns `None` if there is none.
     ///
-    /// If everybody in a room talks, each member usually hears a sum of his own. The room then has a packet for each
+    /// If everybody in a room talks, each member usually hears a different sum. The room then has a packet for each
     /// member, and searching all of them for every member would be quadratic. Members that only listen find their sum
     /// among the newest packets.
     pub fn find(&self, talkers: Mask, law: Law) -> Option<u8>

@@ -1,4 +1,4 @@
-//! What the terminations of a gateway send in a tick.
+//! The destinations and payload types of the packets that terminations send in a tick.
 
 ghost use Rattle.std.specs.Prelude.{◌≡◌, ◌<◌};
 ghost use Rattle.mg_engine.specs.Mix.{is_loopback};

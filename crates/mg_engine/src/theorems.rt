@@ -35,7 +35,7 @@ pub fn one_arrival(bytes: &[u8])
 
 /// No termination hears itself: no speech flows back to the termination that it comes from.
 ///
-/// Except in Loopback, what a termination says has no effect on what it is sent.
+/// Except in Loopback, a termination's own speech has no effect on the packets to that termination.
 pub fn none_hears_itself()
     ensures flow { NoneHearsItself }
     ensures packets { OwnSpeechChangesNoPacket }
@@ -50,9 +50,9 @@ pub fn isolated_are_not_heard()
     ensures packets { UnheardChangesNoPacket }
 {}
 
-/// A packet's payload encodes its listener's mix.
+/// The payload of a packet encodes its listener's mix.
 ///
-/// Except in Loopback, that is the sum of all speech that flows to the listener, saturated once.
+/// Except in Loopback, the mix is the sum of all speech that flows to the listener, saturated once.
 pub fn payloads_are_mixes()
     ensures theorem { PayloadsAreMixes }
 {}

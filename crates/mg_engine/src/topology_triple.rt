@@ -15,7 +15,7 @@ pub struct TopologyTriple {
     pub first: TripleTerm,
     /// The listeners of a Oneway triple.
     pub second: TripleTerm,
-    /// Which of the two hears the other.
+    /// Whether the listeners hear the talkers, both hear each other, or neither does.
     pub association: Association,
 }
 

@@ -1,4 +1,4 @@
--- The number that notes of a journal reach, one note after another.
+-- The number that a journal's notes reach, one note after another.
 use Rattle.std.proofs.Common.{◌≡◌, ℕ, zero, suc, max, List, [], ◌∷◌, ◌++◌, codes, drop, length, take, Bool, true, cond, Option, None, Result, Ok, Err, OnOk, refl, sym, ap, ◌∙◌, subst, unwrap_or}
 use Rattle.std.specs.Str.{bytes_eq}
 use Rattle.mg_words.specs.Numbers.{number_of}
@@ -22,7 +22,7 @@ pub reaches_ticks : (n count : ℕ) → Reaches n (ticks_of count) n
 reaches_ticks n zero = refl
 reaches_ticks n (suc count) = reaches_ticks n count
 
--- a comment is split as the definition says
+-- The text after the mark of a comment is the number that an operator set.
 pub set_read : (line mark text : List ℕ) → mark ≡ codes "# fence " → bytes_eq (take (length mark) line) mark ≡ true →
     text ≡ drop (length mark) line → number_of text ≡ number_set line
 set_read line mark text is begins rest =
@@ -31,7 +31,7 @@ set_read line mark text is begins rest =
     ap number_of same
     ∙ sym (ap (λ (b : Bool). cond b (number_of (drop 8 line)) None) first)
 
--- one note more
+-- After one more comment, the notes reach the number set in the comment, if it has one.
 pub reaches_comment : (notes : List Note) (line : List ℕ) (old new : ℕ) → Reaches 0 notes old →
     new ≡ unwrap_or (number_set line) old → Reaches 0 (notes ++ Comment line ∷ []) new
 reaches_comment notes line old new h is = reaches_both 0 old new notes (Comment line ∷ []) h is

@@ -1,12 +1,11 @@
--- Which messages may be run behind a fence.
+-- The messages that a fence lets pass.
 use Rattle.std.specs.Prelude.{ℕ, ◌||◌, not, max, nat_le, Bool, true, List, codes, Option, Some, None}
 use Rattle.std.specs.Prelude.{unwrap_or}
 use Rattle.std.specs.Str.{bytes_eq}
 use Rattle.mg_fence.specs.declared.fence.Fence.{Fence}
 
--- The number of a message that passes isn't below the highest one. A message without a number passes
--- a strict fence only if it is what `mg_bridge check` sends: an audit of ROOT, or the acknowledgement
--- of its reply.
+-- Whether a message passes: its number must be at least the highest one so far. A message without a number passes a
+-- strict fence only if `mg_bridge check` sends it: an audit of ROOT, or the acknowledgement of the reply.
 abbrev pub passes : Option Fence → List ℕ → (number : Option ℕ) → Bool
 passes None bytes number = true
 passes (Some fence) bytes (Some number) = nat_le fence.reached number
@@ -14,6 +13,6 @@ passes (Some fence) bytes None = not fence.strict
     || (bytes_eq bytes (codes "MEGACO/1 <check>\nTransaction=1{Context=-{AuditValue=ROOT}}")
     || bytes_eq bytes (codes "MEGACO/1 <check>\nTransactionResponseAck{1}"))
 
--- the fence after a message has been run
+-- The fence after a message with this number was run.
 abbrev pub raised_by : (number : Option ℕ) → Fence → Fence
 raised_by number fence = record fence { reached = max fence.reached (unwrap_or number 0) }

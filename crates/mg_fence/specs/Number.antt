@@ -1,4 +1,4 @@
--- The number in the name of a message's sender, such as 17 in MEGACO/1 <17.lobby.example>.
+-- The number in the name of a message's sender, such as 17 in `MEGACO/1 <17.lobby.example>`.
 use Rattle.std.specs.Prelude.{◌≡◌, ℕ, ◌==◌, ◌&&◌, List, drop, slice_index_or, Option, None}
 use Rattle.std.specs.Prelude.{option_and_then, if◌then◌else◌}
 use Rattle.std.specs.Char.{is_ascii_alphabetic}
@@ -9,9 +9,9 @@ use Rattle.mg_core.specs.declared.parsed.Parsed.{Parsed}
 use Rattle.mg_core.specs.declared.parsed.Parsed.TheVariants.{Message, Refused}
 use Rattle.mg_core.specs.Parsed.{IsReadingOf}
 
--- The sender is cut at its first dot. There is a number if the part before the dot is an angle
--- bracket, as in a domain name, and a number, and if a letter follows the dot. A datagram that is
--- refused as a whole has none.
+-- The sender's name is cut at its first dot. The part before the dot must be an angle bracket, which begins a domain
+-- name, and a number. A letter must follow the dot. Otherwise there is no number. A datagram that is rejected as a
+-- whole has no number.
 abbrev pub number_in : List ℕ → Parsed → Option ℕ
 number_in bytes (Message m) = option_and_then (λ p.
     if slice_index_or p.0 0 0 == 60 && is_ascii_alphabetic (slice_index_or p.1 0 0)

@@ -1,4 +1,4 @@
--- The number that a journal has reached: where a fence begins when a gateway resumes.
+-- The number that a journal has reached, with which the fence of a resumed gateway begins.
 use Rattle.std.specs.Prelude.{◌≡◌, ℕ, max, List, [], ◌∷◌, codes, take, drop, Option, None, unwrap_or}
 use Rattle.std.specs.Prelude.{if◌then◌else◌}
 use Rattle.std.specs.Str.{bytes_eq}
@@ -7,11 +7,12 @@ use Rattle.mg_core.specs.declared.event.Event.TheVariants.{Control}
 use Rattle.mg_core.specs.Note.{Note, Comment, Happened}
 use Rattle.mg_fence.specs.Number.{HasNumber}
 
--- the number in a comment such as `# fence 17`, with which an operator set the fence
+-- The number in a comment such as `# fence 17`, with which an operator set the fence.
 abbrev pub number_set : List ℕ → Option ℕ
 number_set line = if bytes_eq (take 8 line) (codes "# fence ") then number_of (drop 8 line) else None
 
--- The highest number of the messages of these notes, since an operator last set it.
+-- The highest number among the messages of these notes after an operator last set the fence, starting with the number
+-- that the operator set.
 abbrev pub Reaches : (from : ℕ) → List Note → (last : ℕ) → Type 0
 Reaches from [] last = last ≡ from
 Reaches from (Comment line ∷ notes) last = Reaches (unwrap_or (number_set line) from) notes last

@@ -7,8 +7,8 @@ use mg_core::{Core, Event, Follower, Stopped};
 use mg_words::number_of;
 use std::alloc::Global;
 
-/// Reads the number that a journal has reached: the highest one of its messages, since an operator last set it. Stops
-/// if memory runs out.
+/// Reads the number that a journal has reached: the highest one of its messages since an operator last set the fence.
+/// Stops if memory runs out.
 #[derive(Drop)]
 pub struct FenceReader {
     alloc: Global,
@@ -30,7 +30,7 @@ impl FenceReader {
         FenceReader { alloc, reached: 0 }
     }
 
-    /// Takes note of a message. Stops if there is no memory to read it.
+    /// Takes the number of a message into account. Stops if there is no memory to read the message.
     fn pass_message(&mut self, bytes: &[u8]) -> Result<(), Stopped>
         ensures value { OnOk result ((number : Option ℕ) × HasNumber bytes.now number
             × (self.new.reached ≡ max self.old.reached (unwrap_or number 0))) }

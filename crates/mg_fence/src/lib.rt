@@ -1,7 +1,7 @@
-//! Fencing tokens: a controller that another one has replaced can't command any more.
+//! Fencing tokens: a controller that was replaced by another one can't command the gateway any more.
 //!
-//! The name of a message's sender may begin with a number, as in `MEGACO/1 <17.lobby.example>`. A [`Fence`] remembers
-//! the highest number of the messages that have been run:
+//! The name of a message's sender may begin with a number, as in `MEGACO/1 <17.lobby.example>`. A [`Fence`] stores the
+//! highest number of the messages that were run:
 //!
 //! ```rust
 //! let number = number_in(bytes, &parsed);

@@ -17,8 +17,8 @@ fn begins_with_letter(text: &[u8]) -> bool
 
 /// Returns the number at the start of the sender's name in a control datagram: 1 to 10 digits, at most 4,294,967,295.
 ///
-/// Only a domain name can have one, and only if a dot and a letter follow the digits. A datagram that is refused as a
-/// whole has no number.
+/// Only a domain name can have a number, and only if a dot and a letter follow the digits. A datagram that is rejected
+/// as a whole has no number.
 pub fn number_in(bytes: &[u8], parsed: &Parsed) -> Option<u32>
     ensures value { result ≡ number_in bytes.now parsed.now }
 {

@@ -1,4 +1,4 @@
--- Who hears whom after each edit, by who heard whom before: each table stands for some list of edits.
+-- The members that hear each other after an edit, in terms of those that heard each other before it.
 use Rattle.std.proofs.Common.{◌≡◌, ℕ, Bool, true, false, not, ◌&&◌, ◌||◌, ◌==◌, cond, Option, Some, List, [], ◌∷◌, refl, sym, ap, ◌∙◌, arith}
 use Rattle.std.proofs.Math.Bool.{Bool-set}
 use Rattle.std.proofs.Math.Logic.{∥∥₁_elim}
@@ -13,7 +13,7 @@ use Rattle.mg_flow.specs.Edits.{hears_in}
 use Rattle.mg_flow.specs.aids.Table.{RoomFlows, holds, hears, hears_after, StandsFor, StandsForSome}
 use Rattle.mg_flow.proofs.TableLemmas.{own_triples, hears-stands}
 
--- whatever is told of two places by each list of edits is so
+-- If two values are equal for each list of edits that the table represents, they are equal.
 from_edits : (old : List RoomFlows) (x y : Bool) → StandsForSome old → ((es : List FlowEdit) → StandsFor old es →
     x ≡ y) →
     x ≡ y
@@ -39,7 +39,8 @@ may_hear-entered : (es : List FlowEdit) (place a b : Place) (t l : Bool) → (a.
     (may_hear es a b)
 may_hear-entered es place a b t l same = grind (arith, nat_tests)
 
--- the answers of a pair, from those of its places: a, b whether a place is the one, x, y whether it was held
+-- Whether a listener hears a talker after an Enter. The flags a and b say whether the place is the new member's, x and
+-- y whether it was held.
 pair-entered : (a b x y r d w w' : Bool) → (r ≡ true → w' ≡ cond (a || b) true w)
     → ((cond a true x && (cond b true y && (r && not d))) && w')
     ≡ cond (a || b) (cond a true x && (cond b true y && (r && not d))) ((x && (y && (r && not d))) && w)
@@ -135,7 +136,7 @@ may_hear-triples : (triples : List Triple) (es : List FlowEdit) (a b : Place)
 may_hear-triples triples es a b = rw (own_triples a.room triples es)
     (words-triples triples (edits_in a.room es) a.seat b.seat)
 
--- of two who are together the word alone tells
+-- For two different members of a room, the last word decides alone.
 word_alone : (x w : Bool) → x ≡ true → (x && w) ≡ w
 word_alone x w e = ap (λ (z : Bool). z && w) e
 

@@ -1,9 +1,9 @@
--- Masks that are written one by one.
+-- Lists of masks that are written one by one.
 use Rattle.std.proofs.Common.{◌≡◌, ℕ, ◌+◌, ◌<◌, Bool, List, length, slice_index, slice_set, get_or-set_same, get_or-set_other, inl, inr, arith}
 use Rattle.std.proofs.lemmas.Bool.{cases_eq}
 use Rattle.mg_topology.specs.Mask.{has_seat}
 
--- the masks below the index tell what they are to tell, and the one at the index is written
+-- If the masks below index i are correct, they are also correct up to index i after the mask at i is written.
 pub written : (masks : List ℕ) (i mask : ℕ) (tells : ℕ → ℕ → Bool) → i < length masks
     → ((s k : ℕ) → k < i → has_seat (slice_index masks k) s ≡ tells s k)
     → ((s : ℕ) → has_seat mask s ≡ tells s i)

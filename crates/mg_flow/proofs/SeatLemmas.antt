@@ -1,4 +1,4 @@
--- What the empty mask says of its seats.
+-- The empty mask contains no seat.
 use Rattle.std.proofs.Common.{◌≡◌, ℕ, ◌==◌, false, ap}
 use Rattle.std.proofs.lemmas.Nat.Bits.{bit_at-zero}
 use Rattle.std.proofs.lemmas.Grind.{common_steps}

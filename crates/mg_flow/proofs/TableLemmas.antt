@@ -1,4 +1,4 @@
--- How each edit takes what a table keeps from one list of edits to the next, and what it then tells.
+-- After each edit, the table represents the list of edits with that edit added.
 use Rattle.std.proofs.Common.{Result, Ok, Err, OnOk, OnErr, length-set, ◌≡◌, ◌≢◌, ℕ, ◌<◌, Bool, true, false, not, ◌&&◌, ◌==◌, cond, All, List, [], ◌∷◌, length, slice_set, get_or, get_or-set_same, get_or-set_other, nat_lt, inl, inr, refl, sym, ap, ◌∙◌, arith}
 use Rattle.std.proofs.Math.ListN.{get_or-eq_default}
 use Rattle.std.proofs.Math.Logic.{∥∥₁_map}
@@ -29,12 +29,12 @@ room_at-other : (table : List RoomFlows) (i k : ℕ) (r : RoomFlows) → k ≢ i
     room_at (slice_set table i r) k ≡ room_at table k
 room_at-other table i k r apart = rw get_or-set_other
 
--- a room as the code reads it
+-- A room that the code reads is the room with this number in the definition.
 room_at-read : (table : List RoomFlows) (i : ℕ) (room : RoomFlows) → i < length table → room ≡ get_or table i room →
     room ≡ room_at table i
 room_at-read table i room within is = is ∙ get_or_default table i room vacant within
 
--- the room of the place is read, which is the i-th, and s is the place's seat
+-- The code has read the room of the place, at index i of the table, and the place's seat, s.
 pub record IsRead (table : List RoomFlows) (place : Place) (i s : ℕ) (room : RoomFlows) : Type 0 where
   pub number : i ≡ place.room
   pub seat : s ≡ place.seat
@@ -49,7 +49,7 @@ found : {table : List RoomFlows} {place : Place} {i s : ℕ} {room : RoomFlows} 
     room ≡ room_at table place.room
 found {table} read = found_at read ∙ ap (room_at table) read.number
 
--- a place that is held is in a room of the table
+-- A place that is held is in a room of the table.
 pub held_within : (table : List RoomFlows) (place : Place) (i : ℕ) → i ≡ place.room → holds table place ≡ true →
     i < length table
 held_within table place i number held =
@@ -64,7 +64,7 @@ held_within table place i number held =
           absurd (both_ways _ free held))
     ]
 
--- one seat of one room is set, in the mask that f reads
+-- Setting one seat in a mask of one room changes the mask at that place only.
 seat_set : (f : RoomFlows → ℕ) {table : List RoomFlows} {place : Place} {i s : ℕ} {old : RoomFlows}
     (new : RoomFlows) (b : Bool) →
     IsRead table place i s old
@@ -113,7 +113,8 @@ new_stands table each = record {
 
 -- ---- the edits, one by one
 
--- what an edit of one room owes: its own topology, and who talks and who listens everywhere
+-- A table after an edit of one room represents the new edits, if the room's topology and the members that talk and
+-- listen agree with them.
 edited : (table : List RoomFlows) (i : ℕ) (r : RoomFlows) (es es' : List FlowEdit) → i < length table
     → (kept.StandsFor (room_at table i).topology (edits_in i es) → kept.StandsFor r.topology (edits_in i es'))
     → ((k : ℕ) → k ≢ i → edits_in k es' ≡ edits_in k es)
@@ -129,7 +130,7 @@ edited table i r es es' within own quiet talkers listeners h = record {
   listeners = listeners;
 }
 
--- The old room is read, and the new one is written.
+-- The next lemmas cover each edit: the old room is read, and the new one is written.
 
 pub enter_stands : {table : List RoomFlows} {place : Place} {i s : ℕ} {old new : RoomFlows} {t l : Bool} →
     IsRead table place i s old
@@ -239,7 +240,7 @@ IsFlowTable-edited table i new edit stands h = record {
   edits = ∥∥₁_map h.edits (λ (x : (es : List FlowEdit) × StandsFor table es). (edit x.0, stands x.0 x.1));
 }
 
--- a room that is written as it was
+-- Writing a room without changing it keeps what the table represents.
 same_stands : (table : List RoomFlows) (i : ℕ) (old new : RoomFlows) → i < length table → old ≡ get_or table i old →
     new ≡ old
     → (es : List FlowEdit) → StandsFor table es → StandsFor (slice_set table i new) es
@@ -289,7 +290,7 @@ is_silenced-stands table es t l h =
     )
     (ap (λ x. talks_in es t && x) (not_both (are_together (is_held es) t l) (may_hear es t l)))
 
--- what the masks of a room that is read tell of a place, as the table tells it
+-- The masks of a room that is read agree with the table.
 
 pub flows-read : {table : List RoomFlows} {place : Place} {i s : ℕ} {room : RoomFlows} → IsRead table place i s room
     → (seat : ℕ) → flows_to room.topology room.talks room.listens seat s ≡ flows table (sibling_place place seat) place

@@ -6,25 +6,25 @@ use Rattle.mg_topology.specs.Edits as topology
 use Rattle.mg_flow.specs.declared.place.Place.{Place}
 use Rattle.mg_flow.specs.Place.{is_same_place, are_together}
 
--- A member enters, leaves, or changes its mode, which says whether it talks and whether it
--- listens; or a triple is applied in a room.
+-- An edit of a flow table. A member enters, leaves, or changes its mode, which says whether the member talks and
+-- whether it listens. Or a triple is applied in a room.
 pub data FlowEdit : Type 0 where
   Enter : (place : Place) → (talks listens : Bool) → FlowEdit
   Leave : (place : Place) → FlowEdit
   SetMode : (place : Place) → (talks listens : Bool) → FlowEdit
   Apply : (room : ℕ) → (triple : Triple) → FlowEdit
 
--- the edits followed by the triples in order
+-- The edits followed by the triples in order.
 abbrev pub apply_in_room : ℕ → List Triple → List FlowEdit → List FlowEdit
 apply_in_room room [] es = es
 apply_in_room room (triple ∷ triples) es = apply_in_room room triples (Apply room triple ∷ es)
 
--- the edits of a room, with one more edit if that edit belongs to the room
+-- The edits of a room, with one more edit if that edit belongs to the room.
 abbrev pub with_edit_if : Bool → topology.TopologyEdit → List topology.TopologyEdit →
     List topology.TopologyEdit
 with_edit_if is_here edit es = if is_here then edit ∷ es else es
 
--- the edits of one room, in the form of its topology
+-- The edits of one room, in the form of edits of its topology.
 abbrev pub edits_in : ℕ → List FlowEdit → List topology.TopologyEdit
 edits_in room [] = []
 edits_in room (Enter p talks listens ∷ es) =
@@ -35,12 +35,12 @@ edits_in room (SetMode p talks listens ∷ es) = edits_in room es
 edits_in room (Apply r triple ∷ es) =
     with_edit_if (r == room) (topology.Apply triple) (edits_in room es)
 
--- whether the place is held
+-- Whether the place is held.
 abbrev pub is_held : List FlowEdit → Place → Bool
 is_held es place = topology.is_held (edits_in place.room es) place.seat
 
--- the last setting of the member at the place, as `side` selects: whether it talks, or whether it
--- listens
+-- The last setting of the member at the place. The function `side` selects whether the member talks or whether it
+-- listens.
 abbrev pub last_setting : (Bool → Bool → Bool) → List FlowEdit → Place → Bool
 last_setting side [] place = false
 last_setting side (Enter p talks listens ∷ es) place =
@@ -51,33 +51,31 @@ last_setting side (SetMode p talks listens ∷ es) place =
     if is_same_place place p then side talks listens else last_setting side es place
 last_setting side (Apply room triple ∷ es) place = last_setting side es place
 
--- whether the member at the place talks
+-- Whether the member at the place talks.
 abbrev pub talks_in : List FlowEdit → Place → Bool
 talks_in = last_setting (λ talks listens. talks)
 
--- whether the member at the place listens
+-- Whether the member at the place listens.
 abbrev pub listens_in : List FlowEdit → Place → Bool
 listens_in = last_setting (λ talks listens. listens)
 
--- whether the last word on two places in the same room lets the listener hear the talker
+-- Whether the last word on two places in the same room lets the listener hear the talker.
 abbrev pub may_hear : List FlowEdit → Place → Place → Bool
 may_hear es talker listener =
     topology.may_hear (edits_in talker.room es) talker.seat listener.seat
 
--- whether the listener hears the talker: they are different members of the same room, and the last
--- word allows it
+-- Whether the listener hears the talker: they are different members of the same room, and the last word allows it.
 abbrev pub hears_in : List FlowEdit → Place → Place → Bool
 hears_in es talker listener =
     are_together (is_held es) talker listener && may_hear es talker listener
 
--- whether the talker's speech flows to the listener: the talker talks, and the listener listens
--- and hears it
+-- Whether the talker's speech flows to the listener: the talker talks, and the listener listens and hears the talker.
 abbrev pub flows_in : List FlowEdit → Place → Place → Bool
 flows_in es talker listener =
     talks_in es talker && (listens_in es listener && hears_in es talker listener)
 
--- whether the talker is silenced for the listener: it talks in the same room, and the last word
--- mutes it for the listener
+-- Whether the talker is silenced for the listener: it talks in the same room, and the last word mutes it for the
+-- listener.
 abbrev pub is_silenced_in : List FlowEdit → Place → Place → Bool
 is_silenced_in es talker listener =
     talks_in es talker

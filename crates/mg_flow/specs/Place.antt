@@ -4,20 +4,20 @@ use Rattle.mg_words.specs.Limits.{context_limit}
 use Rattle.mg_topology.specs.Mask.{seat_limit}
 use Rattle.mg_flow.specs.declared.place.Place.{Place}
 
--- the room is below the limit on contexts, and the seat below the limit on seats
+-- The room is below the limit on contexts, and the seat is below the limit on seats.
 pub record IsWithinLimits (place : Place) : Type 0 where
   pub room : place.room < context_limit
   pub seat : place.seat < seat_limit
 
--- whether two places are the same
+-- Whether two places are the same.
 abbrev pub is_same_place : Place → Place → Bool
 is_same_place a b = (a.room == b.room) && (a.seat == b.seat)
 
--- the place of another seat in the same room
+-- The place of another seat in the same room.
 abbrev pub sibling_place : Place → ℕ → Place
 sibling_place place seat = record { room = place.room; seat = seat }
 
--- whether two places are held, according to the test, and are different seats of the same room
+-- Whether two places are held, according to the test, and are different seats of the same room.
 abbrev pub are_together : (Place → Bool) → Place → Place → Bool
 are_together is_held a b =
     is_held a && (is_held b && ((a.room == b.room) && not (a.seat == b.seat)))

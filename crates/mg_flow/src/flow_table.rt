@@ -16,10 +16,10 @@ use std::marker::Model;
 
 /// Who hears whom in all rooms of a gateway, and the masks of each listener's talkers.
 ///
-/// In contracts, the table appears as the list of rooms, each with its topology and the masks of who talks and who
-/// listens. Contracts describe the table in terms of `specs/aids/Table.antt`. The table that [`FlowTable::new`] returns
-/// represents the empty list of edits, and each call adds its edits to the lists that the table represents. So every
-/// table represents some list ([`each_table_represents_edits`]).
+/// In contracts, the table appears as the list of rooms, each with its topology, the mask of the members that talk and
+/// the mask of those that listen. Contracts describe the table in terms of `specs/aids/Table.antt`. The table that
+/// [`FlowTable::new`] returns represents the empty list of edits, and each call adds its edits to the lists that the
+/// table represents. So every table represents some list ([`each_table_represents_edits`]).
 ///
 /// [`each_table_represents_edits`]: crate::theorems::each_table_represents_edits
 #[derive(Debug, Drop)]
@@ -128,7 +128,7 @@ impl FlowTable {
         room.silenced(usize::from(place.seat))
     }
 
-    /// Adds a member in a free place. It hears all other members of the room, and they hear it.
+    /// Adds a member in a free place. The new member hears all other members of the room, and they hear it.
     pub fn on_enter(&mut self, place: Place, talks: bool, listens: bool)
         requires within { IsWithinLimits place }
         requires free { IsFalse (holds self.old place) }

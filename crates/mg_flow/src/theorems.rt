@@ -20,7 +20,7 @@ pub fn each_table_represents_edits(table: &FlowTable)
     table.assert_invariant();
 }
 
-/// How one more edit changes which places are held.
+/// One more edit changes which places are held: an Enter adds its place, and a Leave removes it.
 pub fn edits_change_who_is_held()
     ensures enter { (es : List FlowEdit) (place p : Place) (talks listens : Bool) →
         is_held (Enter place talks listens ∷ es) p ≡
@@ -33,7 +33,7 @@ pub fn edits_change_who_is_held()
         is_held (Apply room triple ∷ es) p ≡ is_held es p }
 {}
 
-/// How one more edit changes the last word on two places in the same room.
+/// One more edit can change the last word on two places in the same room.
 ///
 /// An Enter for either place removes the last word. A triple in their room that mentions them becomes the last word.
 pub fn edits_change_last_words()

@@ -1,11 +1,11 @@
--- Loops that write a row some places at a time, and the rest one by one.
+-- Loops that write a list in chunks and then write the remaining elements one by one.
 use Rattle.std.proofs.Common.{◌≡◌, ◌≢◌, ℕ, ℤ, pos, ◌+◌, ◌-◌, ◌*◌, ◌/◌, ◌<◌, ◌≤◌, inl, inr, suc, zero, List, [], length, map, get_or, drop, set, slice_index_or, ap, arith, sym, ◌∙◌, subst, get_or-set_same, get_or-set_other}
 use Rattle.std.specs.Simd.{first_chunks}
 use Rattle.std.proofs.lemmas.Bool.{cases_lt, cases_eq}
 use Rattle.std.proofs.lemmas.List.{get_or-take, get_or-drop, get_or_default, get_or-map, length-map, same_lists}
 use Rattle.mg_g711.specs.aids.Chunks.{WritesChunk}
 
--- Up to the place n each number is f of its place, and from there on it is the first one.
+-- The first n elements are the values of f, and the others are unchanged.
 pub record DoneTo (n : ℕ) (f : ℕ → ℤ) (first now : List ℤ) : Type 0 where
   pub done : (k : ℕ) → k < n → slice_index_or now k (pos 0) ≡ f k
   pub rest : (k : ℕ) → n ≤ k → slice_index_or now k (pos 0) ≡ slice_index_or first k (pos 0)
@@ -34,7 +34,7 @@ one_more n f first old v so_far within is = record {
   rest = λ k l. let other : k ≢ n = omega arith in rw get_or-set_other (so_far.rest k (omega arith));
 }
 
--- What stands in a chunk stands in the row that it was taken from.
+-- An element of a chunk is the element of the list at the chunk's offset plus the index.
 chunk_at : {X : Type 0} (n k : ℕ) (xs : List X) (d : X) (i j : ℕ) → i < k → j < n →
     get_or (get_or (first_chunks n k xs) i []) j d ≡ get_or xs (n * i + j) d
 chunk_at n zero xs d i j l m = absurd (omega arith)
@@ -51,7 +51,7 @@ pub chunk_is : {X : Type 0} (n : ℕ) (chunks : List (List X)) (xs : List X) (d 
 chunk_is {X} n chunks xs d i j are l m = ap (λ (cs : List (List X)). get_or (get_or cs i []) j d) are ∙
     chunk_at n (length xs / n) xs d i j l m
 
--- A row that is done is a list that was mapped.
+-- If each element is f of the byte at its index, the list is the bytes mapped by f.
 pub mapped_is : (f : ℕ → ℤ) (bytes : List ℕ) (now : List ℤ) → length now ≡ length bytes →
     ((k : ℕ) → k < length bytes → slice_index_or now k (pos 0) ≡ f (get_or bytes k 0)) → now ≡ map f bytes
 mapped_is f bytes now long at =

@@ -1,8 +1,8 @@
--- Facts by computation: a test that was computed at each number below a bound.
+-- Proofs by computation: a test that is evaluated for each number below a bound.
 use Rattle.std.proofs.Common.{◌≡◌, ℕ, Bool, true, ◌<◌, ◌≤◌, ◌⊎◌, ◌&&◌, arith, sym, inl, inr, subst, suc, zero}
 use Rattle.std.proofs.lemmas.Bool.Decides.{nat_tests}
 
--- Whether a test holds at each number below n.
+-- Whether a test succeeds for each number below n.
 abbrev pub each_below : (ℕ → Bool) → ℕ → Bool
 each_below p zero = true
 each_below p (suc n) = p n && each_below p n

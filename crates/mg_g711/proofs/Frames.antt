@@ -1,4 +1,4 @@
--- What a caller that stores frames needs of the word `IsFrame`.
+-- Lemmas about `IsFrame` for callers that store frames.
 use Rattle.std.proofs.Common.{◌≡◌, ◌<◌, true, nat_lt, arith, ℕ, ℤ, List, length, get_or, replicate, pos, refl, inl, inr, subst, sym, rules}
 use Rattle.std.specs.Int.{w16}
 use Rattle.std.specs.Prelude.{FitsSigned, unsigned_abs}
@@ -16,11 +16,11 @@ use Rattle.mg_g711.proofs.Computed.{each_below, holds_below}
 zero_fits : FitsSigned w16 (pos 0)
 zero_fits = search rules
 
--- 160 zeros are a frame.
+-- A list of 160 zeros is a frame.
 pub silence_is_frame : IsFrame (replicate 160 (pos 0))
 silence_is_frame = record { whole = refl; in_range = All-replicate (FitsSigned w16) 160 (pos 0) zero_fits }
 
--- The sample at any place fits 16 bits: past the end the place reads as 0.
+-- The sample at any index fits in 16 bits. An index past the end reads as 0.
 pub sample_fits : (samples : List ℤ) (i : ℕ) → IsFrame samples → FitsSigned w16 (get_or samples i (pos 0))
 sample_fits samples i frame =
     elim (cases_lt i (length samples)) [
@@ -28,7 +28,7 @@ sample_fits samples i frame =
       | inr past ↦ subst (FitsSigned w16) (sym (get_or_past samples i (pos 0) past)) zero_fits
     ]
 
--- Each byte is decoded to a sample of 16 bits.
+-- Each byte decodes to a sample of 16 bits.
 fits_by_size : (v : ℤ) → nat_lt (unsigned_abs v) 32768 ≡ true → FitsSigned w16 v
 fits_by_size v h = let small : unsigned_abs v < 32768 = grind (arith, nat_tests) in omega (arith, ints)
 

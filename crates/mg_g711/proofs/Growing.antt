@@ -1,4 +1,4 @@
--- Functions that grow from each number to the next, and how many numbers one takes up to a bound.
+-- Strictly increasing functions, and how many of their values are at most a bound.
 use Rattle.std.proofs.Common.{◌≡◌, ℕ, Bool, true, false, ◌+◌, ◌<◌, ◌≤◌, ◌⊎◌, max, min, cond, arith, sym, inl, inr, subst, nat_le, nat_lt, suc, zero}
 use Rattle.std.specs.List.{count_by, range_with_len}
 use Rattle.std.proofs.lemmas.List.Sums.{sum_by-cons}
@@ -6,7 +6,7 @@ use Rattle.std.proofs.lemmas.Bool.{ltb-true}
 use Rattle.std.proofs.lemmas.Bool.Decides.{leb_tells}
 use Rattle.mg_g711.proofs.Computed.{below_or_last, each_below, holds_below}
 
--- f grows up to n.
+-- The function f is strictly increasing from 0 to n.
 pub record GrowsUpTo (n : ℕ) (f : ℕ → ℕ) : Type 0 where
   pub step : (k : ℕ) → k < n → f k < f (suc k)
 
@@ -33,7 +33,7 @@ grows_strictly n f up j k h l =
     let rest : f (suc j) ≤ f k = grows n f up (suc j) k (omega arith) l in
     omega arith
 
--- The last number up to n at which f is at most v.
+-- If f 0 is at most v, some k up to n has f k at most v, and f (k + 1) greater than v unless k is n.
 pub last_within : (f : ℕ → ℕ) (v n : ℕ) → f 0 ≤ v → (k : ℕ) × (k ≤ n) × (f k ≤ v) × (k < n → v < f (suc k))
 last_within f v zero low = (0, omega arith, low, λ h. absurd (omega arith))
 last_within f v (suc n) low =
@@ -52,13 +52,13 @@ last_within f v (suc n) low =
           )
     ]
 
--- One number more at the front of a range.
+-- The count for a range follows from the count for the range without its first number.
 count_step : (b : Bool) (x v k n a rest : ℕ) → ((b ≡ true) × (x ≤ v)) ⊎ ((b ≡ false) × (v < x)) → (a ≤ k → x ≤ v) →
     (k < a → v < x) → rest + (a + 1) ≡ max (a + 1) (min (k + 1) (a + 1 + n)) →
     cond b 1 0 + rest + a ≡ max a (min (k + 1) (a + suc n))
 count_step b x v k n a rest tells below above e = grind arith
 
--- Of a range, the numbers at which f is at most v, where these are the numbers up to k.
+-- If f is at most v for exactly the numbers up to k, counting these in a range counts the numbers up to k.
 count_split : (f : ℕ → ℕ) (v k n a : ℕ) → ((j : ℕ) → j ≤ k → f j ≤ v) → ((j : ℕ) → k < j → j < a + n → v < f j) →
     count_by (λ j. nat_le (f j) v) (range_with_len a n) + a ≡ max a (min (k + 1) (a + n))
 count_split f v k zero a below above = omega arith
@@ -70,7 +70,7 @@ count_split f v k (suc n) a below above =
     (count_step (nat_le (f a) v) (f a) v k n a (count_by (λ j. nat_le (f j) v) (range_with_len (a + 1) n))
     (leb_tells (f a) v) (below a) (λ h. above a h (omega arith)) rest)
 
--- How many of the numbers 1 to n have f at most v, where v lies from f at k up to f at the next.
+-- If v lies between f k and the next value of f, exactly k of the numbers from 1 to n have values of at most v.
 pub count_within : (n : ℕ) (f : ℕ → ℕ) → GrowsUpTo n f → (v k : ℕ) → k ≤ n → f k ≤ v → (k < n → v < f (suc k)) →
     count_by (λ j. nat_le (f j) v) (range_with_len 1 n) ≡ k
 count_within n f up v k small low high =

@@ -1,4 +1,4 @@
--- What each lane of a vector holds, operation by operation. A lane of a signed type is seen as its bits.
+-- The contents of the lanes of a vector after each operation. A lane of a signed type is represented by its bits.
 use Rattle.std.proofs.Common.{◌≡◌, ℕ, ℤ, pos, Bool, false, ◌+◌, ◌<◌, ◌≤◌, List, [], ◌∷◌, map, length, get_or, replicate, cond, ◌*◌, ◌/◌, refl, ap, arith, sym, ◌∙◌, suc, subst}
 use mir.Syntax.{Width, w8}
 use mir.Val.{of_z, to_z}
@@ -7,17 +7,17 @@ use Rattle.std.proofs.lemmas.Simd.{length-chunk, get_or-chunk, length-zip2, get_
 use Rattle.std.proofs.lemmas.List.{get_or-map, length-map}
 use Rattle.mg_g711.specs.aids.Chunks.{WritesChunk}
 
--- A vector of n lanes, of which lane j is f j.
+-- The vector ys has n lanes, and lane j is f j.
 pub record Holds (n : ℕ) (ys : List ℕ) (f : ℕ → ℕ) : Type 0 where
   pub count : length ys ≡ n
   pub lane : (j : ℕ) → j < n → get_or ys j 0 ≡ f j
 
--- A mask of n lanes.
+-- The mask ms has n lanes, and lane j is t j.
 pub record Tells (n : ℕ) (ms : List Bool) (t : ℕ → Bool) : Type 0 where
   pub count : length ms ≡ n
   pub lane : (j : ℕ) → j < n → get_or ms j false ≡ t j
 
--- The lanes of an array, of a part of a slice, and of one number.
+-- The lanes of an array, of a chunk of a slice, and of a vector that repeats a number.
 pub given_bytes : (n : ℕ) (xs : List ℕ) → length xs ≡ n → Holds n xs (λ j. get_or xs j 0)
 given_bytes n xs h = record { count = h; lane = λ j l. refl }
 
@@ -39,7 +39,7 @@ loaded w n at xs h =
 pub splat : (n y : ℕ) → Holds n (replicate n y) (λ _. y)
 splat n y = record { count = length-replicate n y; lane = λ j l. get_or-replicate n j y 0 l }
 
--- Operators, comparisons and a choice.
+-- The lanes of a vector after an operator, a comparison or a selection.
 pub mapped : (g : ℕ → ℕ) {n : ℕ} {xs : List ℕ} {f : ℕ → ℕ} → Holds n xs f → Holds n (map g xs) (λ j. g (f j))
 mapped g {n = n} {xs = xs} {f = f} h = record {
   count = length-map xs g ∙ h.count;
@@ -69,7 +69,7 @@ chosen {n = n} {ms = ms} {xs = xs} {ys = ys} {t = t} {f = f} {k = k} m h i = rec
       (ap (λ (x : ℕ). cond (t j) x (get_or ys j 0)) (h.lane j l) ∙ ap (λ (y : ℕ). cond (t j) (f j) y) (i.lane j l)));
 }
 
--- What an operation asks of each lane.
+-- If a property holds for the contents of each lane, it holds for each element of the vector.
 pub each : (P : ℕ → Type 0) {n : ℕ} {ys : List ℕ} {f : ℕ → ℕ} → Holds n ys f → ((j : ℕ) → j < n → P (f j)) → Each1 P ys
 each P {ys = ys} h p = Each1-from_get_or P ys 0
     (λ i l. subst P (sym (h.lane i (omega (arith, h.count)))) (p i (omega (arith, h.count))))
@@ -91,7 +91,7 @@ each_both P {n = n} {xs = xs} {ys = ys} {f = f} {k = k} h i p =
     subst (λ (y : ℕ). P (get_or xs j 0) y) (sym (i.lane j lt))
     (subst (λ (x : ℕ). P x (k j)) (sym (h.lane j lt)) (p j lt)))
 
--- A look-up of each lane in a table of 16 lanes.
+-- The lanes of a vector after a lookup in a table of 16 entries.
 pub looked_up : (table : List ℕ) {xs : List ℕ} {f : ℕ → ℕ} → Holds 16 xs f → ((j : ℕ) → j < 16 → f j < 16) →
     Holds 16 (swz_l w8 16 table 0 xs) (λ j. get_or table (f j) 0)
 looked_up table {xs = xs} {f = f} h below = record {
@@ -107,7 +107,7 @@ pub lookups_fit : {xs : List ℕ} {f : ℕ → ℕ} → Holds 16 xs f → ((j : 
 lookups_fit {xs = xs} h below = SwzOk-from_below w8 16 1 16 0 xs refl (omega (arith, h.count))
     (each (λ (k : ℕ). k < 16) h below)
 
--- A vector that is written into a slice.
+-- The elements of a slice after a vector is written into it.
 pub stored : (w : Width) {n : ℕ} {ys : List ℕ} {f : ℕ → ℕ} → Holds n ys f → (at : ℕ) (xs : List ℤ) →
     at + n ≤ length xs → WritesChunk n xs (put_chunk at xs (map (to_z w) ys)) at (λ j. to_z w (f j))
 stored w {n = n} {ys = ys} {f = f} h at xs room =

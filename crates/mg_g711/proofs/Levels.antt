@@ -1,4 +1,4 @@
--- In which level a magnitude lies.
+-- The level in which a magnitude lies.
 use Rattle.std.proofs.Common.{◌≡◌, ℕ, ◌<◌, ◌≤◌, refl, arith, sym, subst, suc}
 use Rattle.mg_g711.specs.declared.law.Law.{Law}
 use Rattle.mg_g711.specs.declared.law.Law.TheVariants.{Mu, A}
@@ -17,7 +17,7 @@ least_of_first : (law : Law) (v : ℕ) → least_of law 0 ≤ v
 least_of_first Mu v = omega arith
 least_of_first A v = omega arith
 
--- v lies in the level k.
+-- The magnitude v lies in level k.
 pub record LiesIn (law : Law) (v k : ℕ) : Type 0 where
   pub small : k ≤ 127
   pub from : least_of law k ≤ v

@@ -1,4 +1,4 @@
--- The level as the least of eight lines, each of which is exact at one exponent.
+-- The level of a magnitude is the minimum of the lines of all exponents.
 use Rattle.std.proofs.Common.{◌≡◌, ℕ, Bool, ◌+◌, ◌-◌, ◌/◌, ◌<◌, ◌≤◌, min, arith, nat_eq, refl, suc, inl, inr, true, ◌∙◌, sym, ap}
 use Rattle.std.proofs.lemmas.Bool.{cases_lt, eqb-true}
 use Rattle.mg_g711.specs.declared.law.Law.{Law}
@@ -7,12 +7,12 @@ use Rattle.mg_g711.specs.Law.{least_of, level_of}
 use Rattle.mg_g711.proofs.Computed.{each_below, holds_below}
 use Rattle.mg_g711.proofs.Levels.{LiesIn, level_of_lies}
 
--- The lines of the exponents from 1 to 7.
+-- The minimum of the lines of the exponents from 1 to 7.
 abbrev upper_lines : ℕ → ℕ
 upper_lines x = min (min (min (min (min (min (x / 16) (x / 32 + 16)) (x / 64 + 32)) (x / 128 + 48)) (x / 256 + 64))
     (x / 512 + 80)) (x / 1024 + 96)
 
--- The least line, by each law.
+-- The minimum of the lines, for each law.
 abbrev least_line : Law → ℕ → ℕ
 least_line Mu v = min (min (v + 132) 32767 / 8 - 16) (upper_lines (min (v + 132) 32767))
 least_line A v = upper_lines (min v 32767)
@@ -35,7 +35,7 @@ least_line_small : (law : Law) (v : ℕ) → least_line law v ≤ 127
 least_line_small Mu v = omega arith
 least_line_small A v = omega arith
 
--- The line is right at both ends of each level.
+-- The minimum of the lines is the level at both ends of each level.
 abbrev right_at_first : Law → ℕ → Bool
 right_at_first law k = nat_eq (least_line law (least_of law k)) k
 
@@ -58,7 +58,7 @@ last_is : (law : Law) (k : ℕ) → k < 127 → least_line law (least_of law (su
 last_is law k h = eqb-true (least_line law (least_of law (suc k) - 1)) k
     (holds_below (right_at_last law) 127 (last_all law) k h)
 
--- So it is right between them, since it grows.
+-- The minimum of the lines is the level everywhere, since it never decreases.
 right_in : (law : Law) (v k : ℕ) → LiesIn law v k → least_line law v ≡ k
 right_in law v k lies =
     let from : least_line law (least_of law k) ≤ least_line law v = least_line_grows law (least_of law k) v lies.from in
@@ -79,7 +79,7 @@ level_is law v = sym (right_in law v (level_of law v) (level_of_lies law v))
 pub level_a_is : (v : ℕ) → level_of A v ≡ upper_lines (min v 32767)
 level_a_is v = level_is A v
 
--- With mu-law's bias the lines from the second on are those of A-law.
+-- With mu-law's bias, all lines except the first are those of A-law.
 pub level_mu_is : (v : ℕ) → level_of Mu v ≡ min (min (v + 132) 32767 / 8 - 16) (level_of A (min (v + 132) 32767))
 level_mu_is v =
     let x : ℕ = min (v + 132) 32767 in

@@ -1,4 +1,4 @@
--- What comes back of a sample or of a byte.
+-- Samples after encoding and decoding, and bytes after decoding and encoding.
 use Rattle.std.proofs.Common.{◌≡◌, ◌≢◌, ℕ, ℤ, Bool, true, false, ◌+◌, ◌-◌, ◌%◌, ◌<◌, ◌≤◌, ◌||◌, pos, negsuc, neg_ℤ, ◌≤ℤ◌, arith, refl, ap, sym, subst, inl, inr, suc, nat_eq, nat_le, nat_lt, ◌∙◌, bit_xor}
 use Rattle.std.specs.Prelude.{int_lt, unsigned_abs}
 use Rattle.std.proofs.lemmas.Int.{ints}
@@ -11,7 +11,7 @@ use Rattle.mg_g711.proofs.Computed.{each_below, holds_below}
 use Rattle.mg_g711.proofs.Growing.{grows}
 use Rattle.mg_g711.proofs.Levels.{least_of_grows, level_of_lies, magnitude_of_grows}
 
--- The byte of a level and a sign gives them back.
+-- The byte of a level and a sign decodes to that level and sign.
 inverted_twice : (k : ℕ) → k < 256 → bit_xor (bit_xor k 0x55) 0x55 ≡ k
 inverted_twice k h = eqb-true (bit_xor (bit_xor k 0x55) 0x55) k
     (holds_below (λ i. nat_eq (bit_xor (bit_xor i 0x55) 0x55) i) 256 refl k h)
@@ -39,7 +39,7 @@ sample_of-byte_at A true k h = let turned = inverted_twice k (omega arith) in le
 sample_of-byte_at A false k h = let turned = inverted_twice (128 + k) (omega arith) in let bits = sign_bit k h in
     rw (turned, bits.2, bits.4)
 
--- What comes back of a sample: the magnitude of its level, with its sign.
+-- Encoding and decoding a sample yields the magnitude of its level, with the sample's sign.
 pub quantized_is : (law : Law) (v : ℤ) → quantized_of law v ≡
     signed (int_lt v (pos 0)) (magnitude_of law (level_of law (unsigned_abs v)))
 unfolding byte_of
@@ -47,7 +47,7 @@ quantized_is law v =
     let lies = level_of_lies law (unsigned_abs v) in
     sample_of-byte_at law (int_lt v (pos 0)) (level_of law (unsigned_abs v)) (let small = lies.small in omega arith)
 
--- The bytes that come back, by computation at each of the 256.
+-- Whether a byte survives decoding and encoding, or is mu-law's negative zero.
 abbrev comes_back : Law → ℕ → Bool
 comes_back Mu b = nat_eq b 0x7f || nat_eq (byte_of Mu (sample_of Mu b)) b
 comes_back A b = nat_eq (byte_of A (sample_of A b)) b
@@ -80,7 +80,7 @@ sample_comes_back Mu b h =
       | inr other ↦ ap (sample_of Mu) (byte_comes_back Mu b h (λ _. other))
     ]
 
--- A greater sample does not come back as a smaller one.
+-- Encoding and decoding preserve the order of samples.
 level_of_keeps : (law : Law) (m n : ℕ) → m ≤ n → level_of law m ≤ level_of law n
 level_of_keeps law m n h =
     let low = level_of_lies law m in

@@ -1,4 +1,4 @@
--- What the code computes as the magnitude of a level, checked at each of the 128.
+-- The code computes the magnitude of a level without overflow, as checked for each of the 128 levels.
 use Rattle.std.proofs.Common.{◌≡◌, ℕ, true, ◌+◌, ◌-◌, ◌*◌, ◌/◌, ◌%◌, ◌^◌, ◌<◌, ◌≤◌, ◌&&◌, ◌||◌, arith, refl, nat_eq, nat_le, nat_lt}
 use Rattle.std.proofs.lemmas.Bool.Decides.{nat_tests}
 use Rattle.mg_g711.specs.declared.law.Law.TheVariants.{Mu}

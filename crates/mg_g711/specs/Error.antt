@@ -4,7 +4,7 @@ use Rattle.mg_g711.specs.declared.law.Law.{Law}
 use Rattle.mg_g711.specs.declared.law.Law.TheVariants.{Mu, A}
 use Rattle.mg_g711.specs.Law.{quantized_of}
 
--- the distance between a sample and its value after encoding and decoding
+-- The distance between a sample and its value after encoding and decoding.
 abbrev pub error_of : Law → ℤ → ℕ
 error_of law v = unsigned_abs (v -ℤ quantized_of law v)
 
@@ -14,8 +14,7 @@ abbrev pub half_step_of : Law → ℕ → ℕ
 half_step_of Mu k = 2 ^ (k / 16 + 2)
 half_step_of A k = 2 ^ (max (k / 16) 1 + 2)
 
--- the end of the last level: the virtual decision values 8159 and 4096 of the same tables, scaled
--- in the same way
+-- The end of the last level: the virtual decision values 8159 and 4096 of the same tables, scaled in the same way.
 abbrev pub end_of : Law → ℕ
 end_of Mu = 32636
 end_of A = 32768

@@ -3,11 +3,11 @@ use Rattle.std.specs.Prelude.{◌≡◌, ◌/◌, ℤ, pos, int_lt, unsigned_abs
 use Rattle.std.specs.Int.{w16}
 use Rattle.mg_g711.specs.Law.{signed}
 
--- 160 samples from -32768 to 32767: 20 ms at 8000 Hz (RFC 3551, sections 4.2 and 6)
+-- The list is a frame: 160 samples from -32768 to 32767, which are 20 ms at 8000 Hz (RFC 3551, sections 4.2 and 6).
 pub record IsFrame (samples : List ℤ) : Type 0 where
   pub whole : length samples ≡ 160
   pub in_range : All (FitsSigned w16) samples
 
--- a sample halved toward zero
+-- A sample halved toward zero.
 abbrev pub halved : ℤ → ℤ
 halved sample = signed (int_lt sample (pos 0)) (unsigned_abs sample / 2)

@@ -6,40 +6,39 @@ use Rattle.std.specs.List.{range_with_len}
 use Rattle.mg_g711.specs.declared.law.Law.{Law}
 use Rattle.mg_g711.specs.declared.law.Law.TheVariants.{Mu, A}
 
--- the smallest magnitude in a level: the decision values of tables 2 and 1 of G.711, times 4 in
--- mu-law and times 8 in A-law
+-- The smallest magnitude in a level: the decision values of tables 2 and 1 of G.711, times 4 in mu-law and times 8 in
+-- A-law.
 abbrev pub least_of : Law → ℕ → ℕ
 least_of Mu k = if k == 0 then 0 else (16 + k % 16) * 2 ^ (k / 16 + 3) - 132
 least_of A k = if nat_lt k 16 then 16 * k else (16 + k % 16) * 2 ^ (k / 16 + 3)
 
--- the decoded magnitude of a level: the quantized values of the same tables, scaled in the same way
+-- The decoded magnitude of a level: the quantized values of the same tables, scaled in the same way.
 abbrev pub magnitude_of : Law → ℕ → ℕ
 magnitude_of Mu k = (8 * (k % 16) + 132) * 2 ^ (k / 16) - 132
 magnitude_of A k = if nat_lt k 16 then 16 * k + 8 else (16 * (k % 16) + 264) * 2 ^ (k / 16 - 1)
 
--- the level of a magnitude: how many of the levels 1 to 127 start at or below it
+-- The level of a magnitude: the number of levels from 1 to 127 that start at or below the magnitude.
 unfoldable pub level_of : Law → ℕ → ℕ
 level_of law v = count_by (λ k. nat_le (least_of law k) v) (range_with_len 1 127)
 
--- the byte of a level and a sign: the character signals of the same tables; A-law inverts every
--- other bit
+-- The byte of a level and a sign: the character signals of the same tables. A-law inverts every other bit.
 abbrev pub byte_at : Law → Bool → ℕ → ℕ
 byte_at Mu is_negative k = if is_negative then 127 - k else 255 - k
 byte_at A is_negative k = if is_negative then bit_xor k 0x55 else bit_xor (128 + k) 0x55
 
--- the byte of a sample
+-- The byte of a sample.
 unfoldable pub byte_of : Law → ℤ → ℕ
 byte_of law v = byte_at law (int_lt v (pos 0)) (level_of law (unsigned_abs v))
 
--- a magnitude with a sign
+-- A magnitude with a sign.
 abbrev pub signed : Bool → ℕ → ℤ
 signed is_negative m = if is_negative then neg_ℤ (pos m) else pos m
 
--- the sample of a byte
+-- The sample of a byte.
 unfoldable pub sample_of : Law → ℕ → ℤ
 sample_of Mu b = signed (nat_le 128 (255 - b)) (magnitude_of Mu ((255 - b) % 128))
 sample_of A b = signed (nat_lt (bit_xor b 0x55) 128) (magnitude_of A (bit_xor b 0x55 % 128))
 
--- a sample after encoding and decoding
+-- A sample after encoding and decoding.
 abbrev pub quantized_of : Law → ℤ → ℤ
 quantized_of law v = sample_of law (byte_of law v)

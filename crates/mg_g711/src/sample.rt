@@ -3,7 +3,7 @@ ghost use Rattle.mg_g711.specs.Law.{byte_of, level_of, magnitude_of, sample_of};
 
 use crate::law::Law;
 
-// What mu-law adds to a magnitude, so that each exponent starts at a power of two.
+// The bias that mu-law adds to a magnitude, so that each exponent starts at a power of two.
 pub const BIAS: u16 = 132;
 
 // The largest magnitude, with mu-law's bias, that is not clipped.

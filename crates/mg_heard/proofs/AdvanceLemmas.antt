@@ -1,4 +1,4 @@
--- One moment more: the stored intervals are those that last, and those that are removed have ended.
+-- After one more moment, the stored intervals are those that last, and the removed ones have ended.
 use Rattle.std.proofs.Common.{◌≡◌, ℕ, ◌<◌, not, Bool, true, false, cond, List, [], ◌∷◌, length, map, Option, Some, None, refl, sym, ap, subst, ◌∙◌, inl, inr, arith}
 use Rattle.std.specs.Prelude.{filter, find}
 use Rattle.std.specs.Option.{option_map, option_map_or}
@@ -99,7 +99,7 @@ unfolding since
 since_none [] x e = refl
 since_none (flows ∷ older) x e = rw e (omega arith)
 
--- a stored interval began when its flow did
+-- A stored interval began when its flow became open.
 began_since : (past : List (List OpenFlow)) (old : List OpenInterval) (y : OpenInterval) →
     map still_open old ≡ lasting past → In y old → y.first.tick ≡ since past y.flow
 began_since past old y h i =

@@ -1,4 +1,4 @@
--- Two lists of intervals, walked through in step.
+-- A walk through two lists of intervals in step.
 use Rattle.std.proofs.Common.{◌≡◌, ℕ, ◌+◌, ◌<◌, ◌≤◌, not, ◌||◌, Bool, true, false, cond, List, [], ◌∷◌, ◌++◌, length, get_or, set, take, drop, map, Option, Some, None, refl, sym, ap, subst, ◌∙◌, arith}
 use Rattle.std.specs.Prelude.{find, is_some}
 use Rattle.std.specs.Option.{option_map, option_map_or}
@@ -11,7 +11,7 @@ use Rattle.mg_heard.specs.declared.moment.Moment.{Moment}
 use Rattle.mg_heard.specs.declared.open_flow.OpenFlow.{OpenFlow}
 use Rattle.mg_heard.specs.declared.open_interval.OpenInterval.{OpenInterval}
 
--- what comes behind this place of a walk is behind what was passed
+-- All pairs in `xs` from `place` on come after the first `from` pairs of `other`.
 abbrev pub HasPassed : List OpenInterval → List OpenInterval → ℕ → ℕ → Type 0
 HasPassed other xs from place = (k : ℕ) (d : OpenInterval) → place ≤ k → k < length xs →
     AreBefore (get_or xs k d).flow (take from other)
@@ -33,7 +33,7 @@ pub record Continues (earlier old new : List OpenInterval) (from place : ℕ) : 
   pub rest : drop place new ≡ drop place old
   pub passed : HasPassed earlier old from place
 
--- the element that comes next is still the old one
+-- The element at `place` has not been changed yet.
 rest_both : (old new : List OpenInterval) (place : ℕ) (d : OpenInterval) → place < length new → place < length old →
     drop place new ≡ drop place old →
     get_or new place d ∷ drop (place + 1) new ≡ get_or old place d ∷ drop (place + 1) old
@@ -47,7 +47,7 @@ rest_more : (old new : List OpenInterval) (place : ℕ) (d : OpenInterval) → p
     drop place new ≡ drop place old → drop (place + 1) new ≡ drop (place + 1) old
 rest_more old new place d a b e = let both = rest_both old new place d a b e in cc both
 
--- a flow that comes next is behind what was passed
+-- The flow at `place` comes after the first `from` pairs of `other`.
 pub before_next : (other old new : List OpenInterval) (from place : ℕ) (d : OpenInterval) → length new ≡ length old →
     place < length new → drop place new ≡ drop place old → HasPassed other old from place →
     AreBefore (get_or new place d).flow (take from other)
@@ -70,7 +70,7 @@ continues_start earlier old = record {
   passed = λ k d above below j e within. absurd (omega arith);
 }
 
--- the first places after a step that leaves y there
+-- After a step that stores `y`, the first `place + 1` intervals are continued.
 front_more : (earlier old new : List OpenInterval) (place : ℕ) (d y : OpenInterval) (front : List OpenInterval) →
     length new ≡ length old → place < length new → drop place new ≡ drop place old →
     front ≡ map (continued earlier) (take place old) → continued earlier (get_or new place d) ≡ y →
@@ -141,7 +141,7 @@ found_among flow (x ∷ xs) = found_first (is_same flow x.flow) x (find (λ x. i
     found_first true x o c h = refl
     found_first false x o c h = h
 
--- whether a flow is among the next ones
+-- A flow has a beginning among the intervals if and only if it is one of their flows.
 pub has_begun : (flow : OpenFlow) (xs : List OpenInterval) → is_some (beginning_among xs flow) ≡ has (flows_of xs) flow
 has_begun flow xs = begun_among flow xs (find (λ x. is_same flow x.flow) xs) refl ∙ found_among flow xs
 
@@ -182,14 +182,14 @@ keeps_one next old new changed from further kept place d rising within before no
       passed = passed_next next old new further place d rising h.filters.long within h.filters.rest before;
     })
 
--- what stands for a place that isn't there
+-- A dummy interval for a place that doesn't exist.
 abbrev pub unused : OpenInterval
 unused = record {
   flow = record { listener = 0; talker = 0; context = 0; listener_at = None; talker_at = None };
   first = record { tick = 0; date = None };
 }
 
--- what a call leaves in all places
+-- If a call writes as many elements as there are places, the places contain exactly these elements.
 pub written : {X : Type 0} (n : ℕ) (items new : List X) → n ≡ length items → length new ≡ length items →
     take n (new ++ drop (length new) items) ≡ new
 written n items new e long =

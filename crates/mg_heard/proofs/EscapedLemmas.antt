@@ -1,4 +1,4 @@
--- Texts that are written to a page byte by byte.
+-- A text that is escaped and written byte by byte.
 use Rattle.std.proofs.Common.{◌≡◌, ℕ, ◌+◌, ◌*◌, ◌<◌, ◌≤◌, Bool, true, false, cond, List, [], ◌∷◌, ◌++◌, length, get_or, take, sym, ap, ◌∙◌, append_assoc, length-append, arith, codes, lit≤, ◌==◌, ◌||◌, nat_lt}
 use Rattle.std.proofs.lemmas.List.Concat.{flat_map-append}
 use Rattle.std.proofs.lemmas.List.{take_more, append-nil}
@@ -6,7 +6,7 @@ use Rattle.mg_reply.specs.Bytes.{Written, appended}
 use Rattle.mg_reply.proofs.WrittenLemmas.{appended-appended}
 use Rattle.mg_heard.specs.Escaped.{escaped_byte, escaped}
 
--- one byte more
+-- Writing one more escaped byte extends the written text by that byte.
 pub escaped_more : (w : Written) (text : List ℕ) (i : ℕ) → i < length text →
     appended (appended w (escaped (take i text))) (escaped_byte (get_or text i 0)) ≡
     appended w (escaped (take (i + 1) text))

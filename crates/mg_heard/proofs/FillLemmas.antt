@@ -1,4 +1,4 @@
--- Intervals for the flows to one termination after another.
+-- Storing the intervals for the flows to a termination, one after another.
 use Rattle.std.proofs.Common.{◌≡◌, ℕ, None, ◌+◌, ◌*◌, ◌^◌, ◌<◌, ◌≤◌, Bool, true, false, cond, List, [], ◌∷◌, ◌++◌, map, get_or, take, drop, length, append_assoc, length-append, refl, sym, ap, subst, ◌∙◌, arith}
 use Rattle.std.specs.Prelude.{filter, flat_map}
 use Rattle.std.proofs.lemmas.List.{append-nil, length-map, map-append, map_push, take-append-drop, take_more}
@@ -54,7 +54,7 @@ heard_few l hs k =
     map-append (λ h. h.seated) (take k hs) (drop k hs)) ∙ heard_both l front back in
     omega (arith, ap length whole, length-append (flows_heard front l) (flows_heard back l))
 
--- what is stored in the first places
+-- The first places have an interval for each flow from the first `i` terminations to `l`.
 pub record HasPushed (l : Hearer) (first : Moment) (start stored : List OpenInterval) (hs : List Hearer) (i : ℕ)
     : Type 0 where
   pub is : stored ≡ start ++ map (beginning_at first) (flows_heard (seats_of (take i hs)) l)
@@ -87,7 +87,7 @@ pushed_one l first start stored new hs i h x there is e same put p =
           (sym (heard_more l hs i h true there is e));
     }
 
--- there is a place for one more
+-- If the flows to `l` fit within the limit, there is a place for one more interval.
 pub has_place : (l : Hearer) (first : Moment) (start stored : List OpenInterval) (hs : List Hearer) (i limit : ℕ)
     (h : Hearer) → i < length hs → get_or hs i h ≡ h → is_heard l h.seated ≡ true →
     length start + length (flows_heard (seats_of hs) l) ≤ limit →
@@ -140,7 +140,7 @@ filled_more ts first stored new hs i h fits there is put p =
           );
     }
 
--- what stands for a hearer that isn't there
+-- A dummy hearer for a place that doesn't exist.
 abbrev pub nobody : Hearer
 nobody = record {
   seated = record { party = record { number = 0; context = 0; at = None }; seat = 0 };

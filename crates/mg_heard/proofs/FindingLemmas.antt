@@ -1,4 +1,4 @@
--- What is found among entries, one after another.
+-- The search through entries, one after another.
 use Rattle.std.proofs.Common.{◌≡◌, ℕ, Bool, true, false, cond, List, [], ◌∷◌, ◌++◌, Option, Some, None, refl, sym, ap, subst, ◌∙◌}
 use Rattle.std.specs.Prelude.{◌&&◌}
 use Rattle.std.specs.Option.{option_or}
@@ -49,7 +49,7 @@ gap_more time (entries.Gap gap ∷ xs) x = first_more (is_in_gap gap time) gap
     (gap_at time (xs ++ x ∷ [])) (gap_at time xs) (gap_at time (x ∷ [])) (gap_more time xs x)
 gap_more time (entries.Audible y ∷ xs) x = gap_more time xs x
 
--- one more entry
+-- After one more entry, `HasFound` still holds.
 found_more : (start old : Instant) (before : List Entry) (x : Entry) (heard : Option Interval) (gap : Option Gap) →
     heard ≡ option_or old.heard (heard_at old.query old.time (x ∷ [])) →
     gap ≡ option_or old.gap (gap_at old.time (x ∷ [])) → HasFound start old before →
@@ -80,7 +80,7 @@ found_gap start old new before x e h = subst (λ (y : Instant). HasFound start y
     (sym e) (found_more start old before (entries.Gap x) old.heard
     (option_or old.gap (gap_at old.time (entries.Gap x ∷ []))) (sym (or_none old.heard)) refl h)
 
--- an entry that answers no such question
+-- An audible interval answers no question about who could be heard.
 pub found_audible : (start old : Instant) (before : List Entry) (x : Interval) → HasFound start old before →
     HasFound start old (before ++ entries.Audible x ∷ [])
 found_audible start old before x h = found_more start old before (entries.Audible x) old.heard old.gap
@@ -96,7 +96,7 @@ found_none start = record {
   gap = sym (or_none start.gap);
 }
 
--- a question of which nothing is known yet
+-- A question for which nothing has been found yet.
 abbrev asked : Query → Date → Instant
 asked query time = record { query = query; time = time; heard = None; gap = None }
 

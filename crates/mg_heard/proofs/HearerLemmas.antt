@@ -27,7 +27,7 @@ use Rattle.mg_heard.proofs.PartyLemmas.{is_party}
 
 -- ## The flows to one termination
 
--- those of a list that a test takes, twice
+-- Two tests that agree on all elements of a list select the same elements.
 filter_same : {X : Type 0} (p q : X → Bool) (xs : List X) → ((x : X) → In x xs → p x ≡ q x) → filter p xs ≡ filter q xs
 filter_same p q [] h = refl
 filter_same p q (x ∷ xs) h = λ i. cond (h x (inl refl) i) (x ∷ filter_same p q xs (λ y j. h y (inr j)) i)
@@ -42,7 +42,7 @@ flat_same : {X Y : Type 0} (f g : X → List Y) (xs : List X) → ((x : X) → I
 flat_same f g [] h = refl
 flat_same f g (x ∷ xs) h = λ i. h x (inl refl) i ++ flat_same f g xs (λ y j. h y (inr j)) i
 
--- what is taken of a list that was made from another
+-- Filtering a mapped list is the same as mapping the filtered list, by one more element.
 mapped_first : {X Y Z : Type 0} (f : X → Y) (g : Y → Z) (b : Bool) (x : X) (xs : List X) (ys : List Y) →
     map g ys ≡ map (λ x. g (f x)) xs →
     map g (cond b (f x ∷ ys) ys) ≡ map (λ x. g (f x)) (cond b (x ∷ xs) xs)
@@ -76,7 +76,7 @@ seated_there w h r i =
     h.terminations.each i in
     lt-ltb r.seat seat_limit each.seat
 
--- a listener, as its termination and seats
+-- A listener with the seats of its talkers.
 abbrev hearing : Record → ℕ → Hearer
 hearing l talkers = record { seated = seated_of l; talkers = talkers }
 
@@ -177,7 +177,7 @@ few_heard rooms sound h =
       members_few (context_at rooms c) (λ x is. (sound.context c x is).1.few),
     )
 
--- what holds of all terminations of a core
+-- Each termination of a core hears at most `member_limit` others.
 pub hearers_few : (rooms : Registry) (hs : List Hearer) → IsSound rooms →
     seats_of hs ≡ map seated_of rooms.terminations →
     All (λ h. length (flows_heard (seats_of hs) h) ≤ member_limit) hs

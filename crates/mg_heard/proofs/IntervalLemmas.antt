@@ -1,4 +1,4 @@
--- The intervals of a list of moments, newest first.
+-- The intervals of a list of moments, which come newest first.
 use Rattle.std.proofs.Common.{◌≡◌, ℕ, ◌+◌, ◌<◌, ◌≤◌, suc, zero, not, Bool, true, false, cond, List, [], ◌∷◌, ◌++◌, length, map, replicate, Some, None, refl, sym, ap, subst, ◌∙◌, inl, inr, ◌⊎◌, arith}
 use Rattle.std.specs.List.{filter}
 use Rattle.std.proofs.lemmas.List.{append-nil}
@@ -9,7 +9,7 @@ use Rattle.mg_heard.specs.Intervals.{Interval, ended, ending, interval_of, lasti
 use Rattle.mg_heard.proofs.Members.{In, in_left, in_right, in_cases, in_map, from_map, in_filter, from_filter}
 use Rattle.mg_heard.proofs.SameLemmas.{in_from_has, has_from_in}
 
--- the flow is open in the moment of this number
+-- The flow is open in the moment with this number.
 abbrev pub IsOpen : List (List OpenFlow) → ℕ → OpenFlow → Type 0
 IsOpen [] k x = ⊥
 IsOpen (flows ∷ older) k x = ((k ≡ length older) × In x flows) ⊎ IsOpen older k x
@@ -19,7 +19,7 @@ open_before [] k x h = absurd h
 open_before (flows ∷ older) k x (inl h) = let e = h.0 in omega arith
 open_before (flows ∷ older) k x (inr h) = let below = open_before older k x h in omega arith
 
--- a moment that is not the newest is one of the older ones
+-- A flow that is open in a moment other than the newest is open in an older one.
 pub open_older : (flows : List OpenFlow) (older : List (List OpenFlow)) (k : ℕ) (x : OpenFlow) → k < length older →
     IsOpen (flows ∷ older) k x → IsOpen older k x
 open_older flows older k x below (inl h) = let e = h.0 in absurd (omega arith)
@@ -32,7 +32,7 @@ open_newest flows older x (inr h) = let below = open_before older (length older)
 
 -- ## The beginning of an interval
 
--- a flow is open since this tick, and not before the one in front of it
+-- The flow has been open since the tick `first`, and was not open before the preceding tick.
 pub record IsSince (past : List (List OpenFlow)) (x : OpenFlow) (first : ℕ) : Type 0 where
   pub within : first ≤ length past
   pub open_since : (k : ℕ) → first ≤ k → k < length past → IsOpen past k x
@@ -67,7 +67,7 @@ is_since [] x = record {
 }
 is_since (flows ∷ older) x = since_at flows older x (has flows x) refl (is_since older x)
 
--- a flow in the newest moment is open since a moment
+-- A flow in the newest moment has been open since some moment in the past.
 pub since_newest : (past : List (List OpenFlow)) (x : OpenFlow) → In x (newest past) → since past x < length past
 unfolding since
 since_newest [] x h = absurd h
@@ -76,7 +76,7 @@ since_newest (flows ∷ older) x h =
     let e = has_from_in flows x h in
     rw e (omega arith)
 
--- one more moment with the flow changes nothing
+-- One more moment with the flow doesn't change since when the flow has been open.
 pub since_more : (flows : List OpenFlow) (older : List (List OpenFlow)) (x : OpenFlow) → has flows x ≡ true →
     since (flows ∷ older) x ≡ since older x
 unfolding since
@@ -141,7 +141,7 @@ has_ended (flows ∷ older) y h = elim (in_cases y (ended older) (ending older f
 
 -- ## Each open flow is told
 
--- an interval that has ended tells of the flow at this tick
+-- An interval of this flow has ended and contains this tick.
 pub record IsToldEnded (past : List (List OpenFlow)) (k : ℕ) (x : OpenFlow) : Type 0 where
   pub y : Interval
   pub end : ℕ
@@ -204,7 +204,7 @@ is_told (flows ∷ older) k x (inr h) = told_next flows older k x (open_before o
 
 -- ## Equal moments
 
--- nothing ends where all flows stay
+-- If all flows stay open, no interval ends.
 none_ends : (some all : List OpenFlow) →
     ((x : OpenFlow) → In x some → has all x ≡ true) → filter (λ x. not (has all x)) some ≡ []
 none_ends [] all h = refl

@@ -1,4 +1,4 @@
--- What a follower keeps, note by note.
+-- The state of a follower, note by note.
 use Rattle.std.proofs.Common.{IfSome, ◌≡◌, ◌≢◌, ℕ, ◌+◌, suc, zero, Bool, true, false, List, [], ◌∷◌, ◌++◌, ◌<◌, ◌≤◌, length, get_or, map, replicate, take, Option, Some, None, Result, Ok, Err, IfOk, OnOk, refl, sym, ap, subst, ◌∙◌, arith}
 use Rattle.std.specs.Prelude.{reverse}
 use Rattle.std.proofs.lemmas.Bool.{true≢false}
@@ -44,7 +44,7 @@ if_tick_append : (b : Bool) (w : World) (xs ys : List (List OpenFlow)) →
 if_tick_append true w xs ys = refl
 if_tick_append false w xs ys = refl
 
--- the last of these moments is that of the world w, and the others stay if more events follow
+-- The last moment is that of the world `w`. If more events follow, the moments before it stay the same.
 record Continues (a w : World) (events later : List Event) (moments others : List (List OpenFlow)) : Type 0 where
   before : List (List OpenFlow)
   is : moments ≡ before ++ open_flows w.gateway ∷ []
@@ -67,7 +67,7 @@ continues one a w (e ∷ es) later sent moments others (first, rest, next, step,
       are = (also, after, c.before ++ others, too, c.are, if_tick_append (is_tick e) a c.before others);
     }
 
--- the same, of moments that come newest first
+-- The newest moment is that of the world `w`, and the past stays the same if more events follow.
 pub record Extends (a w : World) (events later : List Event) (now : List OpenFlow) (past others : List (List OpenFlow))
     : Type 0 where
   pub is : now ≡ open_flows w.gateway
@@ -146,7 +146,7 @@ still_same equal (last ∷ older) flows e = subst
     (λ (l : List OpenFlow). (ended (l ∷ last ∷ older) ≡ ended (last ∷ older)) × (lasting (l ∷ last ∷ older) ≡ lasting (last ∷ older)))
     (sym e) (equal last older 1)
 
--- nothing has changed
+-- If the open flows are those of the newest moment, `TellsPast` still holds after one more moment.
 pub tells_same : EqualMomentsTellNothing → (past : List (List OpenFlow)) (flows : List OpenFlow)
     (stored : List OpenInterval) (Told : List Entry → Type 0) → flows ≡ newest past → TellsPast past stored Told →
     TellsPast (flows ∷ past) stored Told
@@ -160,7 +160,7 @@ tells_same equal past flows stored Told e h =
       told = h.told;
     }
 
--- the intervals that ended are told
+-- After one more moment, `TellsPast` holds if the intervals that ended are reported.
 pub tells_ended : (past : List (List OpenFlow)) (flows : List OpenFlow) (now : Moment)
     (stored new over : List OpenInterval) (Told ToldNext : List Entry → Type 0) →
     AreLasting (flows ∷ past) new → map (ended_at now.tick) over ≡ ending past flows →
@@ -177,7 +177,7 @@ tells_ended past flows now stored new over Told ToldNext lasts ends tells h = re
   told = tells h.xs h.told;
 }
 
--- the same, unless the sink refuses one
+-- After one more moment, `TellsPast` holds unless the sink refuses an interval.
 pub tells_ended_on : {E : Type 0} (past : List (List OpenFlow)) (flows : List OpenFlow) (now : Moment)
     (stored new over : List OpenInterval) (Told ToldNext : List Entry → Type 0) (result : Result (Unit {0}) E) →
     AreLasting (flows ∷ past) new → map (ended_at now.tick) over ≡ ending past flows →
@@ -187,7 +187,7 @@ tells_ended_on past flows now stored new over Told ToldNext (Ok done) lasts ends
     tells_ended past flows now stored new over Told ToldNext lasts ends tells h
 tells_ended_on past flows now stored new over Told ToldNext (Err error) lasts ends tells h = tt
 
--- one more interval is told
+-- Reporting the interval at index `i` extends the reported entries by that interval.
 pub told_more : (end : Option Moment) (before : List Entry) (xs : List OpenInterval) (i : ℕ) (x : OpenInterval) →
     i < length xs → get_or xs i x ≡ x →
     (before ++ map (entry_until end) (take i xs)) ++ entry_until end x ∷ [] ≡
@@ -258,7 +258,7 @@ keeps_gap config notes gap tick is_changed stored Told ToldNext tells h = record
   };
 }
 
--- the same, unless the sink refuses the gap
+-- A gap is reported to the sink without effect on `KeepsOpen`, unless the sink refuses the gap.
 pub keeps_gap_on : {E : Type 0} (config : Config) (notes : List Note) (gap : Gap) (tick : ℕ) (is_changed : Bool)
     (stored : List OpenInterval) (Told ToldNext : List Entry → Type 0) (result : Result (Unit {0}) E) →
     ((before : List Entry) → Told before → OnOk result (ToldNext (before ++ entries.Gap gap ∷ []))) →
@@ -268,7 +268,7 @@ keeps_gap_on config notes gap tick is_changed stored Told ToldNext (Ok done) tel
     keeps_gap config notes gap tick is_changed stored Told ToldNext tells h
 keeps_gap_on config notes gap tick is_changed stored Told ToldNext (Err error) tells h = tt
 
--- the flows that are kept as open are those of the world
+-- The flows that count as open are those of the world.
 pub now_is : OneOutcome → (config : Config) (notes : List Note) (tick : ℕ) (is_changed : Bool)
     (stored : List OpenInterval) (Told : List Entry → Type 0) (sent : List Sent) (w : World) →
     Run (start_of config) (events_in notes) sent w → (h : KeepsOpen config notes tick is_changed stored Told) →
@@ -276,7 +276,7 @@ pub now_is : OneOutcome → (config : Config) (notes : List Note) (tick : ℕ) (
 now_is one config notes tick is_changed stored Told sent w run h =
     (extends one (start_of config) w (events_in notes) [] sent h.now h.past (open_flows w.gateway ∷ []) run h.are refl).is
 
--- events that end with this one
+-- A run that ends with this event.
 pub record Split (a w : World) (events : List Event) (event : Event) : Type 0 where
   pub before : List Sent
   pub mid : World
@@ -468,7 +468,7 @@ tells_all one law config notes tick bound is_changed stored new Told ToldNow Tol
       told = told;
     }
 
--- the same, unless the sink refuses an interval
+-- At the end of a script, all its intervals have been reported, unless the sink refused an interval.
 pub tells_all_on : {E : Type 0} → OneOutcome → TellTheFlow → (config : Config) (notes : List Note) (tick bound : ℕ)
     (is_changed : Bool) (stored new : List OpenInterval) (Told ToldNow ToldNext : List Entry → Type 0)
     (sent : List Sent) (w : World) (result : Result (Unit {0}) E) → Run (start_of config) (events_in notes) sent w →
@@ -480,7 +480,7 @@ tells_all_on one law config notes tick bound is_changed stored new Told ToldNow 
     tells_all one law config notes tick bound is_changed stored new Told ToldNow ToldNext sent w run h tells last
 tells_all_on one law config notes tick bound is_changed stored new Told ToldNow ToldNext sent w (Err error) run h tells last = tt
 
--- the same entries, of which something else is true
+-- `TellsAll` still holds if `P` is replaced by a `Q` that `P` implies.
 pub tells_weaker : (config : Config) (notes : List Note) (P Q : Extent → List Entry → Type 0) →
     ((xs : List Entry) → P (extent_of (reverse notes)) xs → Q (extent_of (reverse notes)) xs) →
     TellsAll config notes P → TellsAll config notes Q
@@ -494,7 +494,7 @@ tells_weaker config notes P Q more h = record {
   told = more h.xs h.told;
 }
 
--- what was told of a whole script, unless the sink refused an interval
+-- If a script was followed to its end, the result holds for all its notes, unless the sink refused an interval.
 pub tells_followed : {A E : Type 0} (config : Config) (input rest : Option (List ℕ)) (state : CoreState)
     (Follows : List Note → Type 0) (Holds : A → List Note → Type 0) (result : Result A E) →
     IsFollowed config input rest state Follows →
@@ -537,7 +537,7 @@ open_weaker config notes tick is_changed stored Told Next more h = record {
   tells = past_weaker h.past stored Told Next more h.tells;
 }
 
--- from the notes, newest first, to the notes in order
+-- `KeepsHeard` follows from the state for the notes in reverse order.
 heard_back : (config : Config) (notes : List Note) (older : List Note) (clock : Clock) (is_changed : Bool)
     (stored : List OpenInterval) (Told : List Entry → Type 0) → reverse notes ≡ older → IsClock older clock →
     AreBegun older (tick_count older) stored →
@@ -573,7 +573,7 @@ heard_comment config notes line old new is_changed stored Told same none is h =
     (keeps_comment config notes line old.ticks new.ticks is_changed stored (Timed older (tick_count older) Told) same
     h.opens))
 
--- a comment with a gap, unless the sink refuses the gap
+-- After a comment with a gap, `KeepsHeard` still holds, unless the sink refuses the gap.
 pub heard_gap_on : {E : Type 0} (config : Config) (notes : List Note) (line : List ℕ) (gap : Gap) (old new : Clock)
     (is_changed : Bool) (stored : List OpenInterval) (Told ToldNext : List Entry → Type 0)
     (result : Result (Unit {0}) E) → new.ticks ≡ old.ticks → Some gap ≡ gap_of line (reverse notes) →
@@ -643,7 +643,7 @@ no_gaps : (end : Option Moment) (xs : List OpenInterval) → gaps_in (map (entry
 no_gaps end [] = refl
 no_gaps end (x ∷ xs) = no_gaps end xs
 
--- the intervals that ended are told at this moment, and those that last at the end
+-- The reported entries still have the right dates after intervals are reported that end at this moment or have no end.
 pub timed_until : (older : List Note) (end : Option Moment) (stored : List OpenInterval) (xs : List Entry) →
     IfSome end (IsBefore older (tick_count older + 1)) → AreBegun older (tick_count older + 1) stored →
     AreTimed older (tick_count older + 1) xs →
@@ -651,7 +651,7 @@ pub timed_until : (older : List Note) (end : Option Moment) (stored : List OpenI
 timed_until older end stored xs ends begun h = timed_intervals older (tick_count older + 1) (entry_until end) xs stored
     (no_gaps end) (λ x first. (first, ends)) begun h
 
--- the same flows are open, so nothing is told
+-- If the open flows stay the same, nothing is reported, and `TellsTimed` still holds.
 pub timed_same : EqualMomentsTellNothing → (older : List Note) (past : List (List OpenFlow)) (flows : List OpenFlow)
     (stored : List OpenInterval) (Told : List Entry → Type 0) → flows ≡ newest past →
     TellsTimed older (tick_count older) past stored Told →

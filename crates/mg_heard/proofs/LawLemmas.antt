@@ -1,4 +1,4 @@
--- What intervals say about the worlds of a history.
+-- Intervals and the worlds of a history.
 use Rattle.std.proofs.Common.{◌≡◌, ℕ, true, List, [], refl, sym, ap, subst, ◌∙◌}
 use Rattle.std.specs.Prelude.{count_by, reverse}
 use Rattle.mg_engine.specs.Flow.{flow}
@@ -21,7 +21,7 @@ use Rattle.mg_heard.proofs.Members.{In, Pairs, all_from_pairs, any_from_in, in_f
 use Rattle.mg_heard.proofs.MomentLemmas.{IsMoment, OneOutcome, distinct_back, moment_of, moments_apart, moments_without, same_moments}
 use Rattle.mg_heard.proofs.OnceLemmas.{intervals_once}
 
--- what is told before a tick is open in the world before it
+-- A flow whose interval contains a tick is open in the world before that tick.
 open_in_world : (w : World) (moments : List (List OpenFlow)) (n : ℕ) (y : Interval) → IsMoment n w moments →
     In y (intervals (reverse moments)) → LiesIn n y → IsOpenIn w.gateway y.flow
 open_in_world w moments n y is told lies = from_open w.gateway y.flow

@@ -1,4 +1,4 @@
--- The intervals are those that are true throughout and that can't be extended.
+-- The intervals are exactly the true and maximal ones.
 use Rattle.std.proofs.Common.{◌≡◌, ℕ, ◌+◌, ◌-◌, ◌<◌, ◌≤◌, List, [], ◌∷◌, ◌++◌, length, get_or, Option, Some, None, refl, sym, ap, subst, ◌∙◌, inl, inr, arith}
 use Rattle.std.specs.Prelude.{reverse, IfSome}
 use Rattle.std.proofs.lemmas.Bool.{cases_lt, cases_order}
@@ -66,7 +66,7 @@ open_from_at (flows ∷ older) k x h = elim (cases_order k (length older)) [
 
 -- ## Intervals that are told
 
--- the same over a past, newest first
+-- The interval is true and maximal for a past, whose moments come newest first.
 record IsRun (past : List (List OpenFlow)) (y : Interval) : Type 0 where
   some : (y.first < length past) × LiesIn y.first y
   throughout : (k : ℕ) → k < length past → LiesIn k y → IsOpen past k y.flow
@@ -112,7 +112,7 @@ is_run past y h = elim (in_cases y (ended past) (lasting past) h) [
 same_interval : (y z : Interval) → y.flow ≡ z.flow → y.first ≡ z.first → y.end ≡ z.end → y ≡ z
 same_interval y z a b c = λ i. record { flow = a i; first = b i; end = c i }
 
--- a run begins where an open stretch that reaches its first tick begins
+-- If a flow has been open from `first` up to the beginning of its maximal interval, the interval begins at `first`.
 same_first : (past : List (List OpenFlow)) (y : Interval) (x : OpenFlow) (first : ℕ) → IsRun past y → y.flow ≡ x →
     first ≤ y.first → ((k : ℕ) → first ≤ k → k < y.first → IsOpen past k x) → y.first ≡ first
 same_first past y x first h e under opens = elim (cases_lt first y.first) [
@@ -232,7 +232,7 @@ intervals_are_true_and_maximal moments y =
 
 -- ## Ticks
 
--- a flow that is open in a moment is told there
+-- If a flow is open in a moment, an interval of this flow contains the moment's tick.
 pub told_at : (moments : List (List OpenFlow)) (k : ℕ) (x : OpenFlow) → In x (get_or moments k []) →
     (y : Interval) × In y (intervals (reverse moments)) × (y.flow ≡ x) × LiesIn k y
 told_at moments k x h =
@@ -255,7 +255,7 @@ told_at moments k x h =
       )
     ]
 
--- a flow that is told at a moment is open in it
+-- If an interval contains the tick of a moment, its flow is open in that moment.
 pub open_at : (moments : List (List OpenFlow)) (k : ℕ) (y : Interval) → In y (intervals (reverse moments)) →
     k < length moments → LiesIn k y → In y.flow (get_or moments k [])
 open_at moments k y h within lies =

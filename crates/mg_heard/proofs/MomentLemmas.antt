@@ -35,7 +35,7 @@ if_tick b w others = cond b (open_flows w.gateway ∷ others) others
 
 -- ## The moment of a tick
 
--- the moment of this number is the one in this world
+-- The moment with this number has the open flows of this world.
 pub record IsMoment (n : ℕ) (w : World) (moments : List (List OpenFlow)) : Type 0 where
   pub within : n < length moments
   pub is : get_or moments n [] ≡ open_flows w.gateway

@@ -1,4 +1,4 @@
--- Names: the line that names a termination, and the keys of a name; and rules, one after another.
+-- Names and rules: the line that names a termination, the keys of a name, and the list of rules.
 use Rattle.std.proofs.Common.{◌≡◌, ◌∙◌, ◌+◌, ◌<◌, ◌≤◌, ℕ, Bool, true, false, cond, List, [], ◌∷◌, ◌++◌, Option, Some, Result, Ok, Err, is_err, is_ok, ap, drop, filter, get_or, length, map}
 use Rattle.std.specs.Prelude.{find}
 use Rattle.std.specs.List.{AllZip}
@@ -19,7 +19,7 @@ use Rattle.mg_heard.specs.Query.{is_named}
 abbrev name_found : Option Named → List ℕ
 name_found line = option_map_or (λ x. x.name) line []
 
--- a line that doesn't apply to a termination
+-- A line that doesn't apply to a termination doesn't affect its name.
 pub not_called : (lines : List Named) (number : ℕ) (at : Option Peer) (i : ℕ) (d : Named) → i < length lines →
     is_named (get_or lines i d).key number at ≡ false →
     name_of (drop i lines) number at ≡ name_of (drop (i + 1) lines) number at
@@ -28,7 +28,7 @@ not_called lines number at i d lt apart =
     ∙ ap (λ (b : Bool). name_found (cond b (Some (get_or lines i d))
     (find (λ x. is_named x.key number at) (drop (i + 1) lines)))) apart
 
--- the first line that does
+-- The first line that applies to a termination names it.
 pub called : (lines : List Named) (number : ℕ) (at : Option Peer) (i : ℕ) (d : Named) → i < length lines →
     is_named (get_or lines i d).key number at ≡ true → name_of (drop i lines) number at ≡ (get_or lines i d).name
 called lines number at i d lt this =
@@ -46,14 +46,14 @@ abbrev kept : List ℕ → Named → List Named → Bool → List PartyName
 kept name x rest b =
     map (λ y. y.key) (cond b (x ∷ filter (λ y. bytes_eq y.name name) rest) (filter (λ y. bytes_eq y.name name) rest))
 
--- a line with the name
+-- A line with this name contributes its key.
 pub has_name : (name : List ℕ) (lines : List Named) (i : ℕ) (d : Named) → i < length lines →
     bytes_eq (get_or lines i d).name name ≡ true →
     keys_with name (drop i lines) ≡ (get_or lines i d).key ∷ keys_with name (drop (i + 1) lines)
 has_name name lines i d lt this =
     at_drop_more (keys_with name) lines i d lt ∙ ap (kept name (get_or lines i d) (drop (i + 1) lines)) this
 
--- a line with another one
+-- A line with another name contributes no key.
 pub has_another : (name : List ℕ) (lines : List Named) (i : ℕ) (d : Named) → i < length lines →
     bytes_eq (get_or lines i d).name name ≡ false →
     keys_with name (drop i lines) ≡ keys_with name (drop (i + 1) lines)
@@ -65,7 +65,7 @@ no_more name lines i all = ap (keys_with name) (drop_all i lines all)
 
 -- ## Rules
 
--- one more rule was stored
+-- If pushing a rule succeeds, the rule is the last one.
 pub pushed : {E : Type 0} (r : Result (Unit {0}) E) (old new : List Rule) (rule : Rule) →
     new ≡ cond (is_ok r) (old ++ rule ∷ []) old → is_err r ≡ false → new ≡ old ++ rule ∷ []
 pushed (Ok done) old new rule e ok = e

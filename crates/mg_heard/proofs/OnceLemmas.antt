@@ -1,4 +1,4 @@
--- No pair is told twice for a tick, if no moment has a pair twice.
+-- If no moment has a pair twice, no pair is reported twice for a tick.
 use Rattle.std.proofs.Common.{◌≡◌, ℕ, ◌-◌, ◌≤◌, not, List, [], ◌∷◌, length, map, Option, Some, None, sym, ap, subst, ◌∙◌, inl, inr, arith}
 use Rattle.std.specs.Prelude.{IsSomeAnd, filter}
 use Rattle.std.proofs.lemmas.Bool.{cases_lt}

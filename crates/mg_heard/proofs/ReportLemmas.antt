@@ -1,4 +1,4 @@
--- One more entry in a report.
+-- Adding one more entry to a report.
 use Rattle.std.proofs.Common.{◌≡◌, ℕ, Bool, true, false, cond, List, [], ◌∷◌, ◌++◌, Option, Result, Ok, Err, OnOk, filter, refl, sym, ap, subst, ◌∙◌}
 use Rattle.std.specs.Io.KnownBytes.{Appends}
 use Rattle.std.proofs.KnownBytes.{Appends-trans}
@@ -19,7 +19,7 @@ lines_zipped style [] x (first ∷ lines) line h is = absurd h
 lines_zipped style (y ∷ xs) x [] line h is = absurd h
 lines_zipped style (y ∷ xs) x (first ∷ lines) line h is = (h.0, lines_zipped style xs x lines line h.1 is)
 
--- lines and one more
+-- Lines for some entries, followed by the line of one more entry, are lines for all of them.
 lines_more : (style : Style) (xs : List Entry) (x : Entry) (text line : List ℕ) → AreLines style xs text →
     IsLine style x line → AreLines style (xs ++ x ∷ []) (text ++ line)
 lines_more style xs x text line (lines, zipped, e) is = (
@@ -41,7 +41,7 @@ filter_more q (y ∷ xs) x = cond_first (q y) y (filter q (xs ++ x ∷ [])) (fil
 only_one : (q : Entry → Bool) (x : Entry) (b : Bool) → q x ≡ b → filter q (x ∷ []) ≡ cond b (x ∷ []) []
 only_one q x b e = ap (λ (b : Bool). cond b (x ∷ []) []) e
 
--- an entry that is asked for
+-- If the query selects an entry and its line is written, `HasReported` holds with that entry.
 pub reported_more : (start old : Reported) (before : List Entry) (x : Entry) (line : List ℕ) (new : Option (List ℕ)) →
     selects_entry old.query x ≡ true → IsLine old.style x line → Appends old.written new line →
     HasReported start old before → HasReported start (record old { written = new }) (before ++ x ∷ [])
@@ -62,7 +62,7 @@ reported_more start old before x line new asked is writes h =
       );
     }
 
--- an entry that isn't
+-- If the query doesn't select an entry, `HasReported` holds with that entry and nothing is written.
 pub reported_same : (start old : Reported) (before : List Entry) (x : Entry) → selects_entry old.query x ≡ false →
     HasReported start old before → HasReported start old (before ++ x ∷ [])
 reported_same start old before x other h =
@@ -77,7 +77,7 @@ reported_same start old before x other h =
       lines = (text, subst (λ (l : List Entry). AreLines start.style l text) (sym all) lines, wrote);
     }
 
--- the same, unless the writer fails
+-- If the query selects an entry, `HasReported` holds with that entry, unless the writer fails.
 pub reported_more_on : {E : Type 0} (start old : Reported) (before : List Entry) (x : Entry) (new : Option (List ℕ))
     (result : Result (Unit {0}) E) → selects_entry old.query x ≡ true →
     OnOk result ((line : List ℕ) × IsLine old.style x line × Appends old.written new line) →

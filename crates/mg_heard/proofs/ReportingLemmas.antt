@@ -1,4 +1,4 @@
--- From what a sink was told to what was written.
+-- From the entries that a sink received to the text that was written.
 use Rattle.std.proofs.Common.{◌≡◌, ℕ, false, List, [], Option, Result, Ok, Err, OnOk, filter, is_err, refl, reverse, subst}
 use Rattle.std.specs.Io.KnownBytes.{Appends}
 use Rattle.std.proofs.KnownBytes.{Appends-nil, Appends-trans}
@@ -17,12 +17,12 @@ use Rattle.mg_heard.specs.Times.{extent_of}
 use Rattle.mg_heard.specs.Told.{TellsAll}
 use Rattle.mg_heard.proofs.KeepingLemmas.{tells_weaker}
 
--- what is so if a call succeeds, after one that did
+-- If a call did not fail, its postcondition for success holds.
 pub if_done : {X E : Type 0} (result : Result (Unit {0}) E) → is_err result ≡ false → OnOk result X → X
 if_done (Ok done) ok x = x
 if_done (Err error) ok x = absurd cc
 
--- nothing was reported yet
+-- Before the first entry, nothing has been reported.
 pub reported_none : (start : Reported) → HasReported start start []
 reported_none start = record {
   style = refl;
@@ -30,7 +30,7 @@ reported_none start = record {
   lines = ([], ([], tt, refl), Appends-nil start.written);
 }
 
--- the head and the lines are the report
+-- The head and the lines of the entries make up the report.
 pub reported_whole : (style : Style) (query : Query) (old : Option (List ℕ)) (start now : Reported) (xs : List Entry) →
     start.style ≡ style → start.query ≡ query → Appends old start.written (head_of style.format) →
     HasReported start now xs → WritesReport style query old now.written xs
@@ -42,7 +42,7 @@ reported_whole style query old start now xs formed asked begins h =
       Appends-trans old start.written now.written (head_of style.format) text begins wrote,
     )
 
--- what was written, once a script was followed
+-- If `P` implies `Q`, a script that was followed with `P` was also followed with `Q`.
 pub reported_all : (config : Config) (input rest : Option (List ℕ)) (P Q : Extent → List Entry → Type 0) →
     ((extent : Extent) (xs : List Entry) → P extent xs → Q extent xs) →
     ((state : CoreState) × IsFollowed config input rest state (λ notes. TellsAll config notes P)) →

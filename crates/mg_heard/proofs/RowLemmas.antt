@@ -1,4 +1,4 @@
--- Rows of intervals, one for each listener.
+-- Rows of intervals, one row for each listener.
 use Rattle.std.proofs.Common.{◌≡◌, ℕ, eqb, ◌+◌, ◌<◌, ◌≤◌, ◌≢◌, ◌==◌, ◌||◌, not, Bool, true, false, cond, List, [], ◌∷◌, ◌++◌, Option, Some, None, All, length, append_assoc, get_or, set, take, drop, map, nat_lt, refl, sym, ap, subst, ◌∙◌, inl, inr, ◌⊎◌, arith}
 use Rattle.std.specs.Prelude.{filter, find, flat_map, is_some}
 use Rattle.std.proofs.Math.Bool.{or-false}
@@ -39,7 +39,7 @@ found_in_none p f (x ∷ xs) h = find-append p (f x) (flat_map f xs)
     ∙ ap (λ o. option_or o (find p (flat_map f xs))) (h x (inl refl))
     ∙ found_in_none p f xs (λ y i. h y (inr i))
 
--- what comes first, if nothing else is found
+-- If a match can only be in the first list, the search finds the first list's match or nothing.
 found_first : {X Y : Type 0} (p : Y → Bool) (f : X → List Y) (x : X) (xs : List X) (o : Option Y) → o ≡ find p (f x) →
     ((y : X) → In y xs → (y ≡ x) ⊎ (find p (f y) ≡ None)) → option_or o (find p (flat_map f xs)) ≡ o
 found_first p f x xs (Some y) e h = refl
@@ -48,7 +48,7 @@ found_first p f x xs None e h = found_in_none p f xs (λ y i. elim (h y i) [
   | inr k ↦ k
 ])
 
--- one of several lists, as it is or with what comes before
+-- If a match can only be in the list of `x`, the search through one more list finds the match of `x` or nothing.
 found_later : {X Y : Type 0} (p : Y → Bool) (f : X → List Y) (x z : X) (xs : List X) → In x (z ∷ xs) →
     find p (f z) ≡ None → ((y : X) → In y xs → (y ≡ x) ⊎ (find p (f y) ≡ None)) →
     (In x xs → find p (flat_map f xs) ≡ find p (f x)) → find p (flat_map f xs) ≡ find p (f x)
@@ -95,7 +95,7 @@ heard_rising hs h up =
     (pairs_filter Less (is_heard h) (seats_of hs) (pairs_map (λ h later. number_of h < number_of later) Less
     (λ h. h.seated) hs (λ x y less. less) (pairs_from_all (λ h later. number_of h < number_of later) hs up)))
 
--- a row with the flows to a listener is in order
+-- If a row has the flows to a listener, its intervals are in order.
 pub row_rising : (hs : List Hearer) (h : Hearer) (xs : List OpenInterval) → AreRising hs →
     flows_of xs ≡ flows_heard (seats_of hs) h → IsRising xs
 row_rising hs h xs up is = all_from_pairs (λ x later. key_of x.flow < key_of later.flow) xs
@@ -117,7 +117,7 @@ found_behind : (x y : OpenInterval) (xs : List OpenInterval) (b : Bool) → is_s
 found_behind x y xs true e less h = let k = ap key_of ((same x.flow y.flow).0 e) in absurd (omega arith)
 found_behind x y xs false e less h = h
 
--- each interval is found by its flow
+-- Searching for an interval's flow finds that interval.
 finds_itself : (x : OpenInterval) (xs : List OpenInterval) → Pairs (λ x later. key_of x.flow < key_of later.flow) xs →
     In x xs → find (λ y. is_same x.flow y.flow) xs ≡ Some x
 finds_itself x [] up i = absurd i
@@ -135,7 +135,7 @@ continues_itself now all (x ∷ xs) h =
     (option_map (λ z. z.first) o) (beginning_at now x.flow)) (h x (inl refl)) in
     λ i. first i ∷ continues_itself now all xs (λ y j. h y (inr j)) i
 
--- a row whose flows stay open stays as it is
+-- A row whose flows all stay open is unchanged.
 pub row_stays : (now : Moment) (xs : List OpenInterval) (fs : List OpenFlow) → IsRising xs → flows_of xs ≡ fs →
     map (continued xs) (map (beginning_at now) fs) ≡ xs
 row_stays now xs fs up is =
@@ -183,7 +183,7 @@ rows_pairs rows h = unmapped (λ a b. number_of a < number_of b) (λ r. r.listen
 in_all : {X : Type 0} (P : X → Type 0) (xs : List X) (x : X) → All P xs → In x xs → P x
 in_all P xs x h i = let (k, within, is) = at_from_in x xs i in subst P is (h k x within)
 
--- nothing is found in a row of another listener
+-- The row of another listener has no interval of this flow.
 not_in_row : (rows : List ListenerRow) (r : ListenerRow) (x : OpenFlow) → AreRows rows → In r rows →
     (number_of r.listener ≡ x.listener → ⊥) → find (λ y. is_same x y.flow) r.row ≡ None
 not_in_row rows r x h i apart = found_nowhere (λ y. is_same x y.flow) r.row (λ y j. others_differ x y.flow
@@ -199,7 +199,7 @@ by_number m n P one other = at (eqb m n) refl
     at true e = one (eqb-true m n e)
     at false e = other (λ k. true≢false (sym (eq-eqb m n k) ∙ e))
 
--- when a flow began is found in its listener's row
+-- The row of its listener determines when a flow began.
 began_in_row : (rows : List ListenerRow) (r : ListenerRow) (x : OpenFlow) → AreRows rows → In r rows →
     number_of r.listener ≡ x.listener → beginning_among (intervals_of rows) x ≡ beginning_among r.row x
 began_in_row rows r x h i e = ap (option_map (λ y. y.first))
@@ -219,7 +219,7 @@ not_heard : (ts : List Seated) (h : Hearer) (x : OpenFlow) → (number_of h ≡ 
 not_heard ts h x apart = found_nowhere (is_same x) (flows_heard ts h)
     (λ y j. others_differ x y (λ e. apart (sym (e ∙ heard_listener ts h y j))))
 
--- whether a flow is open is found in the flows to its listener
+-- The flows to its listener determine whether a flow is open.
 open_to : (hs : List Hearer) (h : Hearer) (x : OpenFlow) → AreRising hs → In h hs → number_of h ≡ x.listener →
     has (flows_among hs) x ≡ has (flows_heard (seats_of hs) h) x
 open_to hs h x up i e = any_found (is_same x) (flows_among hs)
@@ -239,18 +239,18 @@ open_to_none hs x apart = any_found (is_same x) (flows_among hs)
 abbrev among : List Hearer → ℕ → Bool
 among hs n = list_any (λ h. number_of h == n) hs
 
--- a listener's row afterwards
+-- The row of a listener after the moment `now`.
 abbrev made : List OpenInterval → List Hearer → Moment → Hearer → ListenerRow
 made earlier hs now h = record {
   listener = h;
   row = map (continued earlier) (map (beginning_at now) (flows_heard (seats_of hs) h));
 }
 
--- what is left of a row
+-- The intervals of a row that end.
 abbrev rest_of : List OpenFlow → ListenerRow → ListenerRow
 rest_of flows r = record { listener = r.listener; row = without_flows flows r.row }
 
--- what is left of a row so far
+-- A row after the moment, which holds only the intervals that end if `b` is set.
 abbrev left : List OpenFlow → Bool → ListenerRow → ListenerRow
 left flows b r = cond b (rest_of flows r) r
 
@@ -281,7 +281,7 @@ pairs_across R x y [] ys h i = absurd i
 pairs_across R x y (z ∷ xs) ys h (inl e) = subst (λ w. R w y) (sym e) (h.0 y (in_right y xs (y ∷ ys) (inl refl)))
 pairs_across R x y (z ∷ xs) ys h (inr i) = pairs_across R x y xs ys h.1 i
 
--- a listener is not among those before it
+-- A listener is not among those before it in the list.
 not_among : (hs : List Hearer) (j : ℕ) (h : Hearer) → AreRising hs → j < length hs → get_or hs j h ≡ h →
     among (take j hs) (number_of h) ≡ false
 not_among hs j h up there is = any_nowhere (λ x. number_of x == number_of h) (take j hs) (λ x i.
@@ -314,7 +314,7 @@ among_this hs j n h there is e = among_more hs j n h there is
     or-true true = refl
     or-true false = refl
 
--- a listener that comes next has its earlier row still
+-- The earlier row of the next listener has not been changed yet.
 pub at_first : (first old rows : List ListenerRow) (hs : List Hearer) (now : Moment) (j k : ℕ) (h : Hearer)
     (d : ListenerRow) → AreRising hs → j < length hs → get_or hs j h ≡ h → Advances first old rows hs now j →
     k < length first → number_of (get_or old k d).listener ≡ number_of h → get_or old k d ≡ get_or first k d
@@ -396,11 +396,11 @@ is_rest : (flows : List OpenFlow) (r z : ListenerRow) → z.listener ≡ r.liste
     z ≡ rest_of flows r
 is_rest flows r z listens row = λ i. record { listener = listens i; row = row i }
 
--- what stands for a place that isn't there
+-- A dummy row for a place that doesn't exist.
 abbrev pub no_row : ListenerRow
 no_row = record { listener = nobody; row = [] }
 
--- a listener's earlier row is continued
+-- If the next listener has an earlier row, its new row continues that one.
 pub advances_found : (first old rows : List ListenerRow) (hs : List Hearer) (now : Moment) (j k : ℕ) (h : Hearer)
     (d y z : ListenerRow) → AreRows first → AreRising hs → j < length hs → j < length rows → get_or hs j h ≡ h →
     Advances first old rows hs now j → k < length first → number_of (get_or old k d).listener ≡ number_of h →
@@ -441,7 +441,7 @@ advances_found first old rows hs now j k h d y z own up there within is a below 
           ∙ ap (λ (r : ListenerRow). number_of r.listener) (get_or_default first k d e below))))));
     }
 
--- a listener that had no row gets one
+-- If the next listener has no earlier row, its new row begins at this moment.
 pub advances_new : (first old rows : List ListenerRow) (hs : List Hearer) (now : Moment) (j : ℕ) (h : Hearer)
     (y : ListenerRow) → AreRows first → j < length hs → j < length rows → get_or hs j h ≡ h →
     Advances first old rows hs now j → ((k : ℕ) (d : ListenerRow) → k < length old →
@@ -526,7 +526,7 @@ all_left : (fs : List OpenFlow) (xs : List OpenInterval) → ((x : OpenInterval)
 all_left fs [] h = refl
 all_left fs (x ∷ xs) h = rw (h x (inl refl)) (ap (λ (l : List OpenInterval). x ∷ l) (all_left fs xs (λ y i. h y (inr i))))
 
--- a row whose listener is gone has ended as a whole
+-- If a row's listener no longer exists, all intervals of the row end.
 rest_at : (first : List ListenerRow) (hs : List Hearer) (k : ℕ) (d : ListenerRow) (b : Bool) → AreRows first →
     k < length first → among hs (number_of (get_or first k d).listener) ≡ b →
     left (flows_among hs) b (get_or first k d) ≡ rest_of (flows_among hs) (get_or first k d)
@@ -562,7 +562,7 @@ all_ended first old rows hs now j own past a =
 
 -- ## What the steps require
 
--- the earlier row of a listener that comes next
+-- The earlier row of the next listener is in order.
 pub earlier_rising : (first : List ListenerRow) (r : ListenerRow) (k : ℕ) (d : ListenerRow) → AreRows first →
     k < length first → r ≡ get_or first k d → IsRising r.row
 earlier_rising first r k d own below at = subst (λ (r : ListenerRow). IsRising r.row) (sym at)

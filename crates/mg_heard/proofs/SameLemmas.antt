@@ -1,4 +1,4 @@
--- The test of sameness decides equality.
+-- `is_same` returns true if and only if the two flows are equal.
 use Rattle.std.proofs.Common.{◌≡◌, eqb, ◌&&◌, true, List, [], ◌∷◌, Option, Some, None, refl, ap, inl, inr}
 use Rattle.std.specs.Bool.{Decides}
 use Rattle.std.specs.Option.{option_eq}

@@ -1,4 +1,4 @@
--- The lines that the code writes, piece by piece, are the defined ones.
+-- The lines that the code writes piece by piece are the defined ones.
 use Rattle.std.proofs.Common.{◌≡◌, ◌⊎◌, ℕ, Bool, true, false, List, [], ◌∷◌, ◌++◌, Option, None, Some, inl, inr, refl, sym, ap, ◌∙◌, append_assoc, codes, decimal, length, ◌==◌, if◌then◌else◌}
 use Rattle.std.proofs.lemmas.List.{append-nil}
 use Rattle.std.specs.Prelude.{option_to_list}
@@ -99,14 +99,14 @@ page_same from until names x =
     (bar_same x.end) (shown_same names x.flow.listener x.flow.listener_at)
     (shown_same names x.flow.talker x.flow.talker_at)
 
-gap_page : (a b m e : List ℕ) →
+gap_page : (a b k m e : List ℕ) →
     codes "<tr class=\"gap\" " ++ ((codes "style=\"--a:" ++ (a ++ (codes ";--b:" ++ (b ++ codes "\">"))))
-    ++ (codes "<th scope=\"row\" colspan=\"3\">Gap</th>"
-    ++ (codes "<td>" ++ (m ++ (codes "</td><td>" ++ (e ++ codes "</td><td><div></div></td></tr>\n"))))))
+    ++ (codes "<th scope=\"row\" colspan=\"3\">" ++ (k ++ (codes "</th>"
+    ++ (codes "<td>" ++ (m ++ (codes "</td><td>" ++ (e ++ codes "</td><td><div></div></td></tr>\n"))))))))
     ≡ concat (codes "<tr " ∷ codes "class=\"gap\" " ∷ codes "style=\"--a:" ∷ a ∷ codes ";--b:" ∷ b ∷ codes "\">"
-    ∷ codes "<th scope=\"row\" colspan=\"3\">Gap</th>"
+    ∷ (codes "<th scope=\"row\" colspan=\"3\">" ++ (k ++ codes "</th>"))
     ∷ codes "<td>" ∷ m ∷ codes "</td><td>" ∷ e ∷ codes "</td><td><div></div></td></tr>\n" ∷ [])
-gap_page a b m e = simp (append_assoc, append-nil)
+gap_page a b k m e = simp (append_assoc, append-nil)
 
 -- ## Values
 
@@ -162,7 +162,7 @@ plain_row : (k l p p' t q q' c f e e' d d' u u' n n' m m' : List ℕ) →
 unfolding plain
 plain_row k l p p' t q q' c f e e' d d' u u' n n' m m' = simp append_assoc
 
--- what follows the members
+-- Further members, each after a comma, and an end.
 after : List (List ℕ) → List ℕ → List ℕ
 after [] end = end
 after (x ∷ xs) end = 44 ∷ (x ++ after xs end)
@@ -239,30 +239,35 @@ object_same claim from until names x =
 
 -- ## Gaps
 
-gap_values : (f e e' d d' u u' : List ℕ) → List lines.Value
-gap_values f e e' d d' u u' = lines.word (codes "gap") ∷ lines.left_out 5
+gap_values : (k f e e' d d' u u' : List ℕ) → List lines.Value
+gap_values k f e e' d d' u u' = lines.word k ∷ lines.left_out 5
     ++ ((f, Some f) ∷ (e, Some e') ∷ (d, Some d') ∷ (u, Some u') ∷ lines.left_out 2)
 
-gap_row : (f e e' d d' u u' : List ℕ) →
-    codes "gap,,,,,," ++ ((f ++ (codes "," ++ (e ++ (codes "," ++ (d ++ (codes "," ++ u)))))) ++ codes ",,\n")
-    ≡ lines.row_of (gap_values f e e' d d' u u')
+gap_row : (k f e e' d d' u u' : List ℕ) →
+    k ++ (codes ",,,,,," ++ ((f ++ (codes "," ++ (e ++ (codes "," ++ (d ++ (codes "," ++ u)))))) ++ codes ",,\n"))
+    ≡ lines.row_of (gap_values k f e e' d d' u u')
 unfolding gap_values
-gap_row f e e' d d' u u' = simp append_assoc
+gap_row k f e e' d d' u u' = simp append_assoc
 
-gap_object : (f e e' d d' u u' : List ℕ) →
-    codes "{\"kind\":\"gap\"" ++ ((codes ",\"first_tick\":" ++ (f ++ (codes ",\"end_tick\":" ++ (e'
-    ++ (codes ",\"from\":" ++ (d' ++ (codes ",\"until\":" ++ u'))))))) ++ codes "}\n")
-    ≡ lines.object_of (gap_values f e e' d d' u u')
+quoted : (a k z x end : List ℕ) → a ++ (k ++ (z ++ (x ++ end))) ≡ a ++ (((k ++ z) ++ x) ++ end)
+quoted a k z x end = simp append_assoc
+
+gap_object : (k f e e' d d' u u' : List ℕ) →
+    codes "{\"kind\":\"" ++ (k ++ (codes "\"" ++ ((codes ",\"first_tick\":" ++ (f ++ (codes ",\"end_tick\":" ++ (e'
+    ++ (codes ",\"from\":" ++ (d' ++ (codes ",\"until\":" ++ u'))))))) ++ codes "}\n")))
+    ≡ lines.object_of (gap_values k f e e' d d' u u')
 unfolding gap_values
-gap_object f e e' d d' u u' = refl
+gap_object k f e e' d d' u u' = quoted (codes "{\"kind\":\"") k (codes "\"") (codes ",\"first_tick\":" ++ (f
+    ++ (codes ",\"end_tick\":" ++ (e' ++ (codes ",\"from\":" ++ (d' ++ (codes ",\"until\":" ++ u')))))))
+    (codes "}\n")
 
 gap_values_same : (from until : List ℕ) (gap : Gap) →
-    gap_values (decimal gap.first.tick) (decimal gap.end.tick) (decimal gap.end.tick)
+    gap_values (lines.gap_word gap) (decimal gap.first.tick) (decimal gap.end.tick) (decimal gap.end.tick)
     (shapes.time_column from gap.first.date) (shapes.time_member from gap.first.date)
     (shapes.time_column until gap.end.date) (shapes.time_member until gap.end.date) ≡
-    lines.word (codes "gap") ∷ lines.left_out 5 ++ (lines.extent_values from until gap.first (Some gap.end) ++ lines.left_out 2)
+    lines.word (lines.gap_word gap) ∷ lines.left_out 5 ++ (lines.extent_values from until gap.first (Some gap.end) ++ lines.left_out 2)
 unfolding gap_values
-gap_values_same from until gap = sym (λ i. lines.word (codes "gap") ∷ lines.left_out 5
+gap_values_same from until gap = sym (λ i. lines.word (lines.gap_word gap) ∷ lines.left_out 5
     ++ (lines.number gap.first.tick ∷ lines.number gap.end.tick ∷ time_same from gap.first.date i
     ∷ time_same until gap.end.date i ∷ lines.left_out 2))
 
@@ -277,16 +282,16 @@ interval_same claim Json from until names x = object_same claim from until names
 interval_same claim Page from until names x = page_same from until names x
 
 pub gap_same : (format : Format) (from until : List ℕ) (gap : Gap) →
-    shapes.gap_shape format from until gap.first gap.end ≡ lines.gap_line format from until gap
+    shapes.gap_shape format from until gap ≡ lines.gap_line format from until gap
 gap_same Text from until gap = refl
-gap_same Csv from until gap = gap_row (decimal gap.first.tick) (decimal gap.end.tick) (decimal gap.end.tick) (shapes.time_column from gap.first.date)
+gap_same Csv from until gap = gap_row (lines.gap_word gap) (decimal gap.first.tick) (decimal gap.end.tick) (decimal gap.end.tick) (shapes.time_column from gap.first.date)
     (shapes.time_member from gap.first.date) (shapes.time_column until gap.end.date) (shapes.time_member until gap.end.date)
     ∙ ap (λ (vs : List lines.Value). lines.row_of vs) (gap_values_same from until gap)
-gap_same Json from until gap = gap_object (decimal gap.first.tick) (decimal gap.end.tick) (decimal gap.end.tick) (shapes.time_column from gap.first.date)
+gap_same Json from until gap = gap_object (lines.gap_word gap) (decimal gap.first.tick) (decimal gap.end.tick) (decimal gap.end.tick) (shapes.time_column from gap.first.date)
     (shapes.time_member from gap.first.date) (shapes.time_column until gap.end.date) (shapes.time_member until gap.end.date)
     ∙ ap (λ (vs : List lines.Value). lines.object_of vs) (gap_values_same from until gap)
 gap_same Page from until gap = gap_page (decimal gap.first.tick) (decimal gap.end.tick)
-    (lines.moment_text from gap.first.tick gap.first.date) (lines.moment_text until gap.end.tick gap.end.date)
+    (lines.gap_word gap) (lines.moment_text from gap.first.tick gap.first.date) (lines.moment_text until gap.end.tick gap.end.date)
 
 pub violation_sentence_same : (format : Format) (time : List ℕ) (names : List Named) (v : Violation) →
     (format ≡ Text) ⊎ (format ≡ Page) → shapes.violation_sentence time names v ≡ violation_line format time names v

@@ -1,4 +1,4 @@
--- Moments, gaps and dates of more notes, which come newest first.
+-- How moments, gaps and dates change with more notes, which come newest first.
 use Rattle.std.proofs.Common.{◌≡◌, ◌≢◌, ℕ, ◌+◌, ◌<◌, ◌≤◌, ◌⊎◌, inl, inr, suc, zero, cond, List, [], ◌∷◌, ◌++◌, nat_lt, Option, Some, None, Result, Ok, Err, OnOk, IfOk, All, IfSome, map, refl, sym, ap, ◌∙◌, arith}
 use Rattle.std.specs.Prelude.{option_to_list}
 use Rattle.std.specs.Option.{option_map, option_map_or, option_or}
@@ -17,12 +17,13 @@ use Rattle.mg_dates.specs.declared.agreement.Agreement.TheVariants.{Agrees, Firs
 use Rattle.mg_dates.specs.declared.date.Date.{Date}
 use Rattle.mg_dates.specs.declared.timeline.Timeline.{Timeline}
 use Rattle.mg_dates.proofs.TimeLemmas.{timeline_datagram, timeline_ticks}
+use Rattle.mg_fence.specs.Reached.{number_set}
 use Rattle.mg_heard.specs.declared.clock.Clock.{Clock}
 use Rattle.mg_heard.specs.declared.entry.Entry.{Entry}
 use Rattle.mg_heard.specs.declared.entry.Entry.TheVariants as entries
 use Rattle.mg_heard.specs.declared.gap.Gap.{Gap}
 use Rattle.mg_heard.specs.declared.moment.Moment.{Moment}
-use Rattle.mg_heard.specs.Times.{date_gap, date_of_tick, first_dated, gap_if, gap_of, gaps_of, is_jump, missed_in, moment_after, tick_count}
+use Rattle.mg_heard.specs.Times.{date_gap, date_of_tick, fence_gap, first_dated, gap_if, gap_of, gaps_of, is_jump, missed_in, moment_after, tick_count}
 use Rattle.mg_heard.specs.declared.open_interval.OpenInterval.{OpenInterval}
 use Rattle.mg_heard.specs.Told.{HasMoments, IsDated, gaps_in}
 use Rattle.mg_heard.specs.aids.Timing.{AreBegun, AreTimed, IsBefore, IsClock, Timed}
@@ -87,7 +88,7 @@ unfolding first_dated
 first_date older line date is = ap (λ (d : Option Date). option_or (first_dated older)
     (option_map (λ (e : Date). moment_after (Comment line ∷ older)) d)) is
 
--- the clock after a date, and the moment after it
+-- After a date, the clock has passed the comment, and `end` is the next moment.
 pub clock_date : (older : List Note) (line : List ℕ) (date : Date) (end : Moment) (old new : Clock) →
     date_in line ≡ Some date → new.ticks ≡ old.ticks → new.timeline ≡ after_date old.timeline date →
     end.tick ≡ new.ticks → end.date ≡ next_tick new.timeline →
@@ -109,7 +110,7 @@ clock_date older line date end old new is ticks timeline at due first h =
       },
     )
 
--- the gap before a date
+-- The code finds the gap before a date.
 pub gap_date : (older : List Note) (line : List ℕ) (date : Date) (first end : Moment) (agreement : Agreement) (old : Clock) →
     date_in line ≡ Some date → agreement ≡ agreement_of (next_tick old.timeline) date →
     first ≡ moment_after older → end ≡ moment_after (Comment line ∷ older) → IsClock older old →
@@ -121,7 +122,7 @@ gap_date older line date first end agreement old is agrees begins ends h =
     ∙ sym (ap (λ (d : Option Date). option_map_or (λ date. date_gap date line older) d
     (option_map_or
     (λ count. gap_if (nat_lt 0 count) (moment_after older) (moment_after (ticks_of count ++ older)))
-    (missed_in line) None)) is)
+    (missed_in line) (option_map (fence_gap (moment_after older)) (number_set line)))) is)
 
 or_none : (m : Option Moment) → m ≡ option_or m None
 or_none None = refl
@@ -157,16 +158,18 @@ clock_datagram older event clock h k = record {
   first = k.first ∙ first_event older event;
 }
 
--- the gap of a comment without a date, unless a call failed
+-- The code finds the gap of a comment without a date, unless a call fails.
 pub gap_missed_if : {E : Type 0} (older : List Note) (line : List ℕ) (missed : Option ℕ) (new : Clock)
     (result : Result (Option Gap) E) → date_in line ≡ None → missed ≡ missed_in line →
     IfOk result (λ gap. gap ≡ option_map_or
-    (λ count. gap_if (nat_lt 0 count) (moment_after older) (moment_after (ticks_of count ++ older))) missed None) →
+    (λ count. gap_if (nat_lt 0 count) (moment_after older) (moment_after (ticks_of count ++ older))) missed
+    (option_map (fence_gap (moment_after older)) (number_set line))) →
     IsClock older new →
     IfOk result (λ gap. (gap ≡ gap_of line older) × IsClock (Comment line ∷ older) new)
 gap_missed_if older line missed new (Ok gap) none is gaps h =
     let gap_by : Option ℕ → Option Gap = λ m. option_map_or
-    (λ count. gap_if (nat_lt 0 count) (moment_after older) (moment_after (ticks_of count ++ older))) m None in (
+    (λ count. gap_if (nat_lt 0 count) (moment_after older) (moment_after (ticks_of count ++ older))) m
+    (option_map (fence_gap (moment_after older)) (number_set line)) in (
       gaps ∙ ap gap_by is ∙ sym (ap (λ (d : Option Date). option_map_or (λ date. date_gap date line older) d
           (gap_by (missed_in line))) none),
       clock_other older line new none h,
@@ -175,13 +178,13 @@ gap_missed_if older line missed new (Err error) none is gaps h = tt
 
 -- ## Dates
 
--- the next tick
+-- The date of the next tick is the date that the timeline expects.
 pub date_next : (older : List Note) → next_tick (timeline_of older) ≡ date_of_tick older (tick_count older)
 unfolding date_of_tick timeline_of
 date_next [] = refl
 date_next (note ∷ older) = sym (rw (le-ltb (tick_count (note ∷ older)) (tick_count (note ∷ older)) (omega arith)) refl)
 
--- an earlier tick
+-- One more note doesn't change the date of an earlier tick.
 date_earlier : (note : Note) (older : List Note) (tick : ℕ) → tick < tick_count (note ∷ older) →
     date_of_tick older tick ≡ date_of_tick (note ∷ older) tick
 unfolding date_of_tick
@@ -198,7 +201,7 @@ before_note note older m (less, dated) =
     let within : m.tick < tick_count (note ∷ older) = omega (arith, count_note note older, less) in
     (within, dated ∙ date_earlier note older m.tick within)
 
--- a moment before the next tick, or that of the next tick, once that tick has passed
+-- After a tick, a moment that was before the tick or at it is before the next tick.
 before_tick : (older : List Note) (m : Moment) → IsBefore older (tick_count older + 1) m →
     IsBefore (Happened Tick ∷ older) (tick_count (Happened Tick ∷ older)) m
 before_tick older m (less, dated) =
@@ -333,7 +336,7 @@ pub dated_all : (older : List Note) (tick : ℕ) (xs : List Entry) → AreTimed 
     All (HasMoments (IsDated older)) xs
 dated_all older tick xs h = told_later (IsBefore older tick) (IsDated older) (λ m b. b.1) xs h.dated
 
--- what is told of stored intervals, as one entry each
+-- If stored intervals are reported as one entry each, the reported entries still have the right gaps and dates.
 pub timed_intervals : (older : List Note) (tick : ℕ) (told : OpenInterval → Entry) (xs : List Entry)
     (stored : List OpenInterval) → ((l : List OpenInterval) → gaps_in (map told l) ≡ []) →
     ((x : OpenInterval) → IsBefore older tick x.first → HasMoments (IsBefore older tick) (told x)) →
@@ -346,7 +349,7 @@ timed_intervals older tick told xs stored none each begun h = record {
       (All-weaker (λ x. IsBefore older tick x.first) (λ x. HasMoments (IsBefore older tick) (told x)) each stored begun));
 }
 
--- more was told, unless the sink refused it
+-- Reporting more entries with the right gaps and dates keeps `Timed`, unless the sink refuses an entry.
 pub timed_on : {E : Type 0} (older next : List Note) (tick later : ℕ) (Told ToldNext : List Entry → Type 0)
     (more : List Entry) (result : Result (Unit {0}) E) →
     ((before : List Entry) → Told before → OnOk result (ToldNext (before ++ more))) →

@@ -1,4 +1,4 @@
--- The interval of a flow among intervals in the order of their pairs.
+-- Finding the interval of a flow among intervals that are in order of their pairs.
 use Rattle.std.proofs.Common.{◌≡◌, ℕ, ◌<◌, ◌≤◌, suc, zero, Bool, true, false, List, [], ◌∷◌, length, get_or, take, Option, Some, None, refl, sym, ap, subst, ◌∙◌, inl, inr, arith}
 use Rattle.std.specs.Prelude.{find}
 use Rattle.std.specs.Option.{option_map}
@@ -22,7 +22,7 @@ Rising xs = Pairs (λ x later. key_of x.flow < key_of later.flow) xs
 abbrev begun : Option OpenInterval → Option Moment
 begun o = option_map (λ x. x.first) o
 
--- a pair with another number is another pair
+-- A pair with another key is another pair.
 pub other_key : (flow : OpenFlow) (x : OpenInterval) → (key_of x.flow ≡ key_of flow → ⊥) → IsOf flow x ≡ false
 other_key flow x h = false_from_ne_true (IsOf flow x) (λ e. h (ap key_of (sym ((same flow x.flow).0 e))))
 
@@ -79,7 +79,7 @@ pub not_begun : (flow : OpenFlow) (xs : List OpenInterval) (from : ℕ) (x : Ope
 not_begun flow xs from x rising within at h above e = sym (ap begun (none_here flow xs from x
     (pairs_from_all (λ x later. key_of x.flow < key_of later.flow) xs rising) within at h above e))
 
--- the number of the pair at a place, as it was read
+-- The key that was read at a place is the key of the interval there.
 pub key_here : (xs : List OpenInterval) (from key : ℕ) (x d : OpenInterval) →
     ((d : OpenInterval) → x ≡ get_or xs from d) → key ≡ key_of (get_or xs from d).flow → key ≡ key_of x.flow
 key_here xs from key x d is e = e ∙ ap (λ (u : OpenInterval). key_of u.flow) (sym (is d))

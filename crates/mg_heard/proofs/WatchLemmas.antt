@@ -1,4 +1,4 @@
--- What a watch keeps, note by note.
+-- The state of a watch, note by note.
 use Rattle.std.proofs.Common.{◌≡◌, ◌≢◌, ℕ, ◌+◌, suc, zero, Bool, true, false, List, [], ◌∷◌, ◌++◌, ◌<◌, ◌≤◌, cond, drop, get_or, length, map, replicate, Option, Some, None, refl, sym, ap, subst, ◌∙◌, arith, length-append, inl, inr}
 use Rattle.std.specs.Prelude.{reverse, is_some, IsSomeAnd}
 use Rattle.std.specs.Option.{option_map, option_map_or, option_or}
@@ -94,7 +94,7 @@ first_within rules from tick x (flows ∷ xs) is =
 abbrev seen : Option Violation → Found
 seen o = option_map without_date o
 
--- a violation at the tick of a watch that has none
+-- The tick matters only while a watch has no violation.
 at_tick : (old : Option Violation) (tick k : ℕ) (rules : List Rule) (flows : List OpenFlow) → (old ≡ None → tick ≡ k) →
     option_or (seen old) (forbidden_at tick rules flows) ≡ option_or (seen old) (forbidden_at k rules flows)
 at_tick None tick k rules flows same = ap (λ n. forbidden_at n rules flows) (same refl)
@@ -158,14 +158,14 @@ watches_datagram one only rules config notes event tick next is_changed will_cha
           ap (forbidden_in rules) (only s.mid w event s.sent speech s.step ∙ sym e.is) ∙ h.same before none;
     }
 
--- the flows that are kept as open are those of the world
+-- The flows that count as open are those of the world.
 pub watched_now : OneOutcome → (rules : List Rule) (config : Config) (notes : List Note) (tick : ℕ) (is_changed : Bool)
     (violation : Option Violation) (sent : List Sent) (w : World) → Run (start_of config) (events_in notes) sent w →
     (h : KeepsRules rules config notes tick is_changed violation) → h.now ≡ open_flows w.gateway
 watched_now one rules config notes tick is_changed violation sent w run h =
     (extends one (start_of config) w (events_in notes) [] sent h.now h.past (open_flows w.gateway ∷ []) run h.are refl).is
 
--- what was found when the rules were compared with the flows that are open
+-- After the rules were compared with the open flows, the first violation is known up to this moment.
 pub compared : OneOutcome → (rules : List Rule) (config : Config) (notes : List Note) (tick : ℕ) (is_changed : Bool)
     (old new : Option Violation) (sent : List Sent) (w : World) (others : List Rule) → others ≡ rules →
     Run (start_of config) (events_in notes) sent w → KeepsRules rules config notes tick is_changed old →
@@ -178,7 +178,7 @@ compared one rules config notes tick is_changed old new sent w others same run h
     ∙ ap (forbidden_in rules) (sym now) ∙ h.same e none)
     ∙ ap (λ (l : List Rule). option_or (seen old) (forbidden_at tick l (open_flows w.gateway))) same
 
--- the first violation, with some more moments
+-- More moments with the same flows don't change the first violation that was found.
 first_more : (rules : List Rule) (old new : Option Violation) (tick n : ℕ) (past : List (List OpenFlow))
     (flows : List OpenFlow) → seen old ≡ first_forbidden rules 0 (reverse past) → (old ≡ None → tick ≡ length past) →
     seen new ≡ option_or (seen old) (forbidden_at tick rules flows) →
@@ -241,7 +241,7 @@ watches_no_tick rules config notes tick count is_changed violation none h =
 
 -- ## The end
 
--- a violation that was found before is the one that is found
+-- A violation that was found before remains the one that is found.
 found_before : (old new : Option Violation) (later : Found) (k : ℕ) → is_some old ≡ true →
     seen new ≡ option_or (seen old) later → ((tick : ℕ) (x : OpenFlow) → seen old ≡ Some (tick, x) → tick < k) →
     IsSomeAnd new (λ v. v.at.tick + 1 < suc k)
@@ -256,7 +256,7 @@ was_some : (is_done ended : Bool) → ended ≡ false → (is_done ≡ false →
 was_some true ended left until = refl
 was_some false ended left until = absurd (true≢false (sym (until refl) ∙ left))
 
--- a watch has followed these notes
+-- The watch has followed these notes.
 abbrev pub Watches : List Rule → Config → Watch → List Note → Type 0
 Watches rules config w notes =
     (w.rules.now ≡ rules) × KeepsRules rules config notes w.clock.ticks w.is_changed w.violation
@@ -341,7 +341,7 @@ begun_flows : (at : Moment) (flows : List OpenFlow) → flows_of (map (beginning
 begun_flows at [] = refl
 begun_flows at (x ∷ xs) = ap (λ (l : List OpenFlow). x ∷ l) (begun_flows at xs)
 
--- the first forbidden flow of those that were stored
+-- Searching the stored intervals finds the first forbidden flow.
 pub forbidden_stored : (rules : List Rule) (at : Moment) (flows : List OpenFlow) (stored shown : List OpenInterval)
     (r : Option OpenFlow) → stored ≡ map (beginning_at at) flows → shown ≡ stored →
     r ≡ forbidden_in rules (flows_of shown) → option_map (λ x. (at.tick, x)) r ≡ forbidden_at at.tick rules flows

@@ -1,4 +1,4 @@
--- How questions name terminations, and which terminations they are about.
+-- How questions name terminations, and how names turn into keys.
 use Rattle.std.specs.Prelude.{◌≡◌, ℕ, ◌<◌, ◌-◌, ◌&&◌, Bool, List, [], ◌∷◌, length, take, drop, Option}
 use Rattle.std.specs.Prelude.{Some, None, codes, if◌then◌else◌}
 use Rattle.std.specs.Option.{option_map, option_or}
@@ -18,13 +18,13 @@ use Rattle.mg_heard.specs.Query.{party_name_of}
 
 -- ## Texts
 
--- what a text names: a key, or a name if names are allowed
+-- The key or name in a text. Names are allowed only if `has_names` is set.
 abbrev pub asked_by : (has_names : Bool) → List ℕ → Option Asked
 asked_by has_names text =
     option_or (option_map Key (party_name_of text))
     (if has_names then option_map Name (name_in text) else None)
 
--- the texts before and after an arrow, ` -> `, to which the first `>` belongs
+-- The texts before and after the arrow ` -> `. The first `>` of the text must belong to the arrow.
 abbrev pub around_arrow : List ℕ → Option (List ℕ × List ℕ)
 around_arrow text = do
   parts ← cut 62 text
@@ -32,12 +32,12 @@ around_arrow text = do
       && bytes_eq (take 1 parts.1) (codes " ")
       then Some (take (length parts.0 - 2) parts.0, drop 1 parts.1) else None
 
--- what one side of an arrow names; `*` names all terminations
+-- The terminations that one side of an arrow selects; `*` selects all terminations.
 abbrev pub pattern_by : (has_names : Bool) → List ℕ → Option (Option Asked)
 pattern_by has_names text =
     if bytes_eq text (codes "*") then Some None else option_map Some (asked_by has_names text)
 
--- the rule in a text: a talker, an arrow and a listener
+-- The rule in a text that consists of a talker, an arrow and a listener.
 abbrev pub rule_by : (has_names : Bool) → List ℕ → Option AskedRule
 rule_by has_names text = do
   parts ← around_arrow text
@@ -47,22 +47,22 @@ rule_by has_names text = do
 
 -- ## Terminations
 
--- These are the keys that a question is about, given the lines of a file of names: the one that it
--- gives, or those of all lines with the name that it gives, of which there is at least one.
+-- The keys that a question is about, given the lines of a file of names. A question by name is about the keys of all
+-- lines with this name, and at least one line must have it.
 abbrev pub AreKeys : List Named → Option Asked → Option (List PartyName) → Type 0
 AreKeys lines None keys = keys ≡ None
 AreKeys lines (Some (Key key)) keys = keys ≡ Some (key ∷ [])
 AreKeys lines (Some (Name name)) keys =
     (keys ≡ Some (keys_with name lines)) × (0 < length (keys_with name lines))
 
--- the query that asks about the terminations with the given names
+-- The query that results from looking up the names of the question.
 pub record IsQuery (lines : List Named) (asked : AskedQuery) (query : Query) : Type 0 where
   pub listener : AreKeys lines asked.listener query.listener
   pub talker : AreKeys lines asked.talker query.talker
   pub from : query.from ≡ asked.from
   pub until : query.until ≡ asked.until
 
--- the rule about the terminations with the given names
+-- The rule that results from looking up the names in it.
 pub record IsRule (lines : List Named) (asked : AskedRule) (rule : Rule) : Type 0 where
   pub talker : AreKeys lines asked.talker rule.talker
   pub listener : AreKeys lines asked.listener rule.listener

@@ -1,8 +1,8 @@
--- How a page (HTML) shows a text.
+-- How texts are escaped in a page (HTML).
 use Rattle.std.specs.Prelude.{ℕ, ◌==◌, ◌||◌, nat_lt, List, [], ◌∷◌, codes, if◌then◌else◌}
 use Rattle.std.specs.List.{flat_map}
 
--- A byte of a text, as a page shows it. A page has no control characters, so U+FFFD replaces them.
+-- The escaped form of a byte. A page has no control characters, so U+FFFD replaces them.
 abbrev pub escaped_byte : ℕ → List ℕ
 escaped_byte b =
     if b == 38 then codes "&amp;" else (if b == 60 then codes "&lt;"

@@ -1,4 +1,4 @@
--- What the intervals say: exactly who could hear whom, and nothing twice.
+-- The intervals say exactly who could hear whom, and report nothing twice.
 use Rattle.std.specs.Prelude.{◌≡◌, ◌↔◌, ℕ, true, List, [], ◌∷◌, ◌++◌, AllPairs, Any, Contains}
 use Rattle.std.specs.Prelude.{count_by, reverse}
 use Rattle.mg_engine.specs.declared.config.Config.{Config}
@@ -15,7 +15,7 @@ use Rattle.mg_heard.specs.Maximal.{IsOfPair, IsTellingOnce, LiesIn}
 use Rattle.mg_heard.specs.Moments.{AreMoments}
 use Rattle.mg_heard.specs.OpenFlows.{open_flow}
 
--- the intervals of these events on a gateway that was started with this configuration
+-- The intervals of these events on a gateway that was started with this configuration.
 abbrev pub AreIntervals : Config → List Event → List Interval → Type 0
 AreIntervals config events ys =
     (moments : List (List OpenFlow)) × AreMoments (start_of config) events moments
@@ -29,12 +29,12 @@ EventsDetermineIntervals =
 
 -- ## Each tick
 
--- nothing happens before the next tick: the tick comes first, or nothing comes at all
+-- Nothing happens before the next tick: the first of these events is a tick, or there are no events.
 abbrev pub IsAtTick : List Event → Type 0
 IsAtTick [] = Unit {0}
 IsAtTick (event ∷ later) = is_tick event ≡ true
 
--- one of the intervals contains this tick for this pair
+-- One of the intervals belongs to this pair and contains this tick.
 abbrev pub IsToldAt : ℕ → ℕ → ℕ → List Interval → Type 0
 IsToldAt tick talker listener ys =
     Any (λ y. IsOfPair talker listener y × LiesIn tick y) ys
@@ -49,8 +49,8 @@ TellsTheFlow config events ys =
     → (flow w.gateway talker listener ≡ true)
     ↔ IsToldAt (count_by is_tick past) talker listener ys
 
--- What an interval says about the pair, its context and its Remotes is true in the world before
--- each tick that the interval contains.
+-- The pair, the context and the Remotes in an interval are right in the world before each tick that the interval
+-- contains.
 abbrev pub IntervalsTellTheTruth : Type 0
 IntervalsTellTheTruth =
     (config : Config) (past future : List Event) (sent : List Sent) (w : World)

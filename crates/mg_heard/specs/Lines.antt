@@ -1,6 +1,6 @@
--- The lines for intervals and gaps: sentences of this project's own, rows (CSV, RFC 4180), objects
--- (JSON, RFC 8259) and rows of a table in a page (HTML). No definition says what the text of a date
--- is, because none says what `jiff` writes. So the texts of a line's two dates are parameters.
+-- The lines for intervals and gaps: English sentences, rows (CSV, RFC 4180), objects (JSON, RFC 8259) and rows of a
+-- table in a page (HTML). The format of a date's text is not defined here, because `jiff` has no definition of its
+-- output. So the texts of a line's two dates are parameters.
 use Rattle.std.specs.Prelude.{◌≡◌, ℕ, ◌∷◌, ◌++◌, List, [], Option, Some, None, codes, map, replicate}
 use Rattle.std.specs.Prelude.{decimal, length, ◌==◌, if◌then◌else◌}
 use Rattle.std.specs.Prelude.{option_and_then, option_to_list}
@@ -27,12 +27,12 @@ use Rattle.mg_heard.specs.Names.{name_of}
 
 -- ## Words
 
--- texts in brackets, if there are any
+-- The texts in brackets, or nothing if there are none.
 abbrev pub in_brackets : List (List ℕ) → List ℕ
 in_brackets [] = []
 in_brackets (x ∷ xs) = codes " (" ++ (join_by (λ text. text) (codes ", ") (x ∷ xs) ++ codes ")")
 
--- a termination, with its name and its Remote if it has them
+-- The text for a termination, with its name and its Remote if it has them.
 abbrev pub party_text : (shown : List ℕ → List ℕ) → List Named → ℕ → Option Peer → List ℕ
 party_text shown names n at =
     let name = name_of names n at in
@@ -40,7 +40,7 @@ party_text shown names n at =
     if length name == 0 then rtp_name n ++ in_brackets remote
     else shown name ++ in_brackets (rtp_name n ∷ remote)
 
--- a tick, with its time if the time is known
+-- A tick, with its time if the time is known.
 abbrev pub moment_text : List ℕ → ℕ → Option Date → List ℕ
 moment_text time tick None = codes "tick " ++ decimal tick
 moment_text time tick (Some date) = time ++ (codes " (tick " ++ (decimal tick ++ codes ")"))
@@ -50,7 +50,7 @@ end_text time end = option_map_or (λ m. moment_text time m.tick m.date) end (co
 
 -- ## Sentences
 
--- who could hear whom, or who heard whom
+-- A text such as "RTP/1 could hear RTP/2 in context 3", with this verb.
 abbrev pub flow_text : (verb : List ℕ) → List Named → OpenFlow → List ℕ
 flow_text verb names x = concat (
     party_text (λ name. name) names x.listener x.listener_at ∷ verb
@@ -64,15 +64,15 @@ extent_text from until first end =
 
 -- ## Rows of a page
 
--- the cells of a flow; names have escapes
+-- The cells of a flow, with escaped names.
 abbrev pub flow_cells : List Named → OpenFlow → List ℕ
 flow_cells names x = concat (
     codes "<th scope=\"row\">" ∷ party_text escaped names x.listener x.listener_at
     ∷ codes "</th><td>" ∷ party_text escaped names x.talker x.talker_at
     ∷ codes "</td><td>" ∷ decimal x.context ∷ codes "</td>" ∷ [])
 
--- A row: its class, the ticks from which the page draws its bar, its first cells, and then those of
--- the beginning, the end and the bar. Without an end, the bar ends with the timeline.
+-- A row of a table: its class, the ticks from which the page draws the bar, the first cells, and then the cells for the
+-- beginning, the end and the bar. Without an end, the bar ends with the timeline.
 abbrev pub table_row : (class cells from until : List ℕ) → Moment → Option Moment → List ℕ
 table_row class cells from until first end = concat (
     codes "<tr " ∷ class ∷ codes "style=\"--a:" ∷ decimal first.tick ∷ codes ";--b:"
@@ -82,25 +82,25 @@ table_row class cells from until first end = concat (
 
 -- ## Rows and objects
 
--- a value's text in a row, and in an object, unless the object leaves it out
+-- The text of a value in a row and in an object. An object leaves out a value whose second text is `None`.
 abbrev pub Value : Type 0
 Value = List ℕ × Option (List ℕ)
 
 abbrev pub in_quotes : List ℕ → List ℕ
 in_quotes text = codes "\"" ++ (text ++ codes "\"")
 
--- in an object, a text has quotes
+-- A text, which has quotes in an object.
 abbrev pub word : List ℕ → Value
 word text = (text, Some (in_quotes text))
 
 abbrev pub number : ℕ → Value
 number n = (decimal n, Some (decimal n))
 
--- a value that isn't known or doesn't exist
+-- A value that isn't known or doesn't exist.
 abbrev pub unknown : Value
 unknown = ([], Some (codes "null"))
 
--- a name has quotes in a row too; it has no quotes of its own
+-- A name, which has quotes in a row too. Names contain no quotes.
 abbrev pub name_value : List ℕ → Value
 name_value name =
     if length name == 0 then unknown else (in_quotes name, Some (in_quotes name))
@@ -108,7 +108,7 @@ name_value name =
 abbrev pub peer_value : Option Peer → Value
 peer_value at = option_map_or (λ peer. word (peer_text peer)) at unknown
 
--- this many empty columns, which an object leaves out
+-- This many empty columns, which an object leaves out.
 abbrev pub left_out : ℕ → List Value
 left_out count = replicate count ([], None)
 
@@ -126,7 +126,7 @@ interval_values kind from until names x =
     ++ name_value (name_of names x.flow.listener x.flow.listener_at)
     ∷ name_value (name_of names x.flow.talker x.flow.talker_at) ∷ [])
 
--- the names of a row's columns and of an object's members
+-- The names of a row's columns and of an object's members.
 abbrev pub columns : List (List ℕ)
 columns =
     codes "kind" ∷ codes "listener" ∷ codes "listener_at" ∷ codes "talker" ∷ codes "talker_at"
@@ -153,7 +153,7 @@ head_of Page =
     ++ codes "<th scope=\"col\">Timeline</th></tr></thead>\n<tbody>\n")
 head_of _ = []
 
--- a line in a format: this sentence, this row of a page, or these values
+-- A line in this format: the sentence, the row of a page, or the values.
 abbrev pub line_in : Format → (sentence page_row : List ℕ) → List Value → List ℕ
 line_in Text sentence page_row values = sentence
 line_in Page sentence page_row values = page_row
@@ -166,12 +166,17 @@ interval_line format verb kind from until names x = line_in format
     (table_row [] (flow_cells names x.flow) from until x.first x.end)
     (interval_values kind from until names x)
 
+-- The word for a gap.
+abbrev pub gap_word : Gap → List ℕ
+gap_word gap = option_map_or (λ n. codes "fence " ++ decimal n) gap.fence (codes "gap")
+
 abbrev pub gap_line : Format → (from until : List ℕ) → Gap → List ℕ
 gap_line format from until gap = line_in format
-    (codes "gap" ++ extent_text from until gap.first (Some gap.end))
-    (table_row (codes "class=\"gap\" ") (codes "<th scope=\"row\" colspan=\"3\">Gap</th>")
+    (gap_word gap ++ extent_text from until gap.first (Some gap.end))
+    (table_row (codes "class=\"gap\" ")
+    (codes "<th scope=\"row\" colspan=\"3\">" ++ (gap_word gap ++ codes "</th>"))
     from until gap.first (Some gap.end))
-    (word (codes "gap") ∷ left_out 5
+    (word (gap_word gap) ∷ left_out 5
     ++ (extent_values from until gap.first (Some gap.end) ++ left_out 2))
 
 abbrev pub line_of : Style → (from until : List ℕ) → Entry → List ℕ
@@ -181,18 +186,18 @@ line_of style from until (entries.Audible x) =
     interval_line style.format (codes " heard ") (codes "audible") from until style.names x
 line_of style from until (entries.Gap gap) = gap_line style.format from until gap
 
--- the line of an entry, with some texts for its dates
+-- The line of an entry, with some texts for its dates.
 abbrev pub IsLine : Style → Entry → List ℕ → Type 0
 IsLine style entry line =
     (from : List ℕ) × (until : List ℕ) × (line ≡ line_of style from until entry)
 
 -- ## Answers about a given time
 
--- an answer without an interval: a sentence, or a row or an object that has only a kind
+-- An answer without an interval: a sentence, or a row or an object that has only a kind.
 abbrev pub answer_line : Format → (sentence kind : List ℕ) → List ℕ
 answer_line format sentence kind = line_in format sentence sentence (word kind ∷ left_out 11)
 
--- the line of an answer: that of the interval, if there is one
+-- The line of an answer, which is the line of the interval if the answer has one.
 abbrev pub IsVerdictLine : Style → Verdict → List ℕ → Type 0
 IsVerdictLine style (CouldHear x) line = IsLine style (entries.Interval x) line
 IsVerdictLine style CouldNotHear line =
@@ -202,7 +207,7 @@ IsVerdictLine style Unknown line =
 
 -- ## All lines
 
--- a line for each entry, in order
+-- A line for each entry, in order.
 abbrev pub AreLines : Style → List Entry → List ℕ → Type 0
 AreLines style xs text =
     (lines : List (List ℕ)) × AllZip (IsLine style) xs lines × (text ≡ concat lines)

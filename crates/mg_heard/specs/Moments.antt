@@ -1,4 +1,4 @@
--- The moments of a history: which flows are open before each tick. Ticks are numbered from 0.
+-- The moments of a history: the flows that are open before each tick. Ticks are numbered from 0.
 use Rattle.std.specs.Prelude.{◌≡◌, List, [], ◌∷◌, if◌then◌else◌}
 use Rattle.mg_core.specs.Counting.{is_tick}
 use Rattle.mg_core.specs.declared.event.Event.{Event}
@@ -7,8 +7,8 @@ use Rattle.mg_core.specs.World.{World}
 use Rattle.mg_heard.specs.declared.open_flow.OpenFlow.{OpenFlow}
 use Rattle.mg_heard.specs.OpenFlows.{open_flows}
 
--- Events run one after another, from this world. These are the flows that are open before each
--- tick, and finally before the tick that comes next.
+-- The moments of events that run one after another from the world `w`: the flows that are open before each tick, and
+-- finally the flows that are open before the next tick.
 abbrev pub AreMoments : World → List Event → List (List OpenFlow) → Type 0
 AreMoments w [] moments = moments ≡ open_flows w.gateway ∷ []
 AreMoments w (event ∷ events) moments =

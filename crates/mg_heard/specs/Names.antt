@@ -1,4 +1,4 @@
--- What terminations are called. A file of names has a line for each key, with a name.
+-- The names of terminations. A file of names has a line for each key, with a name.
 use Rattle.std.specs.Prelude.{ℕ, ◌==◌, ◌&&◌, not, Bool, nat_le, nat_lt, List, [], length, filter, find, map}
 use Rattle.std.specs.Prelude.{Option, Some, None, if◌then◌else◌}
 use Rattle.std.specs.List.{list_all}
@@ -9,23 +9,23 @@ use Rattle.mg_heard.specs.declared.named.Named.{Named}
 use Rattle.mg_heard.specs.declared.party_name.PartyName.{PartyName}
 use Rattle.mg_heard.specs.Query.{is_named}
 
--- a byte of a name: no control character of ASCII, and neither `"` nor `\`
+-- Whether a byte can be part of a name: it is no ASCII control character, and neither `"` nor `\`.
 abbrev pub is_plain : ℕ → Bool
 is_plain b = nat_le 32 b && (not (b == 127) && (not (b == 34) && not (b == 92)))
 
--- a text as a name: 1 to 64 such bytes
+-- The text as a name, or `None` unless the text has 1 to 64 bytes that can all be part of a name.
 abbrev pub name_in : List ℕ → Option (List ℕ)
 name_in text =
     if length text == 0 then None
     else (if nat_lt 64 (length text) then None
     else (if list_all is_plain text then Some text else None))
 
--- The name of a termination is that of the first line whose key applies to it. Without such a line,
--- the text is empty.
+-- The name of a termination: that of the first line whose key applies to the termination, or an empty text if there is
+-- no such line.
 abbrev pub name_of : List Named → ℕ → Option Peer → List ℕ
 name_of lines number at =
     option_map_or (λ x. x.name) (find (λ x. is_named x.key number at) lines) []
 
--- the keys of all lines with this name, in their order
+-- The keys of all lines with this name, in order.
 abbrev pub keys_with : List ℕ → List Named → List PartyName
 keys_with name lines = map (λ x. x.key) (filter (λ x. bytes_eq x.name name) lines)

@@ -1,4 +1,4 @@
--- Rules: a talker must never be heard by a listener. And the first flow of a script that breaks one.
+-- Rules that a talker must never be heard by a listener, and the first flow of a script that breaks a rule.
 use Rattle.std.specs.Prelude.{◌≡◌, ◌⊎◌, ℕ, ◌+◌, ◌<◌, ◌≤◌, ◌&&◌, Bool, false, List, [], ◌∷◌, ◌++◌, length, find}
 use Rattle.std.specs.Prelude.{Option, Some, None, IsSomeAnd, codes}
 use Rattle.std.specs.Io.KnownBytes.{Appends}
@@ -21,16 +21,15 @@ use Rattle.mg_heard.specs.Query.{is_asked}
 
 -- ## Rules
 
--- one of the rules forbids the flow
+-- Whether one of the rules forbids the flow.
 abbrev pub is_forbidden : List Rule → OpenFlow → Bool
 is_forbidden rules x = list_any (λ rule. is_asked rule.talker x.talker x.talker_at
     && is_asked rule.listener x.listener x.listener_at) rules
 
 -- ## Violations
 
--- The first forbidden flow in some moments, of which the oldest comes first, with its moment's tick.
--- The oldest moment is the one before the tick `from`. The flows of a moment are in order of
--- listeners and then of talkers.
+-- The first forbidden flow in some moments, with its moment's tick. The moments come oldest first, and the oldest is
+-- the one before the tick `from`. The flows of a moment are in order of listeners and then of talkers.
 abbrev pub first_forbidden : List Rule → (from : ℕ) → List (List OpenFlow) → Option (ℕ × OpenFlow)
 first_forbidden rules from [] = None
 first_forbidden rules from (flows ∷ later) =
@@ -40,7 +39,7 @@ first_forbidden rules from (flows ∷ later) =
 abbrev pub without_date : Violation → ℕ × OpenFlow
 without_date v = (v.at.tick, v.flow)
 
--- No rule is broken before a tick in the lines that end in this text.
+-- The complete lines of this text break no rule before a tick.
 pub record IsKept (rules : List Rule) (config : Config) (text : List ℕ) : Type 0 where
   pub notes : List Note
   pub are : notes_of (lines_of false text) ≡ Some notes
@@ -49,10 +48,9 @@ pub record IsKept (rules : List Rule) (config : Config) (text : List ℕ) : Type
   pub are_moments : AreMoments (start_of config) (events_in notes) (before ++ now ∷ [])
   pub none : first_forbidden rules 0 before ≡ None
 
--- What was found in a script that was read to its end, or until a rule was broken before one of its
--- ticks. It is the first violation in the moments of what was read. So if nothing was found, the
--- script was read to its end, and in none of its moments does a rule forbid an open flow. At most
--- 4096 bytes were read in which a rule may have been broken before a tick.
+-- A script was read to its end, or until a rule was broken before one of its ticks. `found` is the first violation in
+-- the moments of what was read. So if `found` is `None`, the script was read to its end, and no rule forbids a flow
+-- that is open in one of its moments. At most the last 4096 bytes that were read can contain a violation before a tick.
 pub record IsWatched (rules : List Rule) (config : Config) (input rest : Option (List ℕ))
     (found : Option Violation) : Type 0 where
   pub front : List ℕ
@@ -70,8 +68,8 @@ pub record IsWatched (rules : List Rule) (config : Config) (input rest : Option 
 
 -- ## The line
 
--- A violation, with some text for its date: a sentence, or the row or object of an interval whose
--- end is not known.
+-- The line for a violation, with this text for its date: a sentence, or the row or object of an interval whose end is
+-- not known.
 unfoldable pub violation_line : Format → List ℕ → List Named → Violation → List ℕ
 violation_line format time names v =
     let sentence = flow_text (codes " could hear ") names v.flow
@@ -79,7 +77,7 @@ violation_line format time names v =
     line_in format sentence sentence (interval_values (codes "heard") time [] names
     (record { flow = v.flow; first = v.at; end = None }))
 
--- a writer has received the line of a violation, if there is one
+-- A writer has received the line of the violation, or nothing if there is no violation.
 abbrev pub WritesViolation : Style → Option Violation → (old new : Option (List ℕ)) → Type 0
 WritesViolation style None old new = new ≡ old
 WritesViolation style (Some v) old new =

@@ -1,5 +1,4 @@
--- When the moments of a script are, and which gaps it has, according to its comments. Notes come
--- newest first.
+-- The times of a script's moments, and its gaps, according to its comments. Notes come newest first.
 use Rattle.std.specs.Prelude.{ℕ, ◌-◌, ◌&&◌, Bool, true, false, nat_lt, List, [], ◌∷◌, ◌++◌}
 use Rattle.std.specs.Prelude.{codes, count_by, drop, length, option_to_list, take, Option, Some, None}
 use Rattle.std.specs.Prelude.{if◌then◌else◌}
@@ -13,6 +12,7 @@ use Rattle.mg_dates.specs.Times.{agreement_of, date_in, next_tick, timeline_of}
 use Rattle.mg_dates.specs.declared.agreement.Agreement.{Agreement}
 use Rattle.mg_dates.specs.declared.agreement.Agreement.TheVariants.{JumpedAhead}
 use Rattle.mg_dates.specs.declared.date.Date.{Date}
+use Rattle.mg_fence.specs.Reached.{number_set}
 use Rattle.mg_heard.specs.declared.extent.Extent.{Extent}
 use Rattle.mg_heard.specs.declared.gap.Gap.{Gap}
 use Rattle.mg_heard.specs.declared.moment.Moment.{Moment}
@@ -20,11 +20,11 @@ use Rattle.mg_heard.specs.declared.moment.Moment.{Moment}
 abbrev pub tick_count : List Note → ℕ
 tick_count notes = count_by is_tick (events_in notes)
 
--- the moment that follows all notes
+-- The moment that follows all notes.
 abbrev pub moment_after : List Note → Moment
 moment_after notes = record { tick = tick_count notes; date = next_tick (timeline_of notes) }
 
--- The date of a tick follows from all comments before it.
+-- The date of a tick, which follows from all comments before the tick.
 unfoldable pub date_of_tick : List Note → ℕ → Option Date
 date_of_tick [] tick = None
 date_of_tick (note ∷ older) tick =
@@ -33,7 +33,7 @@ date_of_tick (note ∷ older) tick =
 
 -- ## Gaps
 
--- the number in a comment such as `# missed 1500 ticks`, if it fits in 64 bits
+-- The number in a comment such as `# missed 1500 ticks`, if it fits in 64 bits.
 abbrev pub missed_in : List ℕ → Option ℕ
 missed_in line =
     let rest = drop 9 line in
@@ -41,27 +41,31 @@ missed_in line =
     && bytes_eq (drop (length rest - 6) rest) (codes " ticks")
     then decimal_of 20 18446744073709551615 (take (length rest - 6) rest) else None
 
--- the period between two moments, if it is a gap
+-- The period between two moments if `b` is true, and no gap otherwise.
 abbrev pub gap_if : Bool → (first end : Moment) → Option Gap
-gap_if is_gap first end = if is_gap then Some (record { first = first; end = end }) else None
+gap_if b first end = if b then Some (record { first = first; end = end; fence = None }) else None
 
 abbrev pub is_jump : Agreement → Bool
 is_jump JumpedAhead = true
 is_jump _ = false
 
--- the gap before a date: the clock jumped ahead
+-- The gap before a date that is later than expected, because the clock jumped ahead.
 abbrev pub date_gap : Date → List ℕ → List Note → Option Gap
 date_gap date line older =
     gap_if (is_jump (agreement_of (next_tick (timeline_of older)) date))
     (moment_after older) (moment_after (Comment line ∷ older))
 
--- the gap of a comment: one before a date, or the ticks that follow were missed
+-- The moment at which an operator set the fence to this number, as a gap.
+abbrev pub fence_gap : Moment → ℕ → Gap
+fence_gap m number = record { first = m; end = m; fence = Some number }
+
+-- The gap of a comment: the clock jumped ahead before a date, the ticks that follow were missed, or the fence was set.
 abbrev pub gap_of : List ℕ → List Note → Option Gap
 gap_of line older = option_map_or (λ date. date_gap date line older) (date_in line) (option_map_or
     (λ count. gap_if (nat_lt 0 count) (moment_after older) (moment_after (ticks_of count ++ older)))
-    (missed_in line) None)
+    (missed_in line) (option_map (fence_gap (moment_after older)) (number_set line)))
 
--- all gaps, in order
+-- All gaps, in order.
 unfoldable pub gaps_of : List Note → List Gap
 gaps_of [] = []
 gaps_of (Comment line ∷ older) = gaps_of older ++ option_to_list (gap_of line older)
@@ -69,7 +73,7 @@ gaps_of (Happened event ∷ older) = gaps_of older
 
 -- ## The time that a script covers
 
--- the moment of the first date
+-- The moment of the first date.
 unfoldable pub first_dated : List Note → Option Moment
 first_dated [] = None
 first_dated (Comment line ∷ older) =

@@ -1,4 +1,4 @@
--- What is reported to a sink about a script: all intervals, and what they say about the flows.
+-- Everything that is reported to a sink about a script: all intervals, with their dates, and all gaps.
 use Rattle.std.specs.Prelude.{◌≡◌, ⊤, List, [], ◌∷◌, map, reverse, All, IfSome}
 use Rattle.std.specs.Option.{option_map}
 use Rattle.mg_engine.specs.declared.config.Config.{Config}
@@ -20,7 +20,7 @@ without_dates x = record {
   end = option_map (λ m. m.tick) x.end;
 }
 
--- the intervals among the entries in which a talker could be heard, in order
+-- The intervals among the entries in which a talker could be heard, in order.
 abbrev pub heard_in : List Entry → List DatedInterval
 heard_in [] = []
 heard_in (entries.Interval x ∷ xs) = x ∷ heard_in xs
@@ -29,30 +29,30 @@ heard_in (_ ∷ xs) = heard_in xs
 abbrev pub intervals_in : List Entry → List Interval
 intervals_in xs = map without_dates (heard_in xs)
 
--- the intervals among the entries in which a talker was audible, in order, without their dates
+-- The intervals among the entries in which a talker was audible, in order, without their dates.
 abbrev pub audible_in : List Entry → List Interval
 audible_in [] = []
 audible_in (entries.Audible x ∷ xs) = without_dates x ∷ audible_in xs
 audible_in (_ ∷ xs) = audible_in xs
 
--- the gaps among the entries, in order
+-- The gaps among the entries, in order.
 abbrev pub gaps_in : List Entry → List Gap
 gaps_in [] = []
 gaps_in (entries.Gap gap ∷ xs) = gap ∷ gaps_in xs
 gaps_in (_ ∷ xs) = gaps_in xs
 
--- a moment has the date of its tick
+-- The moment has the date of its tick.
 abbrev pub IsDated : List Note → Moment → Type 0
 IsDated older m = m.date ≡ date_of_tick older m.tick
 
--- this is true of the first moment of an interval, and of its end, if it has one
+-- `P` is true of the first moment of an interval, and of its end if it has one.
 abbrev pub HasMoments : (Moment → Type 0) → Entry → Type 0
 HasMoments P (entries.Interval x) = P x.first × IfSome x.end P
 HasMoments P (entries.Gap gap) = ⊤
 HasMoments P (entries.Audible x) = P x.first × IfSome x.end P
 
--- After a whole script, all its intervals have been reported, with their dates, and its gaps, in
--- order, each once, and no others. This is true of them, and of the time that the script covers.
+-- After a whole script, exactly its intervals and gaps have been reported, in order and each once, and the intervals
+-- have the right dates. `Told` is true of these entries, and of the time that the script covers.
 pub record TellsAll (config : Config) (notes : List Note) (Told : Extent → List Entry → Type 0)
     : Type 0 where
   pub xs : List Entry

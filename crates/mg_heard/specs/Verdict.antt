@@ -13,19 +13,19 @@ use Rattle.mg_heard.specs.declared.verdict.Verdict.TheVariants.{CouldHear, Could
 use Rattle.mg_heard.specs.Query.{covers, is_future, is_past, selects}
 use Rattle.mg_heard.specs.Told.{gaps_in, heard_in}
 
--- the first interval that the query selects and that contains the time
+-- The first interval that the query selects and that contains the time.
 abbrev pub heard_at : Query → Date → List Entry → Option Interval
 heard_at query time xs = find (λ x. selects query x && covers x time) (heard_in xs)
 
--- the gap is known to contain the time
+-- Whether the gap is known to contain the time.
 abbrev pub is_in_gap : Gap → Date → Bool
 is_in_gap gap time = is_past false gap.first time && is_future false gap.end time
 
--- the first gap that contains the time
+-- The first gap that contains the time.
 abbrev pub gap_at : Date → List Entry → Option Gap
 gap_at time xs = find (λ gap. is_in_gap gap time) (gaps_in xs)
 
--- the script covers this time: it is not before the first date, and it is before the end
+-- Whether the script covers this time: the time is not before the first date, and it is before the end.
 abbrev pub is_within : Extent → Date → Bool
 is_within extent time =
     option_map_or (λ first. is_past false first time) extent.first false
@@ -37,7 +37,7 @@ abbrev pub verdict_of : (is_within : Bool) → Option Gap → Option Interval �
 verdict_of is_within gap heard =
     if is_some gap || not is_within then Unknown else option_map_or CouldHear heard CouldNotHear
 
--- the answer that follows from the entries of a script
+-- The answer that follows from the entries of a script.
 abbrev pub verdict_at : Query → Date → Extent → List Entry → Verdict
 verdict_at query time extent xs =
     verdict_of (is_within extent time) (gap_at time xs) (heard_at query time xs)

@@ -7,9 +7,9 @@ use crate::party_name::PartyName;
 /// A key, or a name from a file of names, as given in a question.
 #[derive(Drop)]
 pub enum Asked {
-    /// Each termination to which this key applies.
+    /// All terminations to which this key applies.
     Key(PartyName),
-    /// Each termination to which the key of a line with this name applies.
+    /// All terminations to which the key of a line with this name applies.
     Name(Name),
 }
 

@@ -23,7 +23,7 @@ pub struct AskedQuery {
 }
 
 impl AskedQuery {
-    /// Returns the query, with the keys of the names that it gives.
+    /// Looks up the names in the question, and returns the query with their keys.
     pub fn query(&self, alloc: Global, names: &Names) -> Result<Query, NameFault>
         ensures value { IfOk result (IsQuery names.now self.now) }
     {

@@ -30,7 +30,7 @@ fn around_arrow(text: &[u8]) -> Option<(&[u8], &[u8])>
     Some((before, after))
 }
 
-/// Parses what names terminations, or `*` for any termination, which is `Some(None)`.
+/// Parses one side of an arrow: a key, a name, or `*` for any termination, which is `Some(None)`.
 fn pattern_of(text: &[u8], has_names: bool) -> Option<Option<Asked>>
     ensures value { result ≡ pattern_by has_names text.now }
 {
@@ -52,7 +52,7 @@ impl AskedRule {
         Some(AskedRule { talker, listener })
     }
 
-    /// Returns the rule, with the keys of the names that it gives.
+    /// Looks up the names in the rule, and returns the rule with their keys.
     fn rule(&self, alloc: Global, names: &Names) -> Result<Rule, NameFault>
         ensures value { IfOk result (IsRule names.now self.now) }
     {
@@ -62,7 +62,7 @@ impl AskedRule {
     }
 }
 
-/// Returns the rules, with the keys of the names that they give.
+/// Looks up the names in the rules, and returns the rules with their keys.
 pub fn rules_of(alloc: Global, asked: &[AskedRule], names: &Names) -> Result<Vec<Rule>, NameFault>
     ensures value { IfOk result (λ rules. AllZip (IsRule names.now) asked.now rules.items) }
 {

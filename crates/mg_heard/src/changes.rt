@@ -1,6 +1,7 @@
 ghost use Rattle.mg_heard.specs.aids.Changes.{OnlyControlChangesFlows};
 
-/// This does nothing. It shows the proofs of followers that only control datagrams change which flows are open.
+/// Does nothing. Its contract states, for the proofs of followers, that only control datagrams change which flows are
+/// open.
 pub(crate) fn only_control_changes_flows()
     ensures flows { OnlyControlChangesFlows }
 {

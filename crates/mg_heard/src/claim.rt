@@ -1,7 +1,7 @@
 ghost use Rattle.std.specs.Prelude.{◌≡◌, ◌≤◌, length};
 ghost use Rattle.mg_heard.specs.aids.Shapes.{kind_of, verb_of};
 
-/// What a line says about a listener and a talker.
+/// The claim that a line makes about a listener and a talker.
 #[derive(Clone, Copy, Debug, PartialEq, Eq)]
 pub enum Claim {
     CouldHear,
@@ -9,7 +9,7 @@ pub enum Claim {
 }
 
 impl Claim {
-    /// Returns what a sentence says.
+    /// Returns the verb of a sentence with this claim.
     pub(crate) fn verb(self) -> &'static [u8]
         ensures value { result.now ≡ verb_of self }
         ensures short { length result.now ≤ 12 }
@@ -20,7 +20,7 @@ impl Claim {
         }
     }
 
-    /// Returns the kind of a row or an object.
+    /// Returns the kind of a row or an object with this claim.
     pub(crate) fn kind(self) -> &'static [u8]
         ensures value { result.now ≡ kind_of self }
         ensures short { length result.now ≤ 7 }

@@ -1,12 +1,15 @@
 ghost use Rattle.std.specs.Prelude.{◌≡◌, ◌+◌, ◌++◌, ◌∷◌, [], nat_lt, IfOk, List, None, OnOk, Some};
+ghost use Rattle.std.specs.Option.{option_map};
 ghost use Rattle.mg_core.specs.Follow.{ticks_of};
 ghost use Rattle.mg_core.specs.Note.{Note, Comment};
 ghost use Rattle.mg_dates.specs.Times.{date_in, next_tick};
-ghost use Rattle.mg_heard.specs.Times.{extent_of, gap_if, gap_of, moment_after};
+ghost use Rattle.mg_fence.specs.Reached.{number_set};
+ghost use Rattle.mg_heard.specs.Times.{extent_of, fence_gap, gap_if, gap_of, moment_after};
 ghost use Rattle.mg_heard.specs.aids.Timing.{IsClock};
 
 use crate::clock_fault::ClockFault;
 use crate::extent::Extent;
+use crate::fenced::number_set;
 use crate::gap::Gap;
 use crate::missed::missed_in;
 use crate::moment::Moment;
@@ -16,7 +19,7 @@ use mg_dates::{Agreement, Date, Timeline, date_in};
 /// The maximum length of a title's line, in bytes.
 const TITLE_LIMIT: usize = 600;
 
-/// How the title of a gateway begins.
+/// The beginning of a gateway's title.
 const TITLE: &[u8] = b"# mg_bridge ";
 
 /// Counts the ticks and lines of a script, and keeps track of when the ticks happened.
@@ -109,8 +112,8 @@ impl Clock {
         Ok(())
     }
 
-    /// Counts the line of a comment and takes note of what it says. Returns the gap that begins with the comment, if
-    /// any.
+    /// Counts the line of a comment, and updates the clock if the comment has a date or a title. Returns the gap that
+    /// begins with the comment, if any.
     pub fn pass_comment(&mut self, line: &[u8]) -> Result<Option<Gap>, ClockFault>
         ensures ticks { self.new.ticks ≡ self.old.ticks }
         ensures value { (older : List Note) → IsClock older self.old → IfOk result (λ gap.
@@ -123,7 +126,7 @@ impl Clock {
         }
     }
 
-    /// Takes note of a comment without a date. Returns the gap that begins with the comment, if any.
+    /// Updates the clock for a comment without a date. Returns the gap that begins with the comment, if any.
     fn pass_undated(&mut self, line: &[u8]) -> Result<Option<Gap>, ClockFault>
         requires undated { date_in line.now ≡ None }
         ensures ticks { self.new.ticks ≡ self.old.ticks }
@@ -148,11 +151,12 @@ impl Clock {
         Ok(Some(Gap {
             first: self.now(),
             end,
+            fence: None,
         }))
     }
 
-    /// Takes note of the date in a comment. If the date is more than a second later than expected, returns the gap before it. Fails if
-    /// the date is more than a second earlier than expected.
+    /// Updates the clock for the date in a comment. If the date is more than a second later than expected, returns the
+    /// gap before it. Fails if the date is more than a second earlier than expected.
     fn pass_date(&mut self, date: Date, line: &[u8]) -> Result<Option<Gap>, ClockFault>
         requires dated { date_in line.now ≡ Some date }
         ensures ticks { self.new.ticks ≡ self.old.ticks }
@@ -165,26 +169,55 @@ impl Clock {
         self.first = self.first.or(Some(end));
         match agreement {
             Agreement::WentBack => Err(ClockFault::WentBack(self.lines)),
-            Agreement::JumpedAhead => Ok(Some(Gap { first, end })),
+            Agreement::JumpedAhead => Ok(Some(Gap {
+                first,
+                end,
+                fence: None,
+            })),
             Agreement::First | Agreement::Agrees => Ok(None),
         }
     }
 
-    /// Takes note of any other comment. Fails if it is a title that differs from the first title. Returns no gap.
+    /// Checks the title in a comment that has no date and no missed ticks. If the comment says that an operator set the
+    /// fence, returns this moment as a gap.
     fn pass_other(&mut self, line: &[u8]) -> Result<Option<Gap>, ClockFault>
         ensures ticks { self.new.ticks ≡ self.old.ticks }
         ensures same { (older : List Note) → IsClock older self.old → IsClock older self.new }
-        ensures none { IfOk result (λ gap. gap ≡ None) }
+        ensures value { (older : List Note) → IsClock older self.old → IfOk result (λ gap.
+            gap ≡ option_map (fence_gap (moment_after older)) (number_set line.now)) }
+    {
+        self.pass_title(line)?;
+        Ok(self.fence_gap(line))
+    }
+
+    /// Returns this moment as a gap if the comment says that an operator set the fence, and `None` otherwise.
+    fn fence_gap(&self, line: &[u8]) -> Option<Gap>
+        ensures value { (older : List Note) → IsClock older self.now →
+            result ≡ option_map (fence_gap (moment_after older)) (number_set line.now) }
+    {
+        let number = number_set(line)?;
+        let now = self.now();
+        Some(Gap {
+            first: now,
+            end: now,
+            fence: Some(number),
+        })
+    }
+
+    /// Stores the first title, and fails if a later one differs from it. Any other line changes nothing.
+    fn pass_title(&mut self, line: &[u8]) -> Result<(), ClockFault>
+        ensures ticks { self.new.ticks ≡ self.old.ticks }
+        ensures same { (older : List Note) → IsClock older self.old → IsClock older self.new }
     {
         if !line.starts_with(TITLE) {
-            return Ok(None);
+            return Ok(());
         }
         if self.title.is_empty() {
             let _ = self.title.try_extend_from_slice(line);
-            return Ok(None);
+            return Ok(());
         }
         if self.title.as_slice() == line {
-            Ok(None)
+            Ok(())
         } else {
             Err(ClockFault::OtherGateway(self.lines))
         }

@@ -1,6 +1,6 @@
 use thiserror::Error;
 
-/// Why the comments of a script contradict each other.
+/// The reason why a clock cannot continue a script.
 #[derive(Clone, Copy, Debug, PartialEq, Eq, Error)]
 pub enum ClockFault {
     /// The date in the line with this number, counted from 1, is earlier than the ticks before it allow.

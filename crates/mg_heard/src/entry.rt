@@ -1,7 +1,7 @@
 use crate::gap::Gap;
 use crate::interval::Interval;
 
-/// What a sink receives: an interval that has ended, or a gap that begins.
+/// An entry that a sink receives: an interval when it ends, or a gap when it begins.
 #[derive(Clone, Copy, Debug, PartialEq, Eq)]
 pub enum Entry {
     /// The listener could hear the talker.

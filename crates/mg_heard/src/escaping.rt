@@ -4,10 +4,10 @@ ghost use Rattle.mg_heard.specs.Escaped.{escaped, escaped_byte};
 
 use mg_reply::Bytes;
 
-/// The maximum length, in bytes, of a byte as a page shows it.
+/// The maximum length, in bytes, of an escaped byte.
 pub(crate) const ESCAPE_LIMIT: usize = 8;
 
-/// Writes a byte of a text to a page.
+/// Escapes a byte and writes it to a page.
 fn push_escape(byte: u8, out: &mut Bytes)
     requires room { ESCAPE_LIMIT ≤ out.old.room }
     ensures value { out.new ≡ appended out.old (escaped_byte byte) }
@@ -29,7 +29,7 @@ fn push_escape(byte: u8, out: &mut Bytes)
     }
 }
 
-/// Writes a text to a page.
+/// Escapes a text and writes it to a page.
 #[tactic(auto, using(crate::proofs::EscapedLemmas::steps))]
 pub(crate) fn push_escaped(text: &[u8], out: &mut Bytes)
     requires room { ESCAPE_LIMIT * length text.now ≤ out.old.room }

@@ -1,4 +1,4 @@
-//! Intervals for flows, one after another.
+//! Stores an interval for each flow, one after another.
 
 ghost use Rattle.std.specs.Prelude.{◌≡◌, ◌≤◌, ◌<◌, ◌+◌, ◌++◌, ◌∷◌, [], length, map, take};
 ghost use Rattle.mg_core.specs.World.{World};

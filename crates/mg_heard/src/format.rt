@@ -1,4 +1,4 @@
-/// How intervals and gaps are written.
+/// The format in which intervals and gaps are written.
 #[derive(Clone, Copy, Debug, PartialEq, Eq)]
 pub enum Format {
     /// One sentence per line.
@@ -7,6 +7,6 @@ pub enum Format {
     Csv,
     /// One JSON object per line.
     Json,
-    /// A table of a page (HTML) that isn't closed: one row per line. Answers and violations are sentences.
+    /// The rows of an HTML table that isn't closed, one per line. Answers and violations are sentences.
     Page,
 }

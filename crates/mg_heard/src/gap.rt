@@ -7,12 +7,14 @@ use mg_dates::Date;
 /// A period in which the gateway did not run, or for which the script has no ticks.
 ///
 /// If the gateway was restarted, its script has a line for each tick that was missed. If the clock was set ahead, the
-/// script has no ticks between `first` and `end`.
+/// script has no ticks between `first` and `end`. If an operator set the fence, `end` is `first`.
 #[derive(Clone, Copy, Debug, PartialEq, Eq)]
 pub struct Gap {
     pub first: Moment,
     /// The first moment after the gap.
     pub end: Moment,
+    /// The number to which an operator set the fence, or `None` if the gap has another cause.
+    pub fence: Option<u32>,
 }
 
 impl Gap {

@@ -28,7 +28,7 @@ use std::alloc::{AllocError, Global};
 pub(crate) struct Heard<S: Sink> {
     pub(crate) sink: S,
     pub(crate) clock: Clock,
-    /// Why the follower stopped, or `None` if it has not stopped or if the sink made it stop.
+    /// The reason why the follower stopped, or `None` if it has not stopped or if the sink made it stop.
     pub(crate) fault: Option<ClockFault>,
     /// Whether the open flows may have changed since the stored intervals were last compared with them.
     pub(crate) is_changed: bool,
@@ -56,7 +56,7 @@ impl<S: Sink> Heard<S> {
         })
     }
 
-    /// Stores why the follower stops.
+    /// Stores the reason why the follower stops.
     fn stop(&mut self, fault: ClockFault) -> Stopped {
         self.fault = Some(fault);
         Stopped

@@ -2,7 +2,7 @@ use crate::clock_fault::ClockFault;
 use mg_core::RunFault;
 use thiserror::Error;
 
-/// Why a script doesn't say who could hear whom.
+/// The reason why a script doesn't say who could hear whom.
 #[derive(Clone, Copy, Debug, PartialEq, Eq, Error)]
 pub enum HeardFault {
     #[error("{0}")]

@@ -66,7 +66,7 @@ where
     }
 }
 
-/// Returns why a script was not run to its end, given why its follower stopped.
+/// Returns the reason why a script was not run to its end, given the reason why its follower stopped.
 pub(crate) fn fault_of(fault: RunFault, stopped: Option<ClockFault>) -> HeardFault
     ensures run { (run : RunFault) → result ≡ HeardFault.Run run → fault ≡ run }
 {

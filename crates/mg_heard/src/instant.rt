@@ -13,7 +13,7 @@ use crate::verdict::Verdict;
 use mg_core::Stopped;
 use mg_dates::Date;
 
-/// Finds out who could hear whom at a given time.
+/// A sink that finds out who could hear whom at a given time.
 #[derive(Drop)]
 pub struct Instant {
     pub query: Query,

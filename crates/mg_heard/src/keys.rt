@@ -37,7 +37,7 @@ impl Keys {
     }
 }
 
-/// Returns the keys of the lines with this name, of which there must be one.
+/// Returns the keys of the lines with this name. Fails if no line has this name.
 fn keys_named(alloc: Global, name: &Name, names: &Names) -> Result<Option<Keys>, NameFault>
     ensures value { IfOk result (AreKeys names.now (Some (asks.Name name.now))) }
 {

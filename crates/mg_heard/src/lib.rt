@@ -10,13 +10,13 @@
 //! [`hear_at`] answers whether a talker could be heard at a given time. [`write_report`] writes a line for each
 //! interval that a query selects, and for each gap; [`write_answer`] writes the answer about a given time.
 //!
-//! A question may give the name of a listener or a talker. [`Names`] are the lines of a file of names; with them, an
-//! [`AskedQuery`] becomes a [`Query`], which has keys in place of names, and lines say what terminations are called.
+//! A question may give the name of a listener or a talker. [`Names`] holds the lines of a file of names. It turns an
+//! [`AskedQuery`] into a [`Query`], which has keys in place of names, and lines show the names of terminations.
 //!
 //! An interval contains a tick for a pair if and only if the talker's speech flows to the listener in the world before
 //! that tick (`specs/Laws.antt`). The intervals follow from the flows that are open before each tick
-//! (`specs/Intervals.antt`). Intervals that have not ended are stored, and compared with the flows before the next
-//! tick. Each listener has a row of intervals, and a row is only looked at if its flows may have changed.
+//! (`specs/Intervals.antt`). The intervals that have not ended are stored, and compared with the flows before the next
+//! tick. Each listener has a row of intervals, and a row is compared only if its flows may have changed.
 //!
 //! Dates and gaps come from the script's comments (`specs/Times.antt`).
 #![tactic(auto)]
@@ -33,6 +33,7 @@ mod continuing;
 mod entry;
 mod escaping;
 mod extent;
+mod fenced;
 mod filling;
 mod format;
 mod gap;

@@ -4,7 +4,7 @@ ghost use Rattle.std.specs.Prelude.{◌≡◌, ◌≤◌, ◌+◌, ◌*◌, ◌+
 ghost use Rattle.mg_words.specs.Term.{rtp_name};
 ghost use Rattle.mg_core.specs.Peer.{peer_text};
 ghost use Rattle.mg_reply.specs.Bytes.{appended};
-ghost use Rattle.mg_heard.specs.Lines.{answer_line, end_text, extent_text, head_of, line_of, moment_text};
+ghost use Rattle.mg_heard.specs.Lines.{answer_line, end_text, extent_text, gap_word, head_of, line_of, moment_text};
 ghost use Rattle.mg_heard.specs.Never.{violation_line};
 ghost use Rattle.mg_heard.specs.aids.Shapes.{at_text, bar_end, bar_of, called_party, called_text, comma_text, date_of_end, extent_cells, extent_columns, extent_members, gap_shape, interval_object, interval_row, interval_shape, name_column, name_columns, name_member, name_members, peer_column, peer_member, sentence_of, shown_party, shown_text, table_row_shape, tick_column, tick_member, time_column, time_member, violation_sentence, violation_shape};
 ghost use Rattle.mg_heard.specs.declared.format.Format.TheVariants.{Page};
@@ -60,10 +60,13 @@ const COLUMNS_LIMIT: usize = 3 + 2 * NUMBER_LIMIT + 2 * TIME_LIMIT;
 /// quotes.
 const MEMBERS_LIMIT: usize = 47 + 2 * NUMBER_LIMIT + 2 * TIME_LIMIT;
 
-/// The maximum length, in bytes, of the style of a table's row: two numbers and what is around them.
+/// The maximum length, in bytes, of the style of a table's row: two numbers and the text around them.
 const BAR_LIMIT: usize = 18 + 2 * NUMBER_LIMIT;
 
-/// The maximum length, in bytes, of the last cells of a table's row: two moments, and what is around them.
+/// The maximum length, in bytes, of the word for a gap: `fence ` and a number.
+const GAP_LIMIT: usize = 6 + NUMBER_LIMIT;
+
+/// The maximum length, in bytes, of the last cells of a table's row: two moments, and the text around them.
 const CELLS_LIMIT: usize = 44 + 2 * MOMENT_LIMIT;
 
 /// Writes a number in decimal.
@@ -517,7 +520,7 @@ fn push_object(
 
 // ## Rows of a page
 
-/// Writes the tick at which a bar ends. Without an end, it is that of the timeline.
+/// Writes the tick at which a bar ends. A bar without an end ends with the timeline.
 #[tactic(auto, using(crate::proofs::LineLemmas::steps))]
 fn push_bar_end(end: Option<Moment>, out: &mut Bytes)
     requires room { NUMBER_LIMIT ≤ out.old.room }
@@ -611,18 +614,36 @@ fn push_table_row(from: &[u8], until: &[u8], names: &Names, interval: &Interval,
     push_extent_cells(from, until, interval.first, interval.end, out);
 }
 
+/// Writes the word for a gap.
+#[tactic(auto, using(crate::proofs::LineLemmas::steps))]
+fn push_gap_word(gap: &Gap, out: &mut Bytes)
+    requires room { GAP_LIMIT ≤ out.old.room }
+    ensures value { out.new ≡ appended out.old (gap_word gap.now) }
+    ensures short { length (gap_word gap.now) ≤ GAP_LIMIT }
+{
+    match gap.fence {
+        Some(number) => {
+            out.push(b"fence ");
+            push_number(u64::from(number), out);
+        }
+        None => out.push(b"gap"),
+    }
+}
+
 /// Writes the row of a table for a gap.
 #[tactic(auto, using(crate::proofs::LineLemmas::steps))]
 fn push_gap_row(from: &[u8], until: &[u8], gap: &Gap, out: &mut Bytes)
     requires from { length from.now ≤ TIME_LIMIT }
     requires until { length until.now ≤ TIME_LIMIT }
     requires room { LINE_LIMIT ≤ out.old.room }
-    ensures value { out.new ≡ appended out.old (gap_shape Page from.now until.now gap.now.first gap.now.end) }
-    ensures short { length (gap_shape Page from.now until.now gap.now.first gap.now.end) ≤ LINE_LIMIT }
+    ensures value { out.new ≡ appended out.old (gap_shape Page from.now until.now gap.now) }
+    ensures short { length (gap_shape Page from.now until.now gap.now) ≤ LINE_LIMIT }
 {
     out.push(b"<tr class=\"gap\" ");
     push_bar(gap.first, Some(gap.end), out);
-    out.push(b"<th scope=\"row\" colspan=\"3\">Gap</th>");
+    out.push(b"<th scope=\"row\" colspan=\"3\">");
+    push_gap_word(gap, out);
+    out.push(b"</th>");
     push_extent_cells(from, until, gap.first, Some(gap.end), out);
 }
 
@@ -690,21 +711,24 @@ fn push_gap(format: Format, from: &[u8], until: &[u8], gap: &Gap, out: &mut Byte
     requires from { length from.now ≤ TIME_LIMIT }
     requires until { length until.now ≤ TIME_LIMIT }
     requires room { LINE_LIMIT ≤ out.old.room }
-    ensures value { out.new ≡ appended out.old (gap_shape format from.now until.now gap.now.first gap.now.end) }
-    ensures short { length (gap_shape format from.now until.now gap.now.first gap.now.end) ≤ LINE_LIMIT }
+    ensures value { out.new ≡ appended out.old (gap_shape format from.now until.now gap.now) }
+    ensures short { length (gap_shape format from.now until.now gap.now) ≤ LINE_LIMIT }
 {
     match format {
         Format::Text => {
-            out.push(b"gap");
+            push_gap_word(gap, out);
             push_extent(from, until, gap.first, Some(gap.end), out);
         }
         Format::Csv => {
-            out.push(b"gap,,,,,,");
+            push_gap_word(gap, out);
+            out.push(b",,,,,,");
             push_extent_columns(from, until, gap.first, Some(gap.end), out);
             out.push(b",,\n");
         }
         Format::Json => {
-            out.push(b"{\"kind\":\"gap\"");
+            out.push(b"{\"kind\":\"");
+            push_gap_word(gap, out);
+            out.push(b"\"");
             push_extent_members(from, until, gap.first, Some(gap.end), out);
             out.push(b"}\n");
         }

@@ -21,7 +21,7 @@ use std::alloc::{AllocError, Global};
 use std::io::Write;
 use std::marker::Model;
 
-/// Writes lines in a style, each as a whole. In contracts, it appears as the style.
+/// Writes lines in a style, each line as a whole. Contracts represent a writer as its style.
 #[derive(Drop)]
 pub struct LineWriter {
     style: Style,
@@ -100,8 +100,7 @@ impl LineWriter {
         Ok(LineWriter { style, line, scale })
     }
 
-    /// Writes what precedes all lines: the names of the columns in CSV and on a page, and nothing in the
-    /// other formats.
+    /// Writes the header: the names of the columns in CSV and on a page, and nothing in the other formats.
     pub fn write_head<W: Write>(&mut self, writer: &mut W) -> Result<(), Stopped>
         ensures same { self.new ≡ self.old }
         ensures value { OnOk result (Appends (W.contents writer.old) (W.contents writer.new) (head_of self.old.format)) }

@@ -1,4 +1,4 @@
-//! A listener's intervals, before and after a moment.
+//! The intervals of a listener, before and after a moment.
 
 ghost use Rattle.std.specs.Prelude.{◌≡◌, ◌≤◌, true, length, map};
 ghost use Rattle.mg_words.specs.Limits.{member_limit};
@@ -38,9 +38,9 @@ impl ListenerRow {
     }
 
     /// Replaces the listener and its intervals. An interval continues the earlier one of the same flow, if there is
-    /// one; afterwards, `earlier` has the intervals that are not continued.
+    /// one. Afterwards, `earlier` has the intervals that are not continued.
     ///
-    /// `is_same` says that no termination has changed, except for whose speech flows to whom.
+    /// If `is_same` is set, the terminations are unchanged; only whose speech flows to whom may differ.
     pub(crate) fn advance(
         &mut self,
         earlier: &mut ListenerRow,

@@ -3,7 +3,7 @@ ghost use Rattle.mg_heard.specs.Query.{is_future, is_past};
 
 use mg_dates::Date;
 
-/// A tick, and when it happened.
+/// A tick, and the time at which it happened.
 #[derive(Clone, Copy, Debug, PartialEq, Eq)]
 pub struct Moment {
     /// The number of ticks before this one.

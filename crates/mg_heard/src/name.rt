@@ -11,7 +11,7 @@ pub(crate) const NAME_ROOM: usize = 64;
 /// The text of a name.
 pub type NameText = ArrayVec<u8, NAME_ROOM>;
 
-/// What a termination is called: 1 to 64 bytes, none of them an ASCII control character, `"` or `\`.
+/// The name of a termination: 1 to 64 bytes, none of them an ASCII control character, `"` or `\`.
 #[derive(Drop)]
 pub struct Name {
     text: NameText,

@@ -1,6 +1,6 @@
 use crate::name::NameText;
 
-/// Why a question can't be asked.
+/// The reason why a question can't be asked.
 #[derive(Drop)]
 pub enum NameFault {
     /// No line has this name.

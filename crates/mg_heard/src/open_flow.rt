@@ -4,7 +4,7 @@ ghost use Rattle.mg_heard.specs.aids.Opening.{key_of};
 
 use mg_core::Peer;
 
-/// A flow of speech from a talker to a listener, as long as the flow and both Remotes stay the same.
+/// A flow of speech from a talker to a listener. A change of the context or of a Remote makes it another flow.
 #[derive(Clone, Copy, Debug, Default, PartialEq, Eq)]
 pub struct OpenFlow {
     pub listener: u32,

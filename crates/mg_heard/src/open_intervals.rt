@@ -56,8 +56,8 @@ impl OpenIntervals {
         &self.places[..self.len]
     }
 
-    /// Advances to a moment at which exactly these flows count as open. Afterwards, an interval is stored for each of
-    /// them, and `ended` holds the intervals that end at this moment. The flows are in order of their pairs.
+    /// Advances to a moment at which exactly these flows are open. Afterwards, an interval is stored for each flow, and
+    /// `ended` holds the intervals that end at this moment. The flows are in order of their pairs.
     pub fn advance_to(&mut self, ended: &mut OpenIntervals, flows: &[OpenFlow], now: Moment)
         requires few { length flows.now ≤ FLOWS }
         ensures value { (past : List (List OpenFlow)) → IsRising (map (beginning_at now) flows.now) →
@@ -82,7 +82,7 @@ impl OpenIntervals {
         self.len = flows.len();
     }
 
-    /// Replaces the stored intervals with one for each flow that is open in a core. Each of them begins at this moment.
+    /// Replaces the stored intervals with one for each flow that is open in a core, all beginning at this moment.
     pub(crate) fn fill(&mut self, core: &Core, first: Moment)
         ensures value { (w : World) → StandsFor core.now.state w →
             self.new ≡ map (beginning_at first) (open_flows w.gateway) }

@@ -7,7 +7,7 @@ ghost use Rattle.mg_heard.specs.aids.Parties.{party_of, IsParty};
 use crate::open_flow::OpenFlow;
 use mg_core::{Peer, Record};
 
-/// What an interval says about a termination.
+/// The description of a termination in an interval.
 #[derive(Clone, Copy, Debug, Default, PartialEq, Eq)]
 pub struct Party {
     pub number: u32,
@@ -17,7 +17,7 @@ pub struct Party {
 }
 
 impl Party {
-    /// Returns what an interval says about a termination.
+    /// Returns the description of a termination for an interval.
     pub fn of(termination: &Record) -> Party
         ensures value { result ≡ party_of termination.now }
     {

@@ -32,7 +32,7 @@ impl PartyName {
         Some(PartyName::Address(address_of(text)?))
     }
 
-    /// Returns whether the name applies to a termination with this number and this Remote.
+    /// Returns whether the key applies to a termination with this number and this Remote.
     pub fn names(&self, number: u32, at: Option<Peer>) -> bool
         ensures value { result ≡ is_named self.now number at }
     {
@@ -44,7 +44,7 @@ impl PartyName {
         }
     }
 
-    /// Writes the name, in at most 32 bytes. [`of`](PartyName::of) reads it.
+    /// Writes the key, in at most 32 bytes. [`of`](PartyName::of) reads it.
     pub fn write(&self, out: &mut Bytes)
         requires room { 32 ≤ out.old.room }
         ensures value { out.new ≡ appended out.old (party_name_text self.now) }

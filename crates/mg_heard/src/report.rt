@@ -5,7 +5,7 @@ use crate::sink::Sink;
 use mg_core::Stopped;
 use std::io::Write;
 
-/// Writes a line for each interval that a query selects, and for each gap.
+/// A sink that writes a line for each interval and gap that a query selects.
 #[derive(Drop)]
 pub struct Report<'a, W: Write> {
     pub lines: &'a mut LineWriter,

@@ -69,12 +69,12 @@ pub fn write_report<R: Read, W: Write>(
     };
     let (report, extent) = hear_report(alloc, config, reader, report)?;
     let Report { writer, .. } = report;
-    // This does nothing at run time. It shows the proof what the writer holds.
+    // This line does nothing at run time. It makes the writer's contents available to the proof.
     let _ = &*writer;
     Ok((lines.scale(&extent), extent))
 }
 
-/// Writes one line.
+/// Writes the line of an answer.
 fn write_verdict<W: Write>(
     alloc: Global,
     style: Style,

@@ -56,7 +56,7 @@ impl Row {
         self.len = 0;
     }
 
-    /// Replaces the intervals with one for each flow to a listener. Each of them begins at this moment.
+    /// Replaces the intervals with one for each flow to a listener, all beginning at this moment.
     pub(crate) fn fill(&mut self, hearers: &[Hearer], listener: &Hearer, first: Moment)
         ensures value { length (flows_heard (seats_of hearers.now) listener.now) ≤ member_limit →
             self.new ≡ map (beginning_at first) (flows_heard (seats_of hearers.now) listener.now) }

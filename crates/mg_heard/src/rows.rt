@@ -82,7 +82,7 @@ fn are_same(rows: &[ListenerRow], hearers: &[Hearer]) -> bool
     true
 }
 
-/// Returns the place of a listener's row, or `None` if the listener has none. The search begins at a place that is
+/// Returns the place of a listener's row, or `None` if the listener has no row. The search begins at a place that is
 /// likely.
 fn place_of(rows: &[ListenerRow], number: u32, likely: usize) -> Option<usize>
     ensures some { IfSome result (λ place. (place < length rows.now)

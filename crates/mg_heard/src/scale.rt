@@ -4,14 +4,14 @@ use crate::extent::Extent;
 /// The range of ticks that a page's timeline covers. No contract specifies it.
 #[derive(Clone, Copy, Debug, PartialEq, Eq)]
 pub struct Scale {
-    /// The first tick of the intervals so far, or 2^64 - 1 if there is none.
+    /// The first tick of the intervals so far, or 2^64 - 1 if there are none.
     pub first: u64,
-    /// The last end of these intervals: 0 if there is none, and 2^64 - 1 if one has no end.
+    /// The last end of the intervals so far: 0 if there are none, and 2^64 - 1 if an interval has no end.
     pub end: u64,
 }
 
 impl Scale {
-    /// Creates the scale of no interval.
+    /// Creates a scale that includes no interval.
     pub(crate) fn new() -> Self {
         Scale {
             first: u64::MAX,
@@ -19,7 +19,7 @@ impl Scale {
         }
     }
 
-    /// Makes room for an entry. A gap needs none.
+    /// Extends the scale to include an interval. A gap doesn't change the scale.
     pub(crate) fn include(&mut self, entry: &Entry) {
         match entry {
             Entry::Interval(interval) | Entry::Audible(interval) => {
@@ -34,7 +34,7 @@ impl Scale {
         }
     }
 
-    /// Returns the scale within the ticks of a script: all of them if there is no interval.
+    /// Returns the scale limited to the ticks of a script, or all ticks of the script if there is no interval.
     pub(crate) fn within(self, extent: &Extent) -> Self {
         let end = extent.end.tick;
         if self.end == 0 {

@@ -4,7 +4,7 @@ ghost use Rattle.mg_heard.specs.aids.Hearers.{is_same_seated, seated_of};
 use crate::party::Party;
 use mg_core::Record;
 
-/// What an interval says about a termination, and the termination's seat in its context.
+/// The description of a termination in an interval, and the termination's seat in its context.
 #[derive(Clone, Copy, Debug, Default, PartialEq, Eq)]
 pub(crate) struct Seated {
     pub(crate) party: Party,

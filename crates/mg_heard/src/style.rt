@@ -2,7 +2,7 @@ use crate::format::Format;
 use crate::names::Names;
 use mg_dates::Zone;
 
-/// How lines are written, and what terminations are called in them.
+/// The style of lines: their format, and the time zone and the names that they show.
 #[derive(Drop)]
 pub struct Style {
     pub format: Format,

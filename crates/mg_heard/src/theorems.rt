@@ -11,7 +11,7 @@ ghost use Rattle.mg_heard.specs.declared.open_flow.OpenFlow.{OpenFlow};
 
 use mg_core::Event;
 
-/// What is printed about a flow determines the flow: two flows that are printed alike are equal.
+/// Two flows are equal if and only if everything that is printed about them is equal.
 pub fn same_flows_are_equal()
     ensures theorem { (a b : OpenFlow) → (is_same a b ≡ true) ↔ (a ≡ b) }
 {}
@@ -33,7 +33,7 @@ pub fn intervals_are_unique()
 }
 
 /// An interval contains a tick for a pair if and only if the talker's speech flows to the listener in the world before
-/// that tick. What the interval says about the pair's context and Remotes is also true in that world.
+/// that tick. The interval's context and Remotes are also right in that world.
 pub fn intervals_tell_the_flow()
     ensures flow { (config : Config) (events : List Event) (ys : List Interval) →
         AreIntervals config events ys → TellsTheFlow config events ys }
@@ -42,7 +42,7 @@ pub fn intervals_tell_the_flow()
     mg_core::theorems::outcomes_are_unique();
 }
 
-/// The intervals are exactly the maximal ones in which a flow is open before each tick.
+/// The intervals are exactly the maximal ones throughout which a flow is open before each tick.
 pub fn intervals_are_true_and_maximal()
     ensures theorem { IntervalsAreTrueAndMaximal }
 {}

@@ -25,13 +25,13 @@ use std::alloc::{AllocError, Global};
 pub(crate) struct Watch<'a> {
     pub(crate) rules: &'a [Rule],
     pub(crate) clock: Clock,
-    /// Why the follower stopped, or `None` if it has not stopped.
+    /// The reason why the follower stopped, or `None` if it has not stopped.
     pub(crate) fault: Option<ClockFault>,
     /// Whether the open flows may have changed since they were last compared with the rules.
     pub(crate) is_changed: bool,
     /// The flows that were open when they were last compared with the rules.
     open: OpenIntervals,
-    /// The first violation. Nothing that follows it is looked at.
+    /// The first violation. The follower ignores everything after it.
     pub(crate) violation: Option<Violation>,
 }
 

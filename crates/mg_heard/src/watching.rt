@@ -15,7 +15,7 @@ use std::io::{Read, Write};
 /// Runs a script until a rule is broken, or to its end. Returns the first violation, or `None` if no rule was broken.
 ///
 /// A rule is broken if a flow that it forbids is open before a tick or at the script's end. All ticks that have arrived
-/// are looked at before more of the script is read.
+/// are checked before more of the script is read.
 pub fn find_violation<R: Read>(
     alloc: Global,
     config: Config,
@@ -38,7 +38,7 @@ pub fn find_violation<R: Read>(
     }
 }
 
-/// Writes one line.
+/// Writes the line for a violation.
 fn write_line<W: Write>(
     alloc: Global,
     style: Style,

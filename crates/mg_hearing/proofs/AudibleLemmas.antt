@@ -1,4 +1,4 @@
--- What is printed about a talker.
+-- The output about a talker.
 use Rattle.std.proofs.Common.{◌≡◌, ◌∙◌, ℕ, Bool, true, List, Option, Some, inl, inr}
 use Rattle.std.specs.Fmt.{option_append}
 use Rattle.std.specs.Io.KnownBytes.{Consumes}
@@ -11,16 +11,18 @@ use Rattle.mg_core.specs.Note.{events_in}
 use Rattle.mg_heard.specs.Reported.{WritesReport}
 use Rattle.mg_host.specs.declared.host_call.HostCall.{HostCall}
 use Rattle.mg_host.specs.HostCalls.{ReadsFrom}
+use Rattle.mg_options.specs.Status.{UnlessFault}
 use Rattle.mg_options.specs.declared.status.Status.{Status}
+use Rattle.mg_options.specs.declared.status.Status.TheVariants.{Done}
 use Rattle.mg_arguments.specs.declared.audible_request.AudibleRequest.{AudibleRequest}
 use Rattle.mg_arguments.specs.Title.{title_line}
 use Rattle.mg_audible.specs.Told.{TellsAudible}
-use Rattle.mg_hearing.specs.Audible.{IsAudible, IsAudibleFrom, Reports}
+use Rattle.mg_hearing.specs.Audible.{IsAudible, IsAudibleFrom}
 use Rattle.mg_hearing.specs.Heard.{IsAsked}
 use Rattle.mg_hearing.specs.declared.question.Question.{Question}
 use Rattle.mg_hearing.proofs.HeardLemmas.{read_all, titled}
 
--- a script with its first line in front
+-- If `front` is the title line and the rest of the script follows it, the whole script was read.
 pub is_audible : (talker : ℕ) (asked : Question) (config : Config) (old mid rest : Option (List ℕ)) (front : List ℕ)
     (held written : Option (List ℕ)) (has_rtp : Bool) (silent : Type 0) (state : CoreState) → Consumes old mid front →
     front ≡ title_line config → (has_rtp ≡ true → silent) →
@@ -59,16 +61,17 @@ more_audible talker asked script old new silent quiet more h = record {
   };
 }
 
-reports_more : (heard more : Type 0) (status : Status) → (heard → more) → Reports heard status → Reports more status
+reports_more : (heard more : Type 0) (status : Status) → (heard → more) →
+    UnlessFault ((status ≡ Done) × heard) status → UnlessFault ((status ≡ Done) × more) status
 reports_more heard more status f (inl fault) = inl fault
 reports_more heard more status f (inr (done, h)) = inr (done, f h)
 
--- what a request asks for, of what its question's answer is
+-- An answer to a request's question is an answer to the request.
 pub audible_from : (request : AudibleRequest) (asked : Question) (before after : Option (List HostCall))
     (script input old new : Option (List ℕ)) (silent quiet : Type 0) (status : Status) → IsAsked request.heard asked →
     ReadsFrom request.heard.file before after input script → (silent → quiet) →
-    Reports (IsAudible request.talker asked script old new silent) status →
-    Reports (IsAudibleFrom request before after input old new quiet) status
+    UnlessFault ((status ≡ Done) × IsAudible request.talker asked script old new silent) status →
+    UnlessFault ((status ≡ Done) × IsAudibleFrom request before after input old new quiet) status
 audible_from request asked before after script input old new silent quiet status is from more h =
     reports_more (IsAudible request.talker asked script old new silent) (IsAudibleFrom request before after input old new quiet)
     status (λ a. (script, asked, from, is, more_audible request.talker asked script old new silent quiet more a)) h

@@ -1,4 +1,4 @@
--- What a reader has hashed, as it reads on.
+-- The hash of the bytes that a reader has read.
 use Rattle.std.proofs.Common.{◌≡◌, ℕ, Bool, true, false, cond, List, [], ◌∷◌, ◌++◌, length, length-append, take, Option, Some, None, IfSome, ap, ◌∙◌, sym, subst, arith}
 use Rattle.std.proofs.KnownBytes.{Consumes-kept, Consumes-trans}
 use Rattle.std.proofs.Math.Logic.{∥∥₁_elim, ∥∥₁_map}
@@ -32,7 +32,7 @@ hashed_kept text old new hasher kept h = ∥∥₁_map h (λ (f : Front text old
 whole : (text rest front : List ℕ) → text ≡ front ++ rest → rest ≡ [] → front ≡ text
 whole text rest front e none = sym (append-nil front) ∙ ap (λ (l : List ℕ). front ++ l) (sym none) ∙ sym e
 
--- the digits of the end of a seal
+-- The first 64 bytes of a seal's end are the digits of the hash.
 digits : (end part : List ℕ) → length end ≡ 65 → end ≡ seal_end part → take 64 end ≡ encode_lower (sha256 part)
 digits end part size is =
     let all = encode_lower (sha256 part) in
@@ -54,7 +54,7 @@ nil_right : (a b : List ℕ) → a ++ b ≡ [] → b ≡ []
 nil_right [] b h = h
 nil_right (x ∷ a) b h = absurd cc
 
--- what is left of two readers
+-- If two readers in a row are at the end, the second reader is at its end.
 pub second_at_end : (first second : Option (List ℕ)) (is_done : Bool) (bytes : List ℕ) → first ≡ Some bytes →
     IsAtEnd (cond is_done second (option_append first second)) → IsAtEnd second
 second_at_end first second true bytes known h = h

@@ -1,4 +1,4 @@
--- Reading the first line of a script, and then the script; and what is printed about it.
+-- Reading the first line of a script and then the rest, and the output about the script.
 use Rattle.std.proofs.Common.{◌≡◌, ◌∙◌, ℕ, Bool, true, List, ◌++◌, Option, Some, None, ap, append_assoc, codes, inl, inr, reverse, subst, sym}
 use Rattle.std.proofs.Math.Seq.{take-append_seam}
 use Rattle.std.specs.Prelude.{IfSome}
@@ -18,10 +18,11 @@ use Rattle.mg_heard.specs.Times.{extent_of}
 use Rattle.mg_heard.specs.Told.{TellsAll}
 use Rattle.mg_heard.specs.Verdict.{verdict_at}
 use Rattle.mg_heard.proofs.KeepingLemmas.{tells_weaker}
+use Rattle.mg_options.specs.Status.{UnlessFault}
 use Rattle.mg_options.specs.declared.status.Status.{Status}
 use Rattle.mg_options.specs.declared.status.Status.TheVariants.{Done}
 use Rattle.mg_hearing.specs.declared.question.Question.{Question}
-use Rattle.mg_hearing.specs.Heard.{Hears, IsHeard, Prints, status_for}
+use Rattle.mg_hearing.specs.Heard.{IsHeard, Prints, status_for}
 use Rattle.mg_hearing.specs.aids.Forms.{PrintsLines}
 use Rattle.mg_arguments.specs.declared.heard_request.HeardRequest.{HeardRequest}
 use Rattle.mg_arguments.specs.Title.{title_line}
@@ -54,7 +55,7 @@ titled (Some xs) (Some ys) front title first is =
     subst (λ (l : List ℕ). StartsWith xs l) is
     (subst (λ (l : List ℕ). StartsWith l front) (sym first) (starts front ys))
 
--- a line that is a title between its mark and its line feed
+-- A line that has a title between `# ` and the line feed is a title line.
 pub title_is : (line text title : List ℕ) (found : Option Config) → line ≡ text ++ codes "\n" →
     text ≡ codes "# " ++ title → IfSome found (λ config. title ≡ title_text config) →
     IfSome found (λ config. line ≡ title_line config)
@@ -78,7 +79,7 @@ prints_more config input rest state P Q more h = record {
   follows = tells_weaker config h.notes P Q (more (extent_of (reverse h.notes))) h.follows;
 }
 
--- the line of the answer about a given time
+-- The line of the answer about a given time is the output that `Prints` requires.
 pub prints_answer : (asked : Question) (at : Option Date) (time : Date) (config : Config)
     (input rest old new : Option (List ℕ)) (verdict : Verdict) (status : Status) → at ≡ Some time →
     WritesVerdict asked.style verdict old new → status ≡ status_for verdict →
@@ -97,7 +98,7 @@ prints_answer asked at time config input rest old new verdict status timed writt
       )) h,
 )
 
--- a line for each interval and each gap
+-- The lines for the intervals and gaps are the output that `Prints` requires.
 pub prints_report : (asked : Question) (at : Option Date) (config : Config)
     (input rest old new : Option (List ℕ)) (status : Status) (covered : Extent) → at ≡ None → status ≡ Done →
     ((state : CoreState) × IsFollowed config input rest state (λ notes. TellsAll config notes (λ extent xs.
@@ -113,7 +114,7 @@ prints_report asked at config input rest old new status covered timed is (state,
       subst (λ (t : Option Date). PrintsLines asked t old new status extent xs) (sym timed) (h.0, is)) h,
 )
 
--- a script with its first line in front
+-- If `front` is the title line and the rest of the script follows it, the whole script was read.
 pub is_heard : (request : HeardRequest) (asked : Question) (config : Config) (old mid : Option (List ℕ)) (front : List ℕ)
     (held written : Option (List ℕ)) (status : Status) → Consumes old mid front → front ≡ title_line config →
     ((rest : Option (List ℕ)) × (state : CoreState) × IsFollowed config (option_append (Some front) mid) rest state
@@ -134,8 +135,8 @@ is_heard request asked config old mid front held written status first is (rest, 
   };
 }
 
--- what follows from what a run did, is true after it
+-- If a run satisfies `heard` unless it fails, it satisfies the consequence `more` unless it fails.
 pub hears_more : (heard more silent quiet : Type 0) (status : Status) → (heard → more) → (silent → quiet) →
-    Hears heard silent status → Hears more quiet status
+    UnlessFault (heard × silent) status → UnlessFault (more × quiet) status
 hears_more heard more silent quiet status f g (inl fault) = inl fault
 hears_more heard more silent quiet status f g (inr (h, s)) = inr (f h, g s)

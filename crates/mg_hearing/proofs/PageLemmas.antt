@@ -1,4 +1,4 @@
--- Texts in pieces, and what is printed as a page.
+-- Texts that are written in pieces, and the output as a page.
 use Rattle.std.proofs.Common.{◌≡◌, ◌∙◌, ◌+◌, ◌<◌, ℕ, true, false, List, [], ◌∷◌, ◌++◌, None, Option, Result, Ok, Err, Some, ap, append_assoc, drop, get_or, length, refl, subst, sym}
 use Rattle.std.proofs.KnownBytes.{Appends-trans}
 use Rattle.std.proofs.lemmas.List.{at_drop_more}
@@ -28,7 +28,7 @@ use Rattle.mg_hearing.specs.aids.Parts.{IsFront, IsOrigin, IsScale, WritesTable}
 use Rattle.mg_hearing.specs.aids.Forms.{PrintsLines, is_page}
 use Rattle.mg_hearing.proofs.HeardLemmas.{prints_more}
 
--- one piece more: what was written, and what is left
+-- Writing one more piece moves it from the remaining text to the written text.
 pub piece_more : {X : Type 0} (f : X → List ℕ) (xs : List X) (i : ℕ) (d : X) (before whole : List ℕ) →
     i < length xs → before ++ flat_map f (drop i xs) ≡ whole →
     (before ++ f (get_or xs i d)) ++ flat_map f (drop (i + 1) xs) ≡ whole
@@ -36,7 +36,7 @@ piece_more f xs i d before whole lt is =
     append_assoc before (f (get_or xs i d)) (flat_map f (drop (i + 1) xs)) ∙
     sym (at_drop_more (λ rest. before ++ flat_map f rest) xs i d lt) ∙ is
 
--- what isn't a page is printed in lines
+-- If the format isn't a page, the output in lines is the output that `Prints` requires.
 pub as_lines : (format : Format) (at : Option Date) (request : HeardRequest) (asked : Question) (script old new : Option (List ℕ)) (status : Status)
     (extent : Extent) (xs : List Entry) → is_page format ≡ false → PrintsLines asked at old new status extent xs →
     Prints format at request asked script old new status extent xs
@@ -65,7 +65,7 @@ filled_with parts shown = []
 IsGiven : List ℕ × Option (List ℕ) → List ℕ → Type 0
 IsGiven part shown = IfSome part.1 (λ given. shown ≡ given)
 
--- parts with these texts
+-- Parts that are filled with the given texts satisfy `IsFilled`.
 filled : (parts : List (List ℕ × Option (List ℕ))) (shown : List (List ℕ)) → AllZip IsGiven parts shown →
     IsFilled parts (filled_with parts shown)
 unfolding IsGiven filled_with
@@ -74,7 +74,7 @@ filled [] (shown ∷ more) h = absurd h
 filled (part ∷ parts) [] h = absurd h
 filled (part ∷ parts) (shown ∷ more) h = (shown, filled_with parts more, h.0, filled parts more h.1, refl)
 
--- parts after parts
+-- Filled parts followed by filled parts satisfy `IsFilled`.
 filled_both : (parts more : List (List ℕ × Option (List ℕ))) (a b : List ℕ) → IsFilled parts a → IsFilled more b →
     IsFilled (parts ++ more) (a ++ b)
 filled_both [] more a b h k = subst (λ (t : List ℕ). IsFilled more (t ++ b)) (sym h) k
@@ -115,7 +115,7 @@ back_filled file digest scale origin h k =
     ∷ k.options ∷ last_words file ∷ [] ∷ []) (refl, (tt, (refl, (tt, (tt, (tt, (tt, (refl, (refl, tt)))))))))) in
     filled_both scale_parts (origin_parts file digest) scale origin first second
 
--- a table, and what follows it
+-- A table, followed by its scale and the origin, is a page.
 pub as_page : (request : HeardRequest) (asked : Question) (script old mid new : Option (List ℕ))
     (scale digest origin : List ℕ) (extent : Extent) (xs : List Entry) → is_page asked.style.format ≡ true →
     IsScale scale → IsDigest script digest → IsOrigin request.file digest origin → Appends mid new (scale ++ origin) →
@@ -137,7 +137,7 @@ as_page request asked script old mid new scale digest origin extent xs page scal
           (Appends-trans old mid new (front ++ (head ++ rows)) (scale ++ origin) table writes),
     )
 
--- a front, and rows after it
+-- The front of a page, followed by its rows, is a table.
 pub as_table : {S E : Type 0} (request : HeardRequest) (asked : Question) (config : Config) (input rest old mid new : Option (List ℕ))
     (front : List ℕ) (result : Result (S × Extent) E) → IsFront request front → Appends old mid front →
     IfOk result (λ written. (state : CoreState) × IsFollowed config input rest state (λ notes. TellsAll config notes

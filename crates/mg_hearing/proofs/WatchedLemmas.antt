@@ -1,4 +1,4 @@
--- What is printed about rules.
+-- The output about rules.
 use Rattle.std.proofs.Common.{◌≡◌, ◌++◌, List, ℕ, Option, Some}
 use Rattle.std.specs.Fmt.{option_append}
 use Rattle.std.specs.Io.KnownBytes.{Consumes}
@@ -7,15 +7,15 @@ use Rattle.mg_heard.specs.declared.violation.Violation.{Violation}
 use Rattle.mg_heard.specs.Never.{IsWatched, WritesViolation}
 use Rattle.mg_host.specs.declared.host_call.HostCall.{HostCall}
 use Rattle.mg_host.specs.HostCalls.{ReadsFrom}
+use Rattle.mg_options.specs.Status.{UnlessFault}
 use Rattle.mg_options.specs.declared.status.Status.{Status}
 use Rattle.mg_arguments.specs.declared.watch_request.WatchRequest.{WatchRequest}
 use Rattle.mg_hearing.specs.declared.alarm.Alarm.{Alarm}
 use Rattle.mg_arguments.specs.Title.{title_line}
-use Rattle.mg_hearing.specs.Heard.{Hears}
 use Rattle.mg_hearing.specs.Watched.{IsAnswered, IsAnsweredFrom, IsSet, status_for}
 use Rattle.mg_hearing.proofs.HeardLemmas.{hears_more, read_all, titled}
 
--- a script with its first line in front
+-- If `front` is the title line and the rest of the script follows it, the whole script was watched.
 pub is_answered : (alarm : Alarm) (config : Config) (old mid rest : Option (List ℕ)) (front : List ℕ)
     (held written : Option (List ℕ)) (found : Option Violation) (status : Status) → Consumes old mid front →
     front ≡ title_line config → IsWatched alarm.rules.items config (option_append (Some front) mid) rest found →
@@ -44,11 +44,11 @@ is_answered alarm config old mid rest front held written found status first is h
   status_is = status_is;
 }
 
--- what a request asks for, of what its alarm did
+-- An answer by a request's alarm is an answer to the request.
 pub answered_from : (request : WatchRequest) (alarm : Alarm) (before after : Option (List HostCall))
     (script input old new : Option (List ℕ)) (silent quiet : Type 0) (status : Status) → IsSet request alarm →
-    ReadsFrom request.file before after input script → (silent → quiet) → Hears (IsAnswered alarm script old new status) silent status →
-    Hears (IsAnsweredFrom request before after input old new status) quiet status
+    ReadsFrom request.file before after input script → (silent → quiet) → UnlessFault (IsAnswered alarm script old new status × silent) status →
+    UnlessFault (IsAnsweredFrom request before after input old new status × quiet) status
 answered_from request alarm before after script input old new silent quiet status set from more h =
     hears_more (IsAnswered alarm script old new status) (IsAnsweredFrom request before after input old new status) silent quiet status
     (λ a. (script, alarm, from, set, a)) more h

@@ -1,34 +1,28 @@
--- What `mg_bridge heard --audible` prints.
-use Rattle.std.specs.Prelude.{◌≡◌, ◌⊎◌, ℕ, true, List, Option}
+-- The output of `mg_bridge heard --audible`.
+use Rattle.std.specs.Prelude.{◌≡◌, ℕ, true, List, Option}
 use Rattle.std.specs.List.{list_any}
 use Rattle.mg_core.specs.Counting.{is_media}
 use Rattle.mg_core.specs.Note.{events_in}
 use Rattle.mg_heard.specs.Reported.{WritesReport}
-use Rattle.mg_options.specs.declared.status.Status.{Status}
-use Rattle.mg_options.specs.declared.status.Status.TheVariants.{Done}
 use Rattle.mg_arguments.specs.declared.audible_request.AudibleRequest.{AudibleRequest}
 use Rattle.mg_hearing.specs.declared.question.Question.{Question}
-use Rattle.mg_hearing.specs.Heard.{IsAsked, IsFault, IsRead}
+use Rattle.mg_hearing.specs.Heard.{IsAsked, IsRead}
 use Rattle.mg_audible.specs.Told.{TellsAudible}
 use Rattle.mg_host.specs.declared.host_call.HostCall.{HostCall}
 use Rattle.mg_host.specs.HostCalls.{ReadsFrom}
 
--- A script was read, and what is printed is about all intervals in which the talker is audible. If
--- the script has an RTP datagram, no error is printed.
+-- A script was read, and the output is about all intervals in which the talker is audible. If the script has an RTP
+-- datagram, no error is printed.
 abbrev pub IsAudible : (talker : ℕ) → Question → (script old new : Option (List ℕ))
     → (silent : Type 0) → Type 0
 IsAudible talker asked script old new silent = IsRead script (λ config notes.
     TellsAudible config talker notes (WritesReport asked.style asked.query old new)
     × (list_any is_media (events_in notes) ≡ true → silent))
 
--- What is audible in the script in a file, or in the input.
+-- The output about a talker in the script of a file, or of the input.
 abbrev pub IsAudibleFrom : AudibleRequest → (before after : Option (List HostCall))
     → (input old new : Option (List ℕ)) → (silent : Type 0) → Type 0
 IsAudibleFrom request before after input old new silent =
     (script : Option (List ℕ)) × (asked : Question)
     × ReadsFrom request.heard.file before after input script
     × IsAsked request.heard asked × IsAudible request.talker asked script old new silent
-
--- what is true after a run: it succeeded, or there was a fault
-abbrev pub Reports : (is_audible : Type 0) → Status → Type 0
-Reports is_audible status = IsFault status ⊎ ((status ≡ Done) × is_audible)

@@ -1,5 +1,5 @@
--- What `mg_bridge heard` prints, and what its exit status answers.
-use Rattle.std.specs.Prelude.{◌≡◌, ◌⊎◌, ℕ, List, [], Option, Some, None, IfSome}
+-- The output of `mg_bridge heard`, and its exit status.
+use Rattle.std.specs.Prelude.{◌≡◌, ℕ, List, [], Option, Some, None, IfSome}
 use Rattle.std.specs.Io.{StartsWith}
 use Rattle.mg_engine.specs.declared.config.Config.{Config}
 use Rattle.mg_core.specs.declared.state.CoreState.{CoreState}
@@ -20,7 +20,6 @@ use Rattle.mg_heard.specs.Told.{TellsAll}
 use Rattle.mg_heard.specs.Verdict.{verdict_at}
 use Rattle.mg_options.specs.declared.status.Status.{Status}
 use Rattle.mg_options.specs.declared.status.Status.TheVariants.{Done, CouldNotHear, Unknown}
-use Rattle.mg_options.specs.declared.status.Status.TheVariants.{Failed, NoMemory, BadJournal}
 use Rattle.mg_arguments.specs.declared.heard_request.HeardRequest.{HeardRequest}
 use Rattle.mg_arguments.specs.declared.printing.Printing.{Printing}
 use Rattle.mg_arguments.specs.Title.{title_line}
@@ -29,15 +28,15 @@ use Rattle.mg_hearing.specs.Page.{WritesPage}
 use Rattle.mg_host.specs.declared.host_call.HostCall.{HostCall}
 use Rattle.mg_host.specs.HostCalls.{ReadsFrom}
 
--- the exit status that answers a question about a given time
+-- The exit status that answers a question about a given time.
 abbrev pub status_for : Verdict → Status
 status_for (CouldHear x) = Done
 status_for verdicts.CouldNotHear = CouldNotHear
 status_for verdicts.Unknown = Unknown
 
--- What is printed about the intervals and gaps of a script, and the time that it covers: a page; or,
--- without a time, a line for each that is asked for; or, with a time, the line of the answer that
--- follows from them, and the status answers too.
+-- The output about the intervals and gaps of a script, and about the time that the script covers. It is a page or,
+-- without a time, a line for each selected interval and gap. For a given time, the output is the line of the answer,
+-- and the status agrees with the answer.
 abbrev pub Prints : Format → Option Date → HeardRequest → Question
     → (script old new : Option (List ℕ)) → Status → Extent → List Entry → Type 0
 Prints formats.Page at request asked script old new status extent xs =
@@ -48,8 +47,8 @@ Prints format (Some time) request asked script old new status extent xs =
     WritesVerdict asked.style (verdict_at asked.query time extent xs) old new
     × (status ≡ status_for (verdict_at asked.query time extent xs))
 
--- A script was read to its end. It begins with the title of the configuration with which it is run,
--- and this is true of its notes.
+-- A script was read to its end. It begins with the title of the configuration with which it is run, and `Told` is true
+-- of its notes.
 pub record IsRead (script : Option (List ℕ)) (Told : Config → List Note → Type 0) : Type 0 where
   pub config : Config
   pub titled : IfSome script (λ text. StartsWith text (title_line config))
@@ -57,37 +56,28 @@ pub record IsRead (script : Option (List ℕ)) (Told : Config → List Note → 
   pub state : CoreState
   pub prints : IsFollowed config script rest state (Told config)
 
--- A script was read, and what is printed is about all its intervals.
+-- A script was read, and the output is about all its intervals.
 abbrev pub IsHeard : HeardRequest → Question → (script old new : Option (List ℕ)) → Status → Type 0
 IsHeard request asked script old new status = IsRead script (λ config notes. TellsAll config notes
     (Prints asked.style.format asked.at request asked script old new status))
 
--- How an answer is written, as a request asks: in its format; and without a file of names, nothing
--- has a name. (No contract says what a file contains, or which time zones the system has.)
+-- The style of an answer agrees with the request: it has the requested format, and without a file of names, nothing has
+-- a name. (No contract says what a file contains, or which time zones the system has.)
 pub record IsStyle (printing : Printing) (style : Style) : Type 0 where
   pub format : style.format ≡ printing.format
   pub names : printing.names ≡ None → style.names ≡ []
 
--- The question that a request asks. Its query asks about the terminations with the names in the
--- request, and each of these names is in the file.
+-- The question that a request asks. Its query is about the terminations with the names in the request, and the file of
+-- names has all these names.
 pub record IsAsked (request : HeardRequest) (asked : Question) : Type 0 where
   pub style : IsStyle request.printing asked.style
   pub query : IsQuery asked.style.names request.query asked.query
   pub at : asked.at ≡ request.at
 
--- What is heard of the script in a file, or in the input.
+-- The output about the script in a file, or in the input.
 abbrev pub IsHeardFrom : HeardRequest → (before after : Option (List HostCall))
     → (input old new : Option (List ℕ)) → Status → Type 0
 IsHeardFrom request before after input old new status =
     (script : Option (List ℕ)) × (asked : Question)
     × ReadsFrom request.file before after input script
     × IsAsked request asked × IsHeard request asked script old new status
-
--- the statuses of faults: a read or a write failed, memory ran out, or the script can't be used
-abbrev pub IsFault : Status → Type 0
-IsFault status = (status ≡ Failed) ⊎ (status ≡ NoMemory) ⊎ (status ≡ BadJournal)
-
--- What is true after a run. Unless there was a fault, something was heard, which determines the
--- status, and no error is printed.
-abbrev pub Hears : (heard silent : Type 0) → Status → Type 0
-Hears heard silent status = IsFault status ⊎ (heard × silent)

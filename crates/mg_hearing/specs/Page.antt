@@ -21,18 +21,18 @@ use Rattle.mg_hearing.specs.declared.page_text.TheConstants.{PROGRAM, PROGRAM_HA
 
 -- ## Texts
 
--- a byte of a word in quotes on a command line: a quote ends the quotes, stands for itself, and
--- begins other quotes
+-- A byte within single quotes on a command line. A quote ends the quoted text, appears escaped, and starts a new quoted
+-- text.
 abbrev pub quoted_byte : ℕ → List ℕ
 quoted_byte b = if b == 39 then codes "'\\''" else b ∷ []
 
--- a text as one word of a command line
+-- A text as one word of a command line.
 abbrev pub quoted : List ℕ → List ℕ
 quoted text = codes "'" ++ (flat_map quoted_byte text ++ codes "'")
 
 -- ## The question
 
--- who is asked about
+-- The terminations that a question is about, as text.
 abbrev pub party_word : Option Asked → List ℕ
 party_word None = codes "anyone"
 party_word (Some (Key key)) = party_name_text key
@@ -43,14 +43,14 @@ script_name file = unwrap_or file (codes "standard input")
 
 -- ## The page
 
--- A part of a page: fixed texts, and after each an escaped text, which is the given one, or any.
+-- A part of a page: fixed texts, each followed by an escaped text. The escaped text is the given one, or any text.
 abbrev pub IsFilled : List (List ℕ × Option (List ℕ)) → List ℕ → Type 0
 IsFilled [] text = text ≡ []
 IsFilled (part ∷ parts) text =
     (shown : List ℕ) × (others : List ℕ) × IfSome part.1 (λ given. shown ≡ given)
     × IsFilled parts others × (text ≡ part.0 ++ (escaped shown ++ others))
 
--- what precedes the table
+-- The part of a page before the table.
 abbrev pub front_parts : HeardRequest → List (List ℕ × Option (List ℕ))
 front_parts request =
     (TITLE.now, Some (script_name request.file)) ∷ (ASKED.now, Some (script_name request.file))
@@ -58,13 +58,13 @@ front_parts request =
     ∷ (TALKER.now, Some (party_word request.query.talker)) ∷ (FROM.now, None) ∷ (UNTIL.now, None)
     ∷ (ANSWER.now, Some []) ∷ []
 
--- the end of a command about a file, or about the input, which has no name
+-- The end of a command about a file, or about the input, which has no name.
 abbrev pub last_words : Option (List ℕ) → List ℕ
 last_words None = codes " < FILE"
 last_words (Some name) = codes " -- " ++ quoted name
 
--- the end of the table and the scale of its timeline, what was read, with this digest, which program
--- wrote the page, and the command that it ran
+-- The end of a page: the end of the table with the timeline's scale, the script with this digest, the program that
+-- wrote the page, and the command that makes the page.
 abbrev pub back_parts : (file : Option (List ℕ)) → (digest : List ℕ)
     → List (List ℕ × Option (List ℕ))
 back_parts file digest =
@@ -73,13 +73,12 @@ back_parts file digest =
     ∷ (TIME.now, None) ∷ (PROGRAM.now, None) ∷ (PROGRAM_HASH.now, None) ∷ (COMMAND.now, None)
     ∷ ([], Some (last_words file)) ∷ (TRUST.now, Some []) ∷ []
 
--- the SHA-256 of a text, if the text is known, in lower-case hexadecimal digits
+-- The SHA-256 of a text, in lower-case hexadecimal digits, if the text is known.
 abbrev pub IsDigest : Option (List ℕ) → List ℕ → Type 0
 IsDigest text digest = IfSome text (λ t. digest ≡ encode_lower (sha256 t))
 
--- A writer has received a page with a row for each of these entries of a script that is asked for,
--- and with the script's digest. (No contract says that the timeline's scale, times, the program's
--- hash and options are right.)
+-- A writer has received a page with a row for each of these entries that the query selects, and with the script's
+-- digest. (No contract says that the timeline's scale, the times, the program's hash and the options are right.)
 abbrev pub WritesPage : HeardRequest → Question → (script old new : Option (List ℕ)) → List Entry
     → Type 0
 WritesPage request asked script old new xs =

@@ -1,4 +1,4 @@
--- What `mg_bridge heard --never` prints, and what its exit status answers.
+-- The output of `mg_bridge heard --never`, and its exit status.
 use Rattle.std.specs.Prelude.{◌≡◌, ℕ, List, Option, Some, None, IfSome}
 use Rattle.std.specs.Io.{StartsWith}
 use Rattle.std.specs.List.{AllZip}
@@ -19,9 +19,8 @@ abbrev pub status_for : Option Violation → Status
 status_for None = Done
 status_for (Some v) = RuleBroken
 
--- A script begins with the title of the configuration with which it is run. It was read to its end,
--- or until one of the rules was broken. Only the first violation is printed, and the status says
--- whether there is one.
+-- A script begins with the title of the configuration with which it is run. The script was read to its end, or until
+-- one of the rules was broken. Only the first violation is printed, and the status says whether there is a violation.
 pub record IsAnswered (alarm : Alarm) (script old new : Option (List ℕ)) (status : Status)
     : Type 0 where
   pub config : Config
@@ -32,13 +31,13 @@ pub record IsAnswered (alarm : Alarm) (script old new : Option (List ℕ)) (stat
   pub written : WritesViolation alarm.style found old new
   pub status_is : status ≡ status_for found
 
--- The alarm that a request sets. Its rules are about the terminations with the names in the
--- request, and each of these names is in the file.
+-- The alarm that a request sets. Its rules are about the terminations with the names in the request, and the file of
+-- names has all these names.
 pub record IsSet (request : WatchRequest) (alarm : Alarm) : Type 0 where
   pub style : IsStyle request.printing alarm.style
   pub rules : AllZip (IsRule alarm.style.names) request.rules alarm.rules.items
 
--- What is answered about the script in a file, or in the input.
+-- The answer about the script in a file, or in the input.
 abbrev pub IsAnsweredFrom : WatchRequest → (before after : Option (List HostCall))
     → (input old new : Option (List ℕ)) → Status → Type 0
 IsAnsweredFrom request before after input old new status =

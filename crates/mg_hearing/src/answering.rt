@@ -2,7 +2,8 @@ ghost use Rattle.std.specs.Prelude.{◌≡◌, ◌⊎◌, IfErr, IfOk, IsSome, O
 ghost use Rattle.mg_core.specs.Follow.{IsFollowed};
 ghost use Rattle.mg_core.specs.declared.state.CoreState.{CoreState};
 ghost use Rattle.mg_heard.specs.Told.{TellsAll};
-ghost use Rattle.mg_hearing.specs.Heard.{Hears, IsAsked, IsHeard, IsHeardFrom, status_for};
+ghost use Rattle.mg_options.specs.Status.{UnlessFault};
+ghost use Rattle.mg_hearing.specs.Heard.{IsAsked, IsHeard, IsHeardFrom, status_for};
 ghost use Rattle.mg_hearing.specs.aids.Forms.{PrintsLines, is_page};
 
 use crate::asking::Asking;
@@ -67,8 +68,8 @@ fn hear_lines<R: Read, W: Write, E: Write>(
     errors: &mut E,
 ) -> Status
     requires lines { is_page asking.question.style.format ≡ false }
-    ensures value { Hears (IsHeard asking.entry.request.now asking.entry.question (R.remaining reader.old)
-        (W.contents output.old) (W.contents output.new) result) (errors.new ≡ errors.old) result }
+    ensures value { UnlessFault (IsHeard asking.entry.request.now asking.entry.question (R.remaining reader.old)
+        (W.contents output.old) (W.contents output.new) result × (errors.new ≡ errors.old)) result }
 {
     let name = script_name(asking.request);
     let (line, config) = match read_title(alloc, name, reader, errors) {
@@ -103,8 +104,8 @@ fn hear_script<F: Files, R: Read, W: Write, E: Write>(
     output: &mut W,
     errors: &mut E,
 ) -> Status
-    ensures value { Hears (IsHeard asking.entry.request.now asking.entry.question (R.remaining reader.old)
-        (W.contents output.old) (W.contents output.new) result) (errors.new ≡ errors.old) result }
+    ensures value { UnlessFault (IsHeard asking.entry.request.now asking.entry.question (R.remaining reader.old)
+        (W.contents output.old) (W.contents output.new) result × (errors.new ≡ errors.old)) result }
 {
     if is_page(asking.question.style.format) {
         hear_page(files, alloc, asking, reader, output, errors)
@@ -113,7 +114,7 @@ fn hear_script<F: Files, R: Read, W: Write, E: Write>(
     }
 }
 
-/// Returns the question that a request asks. If it can't be asked, reports why to `errors`, and returns the
+/// Returns the question that a request asks. If the question can't be asked, reports why to `errors`, and returns the
 /// exit status.
 pub(crate) fn question_of<F: Files, E: Write>(
     files: &F,
@@ -151,8 +152,8 @@ pub fn heard<H: Texts, F: Files, R: Read, W: Write, E: Write>(
     output: &mut W,
     errors: &mut E,
 ) -> Status
-    ensures value { Hears (IsHeardFrom request.now (H.calls host.old) (H.calls host.new) (R.remaining input.old) (W.contents output.old)
-        (W.contents output.new) result) (errors.new ≡ errors.old) result }
+    ensures value { UnlessFault (IsHeardFrom request.now (H.calls host.old) (H.calls host.new) (R.remaining input.old) (W.contents output.old)
+        (W.contents output.new) result × (errors.new ≡ errors.old)) result }
     ensures unread { IsSome request.now.file → input.new ≡ input.old }
 {
     let question = match question_of(files, alloc, request, errors) {

@@ -1,5 +1,6 @@
 ghost use Rattle.std.specs.Prelude.{◌≡◌, true, IsSome, Option, List, ℕ};
-ghost use Rattle.mg_hearing.specs.Audible.{IsAudible, IsAudibleFrom, Reports};
+ghost use Rattle.mg_options.specs.Status.{UnlessFault};
+ghost use Rattle.mg_hearing.specs.Audible.{IsAudible, IsAudibleFrom};
 
 use crate::answering::question_of;
 use crate::faults::{INPUT, report_fault};
@@ -14,7 +15,7 @@ use std::alloc::Global;
 use std::fs::Files;
 use std::io::{Read, Write};
 
-/// Returns the successful exit status. If a script has no RTP datagrams, says so to `errors`.
+/// Returns the successful exit status. If a script has no RTP datagrams, reports this to `errors`.
 fn done<E: Write>(name: &str, has_rtp: bool, errors: &mut E) -> Status
     ensures status { result ≡ Status.Done }
     ensures silent { has_rtp ≡ true → errors.new ≡ errors.old }
@@ -38,7 +39,7 @@ fn audible_script<R: Read, W: Write, E: Write>(
     output: &mut W,
     errors: &mut E,
 ) -> Status
-    ensures value { Reports (IsAudible asked.talker asked.question (R.remaining reader.old) (W.contents output.old)
+    ensures value { UnlessFault ((result ≡ Status.Done) × IsAudible asked.talker asked.question (R.remaining reader.old) (W.contents output.old)
         (W.contents output.new) (errors.new ≡ errors.old)) result }
 {
     let (line, config) = match read_title(alloc, name, reader, errors) {
@@ -66,7 +67,7 @@ pub fn audible<H: Texts, F: Files, R: Read, W: Write, E: Write>(
     output: &mut W,
     errors: &mut E,
 ) -> Status
-    ensures value { Reports (IsAudibleFrom request.now (H.calls host.old) (H.calls host.new) (R.remaining input.old) (W.contents output.old)
+    ensures value { UnlessFault ((result ≡ Status.Done) × IsAudibleFrom request.now (H.calls host.old) (H.calls host.new) (R.remaining input.old) (W.contents output.old)
         (W.contents output.new) (errors.new ≡ errors.old)) result }
     ensures unread { IsSome request.now.heard.file → input.new ≡ input.old }
 {

@@ -66,7 +66,7 @@ fn covered_time(alloc: Global, extent: &Option<Extent>) -> io::Result<Vec<u8>> {
     Ok(text)
 }
 
-/// Writes the end of a page: where the page comes from.
+/// Writes the end of a page, which states the page's origin.
 fn write_origin<W: Write>(
     alloc: Global,
     request: &HeardRequest,
@@ -114,7 +114,7 @@ fn write_origin<W: Write>(
     )
 }
 
-/// Writes what follows the rows of a whole page.
+/// Writes the part of a whole page after its rows.
 pub(crate) fn write_back<W: Write>(
     alloc: Global,
     request: &HeardRequest,
@@ -130,7 +130,7 @@ pub(crate) fn write_back<W: Write>(
     write_origin(alloc, request, origin, output)
 }
 
-/// Writes what follows the rows of a page whose script was not read to its end.
+/// Writes the part of a page after its rows, if the script was not read to its end.
 pub(crate) fn write_broken<W: Write>(
     alloc: Global,
     request: &HeardRequest,

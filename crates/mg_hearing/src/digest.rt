@@ -6,7 +6,7 @@ use mg_chain::END;
 #[derive(Drop)]
 pub(crate) struct Digest {
     pub(crate) length: u64,
-    /// The SHA-256 in hexadecimal digits, and a line feed.
+    /// The hexadecimal digits of the SHA-256, and a line feed.
     pub(crate) end: [u8; END],
 }
 

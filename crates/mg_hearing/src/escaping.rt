@@ -4,7 +4,7 @@ ghost use Rattle.mg_hearing.specs.Page.{quoted, quoted_byte};
 
 use std::alloc::{AllocError, Global};
 
-/// Appends a byte of a text to a page.
+/// Escapes a byte and appends it to a page.
 fn push_escaped(byte: u8, page: &mut Vec<u8>) -> Result<(), AllocError>
     ensures value { OnOk result (page.new.items ≡ page.old.items ++ escaped_byte byte) }
 {
@@ -29,7 +29,7 @@ fn push_escaped(byte: u8, page: &mut Vec<u8>) -> Result<(), AllocError>
     page.extend_from_slice(&[byte])
 }
 
-/// Returns a text as a page shows it.
+/// Returns a text with the escapes that a page needs.
 pub(crate) fn escaped(alloc: Global, text: &[u8]) -> Result<Vec<u8>, AllocError>
     ensures value { IfOk result (λ page. page.items ≡ escaped text.now) }
 {
@@ -40,7 +40,7 @@ pub(crate) fn escaped(alloc: Global, text: &[u8]) -> Result<Vec<u8>, AllocError>
     Ok(page)
 }
 
-/// Appends a byte to a word in quotes.
+/// Appends a byte to a quoted word.
 fn push_quoted(byte: u8, word: &mut Vec<u8>) -> Result<(), AllocError>
     ensures value { OnOk result (word.new.items ≡ word.old.items ++ quoted_byte byte) }
 {

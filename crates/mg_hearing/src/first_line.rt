@@ -10,7 +10,7 @@ const LIMIT: usize = 1024;
 /// The first line of a script, with its line feed if it has one, or the first 1,024 bytes of a longer line.
 pub(crate) type FirstLine = ArrayVec<u8, LIMIT>;
 
-/// Reads the next byte of a line. Returns whether the line may go on.
+/// Reads the next byte of a line. Returns whether the line may have more bytes.
 fn read_byte<R: Read>(reader: &mut R, line: &mut FirstLine) -> io::Result<bool>
     requires room { length line.old.items < LIMIT }
     ensures value { OnOk result ((part : List ℕ) × Consumes (R.remaining reader.old) (R.remaining reader.new) part
@@ -27,7 +27,7 @@ fn read_byte<R: Read>(reader: &mut R, line: &mut FirstLine) -> io::Result<bool>
     }
 }
 
-/// Reads the first line of a script, and nothing more.
+/// Reads the first line of a script, and no more.
 pub(crate) fn first_line<R: Read>(reader: &mut R) -> io::Result<FirstLine>
     ensures value { IfOk result (λ line.
         Consumes (R.remaining reader.old) (R.remaining reader.new) line.items) }

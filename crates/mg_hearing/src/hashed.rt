@@ -21,7 +21,7 @@ pub(crate) struct Hashed<R: Read, K: TextKey> {
 }
 
 impl<R: Read, K: TextKey> Hashed<R, K> {
-    /// Creates a reader of the bytes that another reader returns from here on.
+    /// Creates a reader that returns and hashes the remaining bytes of another reader.
     pub(crate) fn new(inner: R) -> Self
         requires text { IfSome K.text (λ text. R.remaining inner ≡ Some text) }
         ensures inner { result.inner ≡ inner }

@@ -1,13 +1,13 @@
-//! What `mg_bridge heard` prints.
+//! The output of `mg_bridge heard`.
 //!
 //! ```rust
 //! let status = heard(&mut host, &rt, alloc, &request, &mut input, &mut output, &mut errors);
 //! ```
 //!
-//! The script is a journal or a recording, whose first line states the configuration of its gateway. [`heard`] runs it
-//! with the same configuration, and returns the program's exit status.
+//! The script is a journal or a recording. Its first line states the configuration of its gateway. [`heard`] runs the
+//! script with the same configuration, and returns the program's exit status.
 //!
-//! `specs/Heard.antt` defines what is printed, and what the status answers. `specs/Page.antt` defines a page (HTML).
+//! `specs/Heard.antt` defines the output and the exit status. `specs/Page.antt` defines a page (HTML).
 #![tactic(auto)]
 
 mod alarm;

@@ -3,7 +3,7 @@ ghost use Rattle.std.specs.Prelude.{◌≡◌, ◌⊎◌};
 use mg_options::Status;
 use thiserror::Error;
 
-/// Why a file of names can't be used.
+/// The reason why a file of names can't be used.
 #[derive(Clone, Copy, Debug, PartialEq, Eq, Error)]
 pub(crate) enum NamesFault {
     #[error("cannot be read")]

@@ -7,7 +7,7 @@ use std::io::Read;
 /// The maximum number of lines.
 const MAX_LINES: u32 = 1024;
 
-/// Returns the key and the name in a line. Returns `None` if the line has anything else.
+/// Returns the key and the name in a line, or `None` if the line is anything else.
 fn named_in(line: &ByteRecord) -> Option<Named> {
     if line.len() != 2 {
         return None;
@@ -22,7 +22,7 @@ fn named_in(line: &ByteRecord) -> Option<Named> {
     })
 }
 
-/// Reads the next line. Returns `None` at the end.
+/// Reads the next line. Returns `None` at the end of the file.
 fn read_line<R: Read>(
     reader: &mut Reader<R>,
     line: &mut ByteRecord,

@@ -9,12 +9,12 @@ use mg_heard::Extent;
 use std::fs::Files;
 use std::io::Read;
 
-/// Where a page comes from.
+/// The origin of a page.
 #[derive(Drop)]
 pub(crate) struct Origin {
-    /// What was read of the script.
+    /// The part of the script that was read.
     pub(crate) script: Digest,
-    /// The time that the script covers, or `None` if it was not read to its end.
+    /// The time that the script covers, or `None` if the script was not read to its end.
     pub(crate) extent: Option<Extent>,
     /// The running program, or `None` if the system does not show it.
     pub(crate) program: Option<Digest>,

@@ -1,6 +1,6 @@
-//! The fixed parts of a page. Between them are escaped texts and the rows of a table (`specs/Page.antt`).
+//! The fixed parts of a page. Escaped texts and the rows of a table come between them (`specs/Page.antt`).
 
-/// Before the script's name in the title.
+/// The text before the script's name in the title.
 pub(crate) const TITLE: &[u8] = b"<!DOCTYPE html>\n\
 <html lang=\"en\">\n\
 <head>\n\
@@ -9,7 +9,7 @@ pub(crate) const TITLE: &[u8] = b"<!DOCTYPE html>\n\
 <meta name=\"color-scheme\" content=\"light dark\">\n\
 <title>Who could hear whom: ";
 
-/// Before the script's name in the question.
+/// The text before the script's name in the question.
 pub(crate) const ASKED: &[u8] = b"</title>\n\
 <style>\n\
 :root{color-scheme:light dark;--ink:#1a1a1a;--paper:#fff;--line:#767676;--bar:#2763a5}\n\
@@ -62,19 +62,19 @@ td div{-webkit-print-color-adjust:exact;print-color-adjust:exact}}\n\
 <dl>\n\
 <dt>File</dt><dd>";
 
-/// Before the listener.
+/// The text before the listener.
 pub(crate) const LISTENER: &[u8] = b"</dd>\n<dt>Listener</dt><dd>";
 
-/// Before the talker.
+/// The text before the talker.
 pub(crate) const TALKER: &[u8] = b"</dd>\n<dt>Talker</dt><dd>";
 
-/// Before the time from which periods are asked for.
+/// The text before the time of `--from`.
 pub(crate) const FROM: &[u8] = b"</dd>\n<dt>From</dt><dd>";
 
-/// Before the time up to which periods are asked for.
+/// The text before the time of `--to`.
 pub(crate) const UNTIL: &[u8] = b"</dd>\n<dt>To</dt><dd>";
 
-/// Before the table.
+/// The text before the table.
 pub(crate) const ANSWER: &[u8] = b"</dd>\n\
 </dl>\n\
 <h2>Answer</h2>\n\
@@ -83,51 +83,51 @@ second. If there is no such row, no listener in question could hear a talker in 
 the times in question, or ended after them, is shown whole. In a gap, the gateway did not run, or its clock was set\n\
 ahead: the file doesn't say who could be heard.</p>\n";
 
-/// After the table of a whole page, before the scale of the timeline.
+/// The text after the table of a whole page, before the scale of the timeline.
 pub(crate) const TABLE_END: &[u8] =
     b"</tbody>\n</table>\n<svg width=\"0\" height=\"0\" aria-hidden=\"true\"><style>:root{";
 
-/// Before the ticks of the timeline.
+/// The text before the ticks of the timeline.
 pub(crate) const TICKS: &[u8] = b"}</style></svg>\n<p>The timeline runs from tick ";
 
-/// After them.
+/// The text after the ticks of the timeline.
 pub(crate) const WHOLE: &[u8] = b". A tick is 20 ms. The file was read to its end.</p>\n";
 
-/// After the table of a page that is not whole, before the fault.
+/// The text after the table of a page that is not whole, before the fault.
 pub(crate) const BROKEN: &[u8] = b"</tbody>\n\
 </table>\n\
 <svg width=\"0\" height=\"0\" aria-hidden=\"true\"><style>:root{--t0:0;--t1:1}thead th:last-child,td:last-child{display:none}\
 h1::after{content:\" (incomplete)\"}</style></svg>\n\
 <p class=\"broken\" role=\"alert\"><strong>This report is incomplete.</strong> The file was not read to its end: ";
 
-/// After the fault.
+/// The text after the fault.
 pub(crate) const MISSING: &[u8] = b".<br>The rows are only some of the periods in question.</p>\n";
 
-/// Before the script's name in the page's origin.
+/// The text before the script's name in the page's origin.
 pub(crate) const SOURCE: &[u8] = b"<h2>Origin</h2>\n<dl>\n<dt>File</dt><dd>";
 
-/// Before the number of bytes that were read.
+/// The text before the number of bytes that were read.
 pub(crate) const SIZE: &[u8] = b"</dd>\n<dt>Bytes read</dt><dd>";
 
-/// Before their SHA-256.
+/// The text before the SHA-256 of these bytes.
 pub(crate) const HASH: &[u8] = b"</dd>\n<dt>Their SHA-256</dt><dd><code>";
 
-/// Before the time that the script covers.
+/// The text before the time that the script covers.
 pub(crate) const TIME: &[u8] = b"</code></dd>\n<dt>Time covered</dt><dd>";
 
-/// Before the program's version.
+/// The text before the program's version.
 pub(crate) const PROGRAM: &[u8] = b"</dd>\n<dt>Program</dt><dd>";
 
-/// Before the program's SHA-256.
+/// The text before the program's SHA-256.
 pub(crate) const PROGRAM_HASH: &[u8] = b"</dd>\n<dt>Its SHA-256</dt><dd><code>";
 
-/// Before the command that makes the page.
+/// The text before the command that makes the page.
 pub(crate) const COMMAND: &[u8] = b"</code></dd>\n\
 </dl>\n\
 <p>This command makes the page again:</p>\n\
 <pre><code>";
 
-/// The end of a page: what is proved, and what is trusted.
+/// The end of a page, which states what is proved, and what has to be trusted.
 pub(crate) const TRUST: &[u8] = b"</code></pre>\n\
 <h2>How far to trust it</h2>\n\
 <p><strong>Proved</strong>, and checked by a machine: the rows are the periods in question, each once, with the gaps and\n\

@@ -2,7 +2,8 @@ ghost use Rattle.std.specs.Prelude.{◌≡◌, IfOk, true};
 ghost use Rattle.mg_core.specs.Follow.{IsFollowed};
 ghost use Rattle.mg_core.specs.declared.state.CoreState.{CoreState};
 ghost use Rattle.mg_heard.specs.Told.{TellsAll};
-ghost use Rattle.mg_hearing.specs.Heard.{Hears, IsHeard};
+ghost use Rattle.mg_options.specs.Status.{UnlessFault};
+ghost use Rattle.mg_hearing.specs.Heard.{IsHeard};
 ghost use Rattle.mg_hearing.specs.aids.Parts.{WritesTable};
 ghost use Rattle.mg_hearing.specs.aids.Forms.{is_page};
 
@@ -56,7 +57,8 @@ fn write_table<R: Read, W: Write>(
     }
 }
 
-/// Prints a page about the script of a reader. A fault is reported to `errors`, and on the page if it has begun.
+/// Prints a page about the script of a reader. A fault is reported to `errors`, and on the page if its output has
+/// begun.
 fn write_page<F: Files, R: Read, K: TextKey, W: Write, E: Write>(
     files: &F,
     alloc: Global,
@@ -67,8 +69,8 @@ fn write_page<F: Files, R: Read, K: TextKey, W: Write, E: Write>(
 ) -> Status
     requires page { is_page asking.question.style.format ≡ true }
     requires text { R.remaining reader.old ≡ K.text }
-    ensures value { Hears (IsHeard asking.entry.request.now asking.entry.question (R.remaining reader.old)
-        (W.contents output.old) (W.contents output.new) result) (errors.new ≡ errors.old) result }
+    ensures value { UnlessFault (IsHeard asking.entry.request.now asking.entry.question (R.remaining reader.old)
+        (W.contents output.old) (W.contents output.new) result × (errors.new ≡ errors.old)) result }
 {
     let Asking { request, question } = asking;
     let name = script_name(request);
@@ -96,7 +98,8 @@ fn write_page<F: Files, R: Read, K: TextKey, W: Write, E: Write>(
     }
 }
 
-/// Prints a page about the script of a reader. A fault is reported to `errors`, and on the page if it has begun.
+/// Prints a page about the script of a reader. A fault is reported to `errors`, and on the page if its output has
+/// begun.
 pub(crate) fn hear_page<F: Files, R: Read, W: Write, E: Write>(
     files: &F,
     alloc: Global,
@@ -106,8 +109,8 @@ pub(crate) fn hear_page<F: Files, R: Read, W: Write, E: Write>(
     errors: &mut E,
 ) -> Status
     requires page { is_page asking.question.style.format ≡ true }
-    ensures value { Hears (IsHeard asking.entry.request.now asking.entry.question (R.remaining reader.old)
-        (W.contents output.old) (W.contents output.new) result) (errors.new ≡ errors.old) result }
+    ensures value { UnlessFault (IsHeard asking.entry.request.now asking.entry.question (R.remaining reader.old)
+        (W.contents output.old) (W.contents output.new) result × (errors.new ≡ errors.old)) result }
 {
     write_page::<F, R, Brand, W, E>(files, alloc, asking, reader, output, errors)
 }

@@ -1,11 +1,11 @@
 use mg_dates::Date;
 use mg_heard::{Query, Style};
 
-/// A question about a script, and how its answer is written.
+/// A question about a script, and the style of its answer.
 #[derive(Drop)]
 pub(crate) struct Question {
     pub(crate) style: Style,
     pub(crate) query: Query,
-    /// The time that is asked about, or `None` for all intervals.
+    /// The time that the question is about, or `None` for all intervals.
     pub(crate) at: Option<Date>,
 }

@@ -9,7 +9,7 @@ use mg_options::Status;
 use std::alloc::Global;
 use std::io::{Read, Write};
 
-/// Returns the configuration in the title on a script's first line, if the line is one.
+/// Returns the configuration in the title on a script's first line, or `None` if the line isn't a title.
 fn config_in(alloc: Global, line: &[u8]) -> Option<Config>
     ensures value { IfSome result (λ config. line.now ≡ title_line config) }
 {
@@ -18,8 +18,8 @@ fn config_in(alloc: Global, line: &[u8]) -> Option<Config>
     titled(alloc, title)
 }
 
-/// Reads the first line of the script with this name. Returns the line, and the configuration that it states. If there
-/// is none, reports why to `errors`, and returns the exit status.
+/// Reads the first line of the script with this name. Returns the line, and the configuration that the line states. If
+/// the line states none, reports this to `errors`, and returns the exit status.
 pub(crate) fn read_title<R: Read, E: Write>(
     alloc: Global,
     name: &str,

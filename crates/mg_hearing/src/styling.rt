@@ -10,8 +10,8 @@ use std::alloc::Global;
 use std::fs::{Files, OpenOptions};
 use std::io::Write;
 
-/// Finds the time zone with this name, or UTC without a name. If there is none, reports this to `errors`, and returns
-/// the exit status.
+/// Finds the time zone with this name, or UTC without a name. If no zone has this name, reports this to `errors`, and
+/// returns the exit status.
 fn find_zone<F: Files, E: Write>(
     files: &F,
     alloc: Global,
@@ -33,7 +33,8 @@ fn find_zone<F: Files, E: Write>(
     }
 }
 
-/// Reads the file of names, if there is one. If it can't be used, reports why to `errors`, and returns the exit status.
+/// Reads the file of names, if there is one. If the file can't be used, reports why to `errors`, and returns the exit
+/// status.
 fn find_names<F: Files, E: Write>(
     files: &F,
     alloc: Global,
@@ -65,7 +66,7 @@ fn find_names<F: Files, E: Write>(
     }
 }
 
-/// Returns how an answer is written. If its time zone or its names can't be found, reports why to `errors`, and returns
+/// Returns the style of an answer. If its time zone or its names can't be found, reports why to `errors`, and returns
 /// the exit status.
 pub(crate) fn style_of<F: Files, E: Write>(
     files: &F,

@@ -1,6 +1,6 @@
 ghost use Rattle.std.specs.Prelude.{◌≡◌, ◌⊎◌, IfErr, IfOk, IsSome, OnOk, Option, List, ℕ};
 ghost use Rattle.mg_heard.specs.Never.{IsWatched, WritesViolation};
-ghost use Rattle.mg_hearing.specs.Heard.{Hears};
+ghost use Rattle.mg_options.specs.Status.{UnlessFault};
 ghost use Rattle.mg_hearing.specs.Watched.{IsAnswered, IsAnsweredFrom, IsSet, status_for};
 
 use crate::alarm::Alarm;
@@ -34,8 +34,8 @@ fn watch_script<R: Read, W: Write, E: Write>(
     output: &mut W,
     errors: &mut E,
 ) -> Status
-    ensures value { Hears (IsAnswered alarm (R.remaining reader.old) (W.contents output.old)
-        (W.contents output.new) result) (errors.new ≡ errors.old) result }
+    ensures value { UnlessFault (IsAnswered alarm (R.remaining reader.old) (W.contents output.old)
+        (W.contents output.new) result × (errors.new ≡ errors.old)) result }
 {
     let (line, config) = match read_title(alloc, name, reader, errors) {
         Ok(title) => title,
@@ -49,7 +49,8 @@ fn watch_script<R: Read, W: Write, E: Write>(
     }
 }
 
-/// Returns the alarm that a request sets. If it can't be set, reports why to `errors`, and returns the exit status.
+/// Returns the alarm that a request sets. If the alarm can't be set, reports why to `errors`, and returns the exit
+/// status.
 fn alarm_of<F: Files, E: Write>(
     files: &F,
     alloc: Global,
@@ -71,8 +72,8 @@ fn alarm_of<F: Files, E: Write>(
     }
 }
 
-/// Prints the first violation in a script of the rules in `request`, as soon as it arrives. Returns the exit status. A
-/// fault is reported to `errors`.
+/// Prints the first violation of the rules in `request` as soon as it arrives. Returns the exit status. A fault is
+/// reported to `errors`.
 pub fn watch<H: Texts, F: Files, R: Read, W: Write, E: Write>(
     host: &mut H,
     files: &F,
@@ -82,8 +83,8 @@ pub fn watch<H: Texts, F: Files, R: Read, W: Write, E: Write>(
     output: &mut W,
     errors: &mut E,
 ) -> Status
-    ensures value { Hears (IsAnsweredFrom request.now (H.calls host.old) (H.calls host.new) (R.remaining input.old) (W.contents output.old)
-        (W.contents output.new) result) (errors.new ≡ errors.old) result }
+    ensures value { UnlessFault (IsAnsweredFrom request.now (H.calls host.old) (H.calls host.new) (R.remaining input.old) (W.contents output.old)
+        (W.contents output.new) result × (errors.new ≡ errors.old)) result }
     ensures unread { IsSome request.now.file → input.new ≡ input.old }
 {
     let alarm = match alarm_of(files, alloc, request, errors) {

@@ -35,7 +35,7 @@ fn key_word(alloc: Global, key: &PartyName) -> Result<Vec<u8>, AllocError>
     Vec::from_slice(alloc, word.as_slice())
 }
 
-/// Returns who is asked about, as on the command line.
+/// Returns the terminations that a question is about, as they are given on the command line.
 fn party_word(alloc: Global, asked: &Option<Asked>) -> Result<Vec<u8>, AllocError>
     ensures value { IfOk result (λ word. word.items ≡ party_word asked.now) }
 {
@@ -46,7 +46,7 @@ fn party_word(alloc: Global, asked: &Option<Asked>) -> Result<Vec<u8>, AllocErro
     }
 }
 
-/// Returns how a page shows who is asked about.
+/// Returns the terminations that a question is about, escaped for a page.
 pub(crate) fn shown_party(alloc: Global, asked: &Option<Asked>) -> Result<Vec<u8>, AllocError>
     ensures value { IfOk result (λ word. word.items ≡ escaped (party_word asked.now)) }
 {
@@ -54,7 +54,7 @@ pub(crate) fn shown_party(alloc: Global, asked: &Option<Asked>) -> Result<Vec<u8
     escaped(alloc, word.as_slice())
 }
 
-/// Returns the text of a time, or another text if there is none.
+/// Returns the text of a time, or `otherwise` if there is no time.
 pub(crate) fn time_word(time: Option<Date>, otherwise: &[u8]) -> TimeText {
     match time {
         Some(time) => time.text(),
@@ -66,7 +66,7 @@ pub(crate) fn time_word(time: Option<Date>, otherwise: &[u8]) -> TimeText {
     }
 }
 
-/// Returns the end of the command that makes a request's page: the script, as one word or as the input.
+/// Returns the end of the command that makes a request's page: the script's name as one word, or the input.
 pub(crate) fn last_words(alloc: Global, request: &HeardRequest) -> Result<Vec<u8>, AllocError>
     ensures value { IfOk result (λ words. words.items ≡ last_words request.now.file) }
 {
@@ -94,7 +94,7 @@ fn push_text(
     command.extend_from_slice(word.as_slice())
 }
 
-/// Appends an option about terminations to a command, if it is given.
+/// Appends an option about terminations to a command, if the option is given.
 fn push_party(
     alloc: Global,
     option: &[u8],
@@ -112,7 +112,7 @@ fn push_party(
     }
 }
 
-/// Appends an option about a time to a command, if it is given.
+/// Appends an option about a time to a command, if the option is given.
 fn push_time(option: &[u8], time: Option<Date>, command: &mut Vec<u8>) -> Result<(), AllocError> {
     if time.is_some() {
         let word = time_word(time, b"");
@@ -137,7 +137,7 @@ fn push_printing(
     Ok(())
 }
 
-/// Returns the beginning of the command that makes a page: the options.
+/// Returns the beginning of the command that makes a page, with its options.
 pub(crate) fn first_words(alloc: Global, request: &HeardRequest) -> Result<Vec<u8>, AllocError> {
     let query = &request.query;
     let mut command = Vec::from_slice(alloc, b"mg_bridge heard --report")?;

@@ -1,10 +1,10 @@
 -- The log of a poll.
 use Rattle.std.proofs.Common.{◌≡◌, ℕ, Bool, true, List, [], ◌∷◌, ◌++◌, map, Option, Some, None, refl, ap, subst, sym, ◌∙◌, append_assoc, append-nil}
-use Rattle.std.specs.Prelude.{slice_set}
+use Rattle.std.specs.Prelude.{IfSome, slice_set}
 use Rattle.std.proofs.lemmas.List.{map-append}
 use Rattle.mg_host.specs.declared.host_call.HostCall.{HostCall}
 use Rattle.mg_host.specs.declared.host_call.HostCall.TheVariants.{Reported}
-use Rattle.mg_host.specs.HostCalls.{AreMarked, Grows, mark_all}
+use Rattle.mg_host.specs.HostCalls.{Grows, mark_all}
 use Rattle.mg_host.specs.aids.HostLog.{LogsNext}
 
 pub grows_none : (a : Option (List HostCall)) → Grows a a []
@@ -31,6 +31,6 @@ marked_more [] socket marks = refl
 marked_more (first ∷ sockets) socket marks = marked_more sockets socket (slice_set marks first true)
 
 pub as_logged : (new : Option (List HostCall)) (sockets : List ℕ) (marks marked : List Bool) → marked ≡ mark_all sockets marks
-    → AreMarked new sockets marks marked
+    → IfSome new (λ all. marked ≡ mark_all sockets marks)
 as_logged None sockets marks marked is = tt
 as_logged (Some all) sockets marks marked is = is

@@ -4,7 +4,7 @@ ghost use Rattle.mg_host.specs.HostCalls.{Grows};
 
 use crate::tells::Tells;
 
-/// Knows the date.
+/// A host that knows the date.
 pub trait Dates: Tells {
     /// Reads the system's clock. Returns the milliseconds since 1970 (UTC), or `None` if the clock can't be read.
     fn millis(&mut self) -> Option<u64>

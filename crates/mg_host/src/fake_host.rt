@@ -54,7 +54,7 @@ fn journal_call(alloc: Global, path: &str, bytes: Option<&[u8]>) -> Option<HostC
     Some(HostCall::OpenJournal(path, bytes))
 }
 
-/// Returns the call that opened a text.
+/// Returns the call that opened a file to be read.
 fn text_call(alloc: Global, path: &str, bytes: Option<&[u8]>) -> Option<HostCall>
     ensures value { IfSome result (λ call. call ≡ OpenText path.now (option_map (λ b. b.now) bytes.entry)) }
 {

@@ -5,7 +5,7 @@ use std::alloc::Global;
 use std::time::Duration;
 
 /// A clock for tests. Each reading is a millisecond later than the one before, and no message arrives. The readings are
-/// kept; if there is no memory for one, the clock can't be read.
+/// kept. If there is no memory for a reading, the clock can't be read.
 #[derive(Drop)]
 pub struct FakeWatch {
     now: u64,

@@ -10,16 +10,16 @@ pub enum HostCall {
     OpenText(Payload, Option<Payload>),
     /// The system's clock was read: the milliseconds since 1970 (UTC), or `None` if it couldn't be read.
     ReadDate(Option<u64>),
-    /// A socket was bound to an address and a port, or this failed.
+    /// A socket was bound to an address and a port; the flag is false if this failed.
     Bind([u8; 4], u16, bool),
-    /// A datagram has arrived at a socket: a part of the next poll's result.
+    /// A datagram has arrived at this socket, according to the next poll.
     Reported(usize),
-    /// The host was asked at which sockets a datagram had arrived, or this failed.
+    /// The host was asked at which sockets a datagram had arrived; the flag is false if this failed.
     Poll(bool),
-    /// A session's call on its ports.
+    /// A call of a session on its ports.
     OnPorts(Call),
-    /// A session's receive that wasn't made, because no datagram was reported at the socket.
+    /// A session did not receive from this socket, because no datagram was reported there.
     NotReported(usize),
-    /// A session's datagram that wasn't sent.
+    /// A session did not send this datagram.
     NotSent(usize, Peer, Payload, Unsent),
 }

@@ -12,15 +12,15 @@ use std::io;
 /// A gateway's numbered UDP sockets. Each bind adds the next one: socket 0 is the control socket, and socket s + 1 is
 /// the media socket of slot s in the pool. No call blocks.
 ///
-/// What a session does without asking the host is logged by a call of its own, so that the log has everything in order.
-/// A host that logs nothing does nothing in these calls.
+/// If a session decides something without asking the host, a call of its own logs the decision, so that the log has
+/// everything in order. A host that logs nothing does nothing in these calls.
 pub trait Sockets: Tells {
     /// Binds the next socket.
     fn bind(&mut self, address: [u8; 4], port: u16) -> io::Result<()>
         ensures logged { Grows (Self.calls self.old) (Self.calls self.new) (Bind address port (is_ok result) ∷ []) };
 
-    /// Asks at which sockets a datagram has arrived since the last call, and marks these sockets. The other marks
-    /// stay.
+    /// Asks at which sockets a datagram has arrived since the last call, and marks these sockets. The other marks are
+    /// unchanged.
     fn poll(&mut self, marks: &mut [bool]) -> io::Result<()>
         ensures logged { Polls (Self.calls self.old) (Self.calls self.new) marks.old marks.new result };
 

@@ -6,12 +6,13 @@ ghost use Rattle.mg_host.specs.HostCalls.{Grows};
 
 use mg_ports::{AppendFault, Durability};
 
-/// Something on which a program makes calls, which may be logged.
+/// A host on which a program makes calls, which may be logged.
 pub trait Tells {
     /// All calls so far, in order, if they are known.
     ghost calls: { Self → Option (List HostCall) } = { λ _. None };
 
-    /// Logs that lines were appended to the journal, or that this failed. A host that logs nothing does nothing.
+    /// Logs that lines were appended to the journal, or that this failed. A host that logs nothing does nothing in this
+    /// call.
     fn log_append(&mut self, lines: &[u8], durability: Durability, outcome: Result<(), AppendFault>)
         ensures logged { Grows (calls self.old) (calls self.new) (OnPorts (Append lines.now durability outcome) ∷ []) };
 }

@@ -1,4 +1,4 @@
-/// Why a gateway didn't send a packet.
+/// The reason why a gateway didn't send a packet.
 #[derive(Clone, Copy, Debug, PartialEq, Eq)]
 pub enum Unsent {
     /// The tick is late.

@@ -1,4 +1,4 @@
--- A journal on a file.
+-- Appending lines to a journal in a file.
 use Rattle.std.proofs.Common.{◌≡◌, ℕ, ◌+◌, ◌≤◌, Bool, true, false, List, [], ◌++◌, length, take, drop, Option, Some, None, Ok, Err, IfSome, refl, ap, sym, ◌∙◌, subst, arith, append_assoc, append-nil, length-append}
 use Rattle.std.proofs.lemmas.List.{take_at, take_all}
 use Rattle.std.proofs.Math.Seq.{take-add, take-length}
@@ -35,7 +35,7 @@ grown_nil file = ap (λ (known : Option (List ℕ)). record file { bytes = known
 pub grown_more : (file : FileState) (x y : List ℕ) → grown (grown file x) y ≡ grown file (x ++ y)
 grown_more file x y = ap (λ (known : Option (List ℕ)). record file { bytes = known }) (known_more file.bytes x y)
 
--- the front of a text was written, and then more of it
+-- Writing the first `at` bytes of a text and then the next `n` bytes writes its first `at + n` bytes.
 pub front_more : (file mid new : FileState) (text : List ℕ) (at n : ℕ) → mid ≡ grown file (take at text)
     → new ≡ grown mid (take n (drop at text)) → new ≡ grown file (take (at + n) text)
 front_more file mid new text at n front more =
@@ -78,7 +78,7 @@ within_whole : (known : Option (List ℕ)) (len : ℕ) → Whole known len → W
 within_whole None len on = tt
 within_whole (Some bytes) len on = omega (arith, on.1)
 
--- the lines were appended
+-- If all lines were written, and synced if the durability demands it, the append succeeds.
 pub put : (durability : Durability) (file new : FileState) (len : ℕ) (lines : List ℕ) → IsJournal file len false
     → IsWhole lines → new ≡ (if is_synced durability then synced (grown file lines) else grown file lines)
     → IsJournal new (len + length lines) false
@@ -111,13 +111,13 @@ cut_synced : (known : Option (List ℕ)) (len : ℕ) → Within known len
 cut_synced None len on = refl
 cut_synced (Some bytes) len on = ap (λ l. Some l) (take_all len bytes on)
 
--- what was written of a text was cut off
+-- Cutting a file back to its old length undoes a write.
 pub cut_off : (file : FileState) (len : ℕ) (more : List ℕ) → IsJournal file len false → cut_to len (grown file more) ≡ file
 cut_off file len more on =
     ap (λ (known : Option (List ℕ)). file_state known (option_map (λ bytes. take len bytes) file.synced)) (cut_bytes file.bytes len more on.0)
     ∙ ap (λ (known : Option (List ℕ)). file_state file.bytes known) (cut_synced file.synced len on.1)
 
--- the lines weren't appended, or the journal is broken
+-- If the append failed, either the journal is unchanged or it is broken.
 pub left : (fault : AppendFault) (durability : Durability) (file new : FileState) (len : ℕ) (lines : List ℕ)
     → IsJournal file len false → Leaves lines len file new fault
     → IsJournal new len (is_final fault)
@@ -154,7 +154,7 @@ pub left_as : (was : Bool) (fault : AppendFault) (durability : Durability) (file
 left_as true fault durability file new len lines works on is = absurd cc
 left_as false fault durability file new len lines works on is = left fault durability file new len lines on is
 
--- a broken journal was left alone
+-- An append to a broken journal changes nothing.
 pub still_broken : (old : JournalState) (durability : Durability) (lines : List ℕ) → old.is_broken ≡ true
     → Appends lines durability old old (Err Broken)
 unfolding whole_lines
@@ -165,7 +165,7 @@ still_broken old durability lines broken = record {
   none = λ was. refl;
 }
 
--- lines that were all written are a front of them
+-- If all the lines were written, a prefix of them was written.
 pub all_left : (file mid new : FileState) (lines : List ℕ) → mid ≡ grown file lines → new ≡ mid
     → new ≡ grown file (take (length lines) lines)
 all_left file mid new lines whole same = same ∙ (whole ∙ ap (λ l. grown file l) (sym (take-length lines)))

@@ -1,4 +1,4 @@
--- Hashes of a journal's file.
+-- The hash of the last part of a journal's file.
 use Rattle.std.proofs.Common.{◌≡◌, ℕ, Bool, true, false, List, ◌++◌, length, take, Option, Some, None, Result, Ok, Err, IfSome, OnOk, refl, sym, ◌∙◌, subst, arith}
 use Rattle.std.proofs.lemmas.List.{take_all}
 use Rattle.std.specs.Prelude.{if◌then◌else◌}
@@ -40,7 +40,7 @@ grown_as Synced file new len lines old after on holds adds is =
 grown_as Written file new len lines old after on holds adds is =
     subst (λ (f : FileState). IsHashed f after false) (sym is) (grown_of file.bytes len lines old after on.0 adds holds)
 
--- the lines were appended
+-- After an append, the hash is still that of the file's last part.
 pub hash_put : (was : Bool) (durability : Durability) (file new : FileState) (len : ℕ) (lines : List ℕ) (old after : Sha256)
     → was ≡ false → IsJournal file len was → IsHashed file old was → Adds old after lines
     → new ≡ (if is_synced durability then synced (grown file lines) else grown file lines) → IsHashed new after was
@@ -48,7 +48,7 @@ hash_put true durability file new len lines old after works on holds adds is = a
 hash_put false durability file new len lines old after works on holds adds is =
     grown_as durability file new len lines old after on holds adds is
 
--- the lines weren't appended, or the journal is broken
+-- After a failed append, the hash is still that of the file's last part, unless the journal is broken.
 left : (fault : AppendFault) (file new : FileState) (len : ℕ) (lines : List ℕ) (hasher : Sha256)
     → IsJournal file len false → IsHashed file hasher false → Leaves lines len file new fault
     → IsHashed new hasher (is_final fault)
@@ -82,7 +82,7 @@ whole_of None extent hasher all is holds = tt
 whole_of (Some bytes) extent hasher all is holds =
     subst (λ (l : List ℕ). Holds256 hasher (last_part l)) (take_all extent.whole bytes (omega (arith, is.1, all))) holds
 
--- there is no partial last line
+-- If there is no partial last line, the hash of the complete lines is that of the whole file.
 pub hash_whole : (file : FileState) (extent : Extent) (hasher : Sha256) → extent.whole ≡ extent.all → HasExtent file extent
     → HasHash file extent.whole hasher → IsHashed file hasher false
 hash_whole file extent hasher all is holds = whole_of file.bytes extent hasher all is holds
@@ -106,7 +106,7 @@ wholes : (known : Option (List ℕ)) (len : ℕ) → IfSome known (λ bytes. IsW
 wholes None len on = tt
 wholes (Some bytes) len on = on.0
 
--- the seal of a journal
+-- The end of the seal is computed from the hash of the journal's last part.
 pub sealed : (file : FileState) (was : Bool) (len : ℕ) (hasher : Sha256) (end : List ℕ) → IsJournal file len was
     → IsHashed file hasher was → ((t : List ℕ) → Holds256 hasher t → end ≡ seal_end t)
     → ((text : List ℕ) × Holds256 hasher text) → IsSealEnd (text_to_seal (journal_in file was)) end

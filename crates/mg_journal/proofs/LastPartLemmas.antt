@@ -33,7 +33,7 @@ wide_none (b ∷ bs) rest (suc from) none later wide =
     ap (λ is. is || has_mark (bs ++ rest)) (marks_same (b ∷ bs) rest (omega (arith, wide)) ∙ both.0)
     ∙ wide_none bs rest from both.1 later (omega (arith, wide))
 
--- a chunk without a mark, which is followed by a text that was searched
+-- If a chunk has no mark, and the text from `from` on has none, neither has the chunk together with the text after it.
 chunk_none : (chunk rest : List ℕ) (from : ℕ) → has_mark chunk ≡ false → has_mark (drop from (chunk ++ rest)) ≡ false
     → (0 < length rest → from + 9 ≤ length chunk) → has_mark (chunk ++ rest) ≡ false
 chunk_none chunk [] from none later wide = ap has_mark (append-nil chunk) ∙ none
@@ -58,7 +58,7 @@ mark_front (b ∷ bs) rest some = at (marks (b ∷ bs)) refl some (λ more. mark
         ap (λ first. first || has_mark (bs ++ rest)) (marks_same (b ∷ bs) rest (mark_fits (b ∷ bs) is) ∙ is)
     at false is some more = mark_cons b (bs ++ rest) (more some)
 
--- what follows the last mark of a chunk has none either
+-- If a chunk has no mark after `start`, and the text from `from` on has none, there is no mark after `start`.
 last_none : (chunk rest : List ℕ) (from start : ℕ) → start ≤ length chunk → has_mark (drop start chunk) ≡ false
     → has_mark (drop from (chunk ++ rest)) ≡ false → (0 < length rest → from + 9 ≤ length chunk)
     → has_mark (drop start (chunk ++ rest)) ≡ false
@@ -78,7 +78,7 @@ start_of chunk rest from start is later wide = record {
   last = last_none chunk rest from start is.within is.last later wide;
 }
 
--- a start behind the beginning of a text
+-- The start of the last part in the rest of a text is also that of the whole text, counted from its beginning.
 start_behind : (text : List ℕ) (at start : ℕ) → IsStart (drop at text) start → IsStart text (at + start)
 start_behind text at zero is = absurd (cc (is.before, is.last))
 start_behind text at (suc start) is = record {
@@ -115,7 +115,7 @@ chunk_of bytes whole at part is fits =
       λ more. omega (arith, more, length-drop k (drop at text), length-drop at text, length-take whole bytes),
     )
 
--- the end of a searched text, as seen from a chunk before it
+-- If the text has no mark from `from` on, neither has its rest from `at` on.
 later_of : (bytes : List ℕ) (whole at from : ℕ) (all : List ℕ) → at ≤ from → drop at (take whole bytes) ≡ all
     → has_mark (drop from (take whole bytes)) ≡ false → has_mark (drop (from - at) all) ≡ false
 later_of bytes whole at from all order parts none =
@@ -135,7 +135,7 @@ none_of (Some bytes) whole at from part is order fits wide none later =
     ap has_mark c.1 ∙ chunk_none part c.0 (from - at) none (later_of bytes whole at from (part ++ c.0) order c.1 later)
     (λ more. omega (arith, wide (c.2 more), order))
 
--- no mark was found
+-- If a chunk has no mark, the file is searched from the beginning of the chunk on.
 pub none_found : (file : FileState) (whole at from : ℕ) (part : List ℕ) → HasBytes file at part → at ≤ from
     → at + length part ≤ whole → (at + length part < whole → from + 9 ≤ at + length part) → has_mark part ≡ false
     → IsSearched file whole from → IsSearched file whole at
@@ -156,7 +156,7 @@ some_of (Some bytes) whole at from start part is order fits wide starts later =
     part_of_start (take whole bytes) (at + start)
     (start_behind (take whole bytes) at start (subst (λ (l : List ℕ). IsStart l start) (sym c.1) here))
 
--- a mark was found
+-- If a chunk has a mark, the last part of the file begins there.
 pub some_found : (file : FileState) (whole at from start : ℕ) (part : List ℕ) → HasBytes file at part → at ≤ from
     → at + length part ≤ whole → (at + length part < whole → from + 9 ≤ at + length part) → IsStart part start
     → IsSearched file whole from → StartsAt file whole (at + start)
@@ -172,7 +172,7 @@ all_of None whole at front none = tt
 all_of (Some bytes) whole at front none =
     part_same (take whole bytes) (subst (λ (n : ℕ). has_mark (drop n (take whole bytes)) ≡ false) front none)
 
--- the whole text was searched
+-- If the whole file was searched without finding a mark, its last part begins at 0.
 pub all_searched : (file : FileState) (whole at : ℕ) → at ≡ 0 → IsSearched file whole at → StartsAt file whole 0
 all_searched file whole at front none = (omega arith, all_of file.bytes whole at front none)
 
@@ -181,7 +181,7 @@ end_of None whole = tt
 end_of (Some bytes) whole =
     ap has_mark (drop_all whole (take whole bytes) (omega (arith, length-take whole bytes))) ∙ no_mark
 
--- nothing has been searched yet
+-- At the end of the file, nothing is left to search.
 pub searched_end : (file : FileState) (whole : ℕ) → IsSearched file whole whole
 searched_end file whole = end_of file.bytes whole
 
@@ -202,7 +202,7 @@ more_of (Some bytes) synced at n front part size is has =
     ∙ (sym (take-add (length front) (length part) (drop at bytes))
     ∙ ap (λ (k : ℕ). take k (drop at bytes)) (sym (length-append front part))))
 
--- more bytes were read
+-- After one more read, the filled part of the buffer has the bytes of the file.
 pub filled_more : (file : FileState) (at n more : ℕ) (old part rest : List ℕ) → n ≤ length old → more ≤ length part
     → HasAt file (at + n) (take more part) → HasBytes file at (take n old)
     → HasBytes file at (take (n + more) (take n old ++ (part ++ rest)))
@@ -232,7 +232,7 @@ hashed_of (Some bytes) start at part old new some order is adds holds =
     ∙ drop-append-le start (take at bytes) part fits in
     subst (λ (l : List ℕ). Holds256 new l) (sym here) (adds (drop start (take at bytes)) holds)
 
--- a chunk more was hashed
+-- Hashing one more chunk extends the hashed part of the file.
 pub hashed_more : (file : FileState) (start at size : ℕ) (part : List ℕ) (old new : Sha256) → length part ≡ size → 0 < size
     → start ≤ at → HasBytes file at part → ((p : List ℕ) → Holds256 old p → Holds256 new (p ++ part))
     → HoldsFrom file start at old → HoldsFrom file start (at + size) new

@@ -1,4 +1,4 @@
--- A file that is measured, read and cut before lines are appended to it.
+-- Measuring, reading and cutting a file before lines are appended to it.
 use Rattle.std.proofs.Common.{◌≡◌, ℕ, ◌+◌, ◌-◌, ◌<◌, ◌≤◌, false, IfOk, List, [], ◌++◌, length, take, drop, Option, Some, None, Result, Ok, Err, IfSome, OnOk, refl, ap, sym, ◌∙◌, subst, arith, append_assoc, append-nil, length-append}
 use Rattle.std.proofs.lemmas.List.{drop-append-le, drop_all, length-drop, length-take, length-take-le, take-append-drop, take-append-le, take_all, take_at}
 use Rattle.std.proofs.Math.Seq.{drop-append-add}
@@ -37,7 +37,7 @@ end_of (Some bytes) synced extent at front =
     take_all extent.all bytes (omega (arith, ap length none, length-drop extent.all bytes)) in
     subst (λ (l : List ℕ). IsExtent extent l) all front.1
 
--- the file ends behind its front
+-- If no bytes follow the measured prefix, it is the whole file.
 pub front_end : (file : FileState) (extent : Extent) (part : List ℕ) → part ≡ [] → HasAt file extent.all part
     → HasFront file extent → HasExtent file extent
 front_end file extent part none at front =
@@ -62,7 +62,7 @@ more_of (Some bytes) synced extent longer part at grows front =
       subst (λ (l : List ℕ). IsExtent longer l) (sym here) is,
     )
 
--- the file goes on behind its front
+-- If more bytes follow the measured prefix, the longer prefix is measured.
 pub front_more : (file : FileState) (extent longer : Extent) (part : List ℕ) → HasAt file extent.all part
     → ((text : List ℕ) → IsExtent extent text → IsExtent longer (text ++ part)) → HasFront file extent → HasFront file longer
 front_more file extent longer part at grows front = more_of file.bytes file.synced extent longer part at grows front
@@ -101,7 +101,7 @@ pub consumes : (file : FileState) (extent : Extent) (at n : ℕ) (part : List �
 consumes file extent at n part is within size has =
     consumes_of file.bytes file.synced extent at n part is within size has
 
--- the front of the whole lines was copied
+-- `peek` copies a prefix of the complete lines.
 pub nothing_taken : (known : Option (List ℕ)) → Consumes known known []
 nothing_taken None = tt
 nothing_taken (Some text) = refl
@@ -118,7 +118,7 @@ peeked (Ok n) file new extent most buffer rest is within some size reads = (
 )
 peeked (Err error) file new extent most buffer rest is within some size reads = tt
 
--- the front of what follows the whole lines was copied
+-- `peek_partial` copies a prefix of the bytes after the complete lines.
 part_at : (known synced : Option (List ℕ)) (at : ℕ) (part : List ℕ) → IfSome known (λ bytes. at ≡ length (whole_lines bytes))
     → HasAt (record { bytes = known; synced = synced }) at part
     → IfSome known (λ bytes. StartsWith (drop (length (whole_lines bytes)) bytes) part)
@@ -167,7 +167,7 @@ lengths : (known : Option (List ℕ)) (extent : Extent) → IfSome known (λ byt
 lengths None extent is = tt
 lengths (Some bytes) extent is = is.0
 
--- a partial last line was cut off
+-- Cutting off a partial last line leaves a journal with the same text.
 cut_partial : (file : FileState) (extent : Extent) → HasExtent file extent
     → IsJournal (cut_to extent.whole file) extent.whole false × (text_in (cut_to extent.whole file) ≡ text_in file)
 cut_partial file extent is =
@@ -190,7 +190,7 @@ all_within known None extent is within all = tt
 all_within None (Some front) extent is within all = absurd within
 all_within (Some bytes) (Some front) extent is within all = omega (arith, is.1, all, within)
 
--- there is no partial last line
+-- A file without a partial last line is a journal.
 pub no_partial : (file : FileState) (extent : Extent) → extent.whole ≡ extent.all → HasExtent file extent → IsSound file
     → IsJournal file extent.whole false
 no_partial file extent all is sound =
@@ -211,7 +211,7 @@ pub text_cut : {E : Type 0} (result : Result (Unit {0}) E) (file new : FileState
     → Cuts extent.whole file new result → HasExtent file extent → OnOk result (text_in new ≡ text_in file)
 text_cut result file new extent cut is = (cut_as result file new extent cut is).1
 
--- what is left behind the whole lines
+-- The length of the partial last line is the difference between the two lengths of the extent.
 pub partial_of : (known : Option (List ℕ)) (extent : Extent) (n : ℕ) → IfSome known (λ bytes. IsExtent extent bytes)
     → n ≡ extent.all - extent.whole → IfSome known (λ bytes. length (whole_lines bytes) + n ≡ length bytes)
 partial_of None extent n is partial = tt

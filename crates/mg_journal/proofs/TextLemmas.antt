@@ -1,4 +1,4 @@
--- The whole lines of a text.
+-- The complete lines of a text.
 use Rattle.std.proofs.Common.{◌≡◌, ◌≤◌, ℕ, suc, ◌+◌, ◌-◌, Bool, true, false, ◌||◌, List, [], ◌∷◌, ◌++◌, length, get_or, take, drop, refl, subst, ap, sym, ◌∙◌, append-nil, length-append, arith}
 use Rattle.std.proofs.Math.Seq.{get_or-append_seam}
 use Rattle.std.proofs.lemmas.Bool.Decides.{nat_tests}
@@ -26,19 +26,19 @@ fed_after a b fed = fed_append a b ∙ (ap (λ c. has_line_feed a || c) fed ∙ 
 fed_before : (a b : List ℕ) → has_line_feed b ≡ false → has_line_feed (a ++ b) ≡ has_line_feed a
 fed_before a b unfed = fed_append a b ∙ (ap (λ c. has_line_feed a || c) unfed ∙ or_false (has_line_feed a))
 
--- without a line feed there is no whole line
+-- A text without a line feed has no complete line.
 pub whole_none : (bytes : List ℕ) → has_line_feed bytes ≡ false → whole_lines bytes ≡ []
 unfolding whole_lines
 whole_none [] unfed = refl
 whole_none (b ∷ bytes) unfed = rw unfed refl
 
--- bytes before a line feed belong to whole lines
+-- Bytes in front of a line feed belong to complete lines.
 pub whole_before : (a b : List ℕ) → has_line_feed b ≡ true → whole_lines (a ++ b) ≡ a ++ whole_lines b
 unfolding whole_lines
 whole_before [] b fed = refl
 whole_before (x ∷ a) b fed = rw (fed_after (x ∷ a) b fed) (ap (λ l. x ∷ l) (whole_before a b fed))
 
--- bytes without a line feed add no whole line
+-- Appending bytes without a line feed adds no complete line.
 pub whole_same : (a b : List ℕ) → has_line_feed b ≡ false → whole_lines (a ++ b) ≡ whole_lines a
 unfolding whole_lines
 whole_same [] b unfed = whole_none b unfed
@@ -49,19 +49,19 @@ after_as a b true fed whole = whole_before a b fed
 after_as a b false unfed whole =
     whole_same a b unfed ∙ (whole ∙ (sym (append-nil a) ∙ ap (λ l. a ++ l) (sym (whole_none b unfed))))
 
--- what follows whole lines begins a line
+-- Text after complete lines begins a new line.
 pub whole_after : (a b : List ℕ) → IsWhole a → whole_lines (a ++ b) ≡ a ++ whole_lines b
 whole_after a b whole = after_as a b (has_line_feed b) refl whole
 
 pub whole_more : (a b : List ℕ) → IsWhole a → IsWhole b → IsWhole (a ++ b)
 whole_more a b whole more = whole_after a b whole ∙ ap (λ l. a ++ l) more
 
--- a line with its line feed is whole, whatever is in it
+-- A line that ends in a line feed is complete, whatever its other bytes are.
 pub whole_line : (line : List ℕ) → IsWhole (line ++ 10 ∷ [])
 unfolding whole_lines
 whole_line line = whole_before line (10 ∷ []) refl
 
--- lines that are all complete end in a line feed
+-- Complete lines contain a line feed.
 fed_of : (b : ℕ) (bytes : List ℕ) (fed : Bool) → has_line_feed (b ∷ bytes) ≡ fed → IsWhole (b ∷ bytes) → fed ≡ true
 unfolding whole_lines
 fed_of b bytes true is whole = refl
@@ -93,7 +93,7 @@ unfolding whole_lines
 front_as b bytes true fed front = rw fed (ap (λ l. b ∷ l) front)
 front_as b bytes false unfed front = rw unfed refl
 
--- the whole lines are the front of the bytes
+-- The complete lines are a prefix of the bytes.
 pub whole_front : (bytes : List ℕ) → whole_lines bytes ++ drop (length (whole_lines bytes)) bytes ≡ bytes
 unfolding whole_lines
 whole_front [] = refl
@@ -117,7 +117,7 @@ some_as : (bytes : List ℕ) (fed : Bool) → has_line_feed bytes ≡ fed → (l
 some_as bytes true fed some = fed
 some_as bytes false unfed some = absurd (some (ap length (whole_none bytes unfed)))
 
--- a part without a whole line, and one with some, at the end of a text
+-- How much longer the complete lines get when text is appended, without a line feed or with one.
 pub length_same : (text part : List ℕ) → length (whole_lines part) ≡ 0
     → length (whole_lines (text ++ part)) ≡ length (whole_lines text)
 length_same text part none = ap length (whole_same text part (zero_as part (has_line_feed part) refl none))
@@ -133,20 +133,20 @@ unfed_as : (b : ℕ) (bytes : List ℕ) (fed : Bool) → (b == 10) ≡ fed → N
 unfed_as b bytes true feed none unfed = absurd (none 0 (omega arith) (omega arith) feed)
 unfed_as b bytes false other none unfed = rw other unfed
 
--- bytes none of which is a line feed
+-- If no byte passes the search for a line feed, there is no line feed.
 unfed : (bytes : List ℕ) → Nowhere (Passes (is_byte 10) bytes) 0 (length bytes) → has_line_feed bytes ≡ false
 unfed [] none = refl
 unfed (b ∷ bytes) none =
     unfed_as b bytes (b == 10) refl none (unfed bytes (λ k low high feed. none (suc k) (omega arith) (omega (arith, high)) feed))
 
--- the byte that passes is a line feed
+-- A byte that passes the search is a line feed.
 pub feed_of : (b : ℕ) → (b == 10) ≡ true → b ≡ 10
 feed_of b passes = grind (arith, nat_tests, passes)
 
 pub length_none : (text : List ℕ) → Nowhere (Passes (is_byte 10) text) 0 (length text) → 0 ≡ length (whole_lines text)
 length_none text none = sym (ap length (whole_none text (unfed text none)))
 
--- the last line feed of a text ends its last whole line
+-- The last complete line ends with the last line feed.
 pub length_last : (text : List ℕ) (i : ℕ) → NoneAfter (Passes (is_byte 10) text) 0 (length text) i → get_or text i 0 ≡ 10
     → i + 1 ≡ length (whole_lines text)
 length_last text i last feed =
@@ -206,7 +206,7 @@ ends_whole (b ∷ bytes) ends =
     last_byte b bytes ∙ ap (λ (c : ℕ). take (length bytes) (b ∷ bytes) ++ c ∷ []) feed in
     subst (λ (l : List ℕ). IsWhole l) (sym parts) (whole_line (take (length bytes) (b ∷ bytes)))
 
--- for callers that append a line feed themselves
+-- Used by callers that append a line feed themselves.
 pub ends_line : (line : List ℕ) → EndsInLineFeed (line ++ 10 ∷ [])
 ends_line line =
     let at : length (line ++ 10 ∷ []) - 1 ≡ length line = omega (arith, length-append line (10 ∷ [])) in

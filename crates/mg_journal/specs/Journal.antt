@@ -1,4 +1,4 @@
--- What appending does to a journal.
+-- The effect of an append on a journal.
 use Rattle.std.specs.Prelude.{◌≡◌, ℕ, Bool, true, false, List, take, Option, None, Result, Ok, Err}
 use Rattle.std.specs.Prelude.{if◌then◌else◌}
 use Rattle.std.specs.Io.KnownBytes.{append_known}
@@ -8,23 +8,22 @@ use Rattle.mg_journal.specs.declared.durability.Durability.{Durability}
 use Rattle.mg_journal.specs.declared.durability.Durability.TheVariants.{Written, Synced}
 use Rattle.mg_journal.specs.Text.{whole_lines}
 
--- What is known about a journal: its text, which is the complete lines that a reader finds, oldest
--- first; the part of the text that a sync has put on the disk; and whether the journal is broken.
--- An unknown text stays unknown.
+-- The known state of a journal. Its text is the complete lines that a reader finds, oldest first. An unknown text stays
+-- unknown.
 pub record JournalState : Type 0 where
   pub text : Option (List ℕ)
   pub synced : Option (List ℕ)
   pub is_broken : Bool
 
--- the state of a journal that doesn't exist: each append fails
+-- The state of a journal that doesn't exist. Each append to it fails.
 abbrev pub no_journal : JournalState
 no_journal = record { text = None; synced = None; is_broken = true }
 
--- the text whose last part the next seal of a journal is about; a broken journal gets none
+-- The text whose last part the next seal hashes. A broken journal has no such text.
 abbrev pub text_to_seal : JournalState → Option (List ℕ)
 text_to_seal journal = if journal.is_broken then None else journal.text
 
--- whether a fault breaks the journal, so that each later append fails
+-- Whether a fault breaks the journal, so that each later append fails.
 abbrev pub is_final : AppendFault → Bool
 is_final Refused = false
 is_final Broken = true
@@ -33,15 +32,14 @@ abbrev pub is_synced : Durability → Bool
 is_synced Written = false
 is_synced Synced = true
 
--- the text grew by these lines, and all of it is on the disk if it was synced
+-- The text grew by these lines. If the append was synced, all of the text is on the disk.
 abbrev pub appended : List ℕ → Durability → JournalState → JournalState
 appended lines durability old = record old {
   text = append_known old.text lines;
   synced = if is_synced durability then append_known old.text lines else old.synced;
 }
 
--- The journal is broken: nobody knows how many of the lines were written. If the journal was broken
--- before, none of them were.
+-- The journal is broken: some, all or none of the lines were written. If the journal was already broken, none were.
 pub record Breaks (lines : List ℕ) (old new : JournalState) : Type 0 where
   pub front : ℕ
   pub state : new ≡ record old {

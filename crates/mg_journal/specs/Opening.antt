@@ -1,8 +1,8 @@
--- A journal's file that is read before lines are appended to it.
+-- Reading a journal's file before lines are appended to it.
 use Rattle.std.specs.Prelude.{ℕ, ◌≤◌, List, length, Option, Some, None}
 use Rattle.mg_journal.specs.JournalFile.{FileState}
 
--- no more bytes are on the disk than in the file
+-- The disk has at most as many bytes as the file.
 abbrev pub IsWithin : (synced bytes : Option (List ℕ)) → Type 0
 IsWithin None bytes = Unit {0}
 IsWithin (Some synced) None = ⊥

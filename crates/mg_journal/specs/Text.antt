@@ -3,7 +3,7 @@ use Rattle.std.specs.Prelude.{◌≡◌, ℕ, ◌-◌, Bool, ◌==◌, List, [],
 use Rattle.std.specs.Prelude.{if◌then◌else◌}
 use Rattle.std.specs.List.{list_any}
 
--- whether a line ends among these bytes
+-- Whether the bytes have a line feed.
 abbrev pub has_line_feed : List ℕ → Bool
 has_line_feed bytes = list_any (λ b. b == 10) bytes
 
@@ -13,10 +13,10 @@ unfoldable pub whole_lines : List ℕ → List ℕ
 whole_lines [] = []
 whole_lines (b ∷ bytes) = if has_line_feed (b ∷ bytes) then b ∷ whole_lines bytes else []
 
--- the last line is complete too
+-- All lines are complete, including the last one.
 abbrev pub IsWhole : List ℕ → Type 0
 IsWhole bytes = whole_lines bytes ≡ bytes
 
--- the last byte is a line feed
+-- The last byte is a line feed.
 abbrev pub EndsInLineFeed : List ℕ → Type 0
 EndsInLineFeed lines = slice_index lines (length lines - 1) ≡ 10

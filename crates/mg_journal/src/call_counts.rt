@@ -1,6 +1,6 @@
 use crate::file_call::FileCall;
 
-/// How many calls of each kind were made.
+/// The number of calls of each kind so far.
 #[derive(Clone, Copy, Default)]
 pub(crate) struct CallCounts {
     reads: u64,
@@ -10,7 +10,7 @@ pub(crate) struct CallCounts {
 }
 
 impl CallCounts {
-    /// Counts a call. Returns how many calls of the same kind came before it.
+    /// Counts a call. Returns the number of earlier calls of the same kind.
     pub(crate) fn count(&mut self, call: FileCall) -> u64 {
         let before = *self;
         match call {

@@ -1,8 +1,8 @@
-/// When an append to a journal returns.
+/// The condition under which an append to a journal returns.
 #[derive(Clone, Copy, Debug, PartialEq, Eq)]
 pub enum Durability {
-    /// Once the system has the lines. They survive a crash of the program, but perhaps not a crash of the machine.
+    /// The system has the lines. They survive a crash of the program, but perhaps not a crash of the machine.
     Written,
-    /// Once the lines are on the disk.
+    /// The lines are on the disk.
     Synced,
 }

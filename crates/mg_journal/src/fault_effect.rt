@@ -1,6 +1,6 @@
 use std::io::ErrorKind;
 
-/// What an injected fault does.
+/// The effect of an injected fault.
 #[derive(Clone, Copy, Debug, PartialEq, Eq)]
 pub enum FaultEffect {
     /// The call fails.

@@ -5,7 +5,7 @@ use crate::file_call::FileCall;
 #[derive(Clone, Copy, Debug, PartialEq, Eq)]
 pub struct InjectedFault {
     pub call: FileCall,
-    /// Which call of that kind, counted from 0.
+    /// The number of the call among the calls of its kind, counted from 0.
     pub number: u64,
     pub effect: FaultEffect,
 }

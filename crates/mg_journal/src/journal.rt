@@ -9,11 +9,11 @@ use mg_chain::END;
 
 /// A text of complete lines that grows as lines are appended.
 pub trait Journal {
-    /// What is known about the journal.
+    /// The known state of the journal.
     ghost journal: { Self → JournalState };
 
     /// Appends all of the lines or none, unless the journal breaks. The last line must end in a line feed. `durability`
-    /// says when the call returns.
+    /// determines when the call returns.
     fn append(&mut self, lines: &[u8], durability: Durability) -> Result<(), AppendFault>
         requires line_feed { EndsInLineFeed lines.now }
         ensures value { Appends lines.now durability (journal self.old) (journal self.new) result };

@@ -2,9 +2,9 @@ ghost use Rattle.mg_journal.specs.JournalFile.{FileState, ReadsAt, WritesSome, C
 
 use std::io;
 
-/// What a journal needs from its file.
+/// The file operations that a journal needs.
 pub trait JournalFile {
-    /// What is known about the file.
+    /// The known state of the file.
     ghost file: { Self → FileState } = { λ _. unknown };
 
     /// Reads bytes at an offset. Returns how many bytes were read, or 0 if the file ends there.

@@ -8,13 +8,15 @@ use std::io::{self, ErrorKind};
 /// The maximum number of bytes that are read from a file at once.
 const CHUNK: usize = 64 * 1024;
 
-/// How many bytes two chunks share, so that one of them has a whole mark with the line feed before it.
+/// The number of bytes that two neighbouring chunks share, so that each mark, with the line feed in front of it, is
+/// completely in one of them.
 const OVERLAP: u64 = 9;
 
-/// How many bytes of a file are searched at once.
+/// The number of bytes by which the search moves towards the start of the file.
 const STEP: u64 = CHUNK as u64 - OVERLAP;
 
-/// Reads bytes at an offset, of which the buffer already has some. Returns how many it has then.
+/// Reads more bytes at an offset into a buffer whose first `filled` bytes are there already. Returns the new number of
+/// filled bytes.
 fn fill_some<F: JournalFile>(
     at: u64,
     filled: usize,
@@ -56,8 +58,8 @@ fn fill<F: JournalFile>(at: u64, buffer: &mut [u8], file: &mut F) -> io::Result<
     Err(io::Error::from(ErrorKind::TimedOut))
 }
 
-/// Searches a chunk of a file's first `whole` bytes for the beginning of its last part, given that this part doesn't
-/// begin after `from`. The chunk fills the buffer, and ends at `whole` or overlaps what was searched.
+/// Searches a chunk of a file's first `whole` bytes for the start of the last part, given that there is no mark after
+/// `from`. The chunk fills the buffer. It ends at `whole`, or overlaps the bytes already searched.
 fn search_chunk<F: JournalFile>(
     at: u64,
     from: u64,
@@ -81,7 +83,7 @@ fn search_chunk<F: JournalFile>(
     }
 }
 
-/// Returns where the last part of a file's first `whole` bytes begins. Searches them from the end.
+/// Returns the offset at which the last part of a file's first `whole` bytes begins. Searches backwards from their end.
 fn find_start<F: JournalFile>(whole: u64, file: &mut F) -> io::Result<u64>
     ensures same { F.file file.new ≡ F.file file.old }
     ensures start { IfOk result (λ start. StartsAt (F.file file.old) whole start) }
@@ -101,7 +103,7 @@ fn find_start<F: JournalFile>(whole: u64, file: &mut F) -> io::Result<u64>
     Err(io::Error::from(ErrorKind::TimedOut))
 }
 
-/// Adds the bytes of a file at an offset to a part. They fill the buffer.
+/// Adds a buffer full of bytes, read from the file at an offset, to the hash of a part.
 fn hash_chunk<F: JournalFile>(
     at: u64,
     buffer: &mut [u8],
@@ -123,7 +125,7 @@ fn hash_chunk<F: JournalFile>(
     }
 }
 
-/// Hashes a file from `start` up to `whole`.
+/// Hashes the bytes of a file from `start` up to `whole`.
 fn hash_from<F: JournalFile>(start: u64, whole: u64, file: &mut F) -> io::Result<Chain>
     requires within { start ≤ whole }
     ensures same { F.file file.new ≡ F.file file.old }

@@ -1,4 +1,4 @@
-//! Journals: files of lines, where each append adds all of its lines or none.
+//! Journals: files of lines. Each append adds all of its lines or none.
 //!
 //! A program that appends each line before acting on it can repeat its actions after a crash:
 //!
@@ -16,9 +16,9 @@
 //! An [`Opening`] reads the file's complete lines. It leaves the file unchanged until the caller accepts these lines.
 //! Then it cuts off a partial last line, which a crash may have left.
 //!
-//! `specs/Text.antt` defines complete lines, and `specs/Journal.antt` what [`Journal::append`] does. The proof of a
-//! [`FileJournal`] relies only on what `specs/JournalFile.antt` says about a [`JournalFile`]. A [`MemoryFile`] is
-//! proved to do what `specs/JournalFile.antt` says. A program has a [`JournalFile`] of its own for the system's files.
+//! `specs/Text.antt` defines complete lines, and `specs/Journal.antt` defines the effect of [`Journal::append`]. The
+//! proof of a [`FileJournal`] relies only on `specs/JournalFile.antt`, the specification of a [`JournalFile`]. A
+//! [`MemoryFile`] is proved to satisfy it. A program has its own [`JournalFile`] for the system's files.
 #![tactic(auto)]
 
 mod append_fault;

@@ -12,7 +12,7 @@ use std::io;
 #[derive(Drop)]
 pub struct MemoryFile {
     bytes: Vec<u8>,
-    /// How many of the bytes are on the disk.
+    /// The number of bytes that are on the disk.
     synced: usize,
     faults: Vec<InjectedFault>,
     counts: CallCounts,

@@ -19,15 +19,15 @@ use std::marker::Model;
 /// The maximum number of bytes that are read from a file at once.
 const CHUNK: usize = 64 * 1024;
 
-/// A journal's file, which is read before lines are appended to it.
+/// A journal's file that is read before lines are appended to it.
 ///
-/// Reading it returns the complete lines of the file. If the caller accepts them, [`accept`](Opening::accept) cuts off
-/// a partial last line and returns the journal. Until then the file isn't changed.
+/// Reading from this type returns the complete lines of the file. If the caller accepts them,
+/// [`accept`](Opening::accept) cuts off a partial last line and returns the journal. Until then the file isn't changed.
 #[derive(Drop)]
 pub struct Opening<F: JournalFile> {
     file: F,
     extent: Extent,
-    /// How many bytes of the complete lines were read.
+    /// The number of bytes of the complete lines that were read.
     read: u64,
 }
 

@@ -1,4 +1,4 @@
--- What is found after an acknowledgement.
+-- Searches for kept replies after an acknowledgement.
 use Rattle.std.proofs.Common.{◌≡◌, ℕ, ◌<◌, ◌≤◌, List, Bool, true, false, not, ◌&&◌, eqb, leb, inl, inr, ◌⊎◌, refl, sym, ◌∙◌, arith}
 use Rattle.std.proofs.lemmas.Bool.{false≢true, false_from_ne_true}
 use Rattle.std.proofs.lemmas.Bool.Decides.{nat_tests}

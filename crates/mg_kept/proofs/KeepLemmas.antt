@@ -1,4 +1,4 @@
--- What is found where one more reply is kept.
+-- Searches after one more reply is kept.
 use Rattle.std.proofs.Common.{◌≡◌, ℕ, ◌+◌, ◌-◌, ◌≤◌, List, [], ◌∷◌, ◌++◌, true, false, eqb, None, length, drop, refl, sym, ap, ◌∙◌, option_map, All, arith, length-append}
 use Rattle.std.proofs.lemmas.Bool.{false≢true, false_from_ne_true, eq-eqb, eqb-true, and_parts, and_from}
 use Rattle.std.proofs.lemmas.List.{drop-append-le}
@@ -10,7 +10,7 @@ use Rattle.mg_kept.specs.Theorems.{KeptIsFound, CaseIsIgnored, OthersStay, OnlyO
 use Rattle.mg_words.proofs.CutLemmas.{same_letters, letters_same}
 use Rattle.mg_kept.proofs.FindLemmas.{none_found, find_agree, same_sender, none_in_drop, find_before, find_last, none_from_all, first_differs}
 
--- The new reply stands last, whatever made room.
+-- The newly kept reply is the last in the list, even if the oldest was dropped.
 pub kept_is_last : (reply : KeptReply) (replies : List KeptReply) →
     with_reply reply replies ≡ drop (length replies + 1 - kept_limit) replies ++ reply ∷ []
 kept_is_last reply replies =
@@ -53,7 +53,7 @@ only_oldest_goes oldest rest reply sender number full not_oldest not_this =
       not_oldest,
     ) refl
 
--- two replies of which one doesn't answer the other's request
+-- If `oldest` does not answer the request of `later`, `later` does not answer the request of `oldest`.
 differs : (sender : List ℕ) (oldest later : KeptReply) → is_from sender oldest ≡ true →
     is_reply_to later.sender later.number oldest ≡ false → is_reply_to sender oldest.number later ≡ false
 differs sender oldest later from h = false_from_ne_true _ (λ t.

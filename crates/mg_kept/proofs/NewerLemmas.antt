@@ -16,7 +16,7 @@ use Rattle.mg_kept.proofs.KeepLemmas.{kept_is_last, oldest_is_dropped}
 -- ## In any list, by any test
 
 module _ (p : KeptReply → Bool) where
-  -- what stands after the first that passes
+  -- The replies after the first that passes the test.
   after : List KeptReply → List KeptReply
   after [] = []
   after (x ∷ xs) = cond (p x) xs (after xs)
@@ -30,7 +30,7 @@ module _ (p : KeptReply → Bool) where
         | inr e ↦ let later : 0 < length (after xs) = rw e at some in rw e (omega (arith, after-shorter xs later))
       ]
 
-  -- one that is found stands before what is after it
+  -- A reply that is found comes before the replies of `after`.
   after-fewer : (xs : List KeptReply) (r : KeptReply) → find p xs ≡ Some r → length (after xs) + 1 ≤ length xs
   unfolding after
   after-fewer [] r h = absurd cc
@@ -40,7 +40,7 @@ module _ (p : KeptReply → Bool) where
         | inr e ↦ let later : find p xs ≡ Some r = rw e at h in rw e (omega (arith, after-fewer xs r later))
       ]
 
-  -- it stays where no more go from the front than stand before it
+  -- Dropping fewer replies from the front than precede the found one leaves it, and `after`, unchanged.
   find-drop : (xs : List KeptReply) (n : ℕ) (r : KeptReply) → find p xs ≡ Some r → n + length (after xs) + 1 ≤ length xs
       → (find p (drop n xs) ≡ Some r) × (after (drop n xs) ≡ after xs)
   unfolding after
@@ -74,7 +74,7 @@ module _ (p : KeptReply → Bool) where
         | inr f ↦ rw f (after-last xs y (later_none (p x) x (find p xs) h) e)
       ]
 
-  -- what is left of a list has no more after the one that stays
+  -- A filtered list is at most as long as the original.
   filter-short : (q : KeptReply → Bool) (xs : List KeptReply) → length (filter q xs) ≤ length xs
   filter-short q [] = omega arith
   filter-short q (x ∷ xs) =
@@ -126,7 +126,7 @@ text_of_found : (replies : List KeptReply) (sender text : List ℕ) (number : �
     find (is_reply_to sender number) replies ≡ Some r → r.text ≡ text → kept_text replies sender number ≡ Some text
 text_of_found replies sender text number r h is = rw (h, is) refl
 
--- as many go from the front as there are too many
+-- The number of replies to drop when one more is kept.
 goes : List KeptReply → ℕ
 goes replies = length replies + 1 - kept_limit
 
@@ -190,7 +190,7 @@ last_is_newest replies reply sender none from =
 
 -- ## After an acknowledgement
 
--- what it drops isn't the reply to a request that it doesn't name
+-- If an acknowledgement does not name a request, it does not drop the reply to it.
 not_dropped : (first last number other : ℕ) (from to same : Bool) →
     (leb first number && leb number last && same) ≡ false → (from ≡ true → to ≡ true → same ≡ true)
     → not (leb first other && leb other last && from) ≡ false → (eqb other number && to) ≡ false

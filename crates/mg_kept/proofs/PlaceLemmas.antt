@@ -1,4 +1,4 @@
--- The places that kept replies are written in.
+-- The places in which kept replies are stored.
 use Rattle.std.proofs.Common.{◌≡◌, ℕ, ◌+◌, ◌<◌, ◌≤◌, List, [], ◌∷◌, ◌++◌, false, not, None, length, take, drop, set, ◌∙◌, arith}
 use Rattle.std.proofs.Math.ListN.{length-set}
 use Rattle.std.proofs.lemmas.List.{length-take-le, take_more_set}
@@ -11,7 +11,7 @@ use Rattle.mg_kept.specs.KeptReplies.{KeptReply, is_in_range, is_reply_to, kept_
 use Rattle.mg_kept.specs.aids.Places.{AreFilledUpTo}
 use Rattle.mg_kept.proofs.FindLemmas.{none_found, none_in_drop, fails_at}
 
--- one more place holds a reply, to a request that the others don't answer
+-- Storing one more reply in the next place keeps the invariant, if no other reply answers its request.
 pub one_more : (places : List KeptReply) (len n : ℕ) (old : List KeptReply) (reply : KeptReply) →
     AreFilledUpTo places len → take len places ≡ drop n old → length (take len places) < kept_limit →
     kept_text old reply.sender reply.number ≡ None → AreFilledUpTo (set places len reply) (len + 1)
@@ -32,11 +32,11 @@ one_more places len n old reply filled is room none =
           (λ k d lt. fails_at (is_reply_to reply.sender reply.number) (take len places) k d absent lt));
     }
 
--- a list that was written back whole
+-- The first `n` entries of a list of `n` entries followed by more are the list itself.
 pub written_back : (n : ℕ) (xs ys : List KeptReply) → length xs ≡ n → take n (xs ++ ys) ≡ xs
 written_back n xs ys e = rw (← e) (take-append_seam xs ys)
 
--- those that stay stand first, and the other places are free
+-- If the remaining replies are moved to the front, the invariant of the places still holds.
 pub some_stay : (places after : List KeptReply) (len stay : ℕ) (sender : List ℕ) (first last : ℕ) →
     AreFilledUpTo places len → length after ≡ length places → stay ≤ len →
     take stay after ≡ without_range sender first last (take len places) → AreFilledUpTo after stay

@@ -12,31 +12,31 @@ pub record KeptReply : Type 0 where
   pub number : ℕ
   pub text : List ℕ
 
--- whether a reply went to this sender, ignoring case
+-- Whether a reply went to this sender, ignoring case.
 abbrev pub is_from : List ℕ → KeptReply → Bool
 is_from sender reply = str_eq_ignore_ascii_case reply.sender sender
 
--- whether a reply answers the sender's request with this number
+-- Whether a reply answers the sender's request with this number.
 abbrev pub is_reply_to : List ℕ → ℕ → KeptReply → Bool
 is_reply_to sender number reply = (reply.number == number) && is_from sender reply
 
--- whether a reply went to this sender and has a number from first to last
+-- Whether a reply went to this sender and has a number from first to last.
 abbrev pub is_in_range : List ℕ → ℕ → ℕ → KeptReply → Bool
 is_in_range sender first last reply =
     nat_le first reply.number && nat_le reply.number last && is_from sender reply
 
--- the text of the kept reply to a request
+-- The text of the kept reply to a request.
 abbrev pub kept_text : List KeptReply → List ℕ → ℕ → Option (List ℕ)
 kept_text replies sender number =
     option_map (λ reply. reply.text) (find (is_reply_to sender number) replies)
 
--- the replies that were kept after the one that answers the request
+-- The replies that were kept after the one that answers the request.
 abbrev pub newer_than : List KeptReply → List ℕ → ℕ → List KeptReply
 newer_than [] sender number = []
 newer_than (reply ∷ replies) sender number =
     if is_reply_to sender number reply then replies else newer_than replies sender number
 
--- the newest `count` replies
+-- The newest `count` replies.
 abbrev pub newest : ℕ → List KeptReply → List KeptReply
 newest count replies = drop (length replies - count) replies
 
@@ -44,17 +44,17 @@ newest count replies = drop (length replies - count) replies
 abbrev pub with_reply : KeptReply → List KeptReply → List KeptReply
 with_reply reply replies = newest kept_limit (replies ++ reply ∷ [])
 
--- the replies that remain after a sender acknowledged the numbers from `first` to `last`
+-- The replies that remain after a sender acknowledged the numbers from `first` to `last`.
 abbrev pub without_range : List ℕ → ℕ → ℕ → List KeptReply → List KeptReply
 without_range sender first last replies =
     filter (λ reply. not (is_in_range sender first last reply)) replies
 
--- no two replies answer the same request
+-- No two replies answer the same request.
 abbrev pub AreDistinct : List KeptReply → Type 0
 AreDistinct replies =
     AllPairs (λ older newer. is_reply_to newer.sender newer.number older ≡ false) replies
 
--- the invariant of the kept replies
+-- The invariant of the kept replies.
 pub record AreKept (replies : List KeptReply) : Type 0 where
   pub at_most : length replies ≤ kept_limit
   pub distinct : AreDistinct replies

@@ -2,13 +2,13 @@
 use Rattle.std.specs.Prelude.{ℕ, ◌-◌, Bool, ◌==◌, List, [], ◌∷◌, ◌++◌, length, take, slice_index}
 use Rattle.std.specs.Prelude.{if◌then◌else◌}
 
--- A line's text, without the line feed at its end and without one carriage return before that.
+-- A line without its final carriage return, if it has one.
 abbrev pub without_return : List ℕ → List ℕ
 without_return line =
     if slice_index line (length line - 1) == 13 then take (length line - 1) line else line
 
--- The lines that a partial line and the text after it form: those that end in a line feed. If the
--- text has ended, the rest is a last line without a line feed, unless it is empty.
+-- The lines of a partial line and the text after it, up to the last line feed. If the text has ended, a non-empty rest
+-- is one more line.
 unfoldable pub lines_after : Bool → List ℕ → List ℕ → List (List ℕ)
 lines_after ended partial [] =
     if length partial == 0 then [] else (if ended then partial ∷ [] else [])

@@ -2,7 +2,7 @@ use crate::seconds::Seconds;
 use std::io::{self, Write};
 use std::time::Duration;
 
-/// The upper limits of the buckets: in microseconds, and in seconds, as Prometheus reads them.
+/// The upper limits of the buckets, in microseconds, and the same limits as text in seconds, for Prometheus.
 const BUCKETS: [(u64, &str); 9] = [
     (500, "0.0005"),
     (1_000, "0.001"),
@@ -18,7 +18,7 @@ const BUCKETS: [(u64, &str); 9] = [
 /// A histogram of delays.
 #[derive(Clone, Copy, Debug, PartialEq, Eq)]
 pub struct Delays {
-    /// How many delays are within each limit.
+    /// The number of delays within each limit.
     within: [u64; BUCKETS.len()],
     count: u64,
     micros: u64,
@@ -45,7 +45,7 @@ impl Delays {
         self.micros = self.micros.saturating_add(micros);
     }
 
-    /// Writes the samples of this histogram. `labels` are the labels that all its samples have, without braces.
+    /// Writes the samples of this histogram. All of them have the given labels, without braces.
     pub fn write<W: Write>(&self, name: &str, labels: &str, writer: &mut W) -> io::Result<()> {
         for (within, (_, limit)) in self.within.iter().zip(BUCKETS) {
             writeln!(

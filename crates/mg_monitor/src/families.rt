@@ -8,7 +8,7 @@ use mg_serve::TickReport;
 use std::io::{self, Write};
 use std::time::Duration;
 
-/// Returns how many terminations have accepted a packet within the last second.
+/// Returns the number of terminations that accepted a packet within the last second.
 pub fn sending(core: &Core, ports: &[PortTotals], ticks: u64) -> usize {
     let mut sending: usize = 0;
     for place in 0..core.terminations() {
@@ -44,7 +44,7 @@ pub fn put_timing<W: Write>(
     page.gauge("step_seconds_max", help, &Seconds::of(longest))
 }
 
-/// Writes how much of the gateway is in use.
+/// Writes the metrics about the terminations and contexts in use.
 pub fn put_use<W: Write>(
     report: &TickReport<'_>,
     sending: usize,
@@ -59,7 +59,7 @@ pub fn put_use<W: Write>(
     page.gauge("callers_sending", help, &sending)
 }
 
-/// Returns what became of RTP datagrams, and how often.
+/// Returns the number of RTP datagrams with each outcome.
 fn results(counts: &Counts) -> [(&'static str, u64); 11] {
     let [started, placed, pushed, duplicate, late] = counts.placed;
     let [
@@ -94,7 +94,7 @@ fn put_messages<W: Write>(report: &TickReport<'_>, page: &mut Page<'_, W>) -> io
     put_fence(report, page)
 }
 
-/// Writes the fence, if there is one, and how many messages didn't pass it.
+/// Writes the fence, if there is one, and the number of messages that didn't pass the fence.
 fn put_fence<W: Write>(report: &TickReport<'_>, page: &mut Page<'_, W>) -> io::Result<()> {
     let Some(fence) = report.fence else {
         return Ok(());
@@ -173,7 +173,7 @@ pub fn put_ports<W: Write>(
     put_silences(report, ports, page)
 }
 
-/// Writes which termination has which port.
+/// Writes the number of the termination at each port.
 fn put_terminations<W: Write>(
     report: &TickReport<'_>,
     ports: &[PortTotals],
@@ -210,7 +210,7 @@ fn put_port_counter<W: Write>(
     Ok(())
 }
 
-/// Writes how long each port has gone without an accepted packet.
+/// Writes, for each port, the time since it last accepted a packet, or since the start.
 fn put_silences<W: Write>(
     report: &TickReport<'_>,
     ports: &[PortTotals],

@@ -1,6 +1,6 @@
 use mg_serve::JournalReport;
 
-/// Notices when the journal begins to fail, and when it works again.
+/// Detects when the journal begins to fail, and when it works again.
 #[derive(Clone, Copy, Debug, PartialEq, Eq)]
 pub struct JournalWatch {
     is_failing: bool,
@@ -17,11 +17,11 @@ impl JournalWatch {
         }
     }
 
-    /// Takes note of the journal's state after a tick. Returns a line for the operator if the state changed, and `None`
+    /// Records the journal's state after a tick. Returns a line for the operator if the state changed, and `None`
     /// otherwise.
     pub fn take(&mut self, report: &JournalReport) -> Option<&'static str> {
         let has_failed = report.failed > self.failed;
-        // Each tick adds one to the ticks that the journal lacks, unless an append succeeded.
+        // Each tick adds one to the number of ticks that the journal lacks, unless an append succeeded.
         let has_worked = report.lacking <= self.lacking;
         let was_failing = self.is_failing;
         self.failed = report.failed;

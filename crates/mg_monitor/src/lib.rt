@@ -1,4 +1,4 @@
-//! What an operator sees of a gateway: reports on standard error, and metrics for Prometheus.
+//! Reports and metrics for the operator of a gateway: reports on standard error, and metrics for Prometheus.
 //!
 //! [`Reports`] and [`Metrics`] are [`Monitor`](mg_serve::Monitor)s of a server, so they can't change what the gateway
 //! does. [`Reports`] prints the totals since the start and a line for each media port that has had trouble. [`Metrics`]

@@ -1,12 +1,12 @@
 use mg_playout::{MAX_DROPOUT, MAX_MISORDER};
 use mg_rtp::{Header, read};
 
-/// How many sequence numbers are remembered.
+/// The number of sequence numbers that are remembered.
 const WINDOW: u16 = 64;
 
 /// Uses sequence numbers to count the RTP packets that never arrived (RFC 3550, A.3).
 ///
-/// A packet counts as lost once a packet with a sequence number at least 64 higher has arrived, or once another stream
+/// A packet counts as lost as soon as a packet with a sequence number at least 64 higher has arrived, or another stream
 /// begins. A stream begins with a packet that has another SSRC, or whose sequence number is far from the newest one: at
 /// least [`MAX_DROPOUT`] ahead, or more than [`MAX_MISORDER`] behind. So reordered packets don't count as lost, and the
 /// count never falls.
@@ -14,9 +14,9 @@ const WINDOW: u16 = 64;
 pub struct Loss {
     ssrc: u32,
     newest: u16,
-    /// Which of the last 64 sequence numbers arrived. Bit 0 is the newest.
+    /// A bit for each of the last 64 sequence numbers, set if its packet arrived. Bit 0 is the newest.
     arrived: u64,
-    /// How many of the last 64 sequence numbers belong to the stream. It is 0 before the first packet.
+    /// The number of the last 64 sequence numbers that belong to the stream. It is 0 before the first packet.
     known: u16,
     lost: u64,
 }
@@ -32,7 +32,7 @@ impl Loss {
         }
     }
 
-    /// Returns how many packets have been lost so far.
+    /// Returns the number of packets lost so far.
     pub fn lost(&self) -> u64 {
         self.lost
     }
@@ -70,7 +70,7 @@ impl Loss {
 
     /// Advances to a packet that is `count` sequence numbers ahead.
     fn advance(&mut self, count: u16) {
-        // After 64 steps no packet is left in the window, and each further step loses one.
+        // After 64 steps, no packet is left in the window, and each further step loses one packet.
         let steps = count.min(WINDOW);
         for _ in 0..steps {
             self.step();
@@ -90,7 +90,7 @@ impl Loss {
         self.arrived <<= 1;
     }
 
-    /// Counts the packet at a place in the window as lost, unless it has arrived.
+    /// Counts the packet at an index of the window as lost, unless it has arrived.
     fn lose_unless_arrived(&mut self, place: u16) {
         if place < WINDOW && self.arrived & (1 << place) == 0 {
             self.lost = self.lost.saturating_add(1);

@@ -34,9 +34,9 @@ pub struct Metrics<'a, C: Clock, S: Sink + Drop> {
     start: Option<Duration>,
     /// The clock's reading when the current poll began, if the clock could be read.
     began: Option<Duration>,
-    /// How many ticks have passed.
+    /// The number of ticks so far.
     ticks: u64,
-    /// How late the ticks began.
+    /// The delays of the ticks: how late each tick began.
     delays: Delays,
     /// The longest time that a poll and its tick have taken since the last metrics text.
     longest: Duration,
@@ -49,7 +49,7 @@ pub struct Metrics<'a, C: Clock, S: Sink + Drop> {
 }
 
 impl<'a, C: Clock, S: Sink + Drop> Metrics<'a, C, S> {
-    /// Starts measuring. The first tick is due 20 ms from now.
+    /// Starts measuring. The first tick is due 20 ms from this call.
     pub fn start_now(
         alloc: Global,
         clock: &'a C,

@@ -7,7 +7,7 @@ use std::io::{self, Write};
 #[derive(Drop)]
 pub struct Page<'a, W: Write> {
     writer: &'a mut W,
-    /// The label, without braces.
+    /// The label that names the gateway, without braces.
     gateway: &'a str,
 }
 

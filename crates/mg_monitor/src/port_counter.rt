@@ -1,6 +1,6 @@
 use crate::port_totals::PortTotals;
 
-/// A counter that each port has.
+/// A counter of a media port.
 #[derive(Clone, Copy, Debug, PartialEq, Eq)]
 pub enum PortCounter {
     Packets,
@@ -18,7 +18,7 @@ impl PortCounter {
         }
     }
 
-    /// Returns what the metric counts.
+    /// Returns the help text of the metric.
     pub fn help(self) -> &'static str {
         match self {
             PortCounter::Packets => "RTP datagrams received",

@@ -1,7 +1,7 @@
 use crate::loss::Loss;
 use mg_core::{Counts, DROP_CAUSES, Taken};
 
-/// What has happened at a media port since the last report.
+/// The events at a media port since the last report.
 #[derive(Clone, Copy, Debug, PartialEq, Eq)]
 pub struct PortCounts {
     /// RTP datagrams by outcome, and concealed frames.
@@ -10,12 +10,12 @@ pub struct PortCounts {
     pub strangers: u64,
     /// The packets that never arrived, since the start.
     loss: Loss,
-    /// How many packets had been lost at the last report.
+    /// The number of packets lost by the last report.
     lost_before: u64,
     /// The termination that had the port at the last report, if its caller was expected to send.
     expected: Option<u32>,
     /// The tick when a play list last accepted a packet, or the tick of the first report at which the caller was
-    /// expected to send, whichever is later.
+    /// expected to send, if that is later.
     heard: u64,
 }
 
@@ -50,15 +50,15 @@ impl PortCounts {
         self.counts.concealed = self.counts.concealed.saturating_add(1);
     }
 
-    /// Returns how many packets were found to be lost since the last report.
+    /// Returns the number of packets that were found to be lost since the last report.
     pub fn lost(&self) -> u64 {
         self.loss.lost().saturating_sub(self.lost_before)
     }
 
-    /// Returns how long a caller who is expected to send has been silent, in ticks.
+    /// Returns for how many ticks a caller who is expected to send has been silent.
     ///
-    /// `expected` is the termination whose caller should send now. The silence starts at the last accepted packet, or
-    /// at the first report at which that caller was expected to send, whichever is later.
+    /// `expected` is the termination whose caller should be sending. The silence starts at the last accepted packet, or
+    /// at the first report at which that caller was expected to send, if that is later.
     pub fn silent_ticks(&mut self, expected: Option<u32>, ticks: u64) -> u64 {
         if self.expected != expected {
             self.expected = expected;

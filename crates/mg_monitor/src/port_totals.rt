@@ -4,7 +4,7 @@ use mg_core::Taken;
 /// Ticks per second.
 const TICKS: u64 = 50;
 
-/// What has happened at a media port since the start.
+/// The events at a media port since the start.
 #[derive(Clone, Copy, Debug, PartialEq, Eq)]
 pub struct PortTotals {
     /// RTP datagrams that arrived.
@@ -12,7 +12,7 @@ pub struct PortTotals {
     /// Missing frames that were replaced by the previous one.
     pub concealed: u64,
     pub loss: Loss,
-    /// How many ticks had passed when a play list last accepted a packet, or `None` if none has been accepted.
+    /// The number of ticks that had passed when a play list last accepted a packet, or `None` if none was accepted.
     heard: Option<u64>,
 }
 
@@ -40,7 +40,7 @@ impl PortTotals {
         self.concealed = self.concealed.saturating_add(1);
     }
 
-    /// Returns how long the port has gone without an accepted packet, in ticks.
+    /// Returns the number of ticks since the port last accepted a packet, or since the start.
     pub fn silent_ticks(&self, ticks: u64) -> u64 {
         ticks.saturating_sub(self.heard.unwrap_or(0))
     }

@@ -20,12 +20,12 @@ type Text = ArrayVec<u8, 512>;
 ///
 /// At the given interval, it prints the totals since the start, and a line for each media port that has had trouble
 /// since the last report. After a stall, it prints how many packets were too late to be sent. When appends to the
-/// journal begin to fail, or work again, it says so at once. At most once a second, it says how many messages didn't
-/// pass the fence. It skips what it can't print.
+/// journal begin to fail, or work again, it prints a line at once. At most once a second, it prints how many messages
+/// didn't pass the fence. It skips lines that can't be printed.
 #[derive(Drop)]
 pub struct Reports<'a, E: Write> {
     every: u64,
-    /// How many ticks have passed.
+    /// The number of ticks so far.
     ticks: u64,
     /// The number of packets in late ticks since the last tick that was on time.
     late: u64,
@@ -114,7 +114,7 @@ impl<'a, E: Write> Reports<'a, E> {
         let _ = self.writer.flush();
     }
 
-    /// Prints what arrived at a slot's port, if the port had trouble, and resets the port's counts.
+    /// Prints the counts of a slot's port, if the port had trouble or its caller was silent, and resets them.
     fn print_slot(&mut self, report: &TickReport<'_>, slot: u8) {
         let rooms = report.core.rooms();
         let (Some(port), Some(counts)) = (rooms.port(slot), self.ports.get_mut(usize::from(slot)))
@@ -215,7 +215,7 @@ fn print_totals<E: Write>(counts: &Counts, strangers: u64, writer: &mut E) {
     write_line(&line, writer);
 }
 
-/// Prints the fence, if there is one, and how many messages didn't pass it since the start.
+/// Prints the fence, if there is one, and the number of messages that didn't pass the fence since the start.
 fn print_fence<E: Write>(fence: Option<Fence>, stale: u64, writer: &mut E) {
     let Some(fence) = fence else {
         return;
@@ -225,7 +225,7 @@ fn print_fence<E: Write>(fence: Option<Fence>, stale: u64, writer: &mut E) {
     write_line(&line, writer);
 }
 
-/// Prints what has happened at a media port since the last report. `termination` is 0 if no termination has the port.
+/// Prints the counts of a media port since the last report. `termination` is 0 if no termination has the port.
 fn print_port<E: Write>(
     port: u16,
     termination: u32,

@@ -1,10 +1,10 @@
-/// How many ticks pass at least between two lines about stale messages: a second's worth.
+/// The minimum number of ticks between two lines about stale messages: a second's worth.
 const TOGETHER: u64 = 50;
 
-/// Notices that messages don't pass the fence.
+/// Detects messages that don't pass the fence.
 #[derive(Clone, Copy, Debug, PartialEq, Eq)]
 pub struct StaleWatch {
-    /// How many stale messages have been reported.
+    /// The number of stale messages that have been reported.
     reported: u64,
     /// The tick at which a line may be printed again.
     next: u64,
@@ -18,8 +18,8 @@ impl StaleWatch {
         }
     }
 
-    /// Takes note of how many messages have been stale so far, after this many ticks. Returns how many to report now,
-    /// if there are any.
+    /// Records the number of stale messages so far, after this many ticks. Returns how many of them to report, or
+    /// `None` if nothing is to be reported.
     pub fn take(&mut self, stale: u64, ticks: u64) -> Option<u64> {
         let more = stale.saturating_sub(self.reported);
         if more == 0 || ticks < self.next {

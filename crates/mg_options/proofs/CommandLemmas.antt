@@ -1,4 +1,4 @@
--- What an argument and a subcommand add to a command line.
+-- How adding an argument or a subcommand changes a command line.
 use Rattle.std.proofs.Common.{◌≡◌, ◌∙◌, ◌&&◌, Bool, true, false, not, ap, ap₂}
 use Rattle.std.proofs.lemmas.Bool.{and_parts, not-true}
 use Rattle.clap.specs.Built.{AddsArg, AddsSubcommand}
@@ -30,14 +30,14 @@ has_no_globals c plain =
     let globals = rest (not (out-Command c).allow_external_subcommands) _ external in
     not-true (out-Command c).has_globals (and_parts (not (out-Command c).has_globals) _ globals).0
 
--- an argument that is no other's matter is the last of the rules
+-- Adding a simple argument appends its rule to the rules of the command line.
 pub adds_rule : (old new : Command) (a : Arg) (line : App) (rule : Rule) → AddsArg old a new → app_of old ≡ line →
     rule_of a ≡ rule
     → rule.is_simple ≡ true → app_of new ≡ with_rule line rule
 adds_rule old new a line rule added was is simple =
     added.shape (is_local a (ap (λ (r : Rule). r.is_simple) is ∙ simple)) ∙ ap₂ with_rule was is
 
--- and so a subcommand
+-- Adding a plain subcommand appends the subcommand to the command line.
 pub adds_subcommand : (old new sub : Command) (line below : App) → AddsSubcommand old sub new → app_of old ≡ line →
     app_of sub ≡ below
     → below.top.is_plain ≡ true → app_of new ≡ with_subcommand line below.top

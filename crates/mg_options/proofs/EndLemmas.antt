@@ -1,4 +1,4 @@
--- The exit statuses of a program that tells a fault.
+-- Upper bounds on the exit statuses of a program that reports an error.
 use Rattle.std.proofs.Common.{◌≤◌, inl, inr, arith}
 use Rattle.clap.specs.declared.error.kind.ErrorKind.{ErrorKind}
 use Rattle.clap.specs.declared.error.kind.ErrorKind.TheVariants.{OutOfMemory, DisplayHelp, DisplayVersion}
@@ -19,7 +19,7 @@ no_memory_is_small : code_of NoMemory ≤ 4
 unfolding code_of
 no_memory_is_small = omega arith
 
--- no port is bound for words that are refused
+-- If the status for unprinted help is at most 4, a program that reports an error exits with a status of at most 4.
 pub told_is_small : {W : Type 0} (kind : ErrorKind) (unprinted : Status) (old new : W) (status : Status) →
     code_of unprinted ≤ 4 → ReportsError kind unprinted old new status
     → code_of status ≤ 4

@@ -1,4 +1,4 @@
--- The number that an option is read as.
+-- The number that the parser reads from the text of an option.
 use Rattle.std.proofs.Common.{◌≡◌, ◌∙◌, ◌<◌, ◌^◌, ◌&&◌, ℕ, Bool, true, false, [], ◌∷◌, length, nat_lt, Option, Some, None, Result, Ok, Err, refl, sym, ap, subst, lt-ltb, ltb-true}
 use Rattle.std.specs.Prelude.{option_and_then}
 use Rattle.std.specs.List.{list_all}
@@ -64,7 +64,7 @@ module _ (E : Type 0) (Gives : Text → Result ℕ E → Type 0) (bits limit : �
   read_one None value none some = none refl
   read_one (Some text) value none some = read_below text value (some text refl)
 
-  -- what `get_one` answers is the number that the option was given
+  -- The result of `get_one` is the number that was given for the option.
   pub given_is : (found : Found) (name : Text) (value : Option ℕ) → (one_text found name ≡ None → value ≡ None)
       → ((text : Text) → one_text found name ≡ Some text → ReadsOne Gives text value) →
       value ≡ number_given limit name (rows_of found)

@@ -1,4 +1,4 @@
--- What a parse by a command line says of what words ask for.
+-- How the result of parsing a command line determines what the arguments request.
 use Rattle.std.proofs.Common.{◌≡◌, ◌⊎◌, ◌∙◌, true, List, [], ◌∷◌, inl, inr, sym, ap, subst, Result, Ok, Err}
 use Rattle.std.specs.Prelude.{IfErr, IsErrAnd}
 use Rattle.std.proofs.lemmas.Bool.{and_parts}
@@ -28,7 +28,7 @@ module _ (line of : App) (words : List Text) (is : line ≡ of) (is_simple_line 
   built_simple : is_simple line ≡ true
   built_simple = (and_parts (is_simple line) (is_free_app (built line)) simple).0
 
-  -- matches come where there is no fault
+  -- If the words have no fault by the command line `line`, they have none by `of`, which is the same command line.
   pub no_fault : (is_simple_and_free line ≡ true → fault_of line words ≡ []) → fault_of of words ≡ []
   no_fault passes = ap (λ (l : App). fault_of l words) (sym is) ∙ passes simple
 
@@ -38,14 +38,14 @@ module _ (line of : App) (words : List Text) (is : line ≡ of) (is_simple_line 
   pub subcommand_is : (m : ArgMatches) → HasMatchesOf line words m → subcommand_rows_of m ≡ subcommand_of of words
   subcommand_is m matches = (matches built_simple).1 ∙ ap (λ (l : App). subcommand_of l words) is
 
-  -- an error says why the words ask for nothing
+  -- If parsing fails with an error of this kind, the words are refused with this kind of error.
   pub asks_none : {A : Type 0} (read : Result A Kinds) (kind : ErrorKind) → (is_simple_and_free line ≡ true →
       (kind ≡ OutOfMemory) ⊎ IsAmong kind (fault_of line words))
       → IsRefused (requested_by (fault_of of words) read) kind
   asks_none read kind fails = refused_by _ read kind
       (subst (λ (l : App). (kind ≡ OutOfMemory) ⊎ IsAmong kind (fault_of l words)) is (fails simple))
 
--- an error that was passed on
+-- If a function passes an error on, a property of the error's kind still holds.
 pub passed_on : {T : Type 0} (r : Result T Error) (error : Error) (Q : ErrorKind → Type 0) →
     IsErrAnd r (λ e. e ≡ error) → Q (kind_of error)
     → IfErr r (λ e. Q (kind_of e))

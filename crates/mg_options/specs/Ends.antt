@@ -9,15 +9,15 @@ use Rattle.mg_options.specs.Status.{code_of}
 use Rattle.mg_options.specs.declared.status.Status.{Status}
 use Rattle.mg_options.specs.declared.status.Status.TheVariants.{Done, Usage, NoMemory}
 
--- What happens to an output when an error of this kind is reported: help and the version are
--- printed to it, unless that fails. Other errors go elsewhere.
+-- The effect on an output of reporting an error of this kind: help and the version are printed to the output, unless
+-- that fails. Other errors leave the output unchanged.
 abbrev pub ReportsError : {W : Type 0} → ErrorKind → (unprinted : Status) → W → W → Status → Type 0
 ReportsError OutOfMemory unprinted old new status = (status ≡ NoMemory) × (new ≡ old)
 ReportsError DisplayHelp unprinted old new status = (status ≡ Done) ⊎ (status ≡ unprinted)
 ReportsError DisplayVersion unprinted old new status = (status ≡ Done) ⊎ (status ≡ unprinted)
 ReportsError kind unprinted old new status = (status ≡ Usage) × (new ≡ old)
 
--- the arguments were rejected, one error was reported, and everything else is unchanged
+-- The arguments were rejected, one error was reported, and everything else is unchanged.
 pub record ReportsOneError {A W : Type 0} (requested : Result A Kinds) (unprinted : Status)
     (left silent : Type 0) (old new : W) (status : Status) : Type 0 where
   pub kind : ErrorKind

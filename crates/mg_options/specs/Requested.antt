@@ -1,11 +1,11 @@
--- What the arguments request: a run or, if they request none, the kinds of errors that say why. A
--- request for help or for the version counts as such an error.
+-- The run that the arguments request. If they request no run, the kinds of errors that say why: a request for help or
+-- for the version counts as such an error.
 use Rattle.std.specs.Prelude.{◌≡◌, ◌⊎◌, [], ◌∷◌, IsErrAnd, Result, Err}
 use Rattle.clap.specs.Kinds.{Kinds, IsAmong}
 use Rattle.clap.specs.declared.error.kind.ErrorKind.{ErrorKind}
 use Rattle.clap.specs.declared.error.kind.ErrorKind.TheVariants.{OutOfMemory}
 
--- the result of reading the arguments, unless their parser reports an error
+-- The result of reading the arguments, unless the parser reports an error.
 abbrev pub requested_by : {A : Type 0} → Kinds → Result A Kinds → Result A Kinds
 requested_by [] read = read
 requested_by (kind ∷ kinds) read = Err (kind ∷ kinds)

@@ -1,5 +1,5 @@
 -- Exit statuses.
-use Rattle.std.specs.Prelude.{ℕ}
+use Rattle.std.specs.Prelude.{◌≡◌, ◌⊎◌, ℕ}
 use Rattle.mg_options.specs.declared.status.Status.{Status}
 use Rattle.mg_options.specs.declared.status.Status.TheVariants.{Done, BadLine, Usage, Failed}
 use Rattle.mg_options.specs.declared.status.Status.TheVariants.{NoAnswer, NoMemory, NoPort}
@@ -17,3 +17,9 @@ code_of Failed = 3
 code_of NoMemory = 4
 code_of NoPort = 5
 code_of BadJournal = 6
+
+-- Unless the run ended with a fault, `done` is true. A fault is a failed read or write, a lack of memory, or a file
+-- that can't be used.
+abbrev pub UnlessFault : (done : Type 0) → Status → Type 0
+UnlessFault done status =
+    ((status ≡ Failed) ⊎ (status ≡ NoMemory) ⊎ (status ≡ BadJournal)) ⊎ done

@@ -11,8 +11,8 @@
 //! ExitCode::from(status.code())
 //! ```
 //!
-//! A number is decimal, with an optional plus sign. The parser rejects anything else, and numbers that are too large.
-//! So a value is missing only if the option was not given. `specs/Numbers.antt` defines this, and `specs/Ends.antt`
+//! A number is decimal, with an optional plus sign. The parser rejects anything else, and numbers that are too large,
+//! so a value is missing only if the option was not given. `specs/Numbers.antt` defines this, and `specs/Ends.antt`
 //! defines how a program ends.
 #![tactic(auto)]
 

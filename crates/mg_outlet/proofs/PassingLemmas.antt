@@ -1,4 +1,4 @@
--- Bytes that move from a queue to a pipe in several steps.
+-- Bytes move from a queue to a pipe in several steps.
 use Rattle.std.proofs.Common.{◌≡◌, ◌≢◌, ◌⊎◌, inl, inr, ℕ, ◌-◌, ◌<◌, true, false, List, [], ◌∷◌, ◌++◌, length, take, drop, Option, Some, None, refl, sym, ap, subst, ◌∙◌, append_assoc, append-nil, take-append-drop}
 use Rattle.std.proofs.lemmas.List.{take-append-le}
 use Rattle.std.proofs.KnownBytes.{starts_with_rest}
@@ -42,7 +42,7 @@ some_taken queue rest offered taken (starts, small, some) (n, is, more, fits, le
 
 -- ## Everything
 
--- what was called so far passed on all but this
+-- The calls so far passed on the old queue except for `rest`.
 abbrev pub Drained : (old rest : List ℕ) → (a b : Option (List PipeCall)) → Type 0
 Drained old rest a b = (calls : List PipeCall) × Continues a b calls × (old ≡ taken_in calls ++ rest)
 
@@ -69,12 +69,13 @@ drained_refused old queue rest offered taken a b c drained wrote none same =
 
 -- ## Turns
 
--- what was called so far leads from one queue to another: whoever passes on the second passes on the first
+-- The calls so far lead from the queue `old` to `queue`: if further calls pass on `queue`, all the calls together pass
+-- on `old`.
 abbrev pub Leads : (most left : ℕ) → (old queue : List ℕ) → List PipeCall → Type 0
 Leads most left old queue made =
     (rest : List ℕ) (more : List PipeCall) → Passes left queue rest more → Passes most old rest (made ++ more)
 
--- the calls so far, and the calls that are left
+-- The calls so far on the pipe, which lead from `old` to `queue` and leave `left` writes.
 pub record Led (most left : ℕ) (old queue : List ℕ) (a b : Option (List PipeCall)) : Type 0 where
   pub made : List PipeCall
   pub called : Continues a b made
@@ -87,7 +88,7 @@ led_none most left queue a is = record {
   leads = λ rest more passes. subst (λ (n : ℕ). Passes n queue rest more) is passes;
 }
 
--- one chunk more
+-- One more chunk is passed on.
 pub led_more : (most left next : ℕ) (old queue mid offered : List ℕ) (taken : Option ℕ) (a b c d : Option (List PipeCall))
     → Led most left old queue a b → 0 < left → next ≡ left - 1 → queue ≢ [] → Continues b c (Asked true ∷ [])
     → Continues c d (Wrote offered taken ∷ []) → AreOldest queue offered → TookSome queue mid offered taken
@@ -115,18 +116,18 @@ led_end : (most left : ℕ) (old queue rest : List ℕ) (a b c : Option (List Pi
 led_end most left old queue rest a b c more led called passes =
     (led.made ++ more, called_both a b c led.made more led.called called, led.leads rest more passes)
 
--- nothing is queued any more, or the chunks are used up
+-- The calls end if the queue is empty or no writes are left.
 pub led_over : (most left : ℕ) (old queue : List ℕ) (a b : Option (List PipeCall)) → Led most left old queue a b
     → (queue ≡ []) ⊎ (left ≡ 0) → Passed most old queue a b
 led_over most left old queue a b led over = led_end most left old queue queue a b b [] led (called_none b) (refl, over)
 
--- the pipe isn't ready
+-- The calls end if the pipe isn't ready.
 pub led_unready : (most left : ℕ) (old queue : List ℕ) (a b c : Option (List PipeCall)) → Led most left old queue a b
     → 0 < left → queue ≢ [] → Continues b c (Asked false ∷ []) → Passed most old queue a c
 led_unready most left old queue a b c led some more asked =
     led_end most left old queue queue a b c (Asked false ∷ []) led asked (some, more, refl)
 
--- the pipe took nothing
+-- The calls end if the pipe took nothing.
 pub led_refused : (most left : ℕ) (old queue rest offered : List ℕ) (taken : Option ℕ) (a b c d : Option (List PipeCall))
     → Led most left old queue a b → 0 < left → queue ≢ [] → Continues b c (Asked true ∷ [])
     → Continues c d (Wrote offered taken ∷ []) → AreOldest queue offered → TookNone taken → rest ≡ queue
@@ -136,7 +137,7 @@ led_refused most left old queue rest offered taken a b c d led some more asked w
     (called_both b c d (Asked true ∷ []) (Wrote offered taken ∷ []) asked wrote)
     (some, more, oldest, inl (none, refl, same))
 
--- what the calls of a turn took
+-- The old queue consists of the bytes that the calls passed on and the rest.
 pub passes_taken : (left : ℕ) (queue rest : List ℕ) (calls : List PipeCall) → Passes left queue rest calls
     → queue ≡ taken_in calls ++ rest
 passes_taken left queue rest [] (same, over) = sym same

@@ -1,4 +1,4 @@
--- The stream of an outlet: what the pipe took, and then the queue.
+-- The stream of an outlet: the bytes that the pipe took, and then the queue.
 use Rattle.std.proofs.Common.{◌≡◌, ℕ, ◌+◌, ◌-◌, ◌^◌, ◌<◌, min, Bool, true, false, ◌&&◌, ◌||◌, nat_lt, List, [], ◌++◌, Option, Some, None, refl, sym, ap, subst, ◌∙◌, append_assoc, append-nil, arith}
 use Rattle.std.specs.Prelude.{IfSome, if◌then◌else◌}
 use Rattle.std.specs.Option.{option_map, option_map_or}
@@ -10,7 +10,7 @@ use Rattle.mg_outlet.specs.declared.overflow.Overflow.{Overflow}
 use Rattle.mg_outlet.specs.declared.overflow.Overflow.TheVariants.{End}
 use Rattle.mg_outlet.proofs.PassingLemmas.{passes_taken, taken_both}
 
--- The stream stays where bytes move; then it grows by what joins the queue.
+-- Moving bytes to the pipe leaves the stream unchanged. The stream then grows by the text that joins the queue.
 stream_moves : (left : ℕ) (queue rest text : List ℕ) (calls : List PipeCall) (a b : Option (List PipeCall)) → Continues a b calls
     → Passes left queue rest calls
     → Continues (option_map (λ made. taken_in made ++ queue) a) (option_map (λ made. taken_in made ++ (rest ++ text)) b) text
@@ -25,7 +25,7 @@ stream_moves left queue rest text calls (Some a) (Some b) called passes =
     ∙ ap (λ (l : List ℕ). l ++ text) (sym moved))
     ∙ sym (append_assoc (taken_in a) queue text)
 
--- what was written before is still a prefix
+-- A text that was appended to the whole stream keeps the stream whole.
 begins_after : (all missing text : List ℕ) (a b : Option (List ℕ)) → Continues a b text
     → IfSome a (λ passed. all ≡ passed ++ missing) → missing ≡ [] → IfSome b (λ passed. all ++ text ≡ passed ++ [])
 begins_after all missing text a None goes parts none = tt
@@ -50,7 +50,7 @@ ended_true : (o : Overflow) (n : ℕ) → o ≡ End → 0 < n → (ends o && nat
 ended_true o n is some = rw is (grind (arith, nat_tests, some))
 
 module _ {P : Type 0} (calls : P → Option (List PipeCall)) where
-  -- the stream after some of the queue was passed on, and a text joined it
+  -- The stream after some of the queue was passed on, and a text joined the queue.
   grown : (most : ℕ) (rest text : List ℕ) (before after : Outlet P) → PassesOn calls most rest before after
       → queued after ≡ rest ++ text → Continues (stream calls before) (stream calls after) text
   grown most rest text before after passed queue =

@@ -1,4 +1,4 @@
--- What an outlet does with written text.
+-- The effects of calls on an outlet.
 use Rattle.std.specs.Prelude.{◌≡◌, ℕ, ◌+◌, ◌-◌, ◌^◌, min, Bool, true, false, ◌&&◌, ◌||◌, nat_lt}
 use Rattle.std.specs.Prelude.{List, [], ◌++◌, length, Option, None, IfSome, if◌then◌else◌}
 use Rattle.std.specs.declared.io.Error.{Error}
@@ -9,36 +9,32 @@ use Rattle.mg_outlet.specs.declared.outlet.Outlet.{Outlet}
 use Rattle.mg_outlet.specs.declared.overflow.Overflow.{Overflow}
 use Rattle.mg_outlet.specs.declared.overflow.Overflow.TheVariants.{End, Skip}
 
--- whether all later text is dropped once a text didn't fit
+-- Whether all later text is dropped after a text didn't fit.
 abbrev pub ends : Overflow → Bool
 ends End = true
 ends Skip = false
 
 module _ {P : Type 0} where
-  -- the queued bytes, oldest first
+  -- The queued bytes, oldest first.
   abbrev pub queued : Outlet P → List ℕ
   queued o = o.queue.items
 
-  -- the maximum number of queued bytes
-  abbrev pub limit : Outlet P → ℕ
-  limit o = o.queue.capacity
-
-  -- what is dropped when a text doesn't fit in the queue
+  -- The text that is dropped if a text doesn't fit in the queue.
   abbrev pub overflow : Outlet P → Overflow
   overflow o = o.overflow
 
-  -- how many writes were dropped
+  -- The number of dropped writes.
   abbrev pub dropped : Outlet P → ℕ
   dropped o = o.dropped
 
-  -- the error of the pipe, after which nothing more is written
+  -- The error of the pipe, after which nothing more is written.
   abbrev pub failure : Outlet P → Option Error
   failure o = o.failure
 
   abbrev pub pipe : Outlet P → P
   pipe o = o.pipe
 
-  -- an outlet to which nothing has been written yet
+  -- An outlet to which nothing has been written yet.
   abbrev pub new_outlet : P → (limit : ℕ) → Overflow → Outlet P
   new_outlet pipe limit overflow = record {
     pipe = pipe;
@@ -48,20 +44,21 @@ module _ {P : Type 0} where
     failure = None;
   }
 
-  -- whether all text is dropped from now on
+  -- Whether all further text is dropped.
   abbrev pub has_ended : Outlet P → Bool
   has_ended o = ends (overflow o) && nat_lt 0 (dropped o)
 
-  -- Whether a text is dropped when these bytes are queued: it doesn't fit, or the outlet has ended.
+  -- Whether a text is dropped while these bytes are queued: it doesn't fit, or the outlet has ended.
   abbrev pub drops : Outlet P → (queue text : List ℕ) → Bool
-  drops o queue text = nat_lt (limit o) (length queue + length text) || has_ended o
+  drops o queue text = nat_lt o.queue.capacity (length queue + length text) || has_ended o
 
-  -- how many writes to the pipe a write makes at most: one if at least 4,096 bytes are queued
+  -- The maximum number of writes to the pipe in one write to the outlet: 1 if at least 4,096 bytes are queued,
+  -- otherwise 0.
   abbrev pub write_limit : Outlet P → ℕ
   write_limit o = if nat_lt (length (queued o)) 4096 then 0 else 1
 
   module _ (calls : P → Option (List PipeCall)) where
-    -- what the pipe took, if that is known, and then the queue
+    -- The bytes that the pipe took, if they are known, and then the queue.
     abbrev pub stream : Outlet P → Option (List ℕ)
     stream o = option_map (λ made. taken_in made ++ queued o) (calls (pipe o))
 
@@ -71,22 +68,22 @@ module _ {P : Type 0} where
       pub parts : IfSome (stream o) (λ passed. all ≡ passed ++ missing)
       pub whole : has_ended o ≡ false → missing ≡ []
 
-    -- The queue was passed on, by at most this many writes, which left `rest`. An outlet that has
-    -- failed passes on nothing. The outlet still drops what it would have dropped.
+    -- Part of the queue was passed on, by at most this many writes, which left `rest`. An outlet that has failed passes
+    -- on nothing. The outlet drops text under the same conditions as before.
     pub record PassesOn (most : ℕ) (rest : List ℕ) (old new : Outlet P) : Type 0 where
       pub made : List PipeCall
       pub called : Continues (calls (pipe old)) (calls (pipe new)) made
       pub passes : Passes (option_map_or (λ error. 0) (failure old) most) (queued old) rest made
-      pub same_limit : limit new ≡ limit old
+      pub same_limit : new.queue.capacity ≡ old.queue.capacity
       pub same_overflow : overflow new ≡ overflow old
 
-    -- the queue was passed on, by at most this many writes, and nothing else changed
+    -- Part of the queue was passed on, by at most this many writes, and nothing else changed.
     pub record IsFlushed (most : ℕ) (old new : Outlet P) : Type 0 where
       pub passed : PassesOn most (queued new) old new
       pub count : dropped new ≡ dropped old
 
-    -- If many bytes were queued, some were passed on, which left `rest`. Then a text joined the
-    -- queue, or the whole text was dropped and counted.
+    -- If at least 4,096 bytes were queued, some were passed on, which left `rest`. Then the text joined the queue, or
+    -- the whole text was dropped and counted.
     pub record IsWritten (text : List ℕ) (old new : Outlet P) : Type 0 where
       pub rest : List ℕ
       pub passed : PassesOn (write_limit old) rest old new

@@ -1,28 +1,25 @@
--- How bytes move from a queue to a pipe.
+-- Moving bytes from a queue to a pipe.
 use Rattle.std.specs.Prelude.{◌≡◌, ◌≢◌, ◌⊎◌, ℕ, ◌-◌, ◌<◌, ◌≤◌, Bool, true, false, List, [], ◌∷◌, ◌++◌}
-use Rattle.std.specs.Prelude.{length, take, drop, Option, Some, None}
+use Rattle.std.specs.Prelude.{length, take, drop, Option, Some, None, IfSome, IsSomeAnd}
 use Rattle.std.specs.Io.{StartsWith}
 
--- A call on a pipe: whether it was ready, or which bytes were offered to it, and how many of them it
--- took, unless the write failed.
+-- A call on a pipe. It asked whether the pipe was ready, or offered bytes to the pipe, which took some of them unless
+-- the write failed.
 pub data PipeCall : Type 0 where
   Asked : (ready : Bool) → PipeCall
   Wrote : (offered : List ℕ) (taken : Option ℕ) → PipeCall
 
--- A log or a text grows by these. It may be lost; if it is still known at the end, it was known all
--- along.
+-- A log or a text grows by these elements. It may be lost; if it is known at the end, it was known all along.
 abbrev pub Continues : {X : Type 0} → Option (List X) → Option (List X) → List X → Type 0
-Continues old None more = Unit {0}
-Continues None (Some all) more = ⊥
-Continues (Some before) (Some all) more = all ≡ before ++ more
+Continues old new more = IfSome new (λ all. IsSomeAnd old (λ before. all ≡ before ++ more))
 
--- all bytes that a pipe took
+-- All bytes that a pipe took.
 abbrev pub taken_in : List PipeCall → List ℕ
 taken_in [] = []
 taken_in (Wrote offered (Some n) ∷ calls) = take n offered ++ taken_in calls
 taken_in (_ ∷ calls) = taken_in calls
 
--- the oldest bytes of a queue: at most 4,096, and at least one unless the queue is empty
+-- The oldest bytes of a queue: at most 4,096, and at least one unless the queue is empty.
 abbrev pub AreOldest : (queue offered : List ℕ) → Type 0
 AreOldest queue offered =
     StartsWith queue offered × (length offered ≤ 4096) × (length offered ≡ 0 → queue ≡ [])
@@ -30,13 +27,13 @@ AreOldest queue offered =
 abbrev pub TookNone : (taken : Option ℕ) → Type 0
 TookNone taken = (taken ≡ None) ⊎ (taken ≡ Some 0)
 
--- A pipe took the first bytes of those that it was offered. `rest` is the queue after that.
+-- A pipe took the first bytes of those that were offered. `rest` is the queue after that.
 abbrev pub TookSome : (queue rest offered : List ℕ) → (taken : Option ℕ) → Type 0
 TookSome queue rest offered taken =
     (n : ℕ) × (taken ≡ Some n) × (0 < n) × (n ≤ length offered) × (rest ≡ drop n queue)
 
--- Calls that pass on a queue, by at most `left` writes. Before each write, the pipe is asked whether it
--- is ready. They end when the queue is empty, or when the pipe isn't ready or takes nothing.
+-- Calls that pass on a queue, by at most `left` writes. Before each write, the pipe is asked whether it is ready. The
+-- calls end when the queue is empty, when no writes are left, or when the pipe isn't ready or takes nothing.
 abbrev pub Passes : (left : ℕ) → (queue rest : List ℕ) → List PipeCall → Type 0
 Passes left queue rest [] = (rest ≡ queue) × ((queue ≡ []) ⊎ (left ≡ 0))
 Passes left queue rest (Asked false ∷ []) = (0 < left) × (queue ≢ []) × (rest ≡ queue)

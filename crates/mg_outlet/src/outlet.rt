@@ -21,10 +21,10 @@ const FLUSH_CHUNKS: u16 = 256;
 
 /// A writer that never waits for its reader.
 ///
-/// A write adds all of its text to a queue in memory, or none of it. [`flush`](Write::flush) passes on what it can
-/// without waiting, in order. So does [`write`](Write::write), if at least 4,096 bytes are queued already. A flush
-/// passes on at most 1 MiB and a write at most 4,096 bytes, so even a reader that catches up doesn't delay the caller
-/// for long.
+/// A write adds all of its text to a queue in memory, or none of it. [`flush`](Write::flush) passes on as many bytes as
+/// it can without waiting, in order. So does [`write`](Write::write), if at least 4,096 bytes are queued already. A
+/// flush passes on at most 1 MiB and a write at most 4,096 bytes, so even a reader that catches up doesn't delay the
+/// caller for long.
 ///
 /// If the pipe fails, each later call returns its error, and nothing more is written. If a write was interrupted or
 /// would have waited, the outlet tries again later.
@@ -33,7 +33,7 @@ pub struct Outlet<P> {
     pipe: P,
     queue: HeapCircularBuffer<u8>,
     overflow: Overflow,
-    /// How many writes were dropped.
+    /// The number of dropped writes.
     dropped: u64,
     failure: Option<io::Error>,
 }
@@ -86,21 +86,21 @@ impl<P: Pipe> Outlet<P> {
         &self.pipe
     }
 
-    /// Returns how many bytes are queued.
+    /// Returns the number of queued bytes.
     pub fn queued(&self) -> usize
         ensures value { result ≡ length (queued self.now) }
     {
         self.queue.len()
     }
 
-    /// Returns how many writes were dropped.
+    /// Returns the number of dropped writes.
     pub fn dropped(&self) -> u64
         ensures value { result ≡ dropped self.now }
     {
         self.dropped
     }
 
-    /// Returns whether the outlet has ended: a text didn't fit, so everything that is written from now on is dropped.
+    /// Returns whether the outlet has ended. If so, a text didn't fit, and everything that is written later is dropped.
     pub fn has_ended(&self) -> bool
         ensures value { result ≡ has_ended self.now }
     {
@@ -158,14 +158,14 @@ impl<P: Pipe> Outlet<P> {
         outcome
     }
 
-    /// Returns how many chunks a write passes on: one if a whole one is queued.
+    /// Returns the number of chunks that a write passes on: 1 if a whole chunk is queued, otherwise 0.
     fn write_chunks(&self) -> u16
         ensures value { result ≡ write_limit self.now }
     {
         if self.queue.len() < CHUNK { 0 } else { 1 }
     }
 
-    /// Returns whether a text would be dropped now.
+    /// Returns whether this text would be dropped at this point.
     fn drops(&self, text: &[u8]) -> bool
         ensures value { result ≡ drops self.now (queued self.now) text.now }
     {

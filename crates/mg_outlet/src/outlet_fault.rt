@@ -2,10 +2,10 @@ use std::io;
 use std::os::fd::RawFd;
 use thiserror::Error;
 
-/// Why an outlet couldn't be created.
+/// The reason why an outlet couldn't be created.
 #[derive(Debug, Drop, Error)]
 pub enum OutletFault {
-    /// The system can't report when the descriptor is writable; `error` says why. The descriptor may be closed.
+    /// The system can't report when the descriptor is writable; `error` gives the reason. The descriptor may be closed.
     #[error("cannot watch file descriptor {descriptor}: {error}")]
     Watch { descriptor: RawFd, error: io::Error },
     /// There is no memory for a queue of this many bytes.

@@ -1,4 +1,4 @@
-/// What an outlet drops when a text doesn't fit in its queue.
+/// The text that an outlet drops if a text doesn't fit in its queue.
 #[derive(Clone, Copy, Debug, PartialEq, Eq)]
 pub enum Overflow {
     /// Drops that text and all later text. The reader gets a prefix of everything that was written.

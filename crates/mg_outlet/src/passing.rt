@@ -59,8 +59,8 @@ pub(crate) fn pass_all<P: Pipe>(queue: &mut HeapCircularBuffer<u8>, pipe: &mut P
     Err(io::Error::from(ErrorKind::TimedOut))
 }
 
-/// Offers the oldest bytes of a queue to a pipe, and removes those that it took. A pipe that takes no bytes counts as
-/// failed.
+/// Offers the oldest bytes of a queue to a pipe, and removes the bytes that the pipe took. A pipe that takes no bytes
+/// counts as failed.
 fn pass_chunk<P: Pipe>(queue: &mut HeapCircularBuffer<u8>, pipe: &mut P) -> io::Result<()>
     ensures wrote { (offered : List ℕ) × (taken : Option ℕ)
         × Continues (P.calls pipe.old) (P.calls pipe.new) (Wrote offered taken ∷ []) × AreOldest queue.old.items offered

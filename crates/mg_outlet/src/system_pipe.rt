@@ -5,7 +5,7 @@ use std::io::{self, Write};
 use std::net::Net;
 use std::os::fd::AsRawFd;
 
-/// A writer on a descriptor, such as standard output. The system says whether a write would wait.
+/// A writer on a descriptor, such as standard output. The system reports whether a write would wait.
 ///
 /// A regular file or `/dev/null` is always ready: a write to it goes to the page cache. A terminal may report that it
 /// is ready with less than 4,096 bytes free, so a write to it can wait.

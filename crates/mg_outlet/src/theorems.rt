@@ -1,7 +1,7 @@
-//! What the reader of an outlet gets.
+//! Theorems about the text that an outlet's reader receives.
 //!
-//! The functions do nothing: their contracts are the theorems. The stream of an outlet is what the pipe took, followed by
-//! the queue.
+//! The functions do nothing: their contracts are the theorems. The stream of an outlet consists of the bytes that the
+//! pipe took, followed by the queue.
 
 ghost use Rattle.std.specs.Prelude.{◌≡◌, ℕ, List, [], ◌++◌, if◌then◌else◌};
 ghost use Rattle.mg_outlet.specs.Passing.{Continues};
@@ -24,8 +24,8 @@ pub fn a_write_appends_to_the_stream<P: Pipe>(before: &Outlet<P>, after: &Outlet
         (if drops before.now written.rest text then [] else text) }
 {}
 
-/// Until an outlet with `Overflow::End` drops a text, the reader gets everything that was written. After that, the
-/// reader gets a prefix: only the end is dropped.
+/// Until an outlet with `Overflow::End` drops a text, the reader receives everything that was written. After that, the
+/// reader receives a prefix: only the end is dropped.
 pub fn the_reader_gets_a_prefix<P: Pipe>(before: &Outlet<P>, after: &Outlet<P>)
     ensures flush { (all : List ℕ) (most : ℕ) → IsFlushed P.calls most before.now after.now →
         BeginsWithStream P.calls all before.now → BeginsWithStream P.calls all after.now }

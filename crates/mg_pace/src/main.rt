@@ -1,7 +1,7 @@
 //! The program `mg_pace`, which drives a gateway in real time.
 //!
-//! Using the monotonic clock, it writes a `tick` line every 20 ms and `poll` lines in between. So
-//! `mg_pace | mg_bridge serve` runs a gateway in real time.
+//! Driven by the monotonic clock, the program writes a `tick` line every 20 ms and `poll` lines in between. So `mg_pace
+//! | mg_bridge serve` runs a gateway in real time.
 #![tactic(auto)]
 
 use mg_clock::SystemWatch;

@@ -1,4 +1,4 @@
--- What follows of the words for which the command line finds no fault.
+-- The consequences of words in which the command line finds no fault.
 use Rattle.std.proofs.Common.{◌≡◌, ◌∙◌, ◌<◌, ◌≤◌, true, List, [], refl, sym, ap, Ok, arith}
 use Rattle.clap.specs.Walk.{Row, Text, rows_of}
 use Rattle.clap.specs.Simple.{App, HasMatchesOf, matches_of}
@@ -14,7 +14,7 @@ pub is_simple_line : is_simple_and_free command_line ≡ true
 unfolding command_line
 is_simple_line = refl
 
--- the options name polls within their bounds
+-- The number of polls in the options is never 0.
 pub some_polls : (found : List Row) → 0 < (options_in found).polls
 unfolding options_in
 some_polls found = omega arith
@@ -23,7 +23,7 @@ pub few_polls : (found : List Row) → (options_in found).polls ≤ 1000
 unfolding options_in
 few_polls found = omega arith
 
--- matches ask for a run by their options
+-- If the words have no fault, they request a run with the options of their matches.
 pub asks_run : (line : App) (words : List Text) → line ≡ command_line → (m : ArgMatches) →
     (is_simple_and_free line ≡ true → fault_of line words ≡ []) → HasMatchesOf line words m
     → requested words ≡ Ok (options_in (rows_of (found_of m)))

@@ -6,7 +6,7 @@ use Rattle.mg_pacer.specs.declared.fault.PaceFault.{PaceFault}
 use Rattle.mg_pacer.specs.declared.fault.PaceFault.TheVariants as faults
 use Rattle.mg_pacer.specs.Status.{status_of}
 
--- a run ends by none that is of ports
+-- The exit status after a run is at most 4.
 pub run_is_small : (outcome : Result (Unit {0}) PaceFault) (status : Status) → status ≡ status_of outcome →
     code_of status ≤ 4
 unfolding code_of status_of

@@ -1,4 +1,4 @@
--- A run so far, and how it ends.
+-- The progress and the end of a run.
 use Rattle.std.proofs.Common.{◌≡◌, ℕ, ◌+◌, ◌*◌, ◌<◌, ◌≤◌, true, false, nat_le, length, List, [], ◌∷◌, ◌++◌, Option, None, Some, Ok, Err, refl, sym, ap, subst, ◌∙◌, append_assoc, arith}
 use Rattle.std.proofs.lemmas.List.{append-nil, length-append}
 use Rattle.std.proofs.lemmas.Bool.Decides.{nat_tests}
@@ -10,11 +10,12 @@ use Rattle.mg_pacer.specs.declared.options.Options.{Options}
 use Rattle.mg_pacer.specs.Pace.{Pace, Advances, Paces, Waits, start}
 use Rattle.mg_clock.specs.Text.{text}
 use Rattle.mg_pacer.specs.Text.{text_by}
-use Rattle.mg_pacer.specs.Run.{Paced, seen}
+use Rattle.mg_clock.specs.Ticks.{clock_seen}
+use Rattle.mg_pacer.specs.Run.{Paced}
 use Rattle.mg_pacer.specs.aids.Steps.{Turns}
 use Rattle.mg_clock.proofs.TextLemmas.{text_none}
 
--- what a run has done so far: as many readings as were waited after
+-- The progress of a run so far: each reading was followed by a wait.
 pub record SoFar {E : Type 0} (options : Options) (count : ℕ) (r0 r1 w0 w1 old new : Option (List ℕ)) (e0 e1 : E)
     (p : Pace) : Type 0 where
   pub readings : List ℕ
@@ -28,7 +29,7 @@ pub record SoFar {E : Type 0} (options : Options) (count : ℕ) (r0 r1 w0 w1 old
   pub below : p.steps ≤ options.ticks * p.polls
   pub silence : p.left ≡ 0 → e1 ≡ e0
 
--- a reading more, at which the run ends
+-- One more reading, at which the run ends, continues `Paces`.
 pub paces_last : (p : Pace) (ts ds : List ℕ) (t : ℕ) (q r : Pace) → length ds ≡ length ts → Paces p ts ds q →
     Advances q t r
     → Paces p (ts ++ t ∷ []) ds r
@@ -40,7 +41,7 @@ paces_last p (u ∷ []) (d ∷ ds) t q r even run step =
 paces_last p (u ∷ v ∷ ts) (d ∷ ds) t q r even run step =
     (run.0, run.1, run.2, paces_last run.0 (v ∷ ts) ds t q r (omega (arith, even)) run.3 step)
 
--- a reading more, and a wait after it
+-- One more reading and a wait after it continue `Paces`.
 pub paces_more : (p : Pace) (ts ds : List ℕ) (t d : ℕ) (q r : Pace) → length ds ≡ length ts → Paces p ts ds q →
     Advances q t r → Waits r t d
     → Paces p (ts ++ t ∷ []) (ds ++ d ∷ []) r
@@ -85,7 +86,7 @@ module _ {E : Type 0} (options : Options) (count t : ℕ) (r0 r1 r2 w0 w1 w2 o n
   silent_so_far : q.left ≡ 0 → e2 ≡ e0
   silent_so_far none = hush (omega (arith, none, step.more.1)) ∙ s.silence (omega (arith, none, step.more.1))
 
-  -- the run goes on
+  -- If the run doesn't end at this reading, `SoFar` holds after the wait.
   pub so_far_more : (d : ℕ) (r3 w3 : Option (List ℕ)) → Turns options.ticks p q n m (Ok false) → Waits q t d →
       Keeps r2 r3 → Appends w2 w3 (d ∷ [])
       → SoFar options (count + 1) r0 r3 w0 w3 o m e0 e2 q
@@ -107,9 +108,9 @@ module _ {E : Type 0} (options : Options) (count t : ℕ) (r0 r1 r2 w0 w1 w2 o n
   one_reading_more : length (s.readings ++ t ∷ []) ≡ length s.waits + 1
   one_reading_more = length_more s.readings t ∙ ap (λ (k : ℕ). k + 1) (sym s.even)
 
-  -- the run is at its end
+  -- If the run ends at this reading, it was paced.
   pub run_done : (failed : Type 0) (u : Unit {0}) → Turns options.ticks p q n m (Ok true) →
-      Paced options failed (e2 ≡ e0) (seen r0 w0 o) (seen r2 w2 m) (Ok u)
+      Paced options failed (e2 ≡ e0) (clock_seen r0 w0) (clock_seen r2 w2) o m (Ok u)
   run_done failed u turn = record {
     readings = s.readings ++ t ∷ [];
     waits = s.waits;
@@ -126,9 +127,9 @@ module _ {E : Type 0} (options : Options) (count t : ℕ) (r0 r1 r2 w0 w1 w2 o n
     );
   }
 
-  -- the output is closed
+  -- If the output is closed at this reading, the run was paced.
   pub run_cut : (failed : Type 0) (e : WriteFailed) → Turns options.ticks p q n m (Err e) →
-      Paced options failed (e2 ≡ e0) (seen r0 w0 o) (seen r2 w2 m) (Err faults.Closed)
+      Paced options failed (e2 ≡ e0) (clock_seen r0 w0) (clock_seen r2 w2) o m (Err faults.Closed)
   run_cut failed e turn = record {
     readings = s.readings ++ t ∷ [];
     waits = s.waits;

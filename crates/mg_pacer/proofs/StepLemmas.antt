@@ -1,4 +1,4 @@
--- The lines of some steps, one after another.
+-- The lines of several steps, one after another.
 use Rattle.std.proofs.Common.{◌≡◌, ℕ, zero, suc, ◌+◌, ◌-◌, ◌<◌, List, [], ◌++◌, Option, Result, Ok, Err, sym, ap, ◌∙◌, append_assoc, arith}
 use Rattle.std.proofs.lemmas.List.{append-nil}
 use Rattle.std.specs.Io.KnownBytes.{Appends}
@@ -10,7 +10,7 @@ use Rattle.mg_pacer.specs.aids.Steps.{WritesLast, WritesSteps, quit_line}
 use Rattle.mg_clock.specs.Text.{step_lines}
 use Rattle.mg_clock.proofs.TextLemmas.{text_more}
 
--- a later text begins with an earlier one
+-- The lines of a longer run begin with the lines of a shorter one.
 pub text_gap : (polls from n : ℕ) → 0 < polls → (lines : List ℕ) × (text polls (from + n) ≡ text polls from ++ lines)
 text_gap polls from zero some =
     let same : from + 0 ≡ from = omega arith in

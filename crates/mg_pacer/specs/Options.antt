@@ -1,4 +1,4 @@
--- The command line, as its parser sees it, and what the arguments request.
+-- The command line, as its parser represents it, and the run that the arguments request.
 use Rattle.std.specs.Prelude.{max, min, List, codes, Result, Ok}
 use Rattle.clap.specs.Walk.{Row, Text}
 use Rattle.clap.specs.Simple.{App, matches_of, with_rule}
@@ -9,7 +9,7 @@ use Rattle.mg_options.specs.Line.{program_line}
 use Rattle.mg_options.specs.Numbers.{number_or, number_rule}
 use Rattle.mg_pacer.specs.declared.options.Options.{Options}
 
--- the command line: two options, each at most once
+-- The command line, with two options that may each be given once.
 unfoldable pub command_line : App
 command_line =
     with_rule (with_rule (program_line (codes "mg_pace"))
@@ -23,7 +23,7 @@ options_in found = record {
   polls = max 1 (min 1000 (number_or 65536 (codes "polls") 4 found));
 }
 
--- What the arguments request: a run with options, or none.
+-- The options of the run that the arguments request, or the errors that say why they request no run.
 unfoldable pub requested : List Text → Result Options Kinds
 requested words =
     requested_by (fault_of command_line words) (Ok (options_in (matches_of command_line words)))

@@ -5,7 +5,7 @@ use Rattle.mg_options.specs.declared.status.Status.TheVariants.{Done, Failed}
 use Rattle.mg_pacer.specs.declared.fault.PaceFault.{PaceFault}
 use Rattle.mg_pacer.specs.declared.fault.PaceFault.TheVariants as faults
 
--- How the program ends after a run. If nobody is reading its lines anymore, it is done.
+-- The exit status after a run. If nobody reads the lines any more, the program has succeeded.
 unfoldable pub status_of : Result (Unit {0}) PaceFault → Status
 status_of (Ok done) = Done
 status_of (Err faults.Closed) = Done

@@ -8,7 +8,7 @@ abbrev pub NeverEarly : Type 0
 NeverEarly = (polls : ℕ) (readings waits : List ℕ) (p : Pace) → 0 < polls
     → Paces (start polls) readings waits p → (k : ℕ) → k ≤ ticks p → k * period ≤ latest readings
 
--- The ticks that were written or skipped are exactly those that were due.
+-- The number of ticks that were written or skipped is the number of ticks that were due.
 abbrev pub Accounted : Type 0
 Accounted = (polls : ℕ) (readings waits : List ℕ) (p : Pace) → 0 < polls
     → Paces (start polls) readings waits p → ticks p + p.left ≡ ticks_due (latest readings)

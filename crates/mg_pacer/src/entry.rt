@@ -2,7 +2,7 @@ ghost use Rattle.std.specs.Prelude.{◌≡◌, ◌<◌, ◌≤◌, map};
 ghost use Rattle.mg_options.specs.Ends.{EndsWith};
 ghost use Rattle.mg_pacer.specs.Options.{requested};
 ghost use Rattle.mg_pacer.specs.Program.{Runs};
-ghost use Rattle.mg_pacer.specs.Run.{seen};
+ghost use Rattle.mg_clock.specs.Ticks.{clock_seen};
 
 use crate::fault::PaceFault;
 use crate::options::{Options, requested_options};
@@ -24,8 +24,8 @@ fn run<K: Watch, W: Write, E: Write>(
     requires some { 0 < options.polls }
     requires few { options.polls ≤ MAX_POLLS }
     ensures value { Runs options (K.Fails watch.new) (errors.new ≡ errors.old)
-        (seen (K.readings watch.old) (K.waits watch.old) (W.contents output.old))
-        (seen (K.readings watch.new) (K.waits watch.new) (W.contents output.new)) result }
+        (clock_seen (K.readings watch.old) (K.waits watch.old)) (clock_seen (K.readings watch.new) (K.waits watch.new))
+        (W.contents output.old) (W.contents output.new) result }
 {
     let outcome = pace(options, watch, output, errors);
     if let Err(PaceFault::Clock) = &outcome {
@@ -49,8 +49,8 @@ pub fn program<'a, S: AsStr, K: Watch, W: Write, E: Write>(
     ensures status { result ≤ 4 }
     // The status says whether the program did what the arguments request and, if not, why.
     ensures ends { EndsWith (λ options status. Runs options (K.Fails watch.new) (errors.new ≡ errors.old)
-        (seen (K.readings watch.old) (K.waits watch.old) (W.contents output.old))
-        (seen (K.readings watch.new) (K.waits watch.new) (W.contents output.new)) status)
+        (clock_seen (K.readings watch.old) (K.waits watch.old)) (clock_seen (K.readings watch.new) (K.waits watch.new))
+        (W.contents output.old) (W.contents output.new) status)
         (requested (map S.text words.now)) Status.Done (watch.new ≡ watch.old) (errors.new ≡ errors.old) output.old
         output.new result }
 {

@@ -2,12 +2,12 @@ use mg_clock::ClockFailed;
 use mg_lines::WriteFailed;
 use thiserror::Error;
 
-/// Why a run ended before its last tick.
+/// The reason why a run ended before its last tick.
 #[derive(Clone, Copy, Debug, PartialEq, Eq, Error)]
 pub enum PaceFault {
     #[error("cannot read the clock")]
     Clock,
-    /// A write failed: nobody is reading the lines anymore.
+    /// A write failed: nobody reads the lines any more.
     #[error("the output is closed")]
     Closed,
 }

@@ -1,7 +1,8 @@
-//! What `mg_pace` does: writes `poll` and `tick` lines when the clock says that they are due.
+//! The library behind `mg_pace`, which writes `poll` and `tick` lines when the clock says that they are due.
 //!
 //! [`program`] reads the arguments and runs [`pace`], which reads the clock and writes the lines. [`Schedule`] counts
-//! the lines that are due. [`theorems`] states properties of every run: no tick is early, and none is lost unnoticed.
+//! the lines that are due. [`theorems`] states properties of every run: no tick is early, and no tick is lost
+//! unnoticed.
 #![tactic(auto)]
 
 mod entry;

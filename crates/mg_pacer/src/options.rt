@@ -66,7 +66,7 @@ fn bounded_polls(polls: u16) -> u16
     polls.clamp(1, MAX_POLLS)
 }
 
-/// Returns the options that were given, with defaults for the others.
+/// Returns the options that were given, with defaults for the options that weren't.
 fn options_of(matches: &ArgMatches<'_>) -> Options
     ensures value { result ≡ options_in (rows_of (found_of matches.now)) }
 {
@@ -76,10 +76,10 @@ fn options_of(matches: &ArgMatches<'_>) -> Options
     }
 }
 
-/// Returns the options of the run that the arguments ask for. The arguments don't include the program's name.
+/// Returns the options of the run that the arguments request. The arguments don't include the program's name.
 ///
-/// If they don't ask for a run, the caller must report the error: a usage error, a request for help or the version, or
-/// lack of memory.
+/// If the arguments don't request a run, the caller must report the error: a usage error, a request for help or the
+/// version, or lack of memory.
 pub fn requested_options<'a, S: AsStr>(alloc: Global, words: &'a [S]) -> Result<Options, Error>
     ensures requested { IfOk result (λ options. requested (map S.text words.now) ≡ Ok options) }
     ensures some { IfOk result (λ options. 0 < options.polls) }

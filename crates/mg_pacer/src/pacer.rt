@@ -1,6 +1,7 @@
 ghost use Rattle.std.specs.Prelude.{◌≡◌, ◌*◌, ◌<◌, ◌≤◌};
 ghost use Rattle.mg_pacer.specs.Pace.{Advances};
-ghost use Rattle.mg_pacer.specs.Run.{Paced, seen};
+ghost use Rattle.mg_clock.specs.Ticks.{clock_seen};
+ghost use Rattle.mg_pacer.specs.Run.{Paced};
 ghost use Rattle.mg_pacer.specs.aids.Steps.{Turns};
 
 use crate::fault::PaceFault;
@@ -20,7 +21,7 @@ fn report_left_out<E: Write>(left: u64, errors: &mut E)
     }
 }
 
-/// Writes what is due at the time `now`. Returns whether the last requested tick was written.
+/// Writes the lines that are due at the time `now`. Returns whether the last requested tick was written.
 fn turn<W: Write, E: Write>(
     schedule: &mut Schedule,
     wanted: u64,
@@ -60,8 +61,8 @@ pub fn pace<K: Watch, W: Write, E: Write>(
     requires some { 0 < options.polls }
     requires few { options.polls ≤ MAX_POLLS }
     ensures value { Paced options (K.Fails watch.new) (errors.new ≡ errors.old)
-        (seen (K.readings watch.old) (K.waits watch.old) (W.contents output.old))
-        (seen (K.readings watch.new) (K.waits watch.new) (W.contents output.new)) result }
+        (clock_seen (K.readings watch.old) (K.waits watch.old)) (clock_seen (K.readings watch.new) (K.waits watch.new))
+        (W.contents output.old) (W.contents output.new) result }
 {
     let mut schedule = Schedule::new(options.polls);
     for _turn in 0..u64::MAX {

@@ -69,7 +69,7 @@ impl Schedule {
 
     /// Advances to a reading of the clock, in nanoseconds since the start.
     ///
-    /// The steps that are due at that time count as written or as skipped; only whole ticks are skipped.
+    /// The steps that are due at the time of the reading count as written or as skipped; only whole ticks are skipped.
     pub fn advance(&mut self, now: u64)
         ensures value { Advances self.old now self.new }
     {

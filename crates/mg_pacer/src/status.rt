@@ -4,7 +4,7 @@ ghost use Rattle.mg_pacer.specs.Status.{status_of};
 use crate::fault::PaceFault;
 use mg_options::Status;
 
-/// Returns how the program ends after a run.
+/// Returns the exit status after a run with this outcome.
 #[tactic(auto, unfolding(crate::specs::Status::status_of))]
 pub fn status_of(outcome: &Result<(), PaceFault>) -> Status
     ensures value { result ≡ status_of outcome.now }

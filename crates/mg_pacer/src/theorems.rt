@@ -8,7 +8,7 @@ pub fn never_early()
     ensures theorem { NeverEarly }
 {}
 
-/// The ticks that were written or skipped are exactly those that were due.
+/// The number of ticks that were written or skipped is the number of ticks that were due.
 pub fn all_ticks_are_accounted_for()
     ensures theorem { Accounted }
 {}

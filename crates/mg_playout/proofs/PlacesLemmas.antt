@@ -1,10 +1,10 @@
--- The frames at the places, after each step.
+-- The frames at the places after the places move down.
 use Rattle.std.proofs.Common.{◌≡◌, ℕ, zero, suc, ◌+◌, ◌-◌, ◌++◌, ap, min, ℤ, true, List, [], ◌∷◌, length, drop, Option, Some, None, arith, refl, sym, inl, inr, ◌∙◌}
 use Rattle.std.proofs.lemmas.Bool.{cases_lt}
 use Rattle.std.proofs.lemmas.List.{get_or_append_left, get_or-append_right, get_or-drop, get_or-replicate, get_or_past, length-drop, length-replicate}
 use Rattle.mg_playout.specs.Places.{FramePlaces, frame_at, empty_places, fallen, has_no_frame}
 
--- no place of empty places has a frame
+-- Empty places have no frame.
 pub frame_at-empty : (n i : ℕ) → frame_at (empty_places n) i ≡ None
 frame_at-empty n i =
     elim (cases_lt i n) [
@@ -12,7 +12,7 @@ frame_at-empty n i =
       | inr past ↦ get_or_past (empty_places n) i None (omega (arith, length-replicate {A = Option (List ℤ)} n None))
     ]
 
--- after a fall each place has the frame that was so many places above
+-- After moving down by `count`, place i has the frame that was at place `count + i`.
 pub frame_at-fallen : (places : FramePlaces) (count i : ℕ) →
     frame_at (fallen places count) i ≡ frame_at places (count + i)
 frame_at-fallen places count i =
@@ -26,14 +26,14 @@ frame_at-fallen places count i =
           ∙ sym (get_or_past places (count + i) None (omega arith))
     ]
 
--- where no place has a frame, each place has none
+-- If no place has a frame, the frame at each place is `None`.
 pub frame_at-has_no_frame : (places : FramePlaces) (i : ℕ) → has_no_frame places ≡ true → frame_at places i ≡ None
 frame_at-has_no_frame [] i e = refl
 frame_at-has_no_frame (None ∷ places) zero e = refl
 frame_at-has_no_frame (None ∷ places) (suc i) e = frame_at-has_no_frame places i e
 frame_at-has_no_frame (Some frame ∷ places) i e = cc
 
--- places above those that have no frame at all have none either
+-- If no place has a frame, no place from `count` on has a frame.
 pub has_no_frame-drop : (places : FramePlaces) (count : ℕ) → has_no_frame places ≡ true →
     has_no_frame (drop count places) ≡ true
 has_no_frame-drop places zero e = e
@@ -41,7 +41,7 @@ has_no_frame-drop [] (suc count) e = refl
 has_no_frame-drop (None ∷ places) (suc count) e = has_no_frame-drop places count e
 has_no_frame-drop (Some frame ∷ places) (suc count) e = cc
 
--- the place has no frame, where no place from it on has one
+-- If no place from this one on has a frame, this place has no frame.
 pub frame_at-none : (places : FramePlaces) (place : ℕ) → has_no_frame (drop place places) ≡ true →
     frame_at places place ≡ None
 frame_at-none [] place e = refl
@@ -49,7 +49,7 @@ frame_at-none (None ∷ places) zero e = refl
 frame_at-none (Some frame ∷ places) zero e = cc
 frame_at-none (x ∷ places) (suc place) e = frame_at-none places place e
 
--- a place without a frame more makes no difference
+-- An additional empty place does not change whether there is a frame from a place on.
 pub has_no_frame-more : (places : FramePlaces) (place : ℕ) →
     has_no_frame (drop place (places ++ None ∷ [])) ≡ has_no_frame (drop place places)
 has_no_frame-more [] zero = refl
@@ -58,7 +58,7 @@ has_no_frame-more (None ∷ places) zero = has_no_frame-more places zero
 has_no_frame-more (Some frame ∷ places) zero = refl
 has_no_frame-more (x ∷ places) (suc place) = has_no_frame-more places place
 
--- after a fall by one the places from one on are those from the next one on
+-- After moving down by one, the places from `place` on are those that were from `place + 1` on.
 pub has_no_frame-fallen : (places : FramePlaces) (place : ℕ) →
     has_no_frame (drop place (fallen places 1)) ≡ has_no_frame (drop (suc place) places)
 has_no_frame-fallen [] zero = refl

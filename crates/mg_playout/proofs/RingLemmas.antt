@@ -1,4 +1,4 @@
--- The ring that keeps the places.
+-- The ring that stores the places.
 use Rattle.std.proofs.Common.{◌≡◌, ℕ, zero, suc, ◌+◌, ◌-◌, ◌≤◌, ℤ, List, [], ◌∷◌, get_or, slice_get, length, Option, None, Some, arith, refl, subst, sym}
 use Rattle.std.specs.Prelude.{IfSome}
 use Rattle.std.specs.Option.{option_flatten}
@@ -10,7 +10,7 @@ use Rattle.mg_playout.specs.Places.{empty_places, started_with}
 use Rattle.mg_playout.specs.aids.Ring.{IsRingOfPlaces}
 use Rattle.mg_words.specs.declared.limits.TheConstants.{MIN_DEPTH, MAX_DEPTH}
 
--- places that start with a whole frame, after no last one
+-- The ring of a started play list is valid: no last frame, one frame, and empty places.
 pub started_is_ring : (ring : Buffer (Option (List ℤ))) (frame : List ℤ) (depth : ℕ) → MIN_DEPTH ≤ depth →
     depth ≤ MAX_DEPTH → IsFrame frame → ring ≡ buffer (None ∷ started_with frame depth) (MAX_DEPTH + 1) →
     IsRingOfPlaces ring
@@ -28,7 +28,7 @@ started_is_ring ring frame depth low high whole is =
     } in
     subst IsRingOfPlaces (sym is) items
 
--- the item at a place of a list of places, as the ring gives it
+-- The item at an index of the ring, with `None` past the end.
 pub flatten_of_get : {X : Type 0} (xs : List (Option X)) (i : ℕ) → option_flatten (slice_get xs i) ≡ get_or xs i None
 flatten_of_get [] i = refl
 flatten_of_get (x ∷ xs) zero = refl

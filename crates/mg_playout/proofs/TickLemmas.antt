@@ -1,4 +1,4 @@
--- What the ticks of a play list give, while no frame comes.
+-- The frames that a play list plays in its ticks while no frame arrives.
 use Rattle.std.proofs.Common.{◌≡◌, ℕ, zero, suc, ◌+◌, ◌-◌, ◌<◌, ◌≤◌, ℤ, Bool, true, false, List, Option, None, Some, drop, arith, refl, ap, sym, subst, ◌∙◌}
 use Rattle.std.specs.Prelude.{if◌then◌else◌, ◌==◌}
 use Rattle.std.specs.Option.{option_map}
@@ -14,11 +14,11 @@ use Rattle.mg_playout.specs.declared.played.Played.TheVariants.{Silence}
 use Rattle.mg_playout.specs.declared.source.Source.{Source}
 use Rattle.mg_playout.proofs.PlacesLemmas.{frame_at-fallen, frame_at-none, has_no_frame-drop, has_no_frame-fallen}
 
--- a play list by its fields
+-- A play list, given its fields.
 abbrev list_in : Phase → Option Source → FramePlaces → Option (List ℤ) → PlayList
 list_in phase source places last = record { phase = phase; source = source; last = last; places = places }
 
--- what a turn gives, by whether there is one
+-- What is played for a place. The flag says whether there is no frame from this place on.
 abbrev turn_step : FramePlaces → Option (List ℤ) → ℕ → Bool → Played
 turn_step places last place none = if none then Silence else
     given (frame_at places place) (frame_before places last place)
@@ -27,7 +27,7 @@ given_at-none : (places : FramePlaces) (last : Option (List ℤ)) (place : ℕ) 
     given_at places last place ≡ Silence
 given_at-none places last place e = ap (turn_step places last place) e
 
--- the turns after a fall by one are those from the next one on
+-- After moving down by one, what is played for a place is what was to be played for the next place.
 given_at-fallen : (places : FramePlaces) (last : Option (List ℤ)) (place : ℕ) →
     given_at (fallen places 1) (frame_at places 0) place ≡ given_at places last (suc place)
 given_at-fallen places last place =
@@ -45,7 +45,7 @@ given_at-fallen places last place =
         ap (λ frame. given frame (frame_at (fallen places 1) place)) (next (suc place))
         ∙ ap (given (frame_at places (suc (suc place)))) (next place)
 
--- the turn of a place gives the frame that came for it
+-- A received frame is played for a place if and only if the place has that frame.
 pub frame_from_packet-given_at : (places : FramePlaces) (last : Option (List ℤ)) (place : ℕ) →
     frame_from_packet (given_at places last place) ≡ frame_at places place
 frame_from_packet-given_at places last place = by (has_no_frame (drop place places)) refl
@@ -61,13 +61,13 @@ frame_from_packet-given_at places last place = by (has_no_frame (drop place plac
     by false e = ap (λ b. frame_from_packet (turn_step places last place b)) e ∙
         came (frame_at places place) (frame_before places last place)
 
--- an idle play list gives nothing
+-- An idle play list plays silence.
 given_after-idle : (ticks : ℕ) (source : Option Source) (places : FramePlaces) (last : Option (List ℤ)) →
     given_after ticks (list_in Idle source places last) ≡ Silence
 given_after-idle zero source places last = refl
 given_after-idle (suc ticks) source places last = given_after-idle ticks source places last
 
--- what a tick makes of a play list that runs, by whether no place has a frame
+-- A tick of a running play list. The flag says whether every place is empty.
 abbrev run_step : Option Source → FramePlaces → Option (List ℤ) → Bool → PlayList × Played
 run_step source places last empty =
     if empty then (list_in Idle source places None, Silence)
@@ -76,7 +76,7 @@ run_step source places last empty =
       given (frame_at places 0) last,
     )
 
--- one that runs gives what the turn of each place gives
+-- A running play list plays, after `ticks` ticks, what is due for place `ticks`.
 pub given_after-run : (ticks : ℕ) (source : Option Source) (places : FramePlaces) (last : Option (List ℤ)) →
     given_after ticks (list_in Run source places last) ≡ given_at places last ticks
 given_after-run zero source places last = by (has_no_frame places) refl
@@ -100,11 +100,11 @@ given_after-run (suc ticks) source places last =
     by false e rest = ap (λ b. given_after ticks (run_step source places last b).0) e ∙ rest ∙
         given_at-fallen places last ticks
 
--- what a tick makes of a wait, by whether this is its last tick
+-- A tick of a waiting play list. The flag says whether this is the last tick of the wait.
 abbrev wait_step : ℕ → Option Source → FramePlaces → Option (List ℤ) → Bool → PlayList
 wait_step wait source places last over = list_in (if over then Run else Wait (wait - 1)) source places last
 
--- one that waits gives nothing until the wait is over
+-- A waiting play list plays silence until its wait is over.
 pub given_after-wait : (ticks wait : ℕ) (source : Option Source) (places : FramePlaces) (last : Option (List ℤ)) →
     ticks < wait → given_after ticks (list_in (Wait wait) source places last) ≡ Silence
 given_after-wait zero wait source places last below = refl
@@ -117,7 +117,7 @@ given_after-wait (suc ticks) wait source places last below =
     by true e rest = absurd (grind (arith, nat_tests))
     by false e rest = ap (λ b. given_after ticks (wait_step wait source places last b)) e ∙ rest
 
--- and then what the turn of each place gives
+-- After its wait, a play list plays what is due for each place in order.
 pub given_after-waited : (total wait ticks : ℕ) (source : Option Source) (places : FramePlaces)
     (last : Option (List ℤ)) → 1 ≤ wait → total ≡ wait + ticks →
     given_after total (list_in (Wait wait) source places last) ≡ given_at places last ticks
@@ -138,7 +138,7 @@ given_after-waited (suc total) wait ticks source places last positive is =
         let more : 1 < wait = grind (arith, nat_tests) in
         ap (λ b. given_after total (wait_step wait source places last b)) e ∙ rest more
 
--- the same of lists whose phase is known by an equation
+-- The frames that a play list plays, given an equation for its phase.
 pub given_after-running : (list : PlayList) (ticks : ℕ) → list.phase ≡ Run →
     given_after ticks list ≡ given_at list.places list.last ticks
 given_after-running list ticks is =

@@ -1,4 +1,4 @@
--- Placing a frame by its turn, as the code does, is placing it.
+-- The code finds the turn of a frame first and then places the frame. The result is that of the definition `placed`.
 use Rattle.std.proofs.Common.{◌≡◌, ℕ, ℤ, List, Option, None, Some, arith, refl}
 use Rattle.std.proofs.lemmas.Grind.{common_steps}
 use Rattle.mg_playout.specs.Places.{FramePlaces}
@@ -8,7 +8,7 @@ use Rattle.mg_playout.specs.declared.phase.Phase.{Phase}
 use Rattle.mg_playout.specs.declared.phase.Phase.TheVariants.{Idle, Wait, Run}
 use Rattle.mg_playout.specs.declared.source.Source.{Source}
 
--- a play list by its fields
+-- A play list, given its fields.
 abbrev pub list_in : Phase → Option Source → Option (List ℤ) → FramePlaces → PlayList
 list_in phase source last places = record { phase = phase; source = source; last = last; places = places }
 

@@ -12,30 +12,29 @@ use Rattle.mg_playout.specs.declared.played.Played.{Played}
 use Rattle.mg_playout.specs.declared.played.Played.TheVariants.{Silence}
 use Rattle.mg_playout.specs.declared.source.Source.{Source}
 
--- the invariant of every play list
+-- The invariant of every play list.
 pub record IsValidList (list : PlayList) : Type 0 where
   pub phase : HasTicksLeft list.phase
   pub last : IfSome list.last IsFrame
   pub places : ArePlaces list.places
   pub source : (source : Source) → list.source ≡ Some source → source.next < 65536
 
--- the frame that waits with this sequence number, if there is one
+-- The frame that waits with this sequence number, if there is one.
 abbrev pub frame_under : PlayList → ℕ → Option (List ℤ)
 frame_under list sequence =
     option_and_then (λ source. frame_at list.places (steps_between source.next sequence)) list.source
 
--- what the next tick plays after this many ticks without a new frame
+-- What the next tick plays after this many ticks without a new frame.
 abbrev pub given_after : ℕ → PlayList → Played
 given_after zero list = (ticked list).1
 given_after (suc ticks) list = given_after ticks (ticked list).0
 
--- the frame that is played just before the frame at the place, if there is one
+-- The frame that is played just before the frame at the place, if there is one.
 abbrev pub frame_before : FramePlaces → Option (List ℤ) → ℕ → Option (List ℤ)
 frame_before places last zero = last
 frame_before places last (suc place) = frame_at places place
 
--- What is played for the place. If neither this place nor a later one has a frame, nothing is
--- played.
+-- What is played for the place. If neither this place nor a later place has a frame, the list plays silence.
 abbrev pub given_at : FramePlaces → Option (List ℤ) → ℕ → Played
 given_at places last place =
     if has_no_frame (drop place places) then Silence

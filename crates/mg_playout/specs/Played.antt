@@ -1,23 +1,23 @@
--- What a play list plays in a tick (not from a standard).
+-- The sound that a play list plays in a tick (not from a standard).
 use Rattle.std.specs.Prelude.{ℤ, Bool, true, false, List, map, Option, Some, None}
 use Rattle.mg_g711.specs.Frame.{halved}
 use Rattle.mg_playout.specs.declared.played.Played.{Played}
 use Rattle.mg_playout.specs.declared.played.Played.TheVariants.{Silence, Frame, Concealed}
 
--- what is played, given the frame that is due and the last frame. A missing frame is replaced by
--- the last frame, halved toward zero.
+-- What is played, given the frame that is due and the last frame. A missing frame is replaced by the last frame, halved
+-- toward zero.
 abbrev pub given : Option (List ℤ) → Option (List ℤ) → Played
 given (Some frame) last = Frame frame
 given None (Some last) = Concealed (map halved last)
 given None None = Silence
 
--- the frame that is heard, if any
+-- The frame that is heard, if any.
 abbrev pub sound_of : Played → Option (List ℤ)
 sound_of Silence = None
 sound_of (Frame frame) = Some frame
 sound_of (Concealed frame) = Some frame
 
--- the frame, if it was received in a packet
+-- The frame, if it was received in a packet.
 abbrev pub frame_from_packet : Played → Option (List ℤ)
 frame_from_packet Silence = None
 frame_from_packet (Frame frame) = Some frame

@@ -1,4 +1,4 @@
--- A play list, which is the jitter buffer, and what each call does to it (not from a standard).
+-- A play list, which is the jitter buffer, and the effect of each call (not from a standard).
 use Rattle.std.specs.Prelude.{ℕ, ◌+◌, ◌-◌, ◌/◌, ◌%◌, ℤ, pos, neg_ℤ, nat_abs, int_lt, int_le, ◌||◌}
 use Rattle.std.specs.Prelude.{◌==◌, ◌≤◌, nat_le, if◌then◌else◌, Bool, true, false, not, List, length}
 use Rattle.std.specs.Prelude.{slice_set, Option, Some, None, is_some}
@@ -24,20 +24,20 @@ pub record PlayList : Type 0 where
   pub last : Option (List ℤ)
   pub places : FramePlaces
 
--- a wait lasts at least one more tick
+-- A play list that waits has at least one more tick to wait.
 abbrev pub HasTicksLeft : Phase → Type 0
 HasTicksLeft (Wait ticks) = 1 ≤ ticks
 HasTicksLeft phase = Unit {0}
 
--- the depth: the number of places
+-- The depth: the number of places.
 abbrev pub depth_of : PlayList → ℕ
 depth_of list = length list.places
 
--- a new play list
+-- A new play list, which is idle.
 abbrev pub first_list : PlayList
 first_list = record { phase = Idle; source = None; last = None; places = empty_places first_depth }
 
--- a start: the frame's sequence number is the next one, and the wait in ticks is half the depth
+-- The play list after a start. The frame's sequence number is the next one, and the wait in ticks is half the depth.
 abbrev pub started : PlayList → ℕ → ℕ → List ℤ → PlayList
 started list ssrc sequence frame = record {
   phase = Wait (depth_of list / 2);
@@ -46,18 +46,18 @@ started list ssrc sequence frame = record {
   places = started_with frame (depth_of list);
 }
 
--- the source, with its next sequence number increased by `count`
+-- The source, with its next sequence number increased by `count`.
 abbrev pub advanced : ℕ → Source → Source
 advanced count source = record { ssrc = source.ssrc; next = (source.next + count) % 65536 }
 
--- a shift by `count`: the next sequence number increases, and every frame moves down
+-- The play list after a shift by `count`. The next sequence number increases, and every frame moves down.
 abbrev pub shifted : PlayList → ℕ → PlayList
 shifted list count = record list {
   source = option_map (advanced count) list.source;
   places = fallen list.places count;
 }
 
--- the play list with the frame at the place
+-- The play list with the frame stored at the place.
 abbrev pub filled : PlayList → ℕ → List ℤ → PlayList
 filled list place frame = record list { places = slice_set list.places place (Some frame) }
 
@@ -65,16 +65,16 @@ abbrev pub is_idle : Phase → Bool
 is_idle Idle = true
 is_idle _ = false
 
--- whether the list has no source yet, or another source
+-- Whether the list has no source yet, or another source.
 abbrev pub is_new_source : PlayList → ℕ → Bool
 is_new_source list ssrc = option_map_or (λ source. not (ssrc == source.ssrc)) list.source true
 
--- how far a frame is ahead of the next sequence number, if there is a source
+-- The distance of a frame ahead of the next sequence number, if the list has a source.
 abbrev pub distance_in : PlayList → ℕ → ℤ
 distance_in list sequence =
     option_map_or (λ source. distance_of source.next sequence) list.source (pos 0)
 
--- Placing a frame: the play list after it, and the result. The first case that applies counts.
+-- The play list after a frame is placed, and the result of placing. The first case that applies counts.
 abbrev pub placed : PlayList → ℕ → ℕ → List ℤ → PlayList × Placed
 placed list ssrc sequence frame =
     let start : PlayList × Placed = (started list ssrc sequence frame, answer.Started) in
@@ -90,8 +90,8 @@ placed list ssrc sequence frame =
     else if is_some (frame_at list.places place) then (list, answer.Again)
     else (filled list place frame, answer.Placed)
 
--- A tick: the play list after it, and what it plays. Whatever was at place 0 in this tick, a frame
--- or nothing, becomes the last frame. An empty list plays silence, and forgets the last frame.
+-- The play list after a tick, and what the tick plays. The content of place 0, a frame or nothing, becomes the last
+-- frame. An empty list plays silence and forgets the last frame.
 abbrev pub ticked_in : Phase → PlayList → PlayList × Played
 ticked_in Idle list = (list, Silence)
 ticked_in (Wait ticks) list =
@@ -106,6 +106,6 @@ ticked_in Run list =
 abbrev pub ticked : PlayList → PlayList × Played
 ticked list = ticked_in list.phase list
 
--- A change of depth. The phase is unchanged, so a wait that has started keeps its length.
+-- The play list after a change of depth. The phase is unchanged, so a wait that has started keeps its length.
 abbrev pub with_depth : PlayList → ℕ → PlayList
 with_depth list depth = record list { places = resized list.places depth }

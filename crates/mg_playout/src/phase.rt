@@ -1,10 +1,10 @@
 /// Whether a play list is idle, waiting or playing.
 #[derive(Clone, Copy, Debug, PartialEq, Eq, Hash)]
 pub enum Phase {
-    /// Plays nothing until a frame starts it.
+    /// The play list plays silence until a frame starts it.
     Idle,
-    /// Has started, and plays nothing for this many ticks (at least one).
+    /// The play list has started, and plays silence for this many ticks (at least one).
     Wait(u8),
-    /// Plays the next frame in each tick, if it has arrived.
+    /// The play list plays the next frame in each tick, if the frame has arrived.
     Run,
 }

@@ -32,7 +32,7 @@ pub fn distances_recover_the_number()
         int_rem_euclid (pos from +ℤ distance_of from to) (pos 65536) ≡ pos to }
 {}
 
-/// An accepted frame is queued by its sequence number, no matter when it arrives.
+/// An accepted frame waits under its sequence number, no matter when it arrives.
 pub fn placed_frame_waits_under_its_number()
     ensures { (list : PlayList) (ssrc sequence : ℕ) (frame : List ℤ) →
         IsValidList list → sequence < 65536 →
@@ -78,7 +78,7 @@ pub fn ticks_give_frames_in_order()
 
 /// A single missing frame between two received frames is replaced by the frame before it, halved.
 ///
-/// The same holds for a missing frame at place 0, if there is a last frame.
+/// A missing frame at place 0 is replaced by the last frame, if there is one and place 1 has a frame.
 pub fn one_missing_frame_is_concealed()
     ensures next { (places : FramePlaces) (last after : List ℤ) →
         frame_at places 0 ≡ None → frame_at places 1 ≡ Some after →

@@ -1,14 +1,14 @@
-/// Where the frame of a packet belongs in a play list.
+/// The place in a play list where the frame of a packet belongs.
 #[derive(Clone, Copy, Debug)]
 pub(crate) enum Turn {
-    /// At the first place, after a restart.
+    /// The frame belongs at the first place, after a restart.
     Start,
-    /// Nowhere: its turn is over.
+    /// The frame is late: its place has already been played.
     Late,
-    /// Nowhere: its place already has a frame.
+    /// The frame is a duplicate: its place already has a frame.
     Again,
-    /// At this place.
+    /// The frame belongs at this place.
     At(usize),
-    /// At the last place, after a shift by this many places.
+    /// The frame belongs at the last place, after a shift by this many places.
     Push(usize),
 }

@@ -1,4 +1,4 @@
--- What the calls on a gateway's ports do to the journal.
+-- The effects of calls on a gateway's ports on its journal.
 use Rattle.std.specs.Prelude.{◌≡◌, ◌≢◌, ◌⊎◌, ℕ, ◌≤◌, false, All, List, [], ◌∷◌, ◌++◌, length, codes}
 use Rattle.std.specs.Prelude.{Option, Result}
 use Rattle.mg_journal.specs.declared.append_fault.AppendFault.{AppendFault}
@@ -8,7 +8,7 @@ use Rattle.mg_journal.specs.Journal.{JournalState, Appends, text_to_seal}
 use Rattle.mg_ports.specs.declared.call.Call.{Call}
 use Rattle.mg_ports.specs.declared.call.Call.TheVariants.{Append}
 
--- what is known about ports: the calls so far, and the journal
+-- The known state of ports: the calls so far, and the journal.
 pub record PortsSeen : Type 0 where
   pub calls : Option (List Call)
   pub journal : JournalState
@@ -16,7 +16,7 @@ pub record PortsSeen : Type 0 where
 abbrev pub ports_seen : Option (List Call) → JournalState → PortsSeen
 ports_seen calls journal = record { calls = calls; journal = journal }
 
--- a comment of one line that is not too long
+-- The line is a comment that is not too long.
 abbrev pub IsComment : List ℕ → Type 0
 IsComment line =
     (text : List ℕ) × (line ≡ codes "# " ++ (text ++ codes "\n")) × (length text ≤ 1000)
@@ -31,7 +31,7 @@ AppendsDated lines durability old new result =
     × ((comment ≡ []) ⊎ (IsComment comment × (is_seal comment ≡ false)))
     × Appends (seal ++ (comment ++ lines)) durability old new result
 
--- the journal after some calls: each append changed it as defined, and no other call touched it
+-- The journal after these calls. Each append changes it as defined, and no other call changes it.
 abbrev pub JournalAfter : List Call → JournalState → JournalState → Type 0
 JournalAfter [] old new = new ≡ old
 JournalAfter (Append lines durability result ∷ calls) old new =

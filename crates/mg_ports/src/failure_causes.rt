@@ -1,4 +1,4 @@
-/// How many receives and sends failed, by cause. A count that reaches its maximum stays there.
+/// The numbers of failed receives and sends, by cause. A count that reaches its maximum stays there.
 #[derive(Clone, Copy, Debug, Default, PartialEq, Eq)]
 pub struct FailureCauses {
     /// Receive calls that the system refused.

@@ -18,10 +18,10 @@ pub trait Ports {
     /// All calls so far, if they are known.
     ghost calls: { Self → Option (List Call) } = { λ _. None };
 
-    /// How many receives and sends failed.
+    /// The number of failed receives and sends.
     ghost failed: { Self → ℕ };
 
-    /// What is known about the journal.
+    /// The known state of the journal.
     ghost journal: { Self → JournalState } = { λ _. no_journal };
 
     /// Receives a datagram if one is waiting.
@@ -57,10 +57,11 @@ pub trait Ports {
         ensures logged { Logged (calls self.old) (calls self.new) (Append lines.now durability result ∷ []) }
         ensures journal { AppendsDated lines.now durability (journal self.old) (journal self.new) result };
 
-    /// Returns how many receives and sends failed. A count that reaches its maximum stays there.
+    /// Returns the number of failed receives and sends. A count that reaches its maximum stays there.
     fn failures(&self) -> u64
         ensures value { result ≡ failed self.now };
 
-    /// Returns how many receives and sends failed, by cause, if these ports count causes; otherwise all counts are 0.
+    /// Returns the numbers of failed receives and sends by cause, if these ports count causes; otherwise all counts are
+    /// 0.
     fn failure_causes(&self) -> FailureCauses;
 }

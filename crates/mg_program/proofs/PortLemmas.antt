@@ -11,7 +11,7 @@ use Rattle.mg_options.specs.declared.status.Status.TheVariants.{Failed, NoMemory
 use Rattle.mg_start.specs.Journal.{IsQuiet, RunsNoSession}
 use Rattle.mg_start.specs.Start.{Begins, FailsToStart}
 use Rattle.mg_start.proofs.LogLemmas.{grows_none, quiet_then, writes_quiet}
-use Rattle.mg_program.specs.Serve.{first_binds}
+use Rattle.mg_program.specs.aids.Binding.{first_binds}
 use Rattle.mg_ports.specs.declared.call.Call.{Call}
 use Rattle.mg_host.specs.declared.host_call.HostCall.{HostCall}
 use Rattle.mg_host.specs.declared.host_call.HostCall.TheVariants.{OpenJournal, OpenText, ReadDate, Bind, OnPorts}
@@ -62,15 +62,15 @@ pub no_session_then : (a b c : Option (List HostCall)) (p : List HostCall) → G
     → RunsNoSession b c → RunsNoSession a c
 no_session_then a b c p grows quiet rest = quiet_then a b c (p, grows, quiet) rest
 
--- what is done before a gateway starts
+-- The calls before a gateway starts run no session.
 begun_quiet : (journal text : Option (List ℕ)) (config : Config) (missed : ℕ) (fence : Option ℕ)
     (a b : Option (List HostCall)) → Begins journal text config missed fence a b → RunsNoSession a b
-begun_quiet None text config missed fence a b same =
+begun_quiet None text config missed fence a b (same, none) =
     ([], subst (λ (x : Option (List HostCall)). Grows a x []) (sym same) (grows_none a), tt)
 begun_quiet (Some path) text config missed fence a b (millis, calls, lines, grows, writes, is) =
     (ReadDate millis ∷ calls, grows, writes_quiet calls lines writes)
 
--- a gateway that could start, but didn't
+-- If a gateway binds its sockets and begins its journal but doesn't start, it runs no session.
 pub not_started : (journal text address : Option (List ℕ)) (config : Config) (missed : ℕ) (fence : Option ℕ)
     (count : ℕ) (a b c d : Option (List HostCall)) → Grows a b (first_binds config address count)
     → Begins journal text config missed fence b c → d ≡ c → RunsNoSession a d
@@ -79,7 +79,7 @@ not_started journal text address config missed fence count a b c d bound begins 
     (quiet_then a b c (first_binds config address count, bound, binds_quiet config address count)
     (begun_quiet journal text config missed fence b c begins))
 
--- one socket more
+-- Binding one more socket extends the sockets that were bound first.
 pub binds_more : (config : Config) (address : Option (List ℕ)) (count port : ℕ) (a b c : Option (List HostCall))
     → Grows a b (first_binds config address count) → port ≡ slot_port (limits_of config) count
     → Grows b c (Bind (unwrap_or address config.address) port true ∷ []) → Grows a c (first_binds config address (count + 1))

@@ -1,4 +1,4 @@
--- What the program does with a script.
+-- The effect of running a script.
 use Rattle.std.specs.Prelude.{◌≡◌, ◌↔◌, ℕ, List, Option, Result, Err}
 use Rattle.mg_engine.specs.declared.config.Config.{Config}
 use Rattle.mg_core.specs.declared.counts.Counts.{Counts}
@@ -10,7 +10,7 @@ use Rattle.mg_core.specs.Run.{ScriptRan}
 use Rattle.mg_options.specs.declared.status.Status.{Status}
 use Rattle.mg_program.specs.Status.{status_of}
 
--- a script was run, and the status says how the run ended
+-- A script was run, and the status says how the run ended.
 pub record Replays (config : Config) (shown : Shown) (input rest old new : Option (List ℕ))
     (status : Status) : Type 0 where
   pub outcome : Result Counts RunFault

@@ -1,6 +1,6 @@
--- What the program does as a server.
-use Rattle.std.specs.Prelude.{◌≡◌, ◌≢◌, ◌⊎◌, ℕ, ⊤, true, List, ◌∷◌, map, Option, Result}
-use Rattle.std.specs.Prelude.{Ok, Err, unwrap_or}
+-- The effect of running a gateway on UDP ports.
+use Rattle.std.specs.Prelude.{◌≡◌, ◌≢◌, ◌⊎◌, ℕ, ⊤, true, List, [], ◌∷◌, map, Option, Result}
+use Rattle.std.specs.Prelude.{Err, unwrap_or}
 use Rattle.std.specs.List.{range_with_len}
 use Rattle.mg_clock.specs.Ticks.{ClockSeen}
 use Rattle.mg_engine.specs.Limits.{slot_port}
@@ -9,13 +9,15 @@ use Rattle.mg_engine.specs.Config.{IsValidConfig, limits_of}
 use Rattle.mg_core.specs.declared.counts.Counts.{Counts}
 use Rattle.mg_core.specs.World.{World}
 use Rattle.mg_journal.specs.Journal.{JournalState}
-use Rattle.mg_ports.specs.Journaled.{PortsSeen, ports_seen}
+use Rattle.mg_ports.specs.Journaled.{ports_seen}
 use Rattle.mg_core.specs.declared.fault.RunFault.{RunFault}
 use Rattle.mg_core.specs.declared.fault.RunFault.TheVariants as faults
-use Rattle.mg_serve.specs.Serve.{ServedByClock, ServedSession}
+use Rattle.mg_serve.specs.declared.command.Command.{Command}
+use Rattle.mg_serve.specs.declared.form.Form.{Form}
+use Rattle.mg_serve.specs.Serve.{ClockCommands, ReadCommands, Served, form_of}
 use Rattle.mg_host.specs.declared.host_call.HostCall.{HostCall}
 use Rattle.mg_host.specs.declared.host_call.HostCall.TheVariants.{Bind}
-use Rattle.mg_host.specs.HostCalls.{Grows, IsUnread, port_calls}
+use Rattle.mg_host.specs.HostCalls.{Grows, IsLogged, port_calls}
 use Rattle.mg_arguments.specs.declared.draws.Draws.{Draws}
 use Rattle.mg_arguments.specs.declared.service.Service.{Service}
 use Rattle.mg_arguments.specs.Setup.{setup_of}
@@ -26,44 +28,34 @@ use Rattle.mg_options.specs.declared.status.Status.{Status}
 use Rattle.mg_program.specs.Decisions.{HasDecided, Knows}
 use Rattle.mg_program.specs.Status.{status_of}
 
--- The first sockets of a gateway, in the order in which they are bound: the control socket, and then
--- this many media sockets. All are bound to one address, if there is one, and otherwise to those of
--- the configuration.
-abbrev pub first_binds : Config → (address : Option (List ℕ)) → (count : ℕ) → List HostCall
-first_binds config address count =
+-- The sockets of a gateway, in the order in which they are bound: the control socket, and then the media sockets. All
+-- are bound to `address`, if it is given, and otherwise to the addresses of the configuration.
+abbrev pub binds_of : Config → (address : Option (List ℕ)) → List HostCall
+binds_of config address =
     Bind (unwrap_or address config.control_address) config.control_port true
     ∷ map (λ slot. Bind (unwrap_or address config.address) (slot_port (limits_of config) slot) true)
-    (range_with_len 0 count)
+    (range_with_len 0 config.slots)
 
-abbrev pub binds_of : Config → (address : Option (List ℕ)) → List HostCall
-binds_of config address = first_binds config address config.slots
-
--- How a gateway's commands are given, and what its output held before the run and after it: by the
--- lines of an input, or by a clock, with its readings and waits in the run.
+-- The source of a gateway's commands: the lines of an input, or a clock, with its readings and waits in the run.
 pub data Drive : Type 0 where
-  ByLines : (input rest held written : Option (List ℕ)) → Drive
-  ByClock : (late : ℕ) (clock : ClockSeen) (held written : Option (List ℕ)) → Drive
+  ByLines : (input rest : Option (List ℕ)) → Drive
+  ByClock : (late : ℕ) (clock : ClockSeen) → Drive
 
--- A session that was driven so, and how it ended. A clock drives it until a fault. It is the host's,
--- which nothing has read before.
-abbrev pub RunsSession : Drive → Config → Service → World → (reached : ℕ)
-    → (begun : Option (List HostCall)) → (old new : PortsSeen) → Result Counts RunFault → Type 0
-RunsSession (ByLines input rest held written) config service start reached begun old new outcome =
-    ServedSession (setup_of config reached service) start (title_if service.records config) input
-    rest old new held written outcome
-RunsSession (ByClock late clock held written) config service start reached begun old new (Ok counts) = ⊥
-RunsSession (ByClock late clock held written) config service start reached begun old new (Err fault) =
-    (unread : ClockSeen) × IsUnread begun unread
-    × ServedByClock (setup_of config reached service) start (title_if service.records config) late
-    unread clock ⊤ old new held written fault
+-- The commands that the source gives. If the source is a clock, it is the host's, and nothing has read it before.
+abbrev pub Gives : Drive → Form → (begun : Option (List HostCall)) → Result Counts RunFault
+    → List Command → Type 0
+Gives (ByLines input rest) form begun outcome commands =
+    ReadCommands form input rest outcome commands
+Gives (ByClock late clock) form begun outcome commands =
+    (unread : ClockSeen) × IsLogged begun unread.readings []
+    × ClockCommands form late unread clock ⊤ outcome commands
 
--- The ports were bound, and a gateway ran with this outcome. It started from its journal's text, as
--- far as that is known, after it had appended to the journal. The output is a recording if that was
--- requested. From then on, the host did what the session asked its ports for, except for what the
--- gateway left out, and nothing else.
+-- The ports were bound, and a gateway ran with this outcome. It started from its journal's text, as far as the text is
+-- known, after it had appended to the journal. The output is a recording if that was requested. From then on, the host
+-- did everything that the session asked its ports to do, except for what the gateway left out, and nothing else.
 pub record ServesOnPorts (drive : Drive) (config : Config) (service : Service)
-    (text : Option (List ℕ)) (bound last : Option (List HostCall)) (outcome : Result Counts RunFault)
-    : Type 0 where
+    (held written text : Option (List ℕ)) (bound last : Option (List HostCall))
+    (outcome : Result Counts RunFault) : Type 0 where
   pub sound : IsValidConfig config
   pub runs : outcome ≢ Err faults.BadConfig
   pub start : World
@@ -73,28 +65,31 @@ pub record ServesOnPorts (drive : Drive) (config : Config) (service : Service)
   pub begun : Option (List HostCall)
   pub started : HasStarted service.journal text service.fence_from config start reached before bound
       begun
-  pub served : RunsSession drive config service start reached begun
-      (ports_seen (port_calls begun) before) (ports_seen (port_calls last) after) outcome
+  pub served : let title = title_if service.records config in
+      Served (setup_of config reached service) start title
+      (Gives drive (form_of title) begun outcome) (ports_seen (port_calls begun) before)
+      (ports_seen (port_calls last) after) held written outcome
   pub known : Knows
   pub decided : HasDecided begun last known
 
--- The ports of a gateway with this configuration were bound, it ran, and the status says how the run
--- ended; or it failed to start, and the rest is unchanged.
+-- Either the ports of a gateway with this configuration were bound, the gateway ran, and the status says how the run
+-- ended. Or the gateway failed to start, and the rest is unchanged.
 abbrev pub ServesChosen : Drive → (unchanged : Type 0) → Config → Service
-    → (text : Option (List ℕ)) → (found last : Option (List HostCall)) → Status → Type 0
-ServesChosen drive unchanged config service text found last status =
+    → (held written text : Option (List ℕ)) → (found last : Option (List HostCall)) → Status
+    → Type 0
+ServesChosen drive unchanged config service held written text found last status =
     ((outcome : Result Counts RunFault) × (bound : Option (List HostCall))
     × (status ≡ status_of outcome) × Grows found bound (binds_of config service.bind_address)
-    × ServesOnPorts drive config service text bound last outcome)
+    × ServesOnPorts drive config service held written text bound last outcome)
     ⊎ (FailsToStart config status × RunsNoSession found last × unchanged)
 
--- The journal, if there is one, was opened. A configuration was chosen, and perhaps some numbers
--- were drawn; or the gateway failed to start.
+-- Either the journal, if there is one, was opened, and a configuration was chosen, perhaps with drawn numbers. Or the
+-- gateway failed to start.
 abbrev pub Serves : Drive → (unchanged : Type 0) → Config → Service → Draws
-    → (before last : Option (List HostCall)) → Status → Type 0
-Serves drive unchanged config service draws before last status =
+    → (held written : Option (List ℕ)) → (before last : Option (List HostCall)) → Status → Type 0
+Serves drive unchanged config service draws held written before last status =
     ((chosen : Config) × (text : Option (List ℕ)) × (found : Option (List HostCall))
     × Finds service.journal before found text
-    × IsChosen service.journal text service.given draws config chosen
-    × ServesChosen drive unchanged chosen service text found last status)
+    × IsChosen text service.given draws config chosen
+    × ServesChosen drive unchanged chosen service held written text found last status)
     ⊎ (FailsToStart config status × Opens service.journal before last × unchanged)

@@ -7,11 +7,10 @@ use Rattle.mg_options.specs.declared.status.Status.{Status}
 use Rattle.mg_options.specs.declared.status.Status.TheVariants.{Done, BadLine, Usage, Failed}
 use Rattle.mg_options.specs.declared.status.Status.TheVariants.{NoMemory}
 
--- how the program ends after a run
+-- The exit status after a run with this outcome.
 unfoldable pub status_of : Result Counts RunFault → Status
 status_of (Ok counts) = Done
 status_of (Err (faults.Script n)) = BadLine
 status_of (Err faults.BadConfig) = Usage
-status_of (Err faults.Read) = Failed
-status_of (Err faults.Write) = Failed
 status_of (Err faults.NoMemory) = NoMemory
+status_of (Err fault) = Failed

@@ -1,4 +1,4 @@
--- Which text `mg_bridge verify` checks.
+-- The text that `mg_bridge verify` checks.
 use Rattle.std.specs.Prelude.{ℕ, List, Option}
 use Rattle.mg_host.specs.declared.host_call.HostCall.{HostCall}
 use Rattle.mg_host.specs.HostCalls.{ReadsFrom}

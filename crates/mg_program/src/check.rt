@@ -15,7 +15,7 @@ const REPLY: &[u8] = b"\nReply=1{Context=-{AuditValue=ROOT}}";
 /// The maximum number of times that the heartbeat is sent.
 const TRIES: usize = 3;
 
-/// How long to wait for each reply, in milliseconds.
+/// The time to wait for each reply, in milliseconds.
 const WAIT_MS: u64 = 1000;
 
 /// The size of the buffer for a reply, in bytes.
@@ -28,9 +28,7 @@ fn answers_heartbeat(message: &[u8]) -> bool {
 
 /// Sends the heartbeat until it is answered, and acknowledges the answer. Fails with the system's error, or with
 /// `TimedOut` if no answer arrives.
-fn ask<N: Net>(net: &N, gateway: SocketAddrV4) -> io::Result<()> {
-    let any = SocketAddrV4::new(Ipv4Addr::UNSPECIFIED, 0);
-    let socket = UdpSocket::bind(net, any)?;
+fn ask(socket: &UdpSocket, gateway: SocketAddrV4) -> io::Result<()> {
     socket.connect(gateway)?;
     socket.set_read_timeout(Some(Duration::from_millis(WAIT_MS)))?;
     let mut buffer = [0; REPLY_ROOM];
@@ -57,12 +55,14 @@ fn micros_since<C: Clock>(clock: &C, begun: io::Result<Duration>) -> u128 {
     }
 }
 
-/// Checks that a gateway answers a heartbeat. Sends the heartbeat up to three times, and waits up to one second for
-/// each answer. If an answer arrives, prints how long it took; otherwise, reports the fault to `errors`.
+/// Checks that a gateway answers a heartbeat from this address, where 0.0.0.0 is any address of the machine. Sends the
+/// heartbeat up to three times, and waits up to one second for each answer. If an answer arrives, prints how long it
+/// took; otherwise, reports the fault to `errors`.
 pub fn check<N: Net, C: Clock, W: Write, E: Write>(
     net: &N,
     clock: &C,
     gateway: Peer,
+    source: [u8; 4],
     output: &mut W,
     errors: &mut E,
 ) -> Status
@@ -70,8 +70,16 @@ pub fn check<N: Net, C: Clock, W: Write, E: Write>(
     ensures quiet { result ≡ Status.Done → errors.new ≡ errors.old }
 {
     let address = SocketAddrV4::new(Ipv4Addr::from(gateway.address), gateway.port);
+    let source = Ipv4Addr::from(source);
+    let socket = match UdpSocket::bind(net, SocketAddrV4::new(source, 0)) {
+        Ok(socket) => socket,
+        Err(error) => {
+            let _ = writeln!(errors, "cannot send from {source}: {error}");
+            return Status::Failed;
+        }
+    };
     let begun = clock.monotonic();
-    if let Err(error) = ask(net, address) {
+    if let Err(error) = ask(&socket, address) {
         let _ = writeln!(errors, "{address} doesn't answer: {error}");
         return Status::NoAnswer;
     }

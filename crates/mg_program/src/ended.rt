@@ -1,6 +1,6 @@
 use mg_options::Status;
 
-/// How a run ended, and the host that it ran on.
+/// The exit status of a run, and the host that it ran on.
 #[derive(Drop)]
 pub struct Ended<H> {
     pub host: H,

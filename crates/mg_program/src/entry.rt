@@ -24,7 +24,7 @@ use std::net::Net;
 use std::random::RandomSource;
 use std::time::Clock;
 
-/// Does what the arguments ask for. Returns the host and the exit status.
+/// Runs what the arguments request. Returns the host and the exit status.
 fn run<
     N: Net,
     C: Clock,
@@ -77,8 +77,9 @@ fn run<
             errors,
             reports,
         ),
-        Invocation::Check(gateway) => {
-            let status = check(system.net, system.local.clock, *gateway, output, errors);
+        Invocation::Check(gateway, source) => {
+            let net = system.net;
+            let status = check(net, system.local.clock, *gateway, *source, output, errors);
             Ended { host, status }
         }
         Invocation::Heard(request) => {
@@ -137,9 +138,9 @@ fn run<
 /// that can't be used. With these statuses, an error message goes to `errors`. A gateway's periodic reports go to
 /// `reports`.
 ///
-/// Some statuses are answers, without a message. To a question about a given time, 1 means that the talker could not be
-/// heard, and 2 that the script doesn't say. For rules, 1 means that the script breaks one. For a check of seals, 1 means
-/// that a text was changed, and 2 that it has no seals.
+/// Some statuses are answers, without a message. For a question about a given time, 1 means that the talker could not
+/// be heard, and 2 that the script doesn't say. For rules, 1 means that the script breaks a rule. For a check of seals,
+/// 1 means that a text was changed, and 2 that it has no seals.
 pub fn program<
     'a,
     N: Net,

@@ -18,14 +18,14 @@ use mg_ports::{FailureCauses, PortFault, Ports, Timing};
 use std::marker::PhantomData;
 use std::time::Clock;
 
-/// A gateway's ports: the sockets of its host, and its journal, if it has one.
+/// The ports of a gateway: the sockets of its host, and its journal, if it has one.
 #[derive(Drop)]
 pub(crate) struct GatewayPorts<'a, H: Sockets, J: Journal, C: Clock, K: LogKey> {
     pub(crate) host: H,
     journal: Option<DatedJournal<'a, J, C>>,
-    /// Whether the current tick, whose packets are being sent, is on time.
+    /// Whether the tick whose packets are being sent is on time.
     timing: Timing,
-    /// At which sockets a datagram may be waiting.
+    /// The sockets at which a datagram may be waiting.
     ready: [bool; SOCKETS],
     failures: u64,
     causes: FailureCauses,
@@ -59,7 +59,7 @@ fn count<T>(answer: &Result<T, PortFault>, failures: &mut u64)
 }
 
 impl<'a, H: Sockets, J: Journal, C: Clock, K: LogKey> GatewayPorts<'a, H, J, C, K> {
-    /// Creates ports on the sockets of this host, which are bound.
+    /// Creates ports on the sockets of this host, which must be bound.
     pub(crate) fn new(host: H, journal: Option<DatedJournal<'a, J, C>>) -> Self
         requires begins { H.calls host ≡ K.calls }
         ensures host { result.host ≡ host }

@@ -1,6 +1,6 @@
 //! The library behind `mg_bridge`: a conference media gateway that runs a script or uses UDP sockets.
 //!
-//! [`program`] does everything, from the command-line arguments to the exit status:
+//! [`program`] runs the whole program, from the command-line arguments to the exit status:
 //!
 //! ```rust
 //! let words = ["replay", "--slots", "4"];
@@ -11,12 +11,14 @@
 //!
 //! A gateway's sockets are those of the host ([`mg_host::Sockets`]), which are bound at startup. `GatewayPorts` lends
 //! them to a session (`mg_serve`). It sends no packet in a late tick or to an address that no caller can have, and
-//! receives from a media socket only if a datagram may be waiting there. `specs/Decisions.antt` defines that.
+//! receives from a media socket only if a datagram may be waiting there. `specs/Decisions.antt` defines these
+//! decisions.
 //!
-//! `specs/Program.antt` defines how a run ends. `mg_arguments` defines what the arguments ask for, and `mg_start`
+//! `specs/Program.antt` defines how a run ends. `mg_arguments` defines what the arguments request, and `mg_start`
 //! defines how a gateway starts.
 #![tactic(auto)]
 
+mod announcement;
 mod bind_fault;
 mod binding;
 mod check;

@@ -1,4 +1,4 @@
-ghost use Rattle.std.specs.Prelude.{◌≡◌, ◌≢◌, ◌⊎◌, ℕ, List, Option, None, Err, IfErr, IfSome, IsSome};
+ghost use Rattle.std.specs.Prelude.{◌≡◌, ◌≢◌, ◌⊎◌, ℕ, [], List, Option, Some, Err, IfErr, IfSome, IsSome};
 ghost use Rattle.std.specs.Option.{option_map_or};
 ghost use Rattle.mg_clock.specs.Ticks.{clock_seen};
 ghost use Rattle.mg_engine.specs.Config.{IsValidConfig};
@@ -8,13 +8,14 @@ ghost use Rattle.mg_start.specs.aids.Starting.{KeepsTimes, CanResume, CanStart};
 ghost use Rattle.mg_core.specs.World.{World};
 ghost use Rattle.mg_core.specs.aids.Stands.{StandsFor};
 ghost use Rattle.mg_ports.specs.Journaled.{ports_seen};
-ghost use Rattle.mg_serve.specs.Serve.{ServedByClock};
+ghost use Rattle.mg_serve.specs.Serve.{ClockCommands, Served, form_of};
 ghost use Rattle.mg_arguments.specs.Setup.{setup_of};
 ghost use Rattle.mg_arguments.specs.Title.{title_if};
 ghost use Rattle.mg_host.specs.declared.host_call.HostCall.{HostCall};
-ghost use Rattle.mg_host.specs.HostCalls.{Grows, IsUnread};
+ghost use Rattle.mg_host.specs.HostCalls.{Grows, IsLogged};
 ghost use Rattle.mg_program.specs.Serve.{ByClock, Serves, ServesChosen, ServesOnPorts, binds_of};
 
+use crate::announcement::announce;
 use crate::ended::Ended;
 use crate::gateway_ports::GatewayPorts;
 use crate::local_system::LocalSystem;
@@ -54,11 +55,12 @@ fn live_on<P: Ports, K: Watch, W: Write, M: Monitor>(
 ) -> RunFault
     requires sound { IsValidConfig config }
     ensures session { (w : World) → StandsFor core.state w →
-        ServedByClock (setup_of config reached service.now) w (title_if service.now.records config) late
+        Served (setup_of config reached service.now) w (title_if service.now.records config)
+        (ClockCommands (form_of (title_if service.now.records config)) late
         (clock_seen (K.readings watch.old) (K.waits watch.old)) (clock_seen (K.readings watch.new) (K.waits watch.new))
-        (K.Fails watch.new)
+        (K.Fails watch.new) (Err result))
         (ports_seen (P.calls ports.old) (P.journal ports.old)) (ports_seen (P.calls ports.new) (P.journal ports.new))
-        (W.contents output.old) (W.contents output.new) result }
+        (W.contents output.old) (W.contents output.new) (Err result) }
     ensures started { result ≢ RunFault.BadConfig }
 {
     let title = title_of(&config);
@@ -88,13 +90,13 @@ fn live_on_sockets<L: LogKey, H: Host + Drop, J: Journal + Drop, C: Clock, W: Wr
 ) -> (H, RunFault)
     requires sound { IsValidConfig ready.config }
     requires begins { H.calls host ≡ L.calls }
-    requires unread { IsUnread (H.calls host) (clock_seen (H.Watch.readings watch) (H.Watch.waits watch)) }
+    requires unread { IsLogged (H.calls host) (H.Watch.readings watch) [] }
     ensures value { (text : Option (List ℕ)) (bound : Option (List HostCall)) →
         CanStart service.now.journal text service.now.fence_from ready.entry.config ready.entry.core.state
         ready.entry.reached
         (option_map_or (λ j. j) ready.entry.journal no_journal) bound (H.calls host) →
-        ServesOnPorts (ByClock late (H.stopped result.0) (W.contents output.old) (W.contents output.new))
-        ready.entry.config service.now text bound (H.calls result.0) (Err result.1) }
+        ServesOnPorts (ByClock late (H.stopped result.0)) ready.entry.config service.now
+        (W.contents output.old) (W.contents output.new) text bound (H.calls result.0) (Err result.1) }
 {
     let mut watch = watch;
     let mut ports = GatewayPorts::<_, _, _, L>::new(host, ready.journal);
@@ -135,8 +137,8 @@ pub fn live<C: Clock, G: RandomSource, F: Files, H: Host + Drop, W: Write, E: Wr
     errors: &mut E,
     reports: &mut T,
 ) -> Ended<H>
-    ensures value { Serves (ByClock late (H.stopped result.host) (W.contents output.old) (W.contents output.new))
-        (output.new ≡ output.old) config service.now draws (H.calls host) (H.calls result.host) result.status }
+    ensures value { Serves (ByClock late (H.stopped result.host)) (output.new ≡ output.old) config service.now draws
+        (W.contents output.old) (W.contents output.new) (H.calls host) (H.calls result.host) result.status }
 {
     let mut host = host;
     match prepare(
@@ -176,13 +178,13 @@ fn live_prepared<
     errors: &mut E,
     reports: &mut T,
 ) -> Ended<H>
-    requires resumed { CanResume service.now.journal (option_map_or (λ j. text_in j.opening.file) prepared.journal None)
+    requires resumed { CanResume (option_map_or (λ j. text_in j.opening.file) prepared.journal (Some []))
         prepared.config prepared.core.state prepared.reached }
     requires found { IsSome service.now.journal → IsSome prepared.journal }
     requires times { IfSome prepared.journal (λ j. KeepsTimes j.timeline (text_in j.opening.file)) }
-    ensures value { ServesChosen (ByClock late (H.stopped result.host) (W.contents output.old) (W.contents output.new))
-        (output.new ≡ output.old) prepared.config service.now
-        (option_map_or (λ j. text_in j.opening.file) prepared.journal None) (H.calls host) (H.calls result.host)
+    ensures value { ServesChosen (ByClock late (H.stopped result.host)) (output.new ≡ output.old) prepared.config
+        service.now (W.contents output.old) (W.contents output.new)
+        (option_map_or (λ j. text_in j.opening.file) prepared.journal (Some [])) (H.calls host) (H.calls result.host)
         result.status }
 {
     let mut host = host;
@@ -222,8 +224,8 @@ fn live_ready<
         ready.entry.reached
         (option_map_or (λ j. j) ready.entry.journal no_journal) bound (H.calls host) →
         Grows found bound (binds_of ready.entry.config service.now.bind_address) →
-        ServesChosen (ByClock late (H.stopped result.host) (W.contents output.old) (W.contents output.new))
-        (output.new ≡ output.old) ready.entry.config service.now text found (H.calls result.host) result.status }
+        ServesChosen (ByClock late (H.stopped result.host)) (output.new ≡ output.old) ready.entry.config
+        service.now (W.contents output.old) (W.contents output.new) text found (H.calls result.host) result.status }
 {
     let config = ready.config;
     let mut host = host;
@@ -234,6 +236,7 @@ fn live_ready<
             return Ended { host, status };
         }
     };
+    announce(&config, service, ready.reached, reports);
     let (host, fault) = match monitor(system.files, system.clock, alloc, service, errors, reports) {
         Ok(mut monitor) => live_on_sockets::<Brand, _, _, _, _, _>(
             host,

@@ -3,7 +3,7 @@ ghost use Rattle.mg_host.specs.declared.host_call.HostCall.{HostCall};
 
 use std::marker::Brand;
 
-/// Stands, in proofs, for the calls that a host had logged when a session began.
+/// Represents, in proofs, the calls that a host had logged when a session began.
 pub(crate) trait LogKey {
     ghost calls: { Option (List HostCall) };
 }

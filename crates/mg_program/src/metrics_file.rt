@@ -10,8 +10,8 @@ const MAX_PATH: usize = 4095;
 /// The maximum length of an error line, in bytes: a path and the system's reason.
 const LINE_ROOM: usize = 5000;
 
-/// A file for metrics. Each text is first written to a temporary file, which is then renamed, so a reader of this file
-/// never sees a partial text.
+/// A file for metrics. Each text is first written to a temporary file, which is then renamed, so a reader of the
+/// metrics file never sees a partial text.
 ///
 /// A failure is reported to the operator only if it is the first, or the first after a success.
 #[derive(Drop)]

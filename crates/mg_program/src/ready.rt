@@ -1,4 +1,4 @@
-ghost use Rattle.std.specs.Prelude.{◌≡◌, List, Option, None, IfErr, IfOk, IfSome, IsSome, OnErr, OnOk};
+ghost use Rattle.std.specs.Prelude.{◌≡◌, [], List, Option, Some, IfErr, IfOk, IfSome, IsSome, OnErr, OnOk};
 ghost use Rattle.std.specs.Option.{option_map_or};
 ghost use Rattle.mg_engine.specs.Config.{IsValidConfig};
 ghost use Rattle.mg_journal.specs.Journal.{no_journal};
@@ -26,7 +26,7 @@ use std::io::Write;
 use std::random::RandomSource;
 use std::time::Clock;
 
-/// A gateway whose ports are bound and whose journal, if it keeps one, is open for appends.
+/// A gateway whose ports are bound. Its journal, if it keeps one, is open for appends.
 #[derive(Drop)]
 pub struct Ready<'a, J: Journal, C: Clock> {
     pub config: Config,
@@ -36,7 +36,7 @@ pub struct Ready<'a, J: Journal, C: Clock> {
     pub journal: Option<DatedJournal<'a, J, C>>,
 }
 
-/// Checks that metrics can be written, if they are enabled. If they can't, reports the fault to `errors` and returns
+/// Checks that metrics can be written, if they are enabled. If this fails, reports the fault to `errors` and returns
 /// the program's exit status.
 fn check_metrics<F: Files, E: Write>(
     files: &F,
@@ -85,7 +85,7 @@ pub fn make_ready<
     service: &Service,
     errors: &mut E,
 ) -> Result<Ready<'a, FileJournal<J>, C>, Status>
-    requires resumed { CanResume service.now.journal (option_map_or (λ j. text_in j.opening.file) prepared.journal None)
+    requires resumed { CanResume (option_map_or (λ j. text_in j.opening.file) prepared.journal (Some []))
         prepared.config prepared.core.state prepared.reached }
     requires found { IsSome service.now.journal → IsSome prepared.journal }
     requires times { IfSome prepared.journal (λ j. KeepsTimes j.timeline (text_in j.opening.file)) }
@@ -94,7 +94,7 @@ pub fn make_ready<
     ensures sound { IfOk result (λ r. IsValidConfig r.config) }
     ensures start { IfOk result (λ r. (bound : Option (List HostCall)) ×
         Grows (H.calls host.old) bound (binds_of prepared.config service.now.bind_address) ×
-        CanStart service.now.journal (option_map_or (λ j. text_in j.opening.file) prepared.journal None)
+        CanStart service.now.journal (option_map_or (λ j. text_in j.opening.file) prepared.journal (Some []))
         service.now.fence_from r.config r.core.state r.reached (option_map_or (λ j. j) r.journal no_journal) bound (H.calls host.new)) }
     ensures quiet { OnOk result (errors.new ≡ errors.old) }
     ensures ends { IfErr result (FailsToStart prepared.config) }

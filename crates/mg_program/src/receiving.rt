@@ -2,7 +2,8 @@ ghost use Rattle.std.specs.Prelude.{◌≡◌, ◌≤◌, Bool, true, false, [],
 ghost use Rattle.mg_clock.specs.declared.timing.Timing.{Timing};
 ghost use Rattle.mg_ports.specs.declared.call.Call.TheVariants.{Receive};
 ghost use Rattle.mg_ports.specs.Calls.{receipt_of};
-ghost use Rattle.mg_program.specs.Decisions.{DoesCalls, all_ready, knows};
+ghost use Rattle.mg_program.specs.Decisions.{all_ready, knows};
+ghost use Rattle.mg_program.specs.aids.Doing.{DoesCalls};
 
 use mg_core::{Peer, TERMINATIONS};
 use mg_host::Sockets;
@@ -11,10 +12,10 @@ use mg_ports::PortFault;
 /// The number of sockets that a gateway has: the control socket, and one media socket for each termination.
 pub const SOCKETS: usize = TERMINATIONS + 1;
 
-/// At which sockets a datagram may be waiting.
+/// The sockets at which a datagram may be waiting.
 ///
 /// When a datagram arrives, its socket is reported once. So a datagram may be waiting there from then on, until a
-/// receive finds none. Nothing else changes that: neither a limit on datagrams per poll nor a failed receive.
+/// receive finds none. Nothing else makes the socket empty: neither a limit on datagrams per poll nor a failed receive.
 pub(crate) type Ready = [bool; SOCKETS];
 
 /// A datagram may be waiting at every socket.
@@ -43,7 +44,8 @@ fn set_all(ready: &mut Ready)
     *ready = ALL_READY;
 }
 
-/// Asks at which sockets datagrams have arrived. If the host can't say, a datagram may be waiting at every socket.
+/// Asks the host at which sockets datagrams have arrived. If the host can't say, a datagram may be waiting at every
+/// socket.
 fn ask<H: Sockets>(host: &mut H, ready: &mut Ready)
     ensures done { (timing : Timing) → DoesCalls (H.calls host.old) (H.calls host.new) []
         (knows timing ready.old false) (knows timing ready.new true) }
@@ -91,8 +93,8 @@ fn receive_if_ready<H: Sockets>(
     Ok(None)
 }
 
-/// Receives from a socket, or returns `None` if no datagram may be waiting there. Before it turns to the control socket,
-/// asks at which sockets datagrams have arrived.
+/// Receives from a socket, or returns `None` if no datagram may be waiting there. Before the control socket's turn,
+/// asks the host at which sockets datagrams have arrived.
 pub(crate) fn receive_reported<H: Sockets>(
     host: &mut H,
     ready: &mut Ready,

@@ -1,14 +1,15 @@
 ghost use Rattle.std.specs.Prelude.{◌≡◌, ◌↔◌, false, true, [], ◌∷◌, Bool, List, ℕ, MatchOption};
 ghost use Rattle.mg_ports.specs.declared.call.Call.TheVariants.{Send};
 ghost use Rattle.mg_host.specs.declared.host_call.HostCall.TheVariants.{NotSent, OnPorts};
-ghost use Rattle.mg_program.specs.Decisions.{DoesCalls, IsUnusable, MayCall, knows};
+ghost use Rattle.mg_program.specs.Decisions.{IsUnusable, MayCall, knows};
+ghost use Rattle.mg_program.specs.aids.Doing.{DoesCalls};
 
 use mg_arguments::is_multicast;
 use mg_core::Peer;
 use mg_host::{Sockets, Unsent};
 use mg_ports::{FailureCauses, PortFault, Timing};
 
-/// Returns whether this is an address that no caller can have: 0.0.0.0, or a multicast, reserved or broadcast address.
+/// Returns whether an address is one that no caller can have: 0.0.0.0, or a multicast, reserved or broadcast address.
 /// The address 0.0.0.0 puts a call on hold; a packet to it would reach this machine itself.
 fn is_unusable(address: [u8; 4]) -> bool
     ensures value { (result ≡ true) ↔ IsUnusable address }
@@ -16,8 +17,8 @@ fn is_unusable(address: [u8; 4]) -> bool
     address == [0; 4] || is_multicast(address)
 }
 
-/// Returns why a datagram isn't sent, or `None` if it is. A packet from a media socket is sent only in a tick that is on
-/// time, and only to a unicast address.
+/// Returns the reason why a datagram isn't sent, or `None` if it is sent. A packet from a media socket is sent only in
+/// a tick that is on time, and only to a unicast address.
 fn unsent_cause(timing: Timing, socket: usize, to: Peer) -> Option<Unsent>
     ensures value { (ready : List Bool) (bytes : List ℕ) → MatchOption result
         (MayCall (knows timing ready false) (OnPorts (Send socket to bytes)))

@@ -1,4 +1,4 @@
-ghost use Rattle.std.specs.Prelude.{◌≡◌, ◌≢◌, ℕ, List, Option, None, Err, IfErr, IfSome, IsSome, OnOk};
+ghost use Rattle.std.specs.Prelude.{◌≡◌, ◌≢◌, ℕ, [], List, Option, Some, Err, IfErr, IfSome, IsSome, OnOk};
 ghost use Rattle.std.specs.Option.{option_map_or};
 ghost use Rattle.mg_engine.specs.Config.{IsValidConfig};
 ghost use Rattle.mg_journal.specs.Journal.{no_journal};
@@ -8,7 +8,7 @@ ghost use Rattle.mg_start.specs.aids.Starting.{KeepsTimes, CanResume, CanStart};
 ghost use Rattle.mg_core.specs.World.{World};
 ghost use Rattle.mg_core.specs.aids.Stands.{StandsFor};
 ghost use Rattle.mg_ports.specs.Journaled.{ports_seen};
-ghost use Rattle.mg_serve.specs.Serve.{ServedSession};
+ghost use Rattle.mg_serve.specs.Serve.{ReadCommands, Served, form_of};
 ghost use Rattle.mg_arguments.specs.Setup.{setup_of};
 ghost use Rattle.mg_arguments.specs.Title.{title_if};
 ghost use Rattle.mg_start.specs.Start.{FailsToStart};
@@ -52,8 +52,9 @@ fn serve_on<P: Ports, R: Read, W: Write, M: Monitor>(
 ) -> Result<Counts, RunFault>
     requires sound { IsValidConfig config }
     ensures session { (w : World) → StandsFor core.state w →
-        ServedSession (setup_of config reached service.now) w (title_if service.now.records config)
-        (R.remaining input.old) (R.remaining input.new)
+        Served (setup_of config reached service.now) w (title_if service.now.records config)
+        (ReadCommands (form_of (title_if service.now.records config)) (R.remaining input.old) (R.remaining input.new)
+        result)
         (ports_seen (P.calls ports.old) (P.journal ports.old)) (ports_seen (P.calls ports.new) (P.journal ports.new))
         (W.contents output.old) (W.contents output.new) result }
     ensures started { result ≢ Err RunFault.BadConfig }
@@ -95,8 +96,8 @@ fn serve_on_sockets<
         CanStart service.now.journal text service.now.fence_from ready.entry.config ready.entry.core.state
         ready.entry.reached
         (option_map_or (λ j. j) ready.entry.journal no_journal) bound (H.calls host) →
-        ServesOnPorts (ByLines (R.remaining input.old) (R.remaining input.new) (W.contents output.old)
-        (W.contents output.new)) ready.entry.config service.now text bound (H.calls result.0) result.1 }
+        ServesOnPorts (ByLines (R.remaining input.old) (R.remaining input.new)) ready.entry.config service.now
+        (W.contents output.old) (W.contents output.new) text bound (H.calls result.0) result.1 }
 {
     let mut ports = GatewayPorts::<_, _, _, L>::new(host, ready.journal);
     let outcome = serve_on(
@@ -138,9 +139,9 @@ pub fn serve<
     errors: &mut E,
     reports: &mut T,
 ) -> Ended<H>
-    ensures value { Serves (ByLines (R.remaining input.old) (R.remaining input.new) (W.contents output.old)
-        (W.contents output.new)) ((input.new ≡ input.old) × (output.new ≡ output.old)) config service.now no_draws
-        (H.calls host) (H.calls result.host) result.status }
+    ensures value { Serves (ByLines (R.remaining input.old) (R.remaining input.new))
+        ((input.new ≡ input.old) × (output.new ≡ output.old)) config service.now no_draws
+        (W.contents output.old) (W.contents output.new) (H.calls host) (H.calls result.host) result.status }
     ensures quiet { result.status ≡ Status.Done → errors.new ≡ errors.old }
 {
     let mut host = host;
@@ -182,13 +183,14 @@ fn serve_prepared<
     errors: &mut E,
     reports: &mut T,
 ) -> Ended<H>
-    requires resumed { CanResume service.now.journal (option_map_or (λ j. text_in j.opening.file) prepared.journal None)
+    requires resumed { CanResume (option_map_or (λ j. text_in j.opening.file) prepared.journal (Some []))
         prepared.config prepared.core.state prepared.reached }
     requires found { IsSome service.now.journal → IsSome prepared.journal }
     requires times { IfSome prepared.journal (λ j. KeepsTimes j.timeline (text_in j.opening.file)) }
-    ensures value { ServesChosen (ByLines (R.remaining input.old) (R.remaining input.new) (W.contents output.old)
-        (W.contents output.new)) ((input.new ≡ input.old) × (output.new ≡ output.old)) prepared.config service.now
-        (option_map_or (λ j. text_in j.opening.file) prepared.journal None) (H.calls host) (H.calls result.host)
+    ensures value { ServesChosen (ByLines (R.remaining input.old) (R.remaining input.new))
+        ((input.new ≡ input.old) × (output.new ≡ output.old)) prepared.config service.now
+        (W.contents output.old) (W.contents output.new)
+        (option_map_or (λ j. text_in j.opening.file) prepared.journal (Some [])) (H.calls host) (H.calls result.host)
         result.status }
     ensures quiet { result.status ≡ Status.Done → errors.new ≡ errors.old }
 {
@@ -225,9 +227,9 @@ fn serve_ready<
         ready.entry.reached
         (option_map_or (λ j. j) ready.entry.journal no_journal) bound (H.calls host) →
         Grows found bound (binds_of ready.entry.config service.now.bind_address) →
-        ServesChosen (ByLines (R.remaining input.old) (R.remaining input.new) (W.contents output.old)
-        (W.contents output.new)) ((input.new ≡ input.old) × (output.new ≡ output.old)) ready.entry.config service.now
-        text found (H.calls result.host) result.status }
+        ServesChosen (ByLines (R.remaining input.old) (R.remaining input.new))
+        ((input.new ≡ input.old) × (output.new ≡ output.old)) ready.entry.config service.now
+        (W.contents output.old) (W.contents output.new) text found (H.calls result.host) result.status }
     ensures quiet { result.status ≡ Status.Done → errors.new ≡ errors.old }
 {
     let config = ready.config;

@@ -1,5 +1,5 @@
 ghost use Rattle.std.specs.Prelude.{◌≡◌, IsSome};
-ghost use Rattle.mg_sealing.specs.Verify.{Verifies};
+ghost use Rattle.mg_options.specs.Status.{UnlessFault};
 ghost use Rattle.mg_program.specs.Verify.{IsVerifiedFrom};
 
 use mg_arguments::FilePath;
@@ -17,8 +17,8 @@ fn verify_file<H: Texts, W: Write, E: Write>(
     output: &mut W,
     errors: &mut E,
 ) -> Status
-    ensures value { Verifies (IsVerifiedFrom (Some path.now) (H.calls host.old) (H.calls host.new) None
-        (W.contents output.old) (W.contents output.new) result) (errors.new ≡ errors.old) result }
+    ensures value { UnlessFault (IsVerifiedFrom (Some path.now) (H.calls host.old) (H.calls host.new) None
+        (W.contents output.old) (W.contents output.new) result × (errors.new ≡ errors.old)) result }
 {
     let name = path.as_str();
     match host.open_text(name) {
@@ -30,8 +30,8 @@ fn verify_file<H: Texts, W: Write, E: Write>(
     }
 }
 
-/// Prints whether the seals in a file are right, or those in the input if there is no file. Returns the exit status. A
-/// fault is reported to `errors`.
+/// Prints whether the seals in a file are right, or the seals in the input if there is no file. Returns the exit
+/// status. A fault is reported to `errors`.
 pub fn verify<H: Texts, R: Read, W: Write, E: Write>(
     host: &mut H,
     alloc: Global,
@@ -40,8 +40,8 @@ pub fn verify<H: Texts, R: Read, W: Write, E: Write>(
     output: &mut W,
     errors: &mut E,
 ) -> Status
-    ensures value { Verifies (IsVerifiedFrom file.now (H.calls host.old) (H.calls host.new) (R.remaining input.old)
-        (W.contents output.old) (W.contents output.new) result) (errors.new ≡ errors.old) result }
+    ensures value { UnlessFault (IsVerifiedFrom file.now (H.calls host.old) (H.calls host.new) (R.remaining input.old)
+        (W.contents output.old) (W.contents output.new) result × (errors.new ≡ errors.old)) result }
     ensures unread { IsSome file.now → input.new ≡ input.old }
 {
     match file {

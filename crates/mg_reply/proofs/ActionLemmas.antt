@@ -1,4 +1,4 @@
--- The loop over the items of a reply.
+-- The loop that writes the actions of a reply.
 use Rattle.std.proofs.Common.{◌≡◌, ℕ, ◌+◌, ◌<◌, ◌≤◌, List, [], ◌∷◌, ◌++◌, length, get_or, take, drop, Some, None, refl, sym, ap, ◌∙◌, append_assoc, arith, codes}
 use Rattle.std.proofs.lemmas.List.{drop_more, drop_all, take_more, drop-append-le, length-take-le, length-take}
 use Rattle.std.proofs.Math.ListN.{drop_of_length-le}

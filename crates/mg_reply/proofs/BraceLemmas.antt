@@ -1,4 +1,4 @@
--- A reader of braces: where the brace stands that closes the first one of a text.
+-- A reader of braces, which finds the brace that closes the first opening brace of a text.
 use Rattle.std.proofs.Common.{◌≡◌, ℕ, ◌+◌, ◌/◌, ◌%◌, ◌<◌, zero, suc, eqb, ltb, Bool, true, false, not, ◌&&◌, ◌||◌, cond, List, [], ◌∷◌, ◌++◌, Option, Some, None, refl, ap, ◌∙◌, append_assoc, arith, codes, decimal}
 use Rattle.std.proofs.lemmas.Bool.{and_parts, and_from, ne_eqb, lt-ltb}
 use Rattle.std.specs.List.{list_all}
@@ -6,7 +6,7 @@ use Rattle.std.specs.Fmt.{digits, digits_onto, digit_glyph}
 use Rattle.mg_words.specs.WordByte.{is_word_byte}
 use Rattle.mg_reply.specs.Listed.{listed, grouped}
 
--- what stands after the brace that closes the first brace of a text, where so many are open
+-- The text after the brace that closes the first opening brace, if d braces are open.
 abbrev pub after : ℕ → List ℕ → Option (List ℕ)
 after d [] = None
 after d (c ∷ cs) =
@@ -18,19 +18,19 @@ after d (c ∷ cs) =
       ]
     ]
 
--- a part that is read over
+-- Reading over the part p inside braces leaves the number of open braces unchanged.
 abbrev pub IsPassed : List ℕ → Type 0
 IsPassed p = (d : ℕ) (t : List ℕ) → after (suc d) (p ++ t) ≡ after (suc d) t
 
 pub passed-append : (p q : List ℕ) → IsPassed p → IsPassed q → IsPassed (p ++ q)
 passed-append p q one two = λ d t. ap (after (suc d)) (append_assoc p q t) ∙ one d (q ++ t) ∙ two d t
 
--- what stands in braces, after the opening one
+-- After an opening brace, reading over a part and a closing brace leaves the number of open braces unchanged.
 pub passed_inside : (p : List ℕ) → IsPassed p → (d : ℕ) (t : List ℕ) →
     after (suc (suc d)) ((p ++ codes "}") ++ t) ≡ after (suc d) t
 passed_inside p one d t = ap (after (suc (suc d))) (append_assoc p (codes "}") t) ∙ one (suc d) (codes "}" ++ t)
 
--- a byte that is no brace
+-- Whether a byte is neither an opening nor a closing brace.
 abbrev is_plain : ℕ → Bool
 is_plain c = not (eqb c 123) && not (eqb c 125)
 
@@ -61,7 +61,7 @@ plain_passed (c ∷ cs) h d t =
     let parts = and_parts (is_plain c) (list_all is_plain cs) h in
     plain_step d c (cs ++ t) parts.0 ∙ plain_passed cs parts.1 d t
 
--- the digits of a number
+-- The digits of a number contain no brace.
 glyph_plain : (d : ℕ) → d < 10 → is_plain (digit_glyph false d) ≡ true
 glyph_plain d h = by_test (ltb d 10) (lt-ltb d 10 h)
   where
@@ -95,7 +95,7 @@ decimal_passed n = plain_passed (decimal n) (decimal_plain n)
 pub decimal_is_passed : (n : ℕ) → IsPassed (decimal n)
 decimal_is_passed n = λ d t. decimal_passed n (suc d) t
 
--- words
+-- The bytes of a word contain no brace.
 mark_by : (x a b c d e f : Bool) → (x && not (((((a || b) || c) || d) || e) || f)) ≡ true → (not a && not b) ≡ true
 mark_by true true b c d e f h = absurd cc
 mark_by true false true c d e f h = absurd cc
@@ -112,7 +112,7 @@ word_plain (c ∷ cs) h =
 pub word_passed : (p : List ℕ) → list_all is_word_byte p ≡ true → IsPassed p
 word_passed p h = λ d t. plain_passed p (word_plain p h) (suc d) t
 
--- parts in a row
+-- Reading over a list of parts leaves the number of open braces unchanged.
 abbrev pub ArePassed : List (List ℕ) → Type 0
 ArePassed [] = Unit {0}
 ArePassed (x ∷ xs) = IsPassed x × ArePassed xs

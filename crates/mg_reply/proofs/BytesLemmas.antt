@@ -1,9 +1,9 @@
--- A part that is written with more bytes than it has.
+-- Writing a name together with the bytes of its storage after the name.
 use Rattle.std.proofs.Common.{◌≡◌, ℕ, ◌+◌, ◌≤◌, List, ◌++◌, length, take, sym, ap, ◌∙◌}
 use Rattle.std.proofs.lemmas.List.{length-take-le, take-append-le}
 use Rattle.std.proofs.Math.Seq.{take-append-add}
 
--- the text, then the part: what stands behind it is not seen
+-- The text with a part appended does not depend on the bytes after the part.
 pub part_seen : (len : ℕ) (bytes padded rest part : List ℕ) → len ≤ length bytes → length part ≤ length padded →
     take (length part) padded ≡ part → take (len + length part) (take len bytes ++ (padded ++ rest)) ≡
     take len bytes ++ part

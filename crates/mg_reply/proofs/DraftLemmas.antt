@@ -1,9 +1,9 @@
--- One part after another in a draft.
+-- Appending parts to a draft one after another.
 use Rattle.std.proofs.Common.{◌≡◌, ℕ, ◌+◌, ◌-◌, leb, Bool, true, false, cond, List, ◌++◌, length, Option, Some, None, refl, ap, ◌∙◌, append_assoc, length-append, arith}
 use Rattle.std.proofs.lemmas.Bool.{lt-leb, leb-false}
 use Rattle.mg_reply.specs.aids.Draft.{Drafted, limited, grown, drafted}
 
--- what is too long stays so
+-- A text that is too long remains too long when a part is appended.
 grown-limited : (x b : List ℕ) (fits : Bool) → leb (length x) 16000 ≡ fits →
     grown (cond fits (Some x) None) b ≡ limited (x ++ b)
 grown-limited x b true e = refl
@@ -20,7 +20,7 @@ unfolding drafted
 drafted-drafted d a b = ap (λ (o : Option (List ℕ)). record { front = d.front; room = d.room; text = o })
     (grown-grown d.text a b)
 
--- what was put after a part is after what that part is after
+-- Appending a and then b is the same as appending a ++ b.
 pub then : (d e f : Drafted) (a b : List ℕ) → e ≡ drafted d a → f ≡ drafted e b → f ≡ drafted d (a ++ b)
 then d e f a b first second = second ∙ ap (λ (x : Drafted). drafted x b) first ∙ drafted-drafted d a b
 

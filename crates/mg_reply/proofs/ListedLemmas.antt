@@ -1,4 +1,4 @@
--- Parts in a row, and items of a kind.
+-- Lists of parts with marks between them, and the items of a kind.
 use Rattle.std.proofs.Common.{◌≡◌, ℕ, ◌+◌, ◌<◌, ◌≤◌, Bool, true, false, ◌&&◌, cond, List, [], ◌∷◌, ◌++◌, map, length, get_or, drop, refl, sym, ap, ◌∙◌, append_assoc, codes}
 use Rattle.std.proofs.lemmas.List.{append-nil, drop_more, drop_all}
 use Rattle.std.specs.List.{filter}
@@ -19,7 +19,7 @@ listed-append (x ∷ xs) ys =
     ∙ sym (append_assoc (codes ",") (x ++ listed (codes ",") xs) (listed (codes ",") ys) ∙
     ap (λ t. codes "," ++ t) (append_assoc x (listed (codes ",") xs) (listed (codes ",") ys)))
 
--- after some parts the next is no longer the first
+-- The opening mark precedes the next part only if there is no part before it.
 pub listed-first-append : (opening : List ℕ) (first : Bool) (xs ys : List (List ℕ)) →
     listed (mark_of opening first) (xs ++ ys) ≡ listed (mark_of opening first) xs ++
     listed (mark_of opening (first && has_no_part xs)) ys
@@ -54,12 +54,12 @@ texts_by : (b : Bool) (x : Item) (xs : List Item) →
 texts_by true x xs = refl
 texts_by false x xs = refl
 
--- the first item apart
+-- The texts of a kind, split into those of the first item and those of the others.
 pub texts_of-cons : (kind : EntryKind) (x : Item) (xs : List Item) →
     texts_of kind (x ∷ xs) ≡ texts_of kind (x ∷ []) ++ texts_of kind xs
 texts_of-cons kind x xs = texts_by (is_of kind x) x (filter (is_of kind) xs)
 
--- one item of another kind
+-- An item of another kind is not written.
 other_by : (mark : List ℕ) (x : Item) (b : Bool) → b ≡ false → listed mark (map item_text (cond b (x ∷ []) [])) ≡ []
 unfolding listed
 other_by mark x true h = absurd cc
@@ -69,7 +69,7 @@ pub one_other : (mark : List ℕ) (kind : EntryKind) (x : Item) → is_of kind x
     listed mark (texts_of kind (x ∷ [])) ≡ []
 one_other mark kind x e = other_by mark x (is_of kind x) e
 
--- one item of the kind
+-- An item of this kind is written after the mark.
 this_by : (mark : List ℕ) (x : Item) (b : Bool) → b ≡ true →
     listed mark (map item_text (cond b (x ∷ []) [])) ≡ mark ++ item_text x
 this_by mark x true h = listed-one mark (item_text x)
@@ -79,7 +79,7 @@ pub one_of : (mark : List ℕ) (kind : EntryKind) (x : Item) → is_of kind x �
     listed mark (texts_of kind (x ∷ [])) ≡ mark ++ item_text x
 one_of mark kind x e = this_by mark x (is_of kind x) e
 
--- the loop over items: one more, and the end
+-- The loop over the items writes the texts of a kind.
 pub all_step : (d : Drafted) (opening : List ℕ) (first : Bool) (kind : EntryKind) (xs : List Item) (i : ℕ) (x : Item)
     → i < length xs → drafted (drafted d (listed (mark_of opening first) (texts_of kind (get_or xs i x ∷ []))))
     (listed (mark_of opening (first && has_no_part (texts_of kind (get_or xs i x ∷ []))))
@@ -108,14 +108,14 @@ pub all_end : (d : Drafted) (mark : List ℕ) (kind : EntryKind) (xs : List Item
 unfolding listed
 all_end d mark kind xs i le = rw (drop_all i xs le) refl
 
--- the topology with its braces as the first entry
+-- Writing the triples in braces writes the topology as the first entry.
 pub topology_is : (xs : List (List ℕ)) → listed (codes "{Topology{") xs ++
     closing (has_no_part xs) ≡ listed (codes "{") (topology_entry xs)
 unfolding listed
 topology_is [] = refl
 topology_is (x ∷ xs) = sym (listed-one (codes "{") (listed (codes "Topology{") (x ∷ xs) ++ codes "}"))
 
--- the topology, the commands and the errors, with the braces that they have together
+-- Writing the topology, the commands and the errors, with the braces around them, writes all entries.
 pub entries_are : (xs ys zs : List (List ℕ)) →
     ((listed (codes "{") xs ++ listed (mark_of (codes "{") (has_no_part xs)) ys) ++
     listed (mark_of (codes "{") (has_no_part xs && has_no_part ys)) zs) ++

@@ -9,12 +9,12 @@ pub last_is_action-append : (before : Bool) (xs : List Item) (x : Item) →
 last_is_action-append before [] x = refl
 last_is_action-append before (y ∷ ys) x = last_is_action-append (is_action y) ys x
 
--- what was said before counts for no items alone
+-- The flag of `last_is_action` matters only if there are no items.
 pub last_is_action-some : (xs : List Item) → 0 < length xs → last_is_action false xs ≡ last_is_action true xs
 last_is_action-some [] h = absurd (omega arith)
 last_is_action-some (x ∷ xs) h = refl
 
--- two items are no error alone
+-- A reply with two or more items is not a single error.
 pub is_refusal-two : (xs : List Item) → 1 < length xs → is_refusal xs ≡ false
 is_refusal-two [] h = absurd (omega arith)
 is_refusal-two (x ∷ []) h = absurd (omega arith)

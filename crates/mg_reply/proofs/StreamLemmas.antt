@@ -1,4 +1,4 @@
--- The parts of a whole stream, one after another.
+-- Writing the parts of a whole stream one after another.
 use Rattle.std.proofs.Common.{◌≡◌, ℕ, List, ◌∷◌, ◌++◌, Option, ap, append_assoc, codes}
 use Rattle.mg_sdp.specs.declared.chosen.Chosen.{Chosen}
 use Rattle.mg_reply.specs.declared.control.Control.{Control}

@@ -1,4 +1,4 @@
--- Replies with more items than they have room for are too long.
+-- If there are more items than a reply has room for, their text exceeds the limit.
 use Rattle.std.proofs.Common.{◌≡◌, ℕ, ◌+◌, ◌-◌, ◌*◌, ◌<◌, ◌≤◌, Bool, true, false, ◌&&◌, ◌||◌, not, cond, eqb, inl, inr, List, [], ◌∷◌, ◌++◌, length, refl, sym, subst, ap, ◌∙◌, append_assoc, length-append, arith, codes, decimal}
 use Rattle.std.specs.Prelude.{nat_le}
 use Rattle.std.specs.List.{list_all}
@@ -18,7 +18,7 @@ use Rattle.mg_reply.specs.Reply.{Answered, new_reply, is_action, last_is_action,
 use Rattle.mg_reply.specs.aids.Room.{places_of}
 use Rattle.mg_reply.specs.aids.Width.{is_wide, TooLongByText, AllItemsAreKept}
 
--- the bytes of parts, each with a comma
+-- The total length of the parts, each with a comma.
 weight : List (List ℕ) → ℕ
 weight [] = 0
 weight (x ∷ xs) = 1 + (length x + weight xs)
@@ -66,7 +66,7 @@ unfolding weight
 weight-append [] ys = omega arith
 weight-append (x ∷ xs) ys = omega (arith, weight-append xs ys)
 
--- an entry of an action that has at least 10 bytes with its comma
+-- Whether an item is an entry of an action that is at least 10 bytes long with its comma.
 abbrev is_part : Item → Bool
 is_part (Triple a b association) = nat_le 9 (length (item_text (Triple a b association)))
 is_part (Command word term outcome) = nat_le 9 (length (item_text (Command word term outcome)))
@@ -168,7 +168,7 @@ actions-long mark s p (Fault n ∷ xs) m h w e =
     more mark s p xs (Fault n) (actions-long mark s (p ++ Fault n ∷ []) xs m (part-after p (Fault n) h two.0) two.1
     (rw (is_none-after p (Fault n)) e))
 
--- what becomes of a reply by one more item
+-- Adding an item keeps the mark of a reply that is too long, and the number of the transaction.
 put-long : (a b : Bool) (r : Answered) (x : Item) → r.is_long ≡ true →
     (cond a (with_item r x 0) (cond b (marked r) (with_item r x 1))).is_long ≡ true
 put-long true b r x h = h
@@ -189,7 +189,7 @@ number-stays : (r : Answered) (xs : List Item) → (after_all r xs).number ≡ r
 number-stays r [] = refl
 number-stays r (x ∷ xs) = number-stays (after_put r x) xs ∙ put-number (is_action x && r.has_pending) (eqb r.room 0) r x
 
--- all items found room
+-- The reply has room for all items, and contains them all.
 abbrev AllKept : Answered → List Item → Type 0
 AllKept r xs = ((after_all r xs).is_long ≡ false) × ((after_all r xs).items ≡ r.items ++ xs)
 
@@ -227,7 +227,7 @@ fits r (Fault n ∷ xs) h le = kept-by r (Fault n) xs 1 (takes r (Fault n) refl 
 fits r (Action id ∷ xs) h le = action-fits r id xs r.has_pending refl le
     (λ l. fits (with_item r (Action id) 0) xs h l) (λ l. fits (with_item r (Action id) 1) xs h l)
 
--- more items than there is room for
+-- If there is no room for an item, the reply is marked as too long.
 over-by : (r : Answered) (x : Item) (xs : List Item) (q : Answered) → after_put r x ≡ q →
     (after_all q xs).is_long ≡ true → (after_all r (x ∷ xs)).is_long ≡ true
 over-by r x xs q e h = subst (λ (q : Answered). (after_all q xs).is_long ≡ true) (sym e) h
@@ -261,7 +261,7 @@ over r (Fault n ∷ xs) lt = over-one r (Fault n) xs (places_of true xs) refl lt
 over r (Action id ∷ xs) lt = action-over r id xs r.has_pending refl lt (λ l. over (with_item r (Action id) 0) xs l)
     (λ l. over (with_item r (Action id) 1) xs l)
 
--- one error alone asks for one place
+-- A single error needs at most one place.
 refusal-short : (xs : List Item) → is_refusal xs ≡ true → places_of false xs ≤ 1
 refusal-short [] h = absurd cc
 refusal-short (Triple a b t ∷ xs) h = absurd cc

@@ -1,4 +1,4 @@
--- How long heads are, and texts one after another.
+-- The lengths of message heads, and appending texts one after another.
 use Rattle.std.proofs.Common.{◌≡◌, ℕ, ◌-◌, ◌^◌, ◌<◌, ◌≤◌, List, ◌++◌, length, ap, ◌∙◌, append_assoc, length-append, arith, decimal, codes}
 use Rattle.mg_reply.specs.Bytes.{Written, appended}
 use Rattle.mg_words.proofs.DecimalLemmas.{number_short, port_short}
@@ -10,7 +10,7 @@ appended-appended w a b =
     let room : w.room - length a - length b ≡ w.room - length (a ++ b) = omega (arith, length-append a b) in
     λ i. record { text = append_assoc w.text a b i; room = room i }
 
--- a head takes at most 33 bytes
+-- A message head is at most 33 bytes long.
 pub head_short : (address : List ℕ) (port : ℕ) → length (address_text address) ≤ 15 → port < 2 ^ 16 →
     length (head_text address port) ≤ 33
 head_short address port short small = parts (address_text address) (decimal port) short (port_short port small)
@@ -21,6 +21,6 @@ head_short address port short small = parts (address_text address) (decimal port
 
 pub ruleset lengths = (port_short, number_short)
 
--- what was written after a part is after what that part is after
+-- Appending a and then b is the same as appending a ++ b.
 pub after : (w n m : Written) (a b : List ℕ) → n ≡ appended w a → m ≡ appended n b → m ≡ appended w (a ++ b)
 after w n m a b first second = second ∙ ap (λ (x : Written). appended x b) first ∙ appended-appended w a b

@@ -1,4 +1,4 @@
--- What a reply reports about a command's termination (RFC 3525, Annex B.2, mediaDescriptor and
+-- The media and statistics that a reply reports about a termination (RFC 3525, Annex B.2, mediaDescriptor and
 -- statisticsDescriptor).
 use Rattle.std.specs.Prelude.{ℕ, ◌*◌, List, [], ◌∷◌, ◌++◌, Option, Some, None, codes, decimal}
 use Rattle.mg_sdp.specs.declared.chosen.Chosen.{Chosen}
@@ -11,7 +11,7 @@ use Rattle.mg_words.specs.declared.stats.Stats.{Stats}
 use Rattle.mg_reply.specs.declared.outcome.Parts.{Parts}
 use Rattle.mg_reply.specs.Listed.{grouped}
 
--- the mode, and the depth of the play list in milliseconds, 20 per frame
+-- The text of the mode, and of the depth of the play list in milliseconds, 20 per frame.
 unfoldable pub control_text : Control → List ℕ
 control_text c =
     codes "LocalControl{Mode=" ++ (mode_text c.mode
@@ -23,12 +23,12 @@ local_text chosen = codes "Local{" ++ (session_text chosen ++ codes "}")
 unfoldable pub remote_text : Chosen → List ℕ
 remote_text chosen = codes "Remote{" ++ (session_text chosen ++ codes "}")
 
--- the text of a part, if there is one
+-- The text of a part, if there is a part.
 abbrev pub optional : {A : Type 0} → (A → List ℕ) → Option A → List (List ℕ)
 optional text None = []
 optional text (Some a) = text a ∷ []
 
--- the parts of the stream
+-- The parts of the stream that a reply reports.
 abbrev pub reported_stream : Media → List (List ℕ)
 reported_stream (Local chosen) = local_text chosen ∷ []
 reported_stream (Whole control local remote) =
@@ -42,6 +42,6 @@ statistics_text s =
     codes "Statistics{rtp/ps=" ++ (decimal s.ps ++ (codes ",rtp/pr=" ++ (decimal s.pr
     ++ (codes ",nt/os=" ++ (decimal s.os ++ (codes ",nt/or=" ++ (decimal s.or_ ++ codes "}")))))))
 
--- what a command reports: its media, then its statistics
+-- The parts that a reply reports about a command: media, then statistics.
 abbrev pub reported_parts : Parts → List (List ℕ)
 reported_parts parts = optional media_text parts.media ++ optional statistics_text parts.statistics

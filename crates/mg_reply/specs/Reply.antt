@@ -4,8 +4,8 @@ use Rattle.std.specs.Prelude.{◌==◌, not, List, [], ◌∷◌, ◌++◌, if�
 use Rattle.mg_reply.specs.declared.item.Item.{Item}
 use Rattle.mg_reply.specs.declared.item.Item.TheVariants.{Fault, Action}
 
--- The number of the transaction, the items so far, the room that remains, whether items wait for
--- the end of their action, and whether there was no room for an item.
+-- The number of the transaction, the items so far, the room that remains, whether items wait for the end of their
+-- action, and whether there was no room for an item.
 pub record Answered : Type 0 where
   pub number : ℕ
   pub items : List Item
@@ -20,18 +20,17 @@ abbrev pub is_action : Item → Bool
 is_action (Action id) = true
 is_action _ = false
 
--- whether the last item ends an action; `before` if there is none
+-- Whether the last item ends an action. If there is no item, the flag `before` says so.
 abbrev pub last_is_action : Bool → List Item → Bool
 last_is_action before [] = before
 last_is_action before (x ∷ xs) = last_is_action (is_action x) xs
 
--- a single error, with which the whole request is rejected
+-- Whether the items are a single error, which rejects the whole request.
 abbrev pub is_refusal : List Item → Bool
 is_refusal (Fault e ∷ []) = true
 is_refusal _ = false
 
--- A reply that can be written: it is a single error, or its last action has ended, or it is marked
--- as too long.
+-- Whether a reply can be written: it is a single error, or its last action has ended, or it is marked as too long.
 abbrev pub is_whole : Answered → Bool
 is_whole r = r.is_long || is_refusal r.items || last_is_action false r.items
 
@@ -41,7 +40,7 @@ IsWhole r = is_whole r ≡ true
 abbrev pub marked : Answered → Answered
 marked r = record r { is_long = true }
 
--- the reply with one more item, which needs `size` room
+-- The reply with one more item, which takes `size` places.
 abbrev pub with_item : Answered → Item → ℕ → Answered
 with_item r item size =
     record r {
@@ -50,14 +49,14 @@ with_item r item size =
       has_pending = not (is_action item);
     }
 
--- An action's end doesn't need room of its own if the action has items. Any other item needs one
--- place; if no place is left, the item is dropped and the reply is marked as too long.
+-- The reply after an item is put into it. The end of an action takes no place if the action has items. Any other item
+-- takes one place. If no place is left, the item is dropped and the reply is marked as too long.
 abbrev pub after_put : Answered → Item → Answered
 after_put r item =
     if is_action item && r.has_pending then with_item r item 0
     else (if r.room == 0 then marked r else with_item r item 1)
 
--- the reply after these items, one after another
+-- The reply after these items are put into it, one after another.
 abbrev pub after_all : Answered → List Item → Answered
 after_all r [] = r
 after_all r (x ∷ xs) = after_all (after_put r x) xs

@@ -6,13 +6,13 @@ use Rattle.mg_reply.specs.declared.item.Item.TheVariants.{Triple, Command}
 use Rattle.mg_words.specs.Term.{is_term}
 use Rattle.mg_reply.specs.Written.{reply_text}
 
--- whether the names in an item are names of terminations, as the types of the code ensure
+-- Whether the names in an item are valid termination names, as the types of the code ensure.
 abbrev pub has_terms : Item → Bool
 has_terms (Triple a b association) = is_term a && is_term b
 has_terms (Command word term outcome) = is_term term
 has_terms _ = true
 
--- no reply's text is a proper prefix of another reply's text
+-- No reply's text is a proper prefix of another reply's text.
 abbrev pub NoProperPrefix : Type 0
 NoProperPrefix =
     (n m : ℕ) (xs ys : List Item) (rest : List ℕ)

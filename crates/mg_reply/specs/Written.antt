@@ -9,28 +9,28 @@ use Rattle.mg_words.specs.ErrorNumber.{error_text}
 use Rattle.mg_reply.specs.Listed.{grouped}
 use Rattle.mg_reply.specs.Entries.{entries_of}
 
--- head = "MEGACO/1 [" address "]:" port LF
+-- The head of a message: "MEGACO/1 [" address "]:" port LF.
 abbrev pub head_text : List ℕ → ℕ → List ℕ
 head_text address port =
     codes "MEGACO/1 [" ++ (address_text address ++ (codes "]:" ++ (decimal port ++ codes "\n")))
 
--- action = "Context=" id ["{" entry *("," entry) "}"]
+-- The text of an action: "Context=" id ["{" entry *("," entry) "}"].
 abbrev pub action_text : ContextId → List Item → List ℕ
 action_text id items = codes "Context=" ++ (context_text id ++ grouped (entries_of items))
 
--- Actions with a mark before each. An action consists of the items since the previous action;
--- `pending` holds the next action's items so far.
+-- The actions, with a mark before each. An action consists of the items since the previous action. The list `pending`
+-- holds the items of the next action so far.
 unfoldable pub actions_text : List ℕ → List Item → List Item → List ℕ
 actions_text mark pending [] = []
 actions_text mark pending (Action id ∷ xs) =
     mark ++ (action_text id pending ++ actions_text (codes ",") [] xs)
 actions_text mark pending (x ∷ xs) = actions_text mark (pending ++ x ∷ []) xs
 
--- a single error, or actions with commas between them
+-- A single error, or actions with commas between them.
 abbrev pub items_text : List Item → List ℕ
 items_text (Fault e ∷ []) = error_text e
 items_text items = actions_text [] [] items
 
--- reply = "Reply=" n "{" (error | action *("," action)) "}"
+-- The text of a reply: "Reply=" n "{" (error | action *("," action)) "}".
 abbrev pub reply_text : ℕ → List Item → List ℕ
 reply_text n items = codes "Reply=" ++ (decimal n ++ (codes "{" ++ (items_text items ++ codes "}")))

@@ -33,7 +33,7 @@ impl Model for Draft {
 }
 
 impl Draft {
-    /// Starts a reply at the end of the text in the buffer. The draft holds the buffer until it is closed.
+    /// Starts a reply at the end of the text in the buffer. The draft owns the buffer until `close` returns it.
     pub fn begin(bytes: &mut Bytes) -> Self
         requires room { reply_limit ≤ bytes.old.room }
         ensures value { result ≡ record { front = bytes.old.text; room = bytes.old.room; text = Some [] } }

@@ -9,9 +9,9 @@ pub enum Media {
     /// The whole stream, for an audit.
     Whole {
         control: Control,
-        /// The Local, if it was set: what the gateway receives.
+        /// The Local, if it was set: the media that the gateway receives.
         local: Option<Chosen>,
-        /// The Remote, if it was set: where the gateway sends.
+        /// The Remote, if it was set: the address and port to which the gateway sends, and the law.
         remote: Option<Chosen>,
     },
 }

@@ -6,7 +6,7 @@ use crate::item::Item;
 use std::alloc::{AllocError, Global};
 use std::marker::Model;
 
-/// How many items a reply has room for. An action's end doesn't need room of its own if the action has items.
+/// The number of items that a reply has room for. The end of an action takes no room if the action has items.
 pub const ITEM_LIMIT: usize = 1600;
 
 /// A reply that is collected item by item, in memory that was allocated at the start.

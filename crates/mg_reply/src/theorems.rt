@@ -12,7 +12,7 @@ pub fn no_proper_prefix()
 
 /// Whether a reply is too long depends only on the text of its items, not on whether there was room for them.
 ///
-/// This holds if each item, with its comma, is at least 10 bytes long.
+/// The theorem requires each item to be at least 10 bytes long with its comma.
 pub fn too_long_by_text()
     ensures theorem { TooLongByText }
     ensures kept { AllItemsAreKept }

@@ -1,9 +1,9 @@
--- How members and records keep agreeing when a termination enters or leaves a context.
+-- Members and records still agree after a termination enters or leaves a context.
 use Rattle.mg_rooms.proofs.Common.{◌≡◌, ℕ, ◌+◌, ◌≤◌, ◌&&◌, Bool, true, cond, List, [], ◌∷◌, ◌++◌, length, arith, ◌==◌, length-append, count_by, eqb-true, Record, without}
 use Rattle.std.proofs.lemmas.Bool.Decides.{nat_tests}
 use Rattle.mg_rooms.proofs.CountLemmas.{one, one-false, count-cons, count-push}
 
--- how often n is in a list
+-- The number of times that n is in a list.
 abbrev pub times : ℕ → List ℕ → ℕ
 times n ms = count_by (λ m. m == n) ms
 
@@ -20,12 +20,12 @@ pub length-without-le : (k : ℕ) (ms : List ℕ) → length (without k ms) ≤ 
 length-without-le k [] = omega arith
 length-without-le k (m ∷ ms) = grind (arith, length-without-le k ms)
 
--- the members of each context are those that a count of the records in it has
+-- The members of each context agree with a count of the records of that context.
 pub record Counted (members : ℕ → List ℕ) (count : (Record → Bool) → ℕ) : Type 0 where
   pub same : (c n : ℕ) → times n (members c) ≡ count (λ r. (r.context == c) && (r.number == n))
   pub as_many : (c : ℕ) → length (members c) ≡ count (λ r. r.context == c)
 
--- r enters the context c
+-- Members and records still agree after r enters the context c.
 pub counted-entered : (m later : ℕ → List ℕ) (i j : (Record → Bool) → ℕ) (r : Record) (c k : ℕ) → r.context ≡ c →
     r.number ≡ k → Counted m i
     → ((d : ℕ) → later d ≡ cond (c == d) (m d ++ (k ∷ [])) (m d))
@@ -38,7 +38,7 @@ counted-entered m later i j r c k context number h is counts = record {
       grind (arith, length-append (m d) (k ∷ []));
 }
 
--- r leaves the context c, which it is in
+-- Members and records still agree after r leaves the context c.
 pub counted-left : (m later : ℕ → List ℕ) (i j : (Record → Bool) → ℕ) (r : Record) (c k : ℕ) → r.context ≡ c →
     r.number ≡ k → Counted m i → 1 ≤ i (λ x. (x.context == c) && (x.number == k))
     → ((d : ℕ) → later d ≡ cond (c == d) (without k (m d)) (m d))

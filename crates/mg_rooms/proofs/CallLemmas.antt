@@ -1,4 +1,4 @@
--- What searches in the tables say of the registry that they stand for.
+-- Searches and writes in the tables, in terms of the registry that the tables represent.
 use Rattle.mg_rooms.proofs.Common.{◌≡◌, ℕ, ◌+◌, ◌<◌, ◌≤◌, ◌&&◌, ◌==◌, Bool, List, [], ◌∷◌, ◌++◌, option_and_then, vec_len, length, Option, Some, None, refl, sym, ◌∙◌, ap, arith, get_or, slice_get, find, option_map, is_none, not, Ok, Err, suc, subst, true, false, set, IfSome, list_any, position_from, range_with_len, slice_get_read, Record, Context, NoContextLeft, eqb-true, lt-ltb, le-ltb, le-leb, in_order, has_key, passes_at, change, with_members, without, new_context, CONTEXTS, MEMBERS, LAST_CONTEXT, registry_of, Registry, record_at, context_at, free_slot, free_room, free_seat, members_of}
 use Rattle.std.proofs.lemmas.Bool.Decides.{nat_tests}
 use Rattle.std.proofs.lemmas.Option.{get_or_from_slice_get, slice_get_past}
@@ -9,7 +9,7 @@ use Rattle.mg_rooms.proofs.OrderLemmas.{any-in_order, change_none, in_order-push
 use Rattle.mg_rooms.proofs.ListsLemmas.{keeps-number, keeps-room, keeps_left}
 use Rattle.mg_rooms.proofs.TableLemmas.{lookup_some, lookup_none, table_change, free-in_order, find_spot, entry_at, empty_place, IsTable-set}
 
--- a context's room is its place
+-- The room of a context is its index in the table.
 pub room_some : (a : Inside) (n s : ℕ) → HasTables a →
     Some s ≡ position_from (has_key (λ x. x.number) n) 0 a.rooms.items →
     Some s ≡ option_map (λ x. x.room) (context_at (registry_of a) n)
@@ -36,7 +36,7 @@ find_free (true ∷ held) test k h =
     rw (← is) (find_free held test (k + 1) (λ i j eq lt. h (suc i) j (omega arith) (omega arith)))
 find_free (false ∷ held) test k h = grind (arith, h 0 k)
 
--- the first seat that is not held is the free one
+-- The first seat that is not held is the free seat.
 pub free_seat_is : (a : Inside) (c : ℕ) (held : List Bool) → length held ≡ MEMBERS
     → ((seat : ℕ) → seat < MEMBERS → get_or held seat true ≡
     list_any (passes_at (λ r. (r.context == c) && (r.seat == seat))) a.slots.items)
@@ -66,7 +66,7 @@ at_slot_past a s kept le =
     sym (find_spot (λ r. r.number) (λ r. r.slot) a.next_termination a.limits.slots a.slots.items s kept.slots ∙
     ap entry_at (slice_get_past a.slots.items s le))
 
--- a room is left where one is found empty
+-- If the table has an empty room, the new context gets this room.
 pub place_some : (a : Inside) (room : ℕ) → HasTables a → Some room ≡ position_from is_none 0 a.rooms.items →
     a.next_context ≤ LAST_CONTEXT → Ok (record { context = a.next_context; seat = 0; made = Some room }) ≡
     new_context (registry_of a)
@@ -82,7 +82,7 @@ place_none a kept found =
 
 -- ## Writes
 
--- what the tables of a termination and of a context are
+-- The table of terminations by slot, and the table of contexts by room.
 abbrev pub AreSlots : ℕ → ℕ → List (Option Record) → Type 0
 AreSlots next size t = IsTable (λ r. r.number) (λ r. r.slot) next size t
 
@@ -95,7 +95,7 @@ with_terminations w rs = record w { terminations = rs }
 abbrev pub with_contexts : Registry → List Context → Registry
 with_contexts w xs = record w { contexts = xs }
 
--- with one more made
+-- The registry with one more termination, or with one more context.
 abbrev pub with_more : Registry → List Record → Registry
 with_more w rs = record w { terminations = rs; next_termination = w.next_termination + 1 }
 
@@ -126,7 +126,7 @@ pub room_is_empty : (a : Inside) (s : ℕ) → HasTables a → free_room (regist
 room_is_empty a s kept free = empty_place (λ x. x.number) (λ x. x.room) a.next_context CONTEXTS a.rooms.items s
     kept.rooms free
 
--- a termination's entry is written anew, or goes
+-- Overwriting or removing the entry of a termination replaces or removes the termination.
 pub replaced_there : (a : Inside) (r : Record) (s : ℕ) → HasTables a →
     Some s ≡ position_from (has_key (λ x. x.number) r.number) 0 a.slots.items →
     IfSome (record_at (registry_of a) r.number) (λ x. x.slot ≡ r.slot)
@@ -186,7 +186,7 @@ left_and_then : (n : ℕ) (o : Option Context) →
 left_and_then n None = refl
 left_and_then n (Some x) = refl
 
--- a room's entry changes and keeps its number and room, or goes
+-- Changing the entry of a room without changing its number and room, or removing the entry, changes the context.
 context_change : (a : Inside) (n s : ℕ) (f : Context → Option Context) (old new : Option Context) →
     ((x : Context) → IfSome (f x) (λ y. (y.number ≡ x.number) × (y.room ≡ x.room))) → HasTables a →
     Some s ≡ position_from (has_key (λ x. x.number) n) 0 a.rooms.items → old ≡ get_or a.rooms.items s old →
@@ -199,7 +199,7 @@ context_change a n s f old new keeps kept found was is =
     let old_is = was ∙ get_or_from_slice_get a.rooms.items s (Some x) old at in
     rw (is ∙ ap (option_and_then f) old_is) (table, change_is)
 
--- n enters the context c in its room
+-- After n enters the context c in the table, the registry has n as the last member of c.
 pub entered_there : (a : Inside) (c n s : ℕ) (old new : Option Context) → HasTables a →
     Some s ≡ position_from (has_key (λ x. x.number) c) 0 a.rooms.items → old ≡ get_or a.rooms.items s old →
     new ≡ entered_entry n old
@@ -209,7 +209,7 @@ pub entered_there : (a : Inside) (c n s : ℕ) (old new : Option Context) → Ha
 entered_there a c n s old new kept found was is =
     context_change a c s (with_last n) old new (λ x. (refl, refl)) kept found was (is ∙ entered_and_then n old)
 
--- n leaves the context c in its room
+-- After n leaves the context c in the table, the registry has c without n.
 pub left_there : (a : Inside) (c n s : ℕ) (old new : Option Context) → HasTables a →
     Some s ≡ position_from (has_key (λ x. x.number) c) 0 a.rooms.items → old ≡ get_or a.rooms.items s old →
     new ≡ left_entry n old
@@ -220,7 +220,7 @@ left_there a c n s old new kept found was is =
     context_change a c s (λ x. with_members x (without n x.members)) old new
     (λ x. keeps_left x (without n x.members)) kept found was (is ∙ left_and_then n old)
 
--- a context that may be entered is there, and not full
+-- A context that may be entered exists and is not full.
 pub may_enter : (a : Inside) (c s : ℕ) (o : Option Context) →
     Some s ≡ position_from (has_key (λ x. x.number) c) 0 a.rooms.items → o ≡ get_or a.rooms.items s o →
     length (members_of (context_at (registry_of a) c)) < MEMBERS → IfSome o (λ x. length x.members < MEMBERS)
@@ -236,7 +236,7 @@ may_enter a c s o found was few =
 pub few_rooms : (a : Inside) (s : ℕ) → s < length a.rooms.items → s < vec_len a.rooms
 few_rooms a s lt = omega (arith, a.rooms.ok)
 
--- a context that one termination is in
+-- Writing a new context with one member into a free room appends the context to the registry.
 pub made_context_is : (a : Inside) (c room n : ℕ) (v : List ℕ) → HasTables a → free_room (registry_of a) ≡ Some room →
     c ≡ a.next_context → v ≡ n ∷ [] → in_order (λ y. y.number)
     (set a.rooms.items room (Some (record { number = c; room = room; members = v }))) ≡

@@ -1,4 +1,4 @@
--- The names that most proofs of this crate cite, passed on from one place. Declares nothing.
+-- Names that most proofs of this crate use, exported from one place.
 pub use Rattle.std.proofs.Common.{All, Bool, Err, IfOk, IfSome, IsSome, IsTrue, List, None, Ok, OnErr, Option, Result, Some, [], ap, arith, cond, eqb, false, find, get_or, inl, inr, is_none, length, length-append, nat_le, nat_lt, not, ok_or, option_and_then, option_map, option_to_list, refl, replicate, rules, set, slice_get, subst, suc, sym, take, true, unwrap_or, vec_len, zero, ℕ, ◌&&◌, ◌++◌, ◌+◌, ◌<◌, ◌==◌, ◌||◌, ◌↔◌, ◌∙◌, ◌∷◌, ◌≡◌, ◌≤◌, ◌⊎◌}
 pub use Rattle.mg_rooms.specs.Changes.{change, left, removed, with_members}
 pub use Rattle.mg_rooms.specs.Consistent.{AreContexts, IsConsistent, IsContext, IsTermination}

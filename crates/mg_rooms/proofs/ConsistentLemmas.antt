@@ -1,4 +1,4 @@
--- Each outcome of a command on a consistent registry is a consistent registry.
+-- Each successful command on a consistent registry results in a consistent registry.
 use Rattle.mg_rooms.proofs.Common.{◌≡◌, ℕ, ◌+◌, ◌<◌, ◌≤◌, ◌&&◌, Bool, cond, not, List, [], ◌∷◌, ◌++◌, length, Option, Some, None, refl, sym, ◌∙◌, ap, subst, arith, ◌==◌, find, option_and_then, IfSome, IsSome, count_by, list_any, range_with_len, eqb-true, eq-eqb, Record, Context, EntryPlace, Target, Limits, CONTEXTS, MEMBERS, LAST_CONTEXT, without, change, removed, left, with_members, Registry, record_at, context_at, members_at, members_of, IsTermination, IsContext, AreContexts, IsConsistent}
 use Rattle.std.proofs.lemmas.Bool.Decides.{nat_tests}
 use Rattle.std.proofs.Common.{length-append}
@@ -20,7 +20,7 @@ use Rattle.mg_rooms.proofs.OutcomeLemmas.{found_number, HasSettings, IsOpen, Has
 
 -- ## Places
 
--- the least that is free is below the limit, and nothing holds it
+-- The lowest free number is below the limit, and no item has it.
 free_is : {A : Type 0} (test : A → ℕ → Bool) (xs : List A) (n k : ℕ) →
     find (λ s. not (list_any (λ x. test x s) xs)) (range_with_len 0 n) ≡ Some k → (k < n) ×
     (count_by (λ x. test x k) xs ≡ 0)
@@ -28,7 +28,7 @@ free_is test xs n k h =
     let (passed, below, above) = find_in_range (λ s. not (list_any (λ x. test x s) xs)) 0 n k h in
     (omega arith, count-none (λ x. test x k) xs (not-true (list_any (λ x. test x k) xs) passed))
 
--- nobody holds the seat that a termination takes
+-- The seat that a termination takes is free.
 pub seat_free : (w : Registry) (c seat : ℕ) (made : Option ℕ) → IsConsistent w → IsOpen w c made →
     HasSeat w c seat made → (seat < MEMBERS) × (count_by (λ r. (r.context == c) && (r.seat == seat)) w.terminations ≡ 0)
 seat_free w c seat None h opens has = free_is (λ r s. (r.context == c) && (r.seat == s)) w.terminations MEMBERS seat has
@@ -46,7 +46,7 @@ seat_free w c seat (Some room) h opens has =
 
 -- ## Entering and leaving
 
--- n is a new member of the context c
+-- In the new registry, n is an additional member of the context c.
 pub record HasEntered (w after : Registry) (c n : ℕ) : Type 0 where
   pub contexts : AreContexts w.limits after.next_context after.contexts
   pub members : (d : ℕ) → members_at after d ≡ cond (c == d) (members_at w d ++ (n ∷ [])) (members_at w d)
@@ -97,7 +97,7 @@ entered_ok w place n None h from last (some, few) = record {
     both None is = absurd (cc)
     both (Some x) is = refl
 
--- n is no member of the context c
+-- In the new registry, n is not a member of the context c.
 pub record HasLeft (w after : Registry) (c n : ℕ) : Type 0 where
   pub contexts : AreContexts w.limits after.next_context after.contexts
   pub members : (d : ℕ) → members_at after d ≡ cond (c == d) (without n (members_at w d)) (members_at w d)
@@ -155,7 +155,7 @@ start_sound limits last h = record {
   last_context = let few = h.1.few_contexts in omega arith;
 }
 
--- a termination is in a context that is there
+-- The context of a termination has a number below the next one.
 pub existing_context : (w : Registry) (n : ℕ) (r : Record) → IsConsistent w → record_at w n ≡ Some r →
     r.context < w.next_context
 existing_context w n r h found =
@@ -174,7 +174,7 @@ existing_context w n r h found =
         h.contexts.each is in
         grind (arith, key, within)
 
--- a termination is counted in its context
+-- A termination is counted among the records of its context.
 pub inside : (w : Registry) (c n : ℕ) (r : Record) → record_at w n ≡ Some r → r.context ≡ c →
     1 ≤ count_by (λ x. (x.context == c) && (x.number == n)) w.terminations
 inside w c n r found is = count-found (λ x. (x.context == c) && (x.number == n)) (λ x. x.number == n)
@@ -186,12 +186,12 @@ pub found_termination : (w : Registry) (n : ℕ) (r : Record) → IsConsistent w
 found_termination w n r h found = all-found (IsTermination w.limits w.next_termination) (λ x. x.number == n)
     w.terminations r h.terminations.each found
 
--- settings leave a termination within the limits
+-- Settings keep a termination within the limits.
 settled : (limits : Limits) (next : ℕ) (old r : Record) → HasSettings old r → IsTermination limits next old →
     IsTermination limits next r
 settled limits next old r has h = grind arith
 
--- a change that a test does not see
+-- Replacing a record does not change a count if the test gives the same result for both records.
 same_count : (p : Record → Bool) (rs : List Record) (r old : Record) →
     find (λ x. x.number == r.number) rs ≡ Some old → one (p r) ≡ one (p old) →
     count_by p (change (λ x. x.number) r.number (λ _. Some r) rs) ≡ count_by p rs
@@ -281,7 +281,7 @@ add_sound w after target d h a =
     (rw has.slot unheld) (rw (has.context, has.seat) unseated))
     (record { same = agree.same; as_many = agree.as_many }) (omega arith) (omega arith))
 
--- a termination that enters another context takes a seat that nobody holds
+-- A termination that enters another context takes a free seat.
 moved_seat : (rs : List Record) (place : EntryPlace) (old r : Record) →
     ((c seat : ℕ) → count_by (λ x. (x.context == c) && (x.seat == seat)) rs ≤ 1) →
     count_by (λ x. (x.context == place.context) && (x.seat == place.seat)) rs ≡ 0 →

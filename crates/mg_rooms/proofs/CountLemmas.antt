@@ -1,10 +1,10 @@
--- Lemmas on counts, of what is found, and of what holds of each, when a list grows at its end or one entry changes.
+-- Lemmas on counting, finding and checking the items of a list that grows at its end or in which one item changes.
 use Rattle.mg_rooms.proofs.Common.{◌≡◌, ℕ, zero, suc, ◌+◌, ◌<◌, ◌≤◌, length, get_or, Bool, true, false, cond, List, [], ◌∷◌, ◌++◌, Option, Some, None, refl, ap, arith, ◌==◌, find, option_to_list, option_and_then, IfSome, list_any, count_by, AllByRecursion, change}
 use Rattle.std.proofs.lemmas.Bool.Decides.{nat_tests}
 use Rattle.std.proofs.lemmas.List.Sums.{sum_by-cons, sum_by-append, sum_by_push}
 use Rattle.mg_rooms.proofs.OrderLemmas.{KeepsKey}
 
--- 1 where it is true
+-- The number 1 if the flag is true, and otherwise 0.
 abbrev pub one : Bool → ℕ
 one b = cond b 1 0
 
@@ -37,7 +37,7 @@ module _ {A : Type 0} where
   count-none p [] h = refl
   count-none p (x ∷ xs) h = grind (arith, count-none p xs)
 
-  -- what passes both tests passes the second
+  -- If each item that passes p also passes q, p counts at most as many items as q.
   pub count-weaker : (p q : A → Bool) (xs : List A) → ((x : A) → p x ≡ true → q x ≡ true) →
       count_by p xs ≤ count_by q xs
   count-weaker p q [] h = omega arith
@@ -56,13 +56,13 @@ module _ {A : Type 0} where
   all_counted p [] h = refl
   all_counted p (x ∷ xs) h = grind (arith, count-cons p x xs, all_counted p xs)
 
-  -- what stands in a list and passes is counted
+  -- If an item of the list passes the test, the count is at least 1.
   count-at : (p : A → Bool) (xs : List A) (i : ℕ) (d : A) → i < length xs → p (get_or xs i d) ≡ true → 1 ≤ count_by p xs
   count-at p [] i d lt e = absurd (omega arith)
   count-at p (x ∷ xs) zero d lt e = let step = count-cons p x xs in let first = one-true (p x) e in omega arith
   count-at p (x ∷ xs) (suc i) d lt e = grind (arith, count-cons p x xs, count-at p xs i d)
 
-  -- the only one that passes is found, wherever it stands
+  -- The only item that passes the test is found at any index.
   pub find-at : (p : A → Bool) (xs : List A) (i : ℕ) (d : A) → i < length xs → p (get_or xs i d) ≡ true →
       count_by p xs ≤ 1 → find p xs ≡ Some (get_or xs i d)
   find-at p [] i d lt e one_only = absurd (omega arith)
@@ -70,7 +70,7 @@ module _ {A : Type 0} where
   find-at p (x ∷ xs) (suc i) d lt e one_only =
       grind (arith, count-cons p x xs, count-at p xs i d, find-at p xs i d)
 
-  -- the only one that passes is found, where another test finds it
+  -- If another test finds the only item that passes p, p finds the same item.
   pub find-found : (p q : A → Bool) (xs : List A) (x : A) → find q xs ≡ Some x → p x ≡ true → count_by p xs ≤ 1 →
       find p xs ≡ Some x
   find-found p q [] x found e one_only = absurd (cc found)
@@ -81,7 +81,7 @@ module _ {A : Type 0} where
   find-none p [] h = refl
   find-none p (x ∷ xs) h = grind (arith, count-cons p x xs, find-none p xs)
 
-  -- two that are found and pass a test that one passes at most are the same
+  -- Two items that are found and pass a test that at most one item passes are the same item.
   pub same_found : (p q r : A → Bool) (xs : List A) (x y : A) → find q xs ≡ Some x → find r xs ≡ Some y → p x ≡ true →
       p y ≡ true → count_by p xs ≤ 1 → x ≡ y
   same_found p q r [] x y fx fy px py few = absurd (cc)

@@ -1,10 +1,10 @@
--- An entry that was found where a hint said.
+-- An entry that is found with a hint is the entry that a search finds.
 use Rattle.mg_rooms.proofs.Common.{◌≡◌, ℕ, zero, suc, ◌+◌, Bool, true, List, [], ◌∷◌, Option, Some, None, refl, sym, ◌∙◌, arith, slice_get, eqb-true, position_from, has_key}
 use Rattle.std.proofs.lemmas.Bool.{false≢true}
 use Rattle.std.proofs.lemmas.Bool.Decides.{nat_tests}
 use Rattle.mg_rooms.specs.aids.Tables.{HoldsOnce}
 
--- what passes a test at one place alone is found there
+-- If only one index of a table passes the test, the search finds this index.
 only_there : {A : Type 0} (p : A → Bool) (k : ℕ) (t : List A) (s : ℕ) (o : A) → slice_get t s ≡ Some o → p o ≡ true →
     ((i : ℕ) (x : A) → slice_get t i ≡ Some x → p x ≡ true → i ≡ s) → Some (s + k) ≡ position_from p k t
 only_there p k [] s o at e only = absurd (cc)
@@ -14,7 +14,7 @@ only_there p k (x ∷ t) (suc s) o at e only =
     in
     grind (arith, nat_tests, only 0 x refl, rest)
 
--- where a key is found, it is found first, since it is there once
+-- If an entry has the key, the search for the key finds this entry, since the key occurs once.
 pub found_here : {A : Type 0} (key : A → ℕ) (t : List (Option A)) (s n : ℕ) (o : Option A) → HoldsOnce key t →
     slice_get t s ≡ Some o → has_key key n o ≡ true → Some s ≡ position_from (has_key key n) 0 t
 found_here key t s n None once at e = absurd (false≢true e)

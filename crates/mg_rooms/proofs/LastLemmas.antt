@@ -1,4 +1,4 @@
--- What each outcome leaves as it was.
+-- Properties that each successful command leaves unchanged.
 use Rattle.mg_rooms.proofs.Common.{◌≡◌, ℕ, ◌≤◌, false, List, [], ◌∷◌, ◌++◌, Option, Some, None, refl, sym, ◌∙◌, ap, subst, arith, inl, inr, ◌==◌, find, option_and_then, count_by, cases_Bool, eqb-true, ne_eqb, Record, Context, EntryPlace, Target, without, change, removed, left, with_members, Registry, record_at, context_at, IsTermination, AreContexts, IsConsistent}
 use Rattle.std.proofs.lemmas.Bool.Decides.{nat_tests}
 use Rattle.mg_rooms.specs.Changes.{inserted, replaced, entered}
@@ -29,7 +29,7 @@ own_removed w n r h found =
     find-change_same (λ x. x.number) n (λ _. None) w.terminations (λ x e. tt) (h.terminations.one_number n)
     ∙ ap (option_and_then (λ (_ : Record). None)) found
 
--- the next termination is not there
+-- No termination has the next number.
 pub next_is_new : (w : Registry) → IsConsistent w → record_at w w.next_termination ≡ None
 next_is_new w h = find-none (λ x. x.number == w.next_termination) w.terminations
     (count-zero (IsTermination w.limits w.next_termination) (λ x. x.number == w.next_termination) w.terminations
@@ -52,7 +52,7 @@ record_entered w place n made m = ap (λ (rs : List Record). find (λ x. x.numbe
 
 -- ## Contexts
 
--- a context that is there after one changes was there before, in its room
+-- A context that exists after a change existed before it, in the same room.
 changed_room : (d c : ℕ) (f : Context → Option Context) (xs : List Context) (y : Context) →
     ((z : Context) → Keeps z (f z)) → count_by (λ z. z.number == d) xs ≤ 1 →
     find (λ z. z.number == c) (change (λ z. z.number) d f xs) ≡ Some y →
@@ -112,7 +112,7 @@ room_left w d n c y h after = changed_room d c (λ x. with_members x (without n 
 
 -- ## Outcomes
 
--- what lasts, and what the others keep, where only the termination n changes
+-- If only the termination n and the contexts c and d change, slots, seats and rooms last and all else is unchanged.
 lasting : (w after : Registry) (n c d : ℕ)
     → ((m : ℕ) → (n == m) ≡ false → record_at after m ≡ record_at w m)
     → ((r s : Record) → record_at w n ≡ Some r → record_at after n ≡ Some s →

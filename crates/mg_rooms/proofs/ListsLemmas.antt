@@ -1,4 +1,4 @@
--- How the terminations and the contexts of a gateway stay sound when one is made, changes or ends.
+-- The terminations and contexts of a gateway remain valid when one is created, changes or ends.
 use Rattle.mg_rooms.proofs.Common.{◌≡◌, ℕ, ◌+◌, ◌<◌, ◌≤◌, ◌&&◌, true, cond, List, [], ◌∷◌, ◌++◌, Option, Some, None, refl, sym, ap, arith, inl, inr, ◌==◌, find, option_to_list, option_and_then, IfSome, count_by, cases_Bool, eqb-true, ne_eqb, Record, Context, Limits, change, members_of, IsTermination, IsContext, AreContexts, with_members}
 use Rattle.std.proofs.lemmas.Bool.Decides.{nat_tests}
 use Rattle.mg_rooms.specs.Consistent.{AreTerminations}
@@ -31,7 +31,7 @@ terminations-push limits next rs r h is number slot seat = record {
       grind (arith, nat_tests, eqb-true r.context c, eqb-true r.seat s, seat, h.one_seat c s);
 }
 
--- a termination changes, and takes no seat that another holds
+-- The terminations remain valid when a termination changes without taking a seat that another one holds.
 pub terminations-changed : (limits : Limits) (next : ℕ) (rs : List Record) (old r : Record) →
     AreTerminations limits next rs → find (λ x. x.number == r.number) rs ≡ Some old → IsTermination limits next r →
     r.slot ≡ old.slot
@@ -74,7 +74,7 @@ later_context : (limits : Limits) (next : ℕ) (x : Context) → IsContext limit
 later_context limits next x h = let below = h.below in
     record { from = h.from; below = omega arith; room = h.room; some = h.some; few = h.few }
 
--- no context has the next number
+-- No context has the next number.
 pub no_next_context : (limits : Limits) (next : ℕ) (xs : List Context) → AreContexts limits next xs →
     count_by (λ x. x.number == next) xs ≡ 0
 no_next_context limits next xs h = count-zero (IsContext limits next) (λ x. x.number == next) xs h.each
@@ -95,7 +95,7 @@ contexts-push limits next xs x h is number room = record {
       grind (arith, nat_tests, eqb-true x.room k, one-false (x.room == k), h.one_room k);
 }
 
--- what becomes of a context keeps its number and room
+-- If a context still exists after the change, its number and room are the same.
 abbrev pub Keeps : Context → Option Context → Type 0
 Keeps x o = IfSome o (λ y. (y.number ≡ x.number) × (y.room ≡ x.room))
 
@@ -143,11 +143,11 @@ contexts-changed limits next c f xs keeps is h = record {
 
 -- ## Members
 
--- the members of the context c of a list
+-- The members of the context c in a list of contexts.
 abbrev pub members_in : List Context → ℕ → List ℕ
 members_in xs c = members_of (find (λ x. x.number == c) xs)
 
--- a context is made with its first member
+-- After a context is created, its first member is its only member.
 pub members-made : (limits : Limits) (next : ℕ) (xs : List Context) (x : Context) (n : ℕ) →
     AreContexts limits next xs → x.number ≡ next → x.members ≡ n ∷ [] → (d : ℕ) →
     members_in (xs ++ (x ∷ [])) d ≡ cond (x.number == d) (members_in xs d ++ (n ∷ [])) (members_in xs d)
@@ -164,7 +164,7 @@ members-made limits next xs x n h number members d = at (find (λ y. y.number ==
 other_than : (c d : ℕ) → (c == d) ≡ true → d ≡ c
 other_than c d e = sym (eqb-true c d e)
 
--- a context changes its members
+-- After the context c changes, its members are those that g computes, and other contexts keep their members.
 pub members-changed : (limits : Limits) (next c : ℕ) (f : Context → Option Context) (g : List ℕ → List ℕ)
     (xs : List Context) → AreContexts limits next xs → ((x : Context) → Keeps x (f x)) →
     ((o : Option Context) → IfSome o (λ x. x.number ≡ c) → find (λ x. x.number == c) xs ≡ o →

@@ -1,4 +1,4 @@
--- What a command that is done went through, and where its termination stands after it.
+-- The checks that a successful command has passed, and the place of its termination.
 use Rattle.mg_rooms.proofs.Common.{◌≡◌, ℕ, ◌<◌, ◌≤◌, ◌&&◌, Bool, true, false, not, length, Option, Some, None, Result, Ok, Err, refl, ◌∙◌, ap, subst, arith, ◌==◌, nat_lt, nat_le, IsSome, ok_or, unwrap_or, eqb-true, ltb-true, ne_eqb, Record, EntryPlace, Settings, Target, ErrorNumber, Limits, CONTEXTS, MEMBERS, LAST_CONTEXT, removed, left, Registry, record_at, context_at, members_at, free_slot, free_room, free_seat, named, member, new_slot}
 use Rattle.std.proofs.lemmas.Bool.{and_parts, not-true, leb-true}
 use Rattle.mg_rooms.specs.declared.target.Target.TheVariants.{Null, New, Number}
@@ -35,7 +35,7 @@ ok_or_ok : {A : Type 0} (o : Option A) (e : ErrorNumber) (x : A) → ok_or o e �
 ok_or_ok None e x h = absurd (cc)
 ok_or_ok (Some y) e x h = cc
 
--- a record that is found has the number
+-- A record that is found has the number of the search.
 pub found_number : (w : Registry) (n : ℕ) (r : Record) → record_at w n ≡ Some r → r.number ≡ n
 found_number w n r h = eqb-true r.number n (found_key (λ x. x.number == n) w.terminations r h)
 
@@ -53,7 +53,7 @@ member_found w target n r h =
 
 -- ## Settings
 
--- all but the settings stays
+-- The records differ only in their settings.
 pub record HasSettings (old r : Record) : Type 0 where
   pub number : r.number ≡ old.number
   pub context : r.context ≡ old.context
@@ -85,17 +85,17 @@ with_settings_ok limits settings old r h =
 
 -- ## Places
 
--- the context is there and not full, or it is to be made in a free room
+-- The context exists and is not full, or it can be created in a free room.
 abbrev pub IsOpen : Registry → ℕ → Option ℕ → Type 0
 IsOpen w c None = IsSome (context_at w c) × (length (members_at w c) < MEMBERS)
 IsOpen w c (Some room) = (c ≡ w.next_context) × (w.next_context ≤ LAST_CONTEXT) × (free_room w ≡ Some room)
 
--- and nobody holds the seat
+-- The seat is the lowest free seat of the context, or 0 in a new context.
 abbrev pub HasSeat : Registry → ℕ → ℕ → Option ℕ → Type 0
 HasSeat w c seat None = free_seat w c ≡ Some seat
 HasSeat w c seat (Some room) = seat ≡ 0
 
--- a place where a termination may enter; it is in no context that is there, but in the action's
+-- A termination may enter at the place. The place is in the action's context or in a new one.
 pub record Enters (w : Registry) (target : Target) (place : EntryPlace) : Type 0 where
   pub opens : IsOpen w place.context place.made
   pub free : HasSeat w place.context place.seat place.made
@@ -140,7 +140,7 @@ new_place_ok w (Number d) u place may h =
 
 -- ## Commands that are done
 
--- d is new, in a free slot
+-- A successful Add: d is the new termination, in a free slot.
 pub record Added (w after : Registry) (target : Target) (d : Record) : Type 0 where
   pub slot : ℕ
   pub place : EntryPlace
@@ -150,7 +150,7 @@ pub record Added (w after : Registry) (target : Target) (d : Record) : Type 0 wh
   pub has : HasSettings (fresh w.next_termination slot place) d
   pub is : after ≡ entered (inserted w d) place d.number
 
--- d was `old`
+-- A successful Modify: the record d replaces `old`.
 pub record Modified (w after : Registry) (n : ℕ) (d : Record) : Type 0 where
   pub old : Record
   pub was : record_at w n ≡ Some old
@@ -159,7 +159,7 @@ pub record Modified (w after : Registry) (n : ℕ) (d : Record) : Type 0 where
   pub has : HasSettings old d
   pub is : after ≡ replaced w d
 
--- d was `old`, in another context
+-- A successful Move: the record d replaces `old`, in another context.
 pub record Moved (w after : Registry) (target : Target) (n : ℕ) (d : Record) : Type 0 where
   pub old : Record
   pub place : EntryPlace
@@ -171,7 +171,7 @@ pub record Moved (w after : Registry) (target : Target) (n : ℕ) (d : Record) :
   pub has : HasSettings (at_place old place) d
   pub is : after ≡ left (entered (replaced w d) place d.number) old.context d.number
 
--- d is no more
+-- A successful Subtract: the termination d is removed.
 pub record Subtracted (w after : Registry) (n : ℕ) (d : Record) : Type 0 where
   pub was : record_at w n ≡ Some d
   pub number : d.number ≡ n

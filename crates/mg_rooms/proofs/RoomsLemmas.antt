@@ -1,8 +1,8 @@
--- What an outcome says of the terminations and contexts that a call left.
+-- The terminations and contexts after a call, in terms of the outcome of its command.
 use Rattle.mg_rooms.proofs.Common.{◌≡◌, Result, Ok, Err, OnErr, Record, ErrorNumber, Registry}
 use Rattle.mg_rooms.specs.aids.Gives.{Gives}
 
--- a refused call changes nothing
+-- A rejected call changes nothing.
 pub refused : {A : Type 0} (record_of : A → Record) (old new : Registry) (r : Result A ErrorNumber)
     (outcome : Result (Registry × Record) ErrorNumber) → Gives record_of old new r outcome → OnErr r (new ≡ old)
 refused record_of old new (Ok d) outcome h = tt

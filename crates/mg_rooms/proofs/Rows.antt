@@ -1,4 +1,4 @@
--- Small runs, computed.
+-- Short sequences of commands, evaluated by computation.
 use Rattle.mg_rooms.proofs.Common.{Target, ErrorNumber, NoContextLeft, Settings, Limits, Record, Registry, record_at, context_at, members_at}
 use Rattle.std.specs.Prelude.{option_map, ◌≡◌, ℕ, ◌+◌, ◌-◌, List, [], ◌∷◌, ◌++◌, Option, Some, None, Result, Ok, Err, refl, replicate}
 use Rattle.mg_rooms.specs.declared.target.Target.TheVariants.{Null, New, Number}
@@ -19,7 +19,7 @@ limits slots first_termination first_context =
       first_context = first_context;
     }
 
--- a gateway with so many slots
+-- A new gateway with this many slots.
 abbrev with_slots : ℕ → Registry
 with_slots slots = start_of (limits slots 1 1)
 
@@ -45,7 +45,7 @@ abbrev after : Registry → Result (Registry × Record) ErrorNumber → Registry
 after w (Ok (next, done)) = next
 after w (Err refusal) = w
 
--- the registry after commands, of which each that is refused changes nothing
+-- The registry after a sequence of commands. A rejected command changes nothing.
 abbrev run : List Command → Registry → Registry
 run [] w = w
 run (command ∷ commands) w = run commands (after w (command w))
@@ -54,12 +54,12 @@ abbrev answer_of : Result (Registry × Record) ErrorNumber → Result (ℕ × �
 answer_of (Ok (next, done)) = Ok (done.context, done.number)
 answer_of (Err refusal) = Err refusal
 
--- the context and the termination, or the refusal, of each command
+-- For each command, the context and the termination after it, or the error.
 abbrev answers : List Command → Registry → List (Result (ℕ × ℕ) ErrorNumber)
 answers [] w = []
 answers (command ∷ commands) w = answer_of (command w) ∷ answers commands (after w (command w))
 
--- so many Adds in a context that is made for them
+-- The commands that create the context c and add n more terminations to it.
 abbrev full : ℕ → ℕ → List Command
 full c n = adds New ∷ replicate n (adds (Number c))
 
@@ -74,7 +74,7 @@ pub no_slot_left : answers (adds New ∷ adds (Number 1) ∷ []) (with_slots 1) 
 unfolding add
 no_slot_left = refl
 
--- a slot is used again, a number is not
+-- A slot is reused after its termination is removed, but a termination number is not.
 pub slot_used_again : answers (full 1 1 ++ subtracts (Number 1) 2 ∷ adds (Number 1) ∷ [])
     (with_slots termination_limit) ≡ Ok (1, 1) ∷ Ok (1, 2) ∷ Ok (1, 2) ∷ Ok (1, 3) ∷ []
 unfolding add subtract
@@ -95,7 +95,7 @@ pub last_context : answers (adds New ∷ adds New ∷ []) (start_of (limits term
 unfolding add
 last_context = refl
 
--- a context that ended isn't made again, and its number isn't used again
+-- A context that has ended does not exist again, and its number is not reused.
 pub ends_with_last_member : answers (adds New ∷ subtracts (Number 1) 1 ∷ adds (Number 1) ∷ adds New ∷ [])
     (with_slots termination_limit) ≡ Ok (1, 1) ∷ Ok (1, 1) ∷ Err UnknownContext ∷ Ok (2, 2) ∷ []
 unfolding add subtract
@@ -103,7 +103,7 @@ ends_with_last_member = refl
 
 -- ## Full contexts
 
--- a context that is made for as many members as it can have
+-- The commands that fill the first context up to the limit on members.
 abbrev filled : List Command
 filled = full 1 (member_limit - 1)
 
@@ -112,7 +112,7 @@ pub full_context : answers (adds (Number 1) ∷ moves New 5 ∷ adds (Number 1) 
 unfolding add move_to
 full_context = refl
 
--- where no slot is left either, that is what is told
+-- If the context is full and no slot is free, the error is `NoTerminationLeft`.
 pub no_slot_before_full : answers (adds (Number 1) ∷ subtracts (Number 2) (member_limit + 1) ∷ adds (Number 2) ∷ [])
     (run (filled ++ full 2 1) (with_slots (member_limit + 2))) ≡ Err NoTerminationLeft ∷ Ok (2, member_limit + 1) ∷
     Ok (2, member_limit + 3) ∷ []
@@ -125,7 +125,8 @@ pub slot_of_the_last : option_map (λ r. r.slot) (record_at (run
 unfolding add subtract
 slot_of_the_last = refl
 
--- with all contexts there none can be made, not even for the only member of one
+-- If the limit on contexts is reached, no context can be created, not even for a termination that is alone in its
+-- context.
 pub no_context_left : answers (moves New 1 ∷ adds New ∷ [])
     (run (replicate context_limit (adds New)) (with_slots termination_limit)) ≡ Err NoContextLeft ∷
     Err NoContextLeft ∷ []
@@ -142,7 +143,7 @@ pub wrong_contexts : answers (moves Null 1 ∷ moves (Number 1) 1 ∷ modifies N
 unfolding add modify move_to subtract
 wrong_contexts = refl
 
--- who moves in goes last; its old context ends when it was alone there
+-- A termination that moves becomes the last member of its new context. Its old context ends if no member is left.
 pub moves_in_last : members_at (run (full 1 2 ++ moves New 1 ∷ moves (Number 1) 1 ∷ [])
     (with_slots termination_limit)) 1 ≡ 2 ∷ 3 ∷ 1 ∷ []
 unfolding add move_to
@@ -155,7 +156,7 @@ moved_out_of_its_own = refl
 
 -- ## Media
 
--- an alternative that cannot be served
+-- Settings with a Local whose only alternative is not supported.
 abbrev unserved : Settings
 unserved = record { mode = Some SendOnly; depth = None; local = Some (Offered (None ∷ [])); remote = None }
 

@@ -1,4 +1,4 @@
--- Where fewer terminations are in a context than can be, a seat is free.
+-- If a context has fewer members than the limit, a seat is free.
 use Rattle.mg_rooms.proofs.Common.{◌≡◌, ℕ, zero, suc, ◌+◌, ◌<◌, ◌≤◌, Bool, true, false, not, ◌&&◌, List, [], ◌∷◌, Option, Some, None, refl, arith, ◌==◌, nat_le, find, IsSome, length}
 use Rattle.std.proofs.lemmas.Bool.Decides.{nat_tests}
 use Rattle.std.proofs.lemmas.Bool.{and_parts, le-leb}
@@ -10,7 +10,7 @@ one_more false s k = refl
 one_more true s k = grind arith
 
 module _ {A : Type 0} (among : A → Bool) (seat : A → ℕ) where
-  -- those among them from a seat on
+  -- The number of items of the context whose seat is k or higher.
   abbrev from : ℕ → List A → ℕ
   from k xs = count_by (λ x. among x && nat_le k (seat x)) xs
 
@@ -24,14 +24,14 @@ module _ {A : Type 0} (among : A → Bool) (seat : A → ℕ) where
       let here = count-cons (λ y. among y && (seat y == k)) x xs in
       grind (arith, from_next k xs, some, here, count-cons (λ y. among y && nat_le (k + 1) (seat y)) x xs)
 
-  -- n seats from k on that are taken
+  -- If the n seats from k on are all taken, at least n items have a seat of k or higher.
   all_taken : (k n : ℕ) (xs : List A) → find (λ s. not (list_any (λ x. among x && (seat x == s)) xs))
       (range_with_len k n) ≡ None → n ≤ from k xs
   all_taken k zero xs h = omega arith
   all_taken k (suc n) xs h =
       grind (arith, all_taken (k + 1) n xs, counted_any (λ x. among x && (seat x == k)) xs, from_next k xs)
 
-  -- fewer than n leave one of n seats free
+  -- If fewer than n items are in the context, one of n seats is free.
   pub seat_left : (n : ℕ) (xs : List A) → count_by among xs < n →
       IsSome (find (λ s. not (list_any (λ x. among x && (seat x == s)) xs)) (range_with_len 0 n))
   seat_left n xs few =
@@ -56,7 +56,7 @@ module _ {A : Type 0} (among : A → Bool) (seat : A → ℕ) where
       let rest = few_from (k + 1) n size xs (omega arith) all once in
       let here = once k in omega (arith, from_next k xs)
 
--- there are not more than spots where each has a spot of its own
+-- If each item has a spot of its own, there are at most as many items as spots.
 pub no_more : {A : Type 0} (spot : A → ℕ) (n : ℕ) (xs : List A) → AllByRecursion (λ x. spot x < n) xs →
     ((s : ℕ) → count_by (λ x. spot x == s) xs ≤ 1) → length xs ≤ n
 no_more spot n xs all once =

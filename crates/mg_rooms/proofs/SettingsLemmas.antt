@@ -6,7 +6,7 @@ use Rattle.mg_sdp.specs.declared.offer.Offer.{Offer}
 use Rattle.mg_sdp.specs.declared.chosen.Chosen.{Chosen}
 use Rattle.mg_rooms.specs.Settings.{offered}
 
--- an offer with an alternative
+-- The setting after an offer with at least one alternative.
 pub offered-some : (choice : List (Option Offer) → Option Chosen) (alternatives : List (Option Offer)) →
     (alternatives ≡ [] → ⊥) → offered choice alternatives ≡
     option_map_or (λ chosen. Ok (Some chosen)) (choice alternatives) (Err NoMedia)

@@ -1,4 +1,4 @@
--- What is consistent is sound, and what a command that was done leaves.
+-- A consistent registry is sound, and so is the registry after a successful command.
 use Rattle.mg_rooms.proofs.Common.{◌≡◌, ℕ, Some, Ok, Err, sym, IsSome, option_map, ◌<◌, ◌==◌, ◌∷◌, List, [], get_or, refl, ◌∙◌, AllByRecursion, eq-eqb, eqb-true, Record, Settings, Target, Registry, record_at, context_at, IsTermination, IsConsistent, ErrorNumber, named, member, removed, left}
 use Rattle.mg_rooms.specs.aids.Sound.{IsSound}
 use Rattle.mg_rooms.specs.declared.member.Member.{Member}
@@ -48,7 +48,7 @@ sound_if w h = record {
   once = λ c n. members_once w c n h;
 }
 
--- what a command that was done leaves: r is the termination n, no other has changed, nor any context but c and d
+-- The registry after a successful command: r is the termination n, and only the contexts c and d have changed.
 pub record Leaves (w after : Registry) (n c d : ℕ) (r : Record) : Type 0 where
   pub sound : IsSound after
   pub own : record_at after n ≡ Some r
@@ -81,7 +81,7 @@ modify_leaves w after target n settings d h outcome =
     leaves w after n d.context d.context d (modify_sound w after n d h a)
     (rw a.is (own_replaced w n d a.old h a.at a.number)) (modify_lasts w after n d h a)
 
--- `old` is the record of the termination n, which moves
+-- After a successful Move, only the old context and the new context have changed.
 pub move_leaves : (w after : Registry) (target : Target) (n : ℕ) (settings : Settings) (d old : Record) →
     IsConsistent w → record_at w n ≡ Some old → move_to w target n settings ≡ Ok (after, d) →
     Leaves w after n old.context d.context d
@@ -92,7 +92,7 @@ move_leaves w after target n settings d old h found outcome =
     (rw a.is (record_entered (replaced w d) a.place d.number a.place.made n ∙
     own_replaced w n d a.old h a.at a.number)) (move_lasts w after target n d h a))
 
--- what is left where a member of the action's context is ended
+-- The registry after a member of the action's context is subtracted.
 pub record Ends (w after : Registry) (n : ℕ) (r : Record) : Type 0 where
   pub sound : IsSound after
   pub was : record_at w n ≡ Some r
@@ -123,7 +123,7 @@ there_as w n r m found is room = record { found = rw is found; room = rw is room
 
 -- ## Moves
 
--- a termination that moves is the one that was found by its number
+-- A Move by the number in the record is the same as a Move by the number in the command.
 pub moving : (w after : Registry) (target : Target) (n : ℕ) (settings : Settings) (d old : Record) (from : Member) →
     IsConsistent w → Ok old ≡ named w n → from.record ≡ old →
     move_to w target from.record.number settings ≡ Ok (after, d) →

@@ -1,4 +1,4 @@
--- What a consistent registry says of who is found in it.
+-- Lookups in a consistent registry.
 use Rattle.mg_rooms.proofs.Common.{◌≡◌, ℕ, ◌<◌, ◌≤◌, ◌&&◌, Bool, true, false, List, [], ◌∷◌, length, Option, Some, None, refl, sym, ◌∙◌, ap, arith, inl, inr, ◌==◌, ◌↔◌, find, IsSome, IsTrue, ◌⊎◌, Ok, Err, nat_lt, nat_le, ok_or, count_by, list_any, cases_Bool, eqb-true, eq-eqb, Record, Context, CONTEXTS, MEMBERS, LAST_CONTEXT, NoContextLeft, new_slot, new_context, EntryPlace, ErrorNumber, Registry, record_at, context_at, members_at, free_seat, free_room, free_slot, IsTermination, IsContext, IsConsistent}
 use Rattle.std.proofs.lemmas.Bool.Decides.{nat_tests}
 use Rattle.std.proofs.lemmas.Bool.{and_parts, and_from, cases_lt}
@@ -47,7 +47,7 @@ context_within w c x h found = (
   all-found (IsContext w.limits w.next_context) (λ y. y.number == c) w.contexts x h.contexts.each found,
 )
 
--- what is counted is found
+-- If a test counts at least one item, it finds an item.
 counted_found : {A : Type 0} (p : A → Bool) (xs : List A) → 1 ≤ count_by p xs → (x : A) × (find p xs ≡ Some x)
 counted_found p [] h = absurd (omega arith)
 counted_found p (x ∷ xs) h =
@@ -129,7 +129,7 @@ pub slot_used_up : (w : Registry) → (new_slot w ≡ Err NoTerminationLeft) ↔
     ((free_slot w ≡ None) ⊎ (LAST_TERMINATION < w.next_termination))
 slot_used_up w = (λ told. grind arith, λ why. grind arith)
 
--- where a resource is left, the test before it has failed
+-- If a resource is free and the error is still reported, the check on the limit has failed.
 used_up : (left : Bool) (o : Option ℕ) (f : ℕ → EntryPlace) (e : ErrorNumber) → IsSome o →
     (passes left e >>= (λ _. ok_or o e >>= (λ x. Ok (f x)))) ≡ Err e → left ≡ false
 used_up true None f e some told = absurd (cc)

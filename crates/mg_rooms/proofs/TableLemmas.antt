@@ -1,4 +1,4 @@
--- Lemmas on tables whose entries name their places.
+-- Lemmas on tables whose entries name their own indices.
 use Rattle.mg_rooms.proofs.Common.{◌≡◌, ℕ, get_or, zero, suc, ◌+◌, ◌<◌, ◌≤◌, ◌⊎◌, Bool, true, false, not, List, [], ◌∷◌, length, Option, Some, None, refl, sym, ◌∙◌, ap, arith, inl, inr, set, replicate, ◌==◌, slice_get, find, is_none, IfSome, eq-eqb, ne_eqb, list_any, position_from, range_with_len, in_order, has_key, change}
 use Rattle.std.proofs.lemmas.Bool.Decides.{nat_tests}
 use Rattle.std.proofs.lemmas.Bool.{not-true, true≢false}
@@ -9,7 +9,7 @@ use Rattle.std.proofs.lemmas.Option.{get_or_from_slice_get}
 use Rattle.mg_rooms.specs.aids.Order.{place}
 use Rattle.mg_rooms.proofs.OrderLemmas.{KeepsKey, change_at, find-in_order, find-in_order_none, first_at_zero, found_key}
 
--- the entry at a place
+-- The entry at an index, or `None` past the end.
 abbrev pub entry_at : {A : Type 0} → Option (Option A) → Option A
 entry_at None = None
 entry_at (Some o) = o
@@ -33,13 +33,13 @@ pub position_within : {A : Type 0} (p : A → Bool) (k : ℕ) (t : List A) (s : 
 position_within p k [] s h = absurd (cc)
 position_within p k (o ∷ t) s h = grind (arith, position_within p (k + 1) t s)
 
--- what is found in a range is in it, and passes the test
+-- A number that is found in a range is in the range and passes the test.
 pub find_in_range : (p : ℕ → Bool) (k n s : ℕ) → find p (range_with_len k n) ≡ Some s → (p s ≡ true) × (s < n + k) ×
     (k ≤ s)
 find_in_range p k zero s h = absurd (cc)
 find_in_range p k (suc n) s h = grind (arith, find_in_range p (k + 1) n s)
 
--- a table has no other place with this key
+-- The table has the key n only at index s.
 abbrev pub OnlyAt : {A : Type 0} → (A → ℕ) → ℕ → ℕ → List (Option A) → Type 0
 OnlyAt {A} key n s t = (i : ℕ) (x : A) → slice_get t i ≡ Some (Some x) → key x ≡ n → i ≡ s
 
@@ -68,7 +68,7 @@ module _ {A : Type 0} (key spot : A → ℕ) where
   find-place_only p x [] e none = rw e refl
   find-place_only p x (y ∷ ys) e none = grind (arith, find-place_only p x ys e)
 
-  -- no entry names a place before the first
+  -- No entry names an index below the first one.
   find_later : (t : List (Option A)) (k n : ℕ) → ((i : ℕ) (x : A) → slice_get t i ≡ Some (Some x) → spot x ≡ i + k) →
       n < k → find (λ x. spot x == n) (in_order key t) ≡ None
   find_later [] k n h lt = refl
@@ -95,7 +95,7 @@ module _ {A : Type 0} (key spot : A → ℕ) where
       find-place_other (λ x. spot x == j) y (in_order key t) (ne_eqb (spot y) j (λ q. omega arith))
       ∙ find_at_spot t (k + 1) s j (λ i x at. h (suc i) x at ∙ omega arith) (omega arith)
 
-  -- what a search by place finds
+  -- A search for an index finds the entry at this index.
   pub find_spot : (next size : ℕ) (t : List (Option A)) (s : ℕ) → IsTable key spot next size t →
       find (λ x. spot x == s) (in_order key t) ≡ entry_at (slice_get t s)
   find_spot next size t s h = find_at_spot t 0 s s (λ i x at. h.at_spot i x at ∙ omega arith) (omega arith)
@@ -104,7 +104,7 @@ module _ {A : Type 0} (key spot : A → ℕ) where
   any_found p [] = refl
   any_found p (x ∷ xs) = grind (arith, any_found p xs)
 
-  -- a place is held by an entry of the list where the table has one there
+  -- An item of the list names an index if and only if the table has an entry at this index.
   held-in_order : (next size : ℕ) (t : List (Option A)) (s : ℕ) → IsTable key spot next size t →
       list_any (λ x. spot x == s) (in_order key t) ≡ is_some (entry_at (slice_get t s))
   held-in_order next size t s h = any_found (λ x. spot x == s) (in_order key t) ∙ ap is_some (find_spot next size t s h)
@@ -118,13 +118,13 @@ module _ {A : Type 0} (key spot : A → ℕ) where
       let is : held k ≡ true = h 0 k (omega arith) in
       rw is (free_from held (k + 1) t (λ i j eq. h (suc i) j (omega arith)))
 
-  -- the first empty place is the least that no entry names
+  -- The first empty entry has the lowest index that no item names.
   pub free-in_order : (next size : ℕ) (t : List (Option A)) → IsTable key spot next size t →
       position_from is_none 0 t ≡ find (λ s. not (list_any (λ x. spot x == s) (in_order key t))) (range_with_len 0 size)
   free-in_order next size t h =
       grind (arith, free_from (λ s. list_any (λ x. spot x == s) (in_order key t)) 0 t, held-in_order next size t)
 
-  -- the least that no entry names is an empty place
+  -- The lowest index that no item names is an empty entry.
   pub empty_place : (next size : ℕ) (t : List (Option A)) (s : ℕ) → IsTable key spot next size t →
       find (λ m. not (list_any (λ x. spot x == m) (in_order key t))) (range_with_len 0 size) ≡ Some s →
       (slice_get t s ≡ Some None) × (s < length t)
@@ -141,7 +141,7 @@ module _ {A : Type 0} (key spot : A → ℕ) where
       empty_within (Some x ∷ u) zero lt e = absurd (true≢false e)
       empty_within (o ∷ u) (suc i) lt e = empty_within u i (omega arith) e
 
-  -- what a search by key finds
+  -- A search for a key finds the entry at the first index that has the key.
   pub lookup_some : (n : ℕ) (t : List (Option A)) (s : ℕ) (o : Option A) →
       Some s ≡ position_from (has_key key n) 0 t → o ≡ get_or t s o → o ≡ find (λ x. key x == n) (in_order key t)
   lookup_some n t s o found at =
@@ -152,7 +152,7 @@ module _ {A : Type 0} (key spot : A → ℕ) where
       None ≡ find (λ x. key x == n) (in_order key t)
   lookup_none n t found = sym (find-in_order_none key n 0 t (sym found))
 
-  -- the entry with a key changes and keeps its key and its place, or goes
+  -- Changing an entry without changing its key and index, or removing it, keeps the table valid.
   pub table_change : (next size : ℕ) (t : List (Option A)) (n s : ℕ) (f : A → Option A) → KeepsKey key n f →
       ((x : A) → find (λ y. key y == n) (in_order key t) ≡ Some x → IfSome (f x) (λ y. spot y ≡ spot x)) →
       IsTable key spot next size t → Some s ≡ position_from (has_key key n) 0 t →

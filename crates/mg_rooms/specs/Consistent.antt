@@ -9,7 +9,7 @@ use Rattle.mg_words.specs.Limits.{least_depth, greatest_depth}
 use Rattle.mg_words.specs.Limits.{context_limit, member_limit, last_termination, last_context}
 use Rattle.mg_rooms.specs.Registry.{Registry, members_at}
 
--- the fields of a termination are within the limits, and its number is below the next one
+-- The fields of a termination are within the limits, and its number is below the next one.
 pub record IsTermination (limits : Limits) (next : ℕ) (r : Record) : Type 0 where
   pub from : limits.first_termination ≤ r.number
   pub below : r.number < next
@@ -18,8 +18,8 @@ pub record IsTermination (limits : Limits) (next : ℕ) (r : Record) : Type 0 wh
   pub min_depth : least_depth ≤ r.depth
   pub max_depth : r.depth ≤ greatest_depth
 
--- Each termination is within the limits, and they are in ascending order of number. No two
--- terminations have the same number, the same slot, or the same seat in a context.
+-- Each termination is within the limits, and the terminations are in ascending order of number. No two terminations
+-- have the same number, the same slot, or the same seat in a context.
 pub record AreTerminations (limits : Limits) (next : ℕ) (rs : List Record) : Type 0 where
   pub each : AllByRecursion (IsTermination limits next) rs
   pub rising : AllPairs (λ r later. r.number < later.number) rs
@@ -27,7 +27,7 @@ pub record AreTerminations (limits : Limits) (next : ℕ) (rs : List Record) : T
   pub one_slot : (slot : ℕ) → count_by (λ r. r.slot == slot) rs ≤ 1
   pub one_seat : (c seat : ℕ) → count_by (λ r. (r.context == c) && (r.seat == seat)) rs ≤ 1
 
--- the fields of a context are within the limits, and its number is below the next one
+-- The fields of a context are within the limits, and its number is below the next one.
 pub record IsContext (limits : Limits) (next : ℕ) (x : Context) : Type 0 where
   pub from : limits.first_context ≤ x.number
   pub below : x.number < next
@@ -35,8 +35,8 @@ pub record IsContext (limits : Limits) (next : ℕ) (x : Context) : Type 0 where
   pub some : 0 < length x.members
   pub few : length x.members ≤ member_limit
 
--- each context is within the limits, and they are in ascending order of number; no two have the
--- same number or the same room
+-- Each context is within the limits, and the contexts are in ascending order of number. No two contexts have the same
+-- number or the same room.
 pub record AreContexts (limits : Limits) (next : ℕ) (xs : List Context) : Type 0 where
   pub each : AllByRecursion (IsContext limits next) xs
   pub rising : AllPairs (λ x later. x.number < later.number) xs

@@ -4,15 +4,15 @@ use Rattle.std.specs.List.{range_with_len}
 use Rattle.mg_words.specs.Limits.{termination_limit, last_context}
 use Rattle.mg_rooms.specs.declared.limits.Limits.{Limits}
 
--- the UDP port of a slot
+-- The UDP port of a slot.
 abbrev pub slot_port : Limits → ℕ → ℕ
 slot_port limits slot = limits.base_port + 2 * slot
 
--- the slot with a UDP port
+-- The slot with a UDP port.
 abbrev pub slot_at : Limits → ℕ → Option ℕ
 slot_at limits port = find (λ slot. slot_port limits slot == port) (range_with_len 0 limits.slots)
 
--- there is at least one slot, there are not too many, and each has an even UDP port
+-- There is at least one slot, there are not too many slots, and each slot has an even UDP port.
 pub record HasPool (limits : Limits) : Type 0 where
   pub some_slot : 0 < limits.slots
   pub few_slots : limits.slots ≤ termination_limit
@@ -20,8 +20,8 @@ pub record HasPool (limits : Limits) : Type 0 where
   pub even : limits.base_port % 2 ≡ 0
   pub last : slot_port limits (limits.slots - 1) ≤ 65535
 
--- the first numbers are valid: context 0 is the null context, and the numbers above the last
--- context's denote $ and *
+-- The first numbers are valid. Context 0 is the null context, and the numbers above the last context number denote $
+-- and *.
 pub record HasFirstNumbers (limits : Limits) : Type 0 where
   pub termination : 0 < limits.first_termination
   pub context : 0 < limits.first_context

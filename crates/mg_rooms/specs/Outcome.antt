@@ -22,31 +22,31 @@ use Rattle.mg_rooms.specs.Changes.{inserted, replaced, removed, entered, left}
 
 -- ## Checks
 
--- the termination that a command names
+-- The termination that a command names.
 abbrev pub named : Registry → ℕ → Result Record ErrorNumber
 named w n = ok_or (record_at w n) refusals.UnknownTermination
 
 abbrev pub there : Registry → ℕ → Result (Unit {0}) ErrorNumber
 there w c = elim (context_at w c) [ Some x ↦ Ok tt | None ↦ Err refusals.UnknownContext ]
 
--- a termination may enter a context that exists, or a new one
+-- The check that a termination may enter the action's context: the context must exist or be a new one.
 abbrev pub may_enter : Registry → Target → Result (Unit {0}) ErrorNumber
 may_enter w targets.Null = Err refusals.UnknownContext
 may_enter w targets.New = Ok tt
 may_enter w (targets.Number c) = there w c
 
--- only a context that exists may have members
+-- The check that the action's context may have members: the context must exist.
 abbrev pub may_have_members : Registry → Target → Result (Unit {0}) ErrorNumber
 may_have_members w targets.Null = Err refusals.NotInContext
 may_have_members w targets.New = Err refusals.UnknownContext
 may_have_members w (targets.Number c) = there w c
 
--- whether the action's context is the one with this number
+-- Whether the action's context is the one with this number.
 abbrev pub is_number : Target → ℕ → Bool
 is_number (targets.Number c) n = c == n
 is_number _ n = false
 
--- a member of the action's context
+-- A member of the action's context.
 abbrev pub member : Registry → Target → ℕ → Result Record ErrorNumber
 member w target n = do
   r ← named w n
@@ -56,20 +56,20 @@ member w target n = do
 
 -- ## Resources that may be exhausted
 
--- the slot for one more termination
+-- A slot for a new termination.
 abbrev pub new_slot : Registry → Result ℕ ErrorNumber
 new_slot w = do
   _ ← passes (nat_le w.next_termination last_termination) refusals.NoTerminationLeft
   ok_or (free_slot w) refusals.NoTerminationLeft
 
--- a seat in a context that exists; one is free if the context is not full
+-- A seat in a context that exists. A seat is free if the context is not full.
 abbrev pub new_seat : Registry → ℕ → Result EntryPlace ErrorNumber
 new_seat w c = do
   _ ← passes (nat_lt (length (members_at w c)) member_limit) refusals.ContextFull
   seat ← ok_or (free_seat w c) refusals.ContextFull
   Ok (record { context = c; seat = seat; made = None })
 
--- the first seat of a new context; a room is free if the limit on contexts is not reached
+-- The first seat of a new context. A room is free if the limit on contexts is not reached.
 abbrev pub new_context : Registry → Result EntryPlace ErrorNumber
 new_context w = do
   _ ← passes (nat_lt (length w.contexts) context_limit && nat_le w.next_context last_context)
@@ -77,7 +77,7 @@ new_context w = do
   room ← ok_or (free_room w) refusals.NoContextLeft
   Ok (record { context = w.next_context; seat = 0; made = Some room })
 
--- the place where a termination enters
+-- The place where a termination enters the action's context.
 abbrev pub new_place : Registry → Target → Result EntryPlace ErrorNumber
 new_place w targets.Null = Err refusals.UnknownContext
 new_place w targets.New = new_context w

@@ -12,7 +12,7 @@ use Rattle.mg_words.specs.Limits.{first_depth}
 use Rattle.mg_words.specs.ResultSteps.{◌>>=◌}
 use Rattle.mg_rooms.specs.Settings.{depth_after, media_after}
 
--- a new termination
+-- A new termination, which is inactive.
 abbrev pub fresh : ℕ → ℕ → EntryPlace → Record
 fresh number slot place =
     record {
@@ -26,11 +26,11 @@ fresh number slot place =
       remote = None;
     }
 
--- the termination at another place, otherwise unchanged
+-- The termination at another place, with all other fields unchanged.
 abbrev pub at_place : Record → EntryPlace → Record
 at_place old place = record old { context = place.context; seat = place.seat }
 
--- the termination with a command's settings applied, or the error in its media
+-- The termination with a command's settings applied, or the error in its media.
 abbrev pub with_settings : Limits → Settings → Record → Result Record ErrorNumber
 with_settings limits settings old = do
   local ← media_after (local_choice limits.address (slot_port limits old.slot)) settings.local

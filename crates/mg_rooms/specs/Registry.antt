@@ -8,8 +8,7 @@ use Rattle.mg_rooms.specs.declared.context.Context.{Context}
 use Rattle.mg_rooms.specs.declared.limits.Limits.{Limits}
 use Rattle.mg_words.specs.Limits.{context_limit, member_limit}
 
--- terminations and contexts in order of their numbers, which is the order in which they were
--- created
+-- The terminations and contexts in order of their numbers, which is the order in which they were created.
 pub record Registry : Type 0 where
   pub limits : Limits
   pub terminations : List Record
@@ -17,7 +16,7 @@ pub record Registry : Type 0 where
   pub next_termination : ℕ
   pub next_context : ℕ
 
--- the registry of a new gateway
+-- The registry of a new gateway.
 abbrev pub start_of : Limits → Registry
 start_of limits =
     record {
@@ -36,35 +35,35 @@ record_at w n = find (λ r. r.number == n) w.terminations
 abbrev pub context_at : Registry → ℕ → Option Context
 context_at w c = find (λ x. x.number == c) w.contexts
 
--- the termination in a slot
+-- The termination in a slot.
 abbrev pub holder_of : Registry → ℕ → Option Record
 holder_of w slot = find (λ r. r.slot == slot) w.terminations
 
--- the members of a context, or none if the context does not exist
+-- The members of a context, or none if the context does not exist.
 abbrev pub members_at : Registry → ℕ → List ℕ
 members_at w c = option_map_or (λ x. x.members) (context_at w c) []
 
 -- ## Free slots, rooms and seats
 
--- the lowest number below n that passes the test
+-- The lowest number below n that passes the test.
 abbrev pub least_below : ℕ → (ℕ → Bool) → Option ℕ
 least_below n test = find test (range_with_len 0 n)
 
--- the lowest slot without a termination
+-- The lowest slot without a termination.
 abbrev pub free_slot : Registry → Option ℕ
 free_slot w =
     least_below w.limits.slots (λ slot. not (list_any (λ r. r.slot == slot) w.terminations))
 
--- the lowest room without a context
+-- The lowest room without a context.
 abbrev pub free_room : Registry → Option ℕ
 free_room w = least_below context_limit (λ room. not (list_any (λ x. x.room == room) w.contexts))
 
--- the lowest seat in the context that no termination holds
+-- The lowest seat in the context that no termination holds.
 abbrev pub free_seat : Registry → ℕ → Option ℕ
 free_seat w c =
     least_below member_limit (λ seat. not
     (list_any (λ r. (r.context == c) && (r.seat == seat)) w.terminations))
 
--- the termination n is in the context c
+-- The termination n is in the context c.
 abbrev pub IsMember : Registry → ℕ → ℕ → Type 0
 IsMember w c n = (r : Record) × (record_at w n ≡ Some r) × (r.context ≡ c)

@@ -2,6 +2,6 @@
 use Rattle.std.specs.Prelude.{Bool, Result, Ok, Err, if◌then◌else◌}
 use Rattle.mg_words.specs.declared.error_number.ErrorNumber.{ErrorNumber}
 
--- fails with this error if the test fails
+-- The step fails with this error if the test fails.
 abbrev pub passes : Bool → ErrorNumber → Result (Unit {0}) ErrorNumber
 passes test refusal = if test then Ok tt else Err refusal

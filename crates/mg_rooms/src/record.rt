@@ -20,9 +20,9 @@ pub struct Record {
     pub mode: Mode,
     /// The depth of its play list, in frames of 20 ms.
     pub depth: u8,
-    /// What the gateway receives, at its own address and the termination's port.
+    /// The media that the gateway receives, at its own address and the termination's port.
     pub local: Option<Chosen>,
-    /// What the gateway sends, with its destination address and port.
+    /// The media that the gateway sends, with the destination address and port.
     pub remote: Option<Chosen>,
 }
 

@@ -14,9 +14,9 @@ pub struct Settings {
     pub mode: Option<Mode>,
     /// The depth of the play list in frames of 20 ms, limited to 2–16 (see [`depth_within`]).
     pub depth: Option<u16>,
-    /// What the gateway should receive.
+    /// The media that the gateway should receive.
     pub local: Option<MediaSetting>,
-    /// What the gateway should send.
+    /// The media that the gateway should send.
     pub remote: Option<MediaSetting>,
 }
 

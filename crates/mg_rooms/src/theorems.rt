@@ -16,7 +16,7 @@ ghost use Rattle.mg_rooms.specs.Consistent.{IsConsistent};
 
 /// A context that is not full has a free seat, and a gateway below the limit on contexts has a free room.
 ///
-/// So a command is rejected with "context full" or "no context left" only if that is true.
+/// A command is rejected with "context full" or "no context left" only if that is true.
 pub fn tables_that_are_not_full_have_a_free_place()
     ensures seat { (w : Registry) (c : ℕ) → IsConsistent w → length (members_at w c) < MEMBERS →
         IsSome (free_seat w c) }
@@ -35,8 +35,8 @@ pub fn exhausted_resources_are_refused()
         ((CONTEXTS ≤ length w.contexts) ⊎ (LAST_CONTEXT < w.next_context)) }
 {}
 
-/// A new gateway is consistent, and every command preserves consistency. So it is consistent after any sequence of
-/// commands. A proof can use this fact even where no tables are in scope.
+/// A new gateway is consistent, and every command preserves consistency. So a gateway is consistent after any sequence
+/// of commands. A proof can use this fact even where no tables are in scope.
 pub fn outcomes_are_consistent()
     ensures start { (limits : Limits) → AreValidLimits limits → limits.first_termination ≤ LAST_TERMINATION →
         IsConsistent (start_of limits) }

@@ -1,4 +1,4 @@
--- The faults by part: what a fault says about the parts before it.
+-- The faults, each with the parts of the packet before the faulty part.
 use Rattle.std.proofs.Common.{◌≢◌, ℕ, ◌*◌, ◌<◌, ◌≤◌, ◌⊎◌, List, [], ◌++◌, length, inl, inr, refl, sym, subst}
 use Rattle.std.proofs.lemmas.List.{append-nil}
 use Rattle.std.specs.Prelude.{IsTrue}
@@ -9,7 +9,7 @@ use Rattle.mg_rtp.specs.Header.{Layout}
 use Rattle.mg_rtp.specs.Packet.{AreSources, Begins, IsExtension}
 use Rattle.mg_rtp.specs.RtpFault.{EndsInExtension, HasBadPadding, IsFault, version_of}
 
--- a header with a count of more sources than the bytes hold
+-- The bytes start with a header that counts more sources than the rest holds.
 pub record LacksSources (bytes : List ℕ) : Type 0 where
   pub layout : Layout
   pub header : Header
@@ -17,7 +17,7 @@ pub record LacksSources (bytes : List ℕ) : Type 0 where
   pub begins : Begins bytes layout header rest
   pub few : length rest < 4 * layout.source_count
 
--- a header and its sources, but no complete extension
+-- The bytes start with a header and its sources, but the extension is incomplete.
 pub record LacksExtension (bytes : List ℕ) : Type 0 where
   pub layout : Layout
   pub header : Header
@@ -28,7 +28,7 @@ pub record LacksExtension (bytes : List ℕ) : Type 0 where
   pub is_extended : IsTrue layout.is_extended
   pub ends : EndsInExtension rest
 
--- a header, its sources and its extension, but no valid padding
+-- The bytes start with a header, its sources and its extension, but the padding is invalid.
 pub record LacksPadding (bytes : List ℕ) : Type 0 where
   pub layout : Layout
   pub header : Header

@@ -1,4 +1,4 @@
--- Bytes are one packet, or have one fault, and not both.
+-- Bytes are either exactly one packet or have exactly one fault.
 use Rattle.std.proofs.Common.{◌≡◌, ℕ, ◌*◌, ◌/◌, ◌^◌, ◌<◌, ◌≤◌, Bool, true, false, List, [], ◌++◌, length, get_or, take, drop, Result, Ok, Err, refl, sym, ap, subst, ◌∙◌, append_assoc, arith, inl, inr}
 use Rattle.std.proofs.lemmas.List.{length-append}
 use Rattle.byteorder.specs.Endian.{big_bytes, big_number}
@@ -19,19 +19,19 @@ use Rattle.mg_rtp.proofs.Joined.{same_behind, extension_once, extension_ends, pa
 
 -- ---- headers
 
--- a bit is 0 or 1
+-- A bit is 0 or 1.
 bit_le : (b : Bool) → bit b ≤ 1
 bit_le false = omega arith
 bit_le true = omega arith
 
--- a bit is of one flag
+-- Flags with the same bit are equal.
 bit_once : (a b : Bool) → bit a ≡ bit b → a ≡ b
 bit_once false false e = refl
 bit_once false true e = absurd (omega (arith, e))
 bit_once true false e = absurd (omega (arith, e))
 bit_once true true e = refl
 
--- a first byte is of one layout
+-- Layouts with the same first byte are equal.
 layout_once : (l m : Layout) → l.source_count < 16 → m.source_count < 16 → first_byte l ≡ first_byte m → l ≡ m
 layout_once l m p q e =
     let la = bit_le l.is_padded in
@@ -46,13 +46,13 @@ layout_once l m p q e =
     rw (padded, extended, count) refl in
     made
 
--- bytes are of one number that fits them
+-- Numbers with the same n bytes are equal, if they fit in n bytes.
 number_once : (n x y : ℕ) → x < 256 ^ n → y < 256 ^ n → big_bytes n x ≡ big_bytes n y → x ≡ y
 number_once n x y p q e =
     sym (big_number-reads_back n x [] p) ∙ ap (λ (bytes : List ℕ). big_number n (bytes ++ [])) e ∙
     big_number-reads_back n y [] q
 
--- bytes are of one header
+-- Headers with the same bytes are equal.
 header_once : (h k : Header) → IsHeader h → IsHeader k → second_byte h ≡ second_byte k
     → big_bytes 2 h.sequence ≡ big_bytes 2 k.sequence → big_bytes 4 h.timestamp ≡ big_bytes 4 k.timestamp →
     big_bytes 4 h.ssrc ≡ big_bytes 4 k.ssrc → h ≡ k
@@ -71,7 +71,7 @@ header_once h k p q second a b c =
     rw (marker, payload_type, sequence, timestamp, ssrc) refl in
     made
 
--- one header, with one list behind it
+-- Bytes start with at most one header, and so the rest is unique too.
 pub begins_once : (bytes : List ℕ) (l m : Layout) (h k : Header) (r s : List ℕ) → Begins bytes l h r →
     Begins bytes m k s → (l ≡ m) × (h ≡ k) × (r ≡ s)
 begins_once bytes l m h k r s a b =
@@ -89,7 +89,7 @@ begins_once bytes l m h k r s a b =
 
 -- ---- packets
 
--- bytes are of one packet
+-- Bytes are at most one packet.
 pub packet_once : (bytes : List ℕ) (h k : Header) (p q : List ℕ) → IsPacket bytes h p → IsPacket bytes k q → (h ≡ k) ×
     (p ≡ q)
 packet_once bytes h k p q a b =
@@ -109,11 +109,11 @@ packet_once bytes h k p q a b =
 
 -- ---- faults
 
--- bytes that begin with a header are twelve at least
+-- Bytes that start with a header are at least twelve bytes long.
 twelve_at_least : (bytes : List ℕ) (l : Layout) (h : Header) (rest : List ℕ) → Begins bytes l h rest → 12 ≤ length bytes
 twelve_at_least bytes l h rest b = omega (arith, ap length b.joined)
 
--- and their version is 2
+-- The version of bytes that start with a header is 2.
 version_is_2 : (bytes : List ℕ) (l : Layout) (h : Header) (rest : List ℕ) → Begins bytes l h rest →
     get_or bytes 0 0 / 64 ≡ 2
 version_is_2 bytes l h rest b =
@@ -123,7 +123,7 @@ version_is_2 bytes l h rest b =
     let first : get_or bytes 0 0 ≡ first_byte l = ap (λ (x : List ℕ). get_or x 0 0) b.joined in
     omega arith
 
--- what has room for its sources doesn't end in them
+-- Bytes that hold all sources do not end within the sources.
 enough_sources : (bytes : List ℕ) (a : LacksSources bytes) (l : Layout) (h : Header) (sources rest : List ℕ) →
     Begins bytes l h (sources ++ rest) → AreSources l.source_count sources → ⊥
 enough_sources bytes a l h sources rest b are =
@@ -131,7 +131,7 @@ enough_sources bytes a l h sources rest b are =
     let counts = ap (λ (l : Layout). l.source_count) front.0 in
     omega (arith, a.few, ap length front.2, length-append sources rest, are, counts)
 
--- what has an extension, where there is to be one, doesn't end in it
+-- Bytes that hold the extension, if there is one, do not end within the extension.
 whole_extension : (bytes : List ℕ) (a : LacksExtension bytes) (l : Layout) (h : Header)
     (sources extension rest : List ℕ) → Begins bytes l h (sources ++ (extension ++ rest)) →
     AreSources l.source_count sources → IsExtension l.is_extended extension → ⊥
@@ -144,7 +144,7 @@ whole_extension bytes a l h sources extension rest b are is =
     extension_ends extension rest (subst (λ (x : Bool). IsExtension x extension) extended is)
     (subst EndsInExtension behind a.ends)
 
--- what ends in padding, where there is to be some, ends well
+-- The padding of a packet is valid.
 whole_padding : (bytes : List ℕ) (a : LacksPadding bytes) (h : Header) (p : List ℕ) → IsPacket bytes h p → ⊥
 whole_padding bytes a h p b =
     let front = begins_once bytes a.layout b.layout a.header h _ _ a.begins b.begins in
@@ -161,23 +161,23 @@ whole_padding bytes a h p b =
     padding_counts p b.padding (subst (λ (x : Bool). IsPadding x b.padding) padded b.is_padding)
     (subst HasBadPadding behind a.bad)
 
--- what has room for its sources isn't short
+-- Bytes that hold the header and all sources do not have the fault `Short`.
 no_short : (bytes : List ℕ) (l : Layout) (h : Header) (sources rest : List ℕ) → Begins bytes l h (sources ++ rest) →
     AreSources l.source_count sources → IsFaultByPart bytes Short → ⊥
 no_short bytes l h sources rest b are (inl few) = omega (arith, few, twelve_at_least bytes l h _ b)
 no_short bytes l h sources rest b are (inr a) = enough_sources bytes a l h sources rest b are
 
--- what begins with a header has no other version
+-- Bytes that start with a header do not have the fault `Version`.
 no_version : (bytes : List ℕ) (l : Layout) (h : Header) (rest : List ℕ) → Begins bytes l h rest →
     IsFaultByPart bytes Version → ⊥
 no_version bytes l h rest b a = a.1 (version_is_2 bytes l h rest b)
 
--- what is short isn't of another version
+-- Bytes do not have both faults `Short` and `Version`.
 short_not_version : (bytes : List ℕ) → IsFaultByPart bytes Short → IsFaultByPart bytes Version → ⊥
 short_not_version bytes (inl few) b = omega (arith, few, b.0)
 short_not_version bytes (inr a) b = no_version bytes a.layout a.header a.rest a.begins b
 
--- bytes have at most one fault
+-- Bytes have at most one fault.
 fault_by_part_once : (bytes : List ℕ) (d e : RtpFault) → IsFaultByPart bytes d → IsFaultByPart bytes e → d ≡ e
 fault_by_part_once bytes Short Short a b = refl
 fault_by_part_once bytes Short Version a b = absurd (short_not_version bytes a b)
@@ -206,7 +206,7 @@ fault_by_part_once bytes Padding Extension a b =
     (begins_with bytes a.layout a.header _ _ (simp append_assoc) a.begins) a.are_sources a.is_extension)
 fault_by_part_once bytes Padding Padding a b = refl
 
--- a packet has no fault
+-- A packet has no fault.
 no_fault_by_part : (bytes : List ℕ) (h : Header) (p : List ℕ) (e : RtpFault) → IsPacket bytes h p → IsFaultByPart bytes e → ⊥
 no_fault_by_part bytes h p Short a b =
     no_short bytes a.layout h a.sources (a.extension ++ (p ++ a.padding))
@@ -223,7 +223,7 @@ fault_once bytes d e a b = fault_by_part_once bytes d e (by_part bytes d a) (by_
 pub no_fault : (bytes : List ℕ) (h : Header) (p : List ℕ) (e : RtpFault) → IsPacket bytes h p → IsFault bytes e → ⊥
 no_fault bytes h p e a b = no_fault_by_part bytes h p e a (by_part bytes e b)
 
--- what a read comes to is the reading of the bytes
+-- The result of `read` is the reading of the bytes.
 pub is_reading : (bytes : List ℕ) (r : Result Packet RtpFault) →
     IfOk r (λ packet. IsPacket bytes packet.header packet.payload.now)
     → ((f : RtpFault) → (r ≡ Err f) ↔ IsFault bytes f) → IsPacketReading bytes (reading_of r)

@@ -1,4 +1,4 @@
--- The parts of bytes, as the code takes them apart.
+-- The parts of a packet, as the code splits the bytes.
 use Rattle.std.proofs.Common.{◌≡◌, ℕ, suc, ◌+◌, ◌-◌, ◌*◌, ◌/◌, ◌%◌, ◌<◌, ◌≤◌, true, cond, eqb, List, [], ◌∷◌, ◌++◌, length, get_or, take, drop, refl, sym, ap, subst, ◌∙◌, add-zero, arith}
 use Rattle.std.specs.Prelude.{bit_and, not}
 use Rattle.std.proofs.lemmas.Bool.{agree_below_at, eq-eqb, eqb-true}
@@ -13,19 +13,19 @@ use Rattle.mg_rtp.specs.Packet.{Begins, IsPacket, CountsWords, CountsItself}
 abbrev pub IsBytes : List ℕ → Type 0
 IsBytes bytes = (i : ℕ) → get_or bytes i 0 < 256
 
--- a list is its front and what `[n..]` takes
+-- A list is its first n elements followed by the slice `[n..]`.
 pub front_and_rest : (n : ℕ) (rest : List ℕ) → rest ≡ take n rest ++ take (length rest - n) (drop n rest)
 front_and_rest n rest = sym (ap (λ (x : List ℕ). take n rest ++ x) (take_rest rest n) ∙ take-append-drop n rest)
 
 -- ---- headers
 
--- the twelve bytes of a list
+-- A list of length 12 consists of its twelve elements.
 pub twelve : (head : List ℕ) → length head ≡ 12 →
     head ≡ get_or head 0 0 ∷ get_or head 1 0 ∷ get_or head 2 0 ∷ get_or head 3 0 ∷ get_or head 4 0 ∷ get_or head 5 0 ∷
     get_or head 6 0 ∷ get_or head 7 0 ∷ get_or head 8 0 ∷ get_or head 9 0 ∷ get_or head 10 0 ∷ get_or head 11 0 ∷ []
 twelve head len = fill_by_all (λ i. get_or head i 0) head 12 0 len (λ k h. refl)
 
--- the bytes of a number are those that it was read from
+-- A number that is read from bytes has these bytes.
 pub bytes_of_2 : (a b n : ℕ) → a < 256 → b < 256 → n ≡ a * 256 + b → big_bytes 2 n ≡ a ∷ b ∷ []
 bytes_of_2 a b n p q e =
     let high : n / 256 % 256 ≡ a = omega arith in
@@ -41,7 +41,7 @@ bytes_of_4 a b c d n p q r s e =
     let fourth : n % 256 ≡ d = omega arith in
     cc
 
--- a number that was read from place j on, as its bytes
+-- A number that is read from index j on, computed from its bytes.
 pub number_at_2 : (xs : List ℕ) (j n : ℕ) → n ≡ big_number 2 (take (length xs - j) (drop j xs)) →
     n ≡ get_or xs j 0 * 256 + get_or xs (j + 1) 0
 number_at_2 xs j n e =
@@ -58,7 +58,7 @@ number_at_4 xs j n e =
     ap (λ (i : ℕ). get_or xs i 0) (add-zero j) in
     omega (arith, read, here, get_or-drop j xs 1 0, get_or-drop j xs 2 0, get_or-drop j xs 3 0)
 
--- the bytes of that number
+-- The bytes of a number that is read from index j on.
 pub bytes_at_2 : (xs : List ℕ) (j n : ℕ) → IsBytes xs → n ≡ big_number 2 (take (length xs - j) (drop j xs)) →
     big_bytes 2 n ≡ get_or xs j 0 ∷ get_or xs (j + 1) 0 ∷ []
 bytes_at_2 xs j n fits e = bytes_of_2 _ _ n (fits j) (fits (j + 1)) (number_at_2 xs j n e)
@@ -68,7 +68,7 @@ pub bytes_at_4 : (xs : List ℕ) (j n : ℕ) → IsBytes xs → n ≡ big_number
 bytes_at_4 xs j n fits e = bytes_of_4 _ _ _ _ n (fits j) (fits (j + 1)) (fits (j + 2)) (fits (j + 3))
     (number_at_4 xs j n e)
 
--- what the first byte says, by its bits
+-- The layout that the bits of the first byte describe.
 abbrev pub layout_of : ℕ → Layout
 layout_of first = record {
   is_padded = not (eqb (bit_and first 32) 0);
@@ -76,25 +76,25 @@ layout_of first = record {
   source_count = bit_and first 15;
 }
 
--- a byte whose two high bits are the version is the first byte of what it says
+-- A first byte with version 2 is the first byte of the layout that it describes.
 first_byte-layout_of : (first : ℕ) → first < 256 → first / 64 ≡ 2 → first_byte (layout_of first) ≡ first
 first_byte-layout_of first lt version =
     let all = agree_below_at (λ b. cond (eqb (b / 64) 2) (eqb (first_byte (layout_of b)) b) true) (λ b. true) 256
     first refl lt in
     eqb-true _ _ (rw (eq-eqb (first / 64) 2 version) at all)
 
--- it counts fewer than 16 sources
+-- The first byte counts fewer than 16 sources.
 few_sources : (first : ℕ) → bit_and first 15 < 16
 few_sources first = omega (arith, and_le_r first 15)
 
--- a marker and a payload type are the byte that they were read from
+-- The marker and the payload type of a byte form that byte again.
 pub second_of : (second : ℕ) → second < 256 → bit (not (eqb (bit_and second 128) 0)) * 128 + bit_and second 127 ≡ second
 second_of second lt =
     let all = agree_below_at (λ b. eqb (bit (not (eqb (bit_and b 128) 0)) * 128 + bit_and b 127) b) (λ b. true) 256
     second refl lt in
     eqb-true _ _ all
 
--- the header that the bytes begin with
+-- Bytes start with the header that is read from their first twelve bytes.
 pub begins_at : (bytes head rest : List ℕ) (h : Header) → IsBytes bytes → 12 ≤ length bytes → head ≡ take 12 bytes →
     rest ≡ drop 12 bytes → get_or head 0 0 / 64 ≡ 2
     → head ≡ get_or head 0 0 ∷ field_bytes h → IsHeader h → Begins bytes (layout_of (get_or head 0 0)) h rest
@@ -111,12 +111,12 @@ begins_at bytes head rest h fits long front back version fields in_range =
       few_sources = few_sources first;
     }
 
--- the same, with the rest in its parts
+-- The rest after the header can be replaced by an equal list.
 pub begins_with : (bytes : List ℕ) (l : Layout) (h : Header) (rest parts : List ℕ) → rest ≡ parts →
     Begins bytes l h rest → Begins bytes l h parts
 begins_with bytes l h rest parts e b = subst (λ (x : List ℕ). Begins bytes l h x) e b
 
--- the packet of a header and a payload, with nothing between them
+-- A header without optional parts and a payload form a packet.
 pub plain_packet : (bytes : List ℕ) (h : Header) (payload : List ℕ) → IsHeader h →
     bytes ≡ header_bytes plain h ++ payload → IsPacket bytes h payload
 plain_packet bytes h payload in_range e = record {
@@ -136,7 +136,7 @@ plain_packet bytes h payload in_range e = record {
 
 -- ---- extensions
 
--- an extension, by its first four bytes
+-- Bytes with a valid word count start with an extension, given their first four bytes.
 words_behind : (a b c d : ℕ) (xs : List ℕ) (n : ℕ) → c < 256 → d < 256 → 4 + 4 * n ≤ 4 + length xs → n ≡ c * 256 + d →
     CountsWords (take (4 + 4 * n) (a ∷ b ∷ c ∷ d ∷ xs))
 words_behind a b c d xs n p q long e =
@@ -152,7 +152,7 @@ words_behind a b c d xs n p q long e =
       all_words = omega (arith, length-take (4 * n) xs);
     }
 
--- an extension at the front of the rest
+-- The rest starts with an extension if it holds the words that the extension counts.
 pub words_at : (rest : List ℕ) (n : ℕ) → IsBytes rest → 4 + 4 * n ≤ length rest →
     n ≡ big_number 2 (take (length rest - 2) (drop 2 rest)) → CountsWords (take (4 + 4 * n) rest)
 words_at [] n fits long e = absurd (omega (arith, long))
@@ -164,7 +164,7 @@ words_at (a ∷ b ∷ c ∷ d ∷ xs) n fits long e =
 
 -- ---- padding
 
--- padding at the end of the rest
+-- The rest ends with padding if its last byte is a valid count.
 pub padding_at : (rest : List ℕ) (n : ℕ) → 0 < n → n ≤ length rest → n ≡ get_or rest (length rest - 1) 0 →
     CountsItself (drop (length rest - n) rest)
 padding_at rest n some long e =

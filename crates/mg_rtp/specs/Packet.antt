@@ -5,19 +5,19 @@ use Rattle.byteorder.specs.Endian.{big_bytes}
 use Rattle.mg_rtp.specs.declared.header.Header.{Header}
 use Rattle.mg_rtp.specs.Header.{IsHeader, Layout, header_bytes}
 
--- the bytes are a header and then the rest
+-- The bytes are a header followed by the rest.
 pub record Begins (bytes : List ℕ) (layout : Layout) (header : Header)
     (rest : List ℕ) : Type 0 where
   pub joined : bytes ≡ header_bytes layout header ++ rest
   pub in_range : IsHeader header
   pub few_sources : layout.source_count < 2 ^ 4
 
--- contributing sources, four bytes each
+-- The bytes are this many contributing sources of four bytes each.
 abbrev pub AreSources : ℕ → List ℕ → Type 0
 AreSources count bytes = length bytes ≡ 4 * count
 
--- a header extension (section 5.3.1): two bytes of the profile, a count in 16 bits, and that many
--- words of four bytes
+-- The bytes are a header extension (section 5.3.1): two bytes of the profile, a count in 16 bits, and that many words
+-- of four bytes.
 pub record CountsWords (bytes : List ℕ) : Type 0 where
   pub profile : List ℕ
   pub count : ℕ
@@ -27,22 +27,22 @@ pub record CountsWords (bytes : List ℕ) : Type 0 where
   pub in_range : count < 2 ^ 16
   pub all_words : length words ≡ 4 * count
 
--- the header extension, if there is one
+-- The bytes are the header extension, or empty if there is none.
 abbrev pub IsExtension : Bool → List ℕ → Type 0
 IsExtension false bytes = bytes ≡ []
 IsExtension true bytes = CountsWords bytes
 
--- padding: bytes of any value, the last of which is their count
+-- The bytes are padding: the last byte is the number of bytes, and the others have any value.
 pub record CountsItself (bytes : List ℕ) : Type 0 where
   pub filler : List ℕ
   pub joined : bytes ≡ filler ++ (length filler + 1) ∷ []
 
--- the padding, if there is any
+-- The bytes are the padding, or empty if there is none.
 abbrev pub IsPadding : Bool → List ℕ → Type 0
 IsPadding false bytes = bytes ≡ []
 IsPadding true bytes = CountsItself bytes
 
--- the bytes are the packet with this header and this payload
+-- The bytes are the packet with this header and this payload.
 pub record IsPacket (bytes : List ℕ) (header : Header) (payload : List ℕ) : Type 0 where
   pub layout : Layout
   pub sources : List ℕ

@@ -5,7 +5,7 @@ use Rattle.mg_rtp.specs.declared.rtp_fault.RtpFault.{RtpFault}
 use Rattle.mg_rtp.specs.Packet.{IsPacket}
 use Rattle.mg_rtp.specs.RtpFault.{IsFault}
 
--- a header and a payload, or a fault
+-- A header and a payload, or a fault.
 abbrev pub Reading : Type 0
 Reading = Result (Header × List ℕ) RtpFault
 

@@ -9,18 +9,18 @@ use Rattle.mg_rtp.specs.declared.rtp_fault.RtpFault.TheVariants.{Short, Version,
 use Rattle.mg_rtp.specs.Header.{Layout}
 use Rattle.mg_rtp.specs.Packet.{Begins, AreSources, IsExtension}
 
--- the bytes end before the four bytes that start an extension, or before the words that the last
--- two of these four bytes count
+-- The bytes end before the four bytes that start an extension, or before the words that the last two of these four
+-- bytes count.
 abbrev pub EndsInExtension : List ℕ → Type 0
 EndsInExtension rest = (length rest < 4) ⊎ (length rest < 4 + 4 * big_number 2 (drop 2 rest))
 
--- there is no last byte, or it is 0, or it counts more bytes than there are
+-- The last byte is not a valid padding count: it is missing, 0, or larger than the number of bytes.
 abbrev pub HasBadPadding : List ℕ → Type 0
 HasBadPadding rest =
     let count = slice_index rest (length rest - 1) in
     (rest ≡ []) ⊎ (count ≡ 0) ⊎ (length rest < count)
 
--- Why the rest, after these sources and this extension, does not begin with the next part.
+-- The rest, after these sources and this extension, does not start with the next part, because of this fault.
 abbrev pub IsFaultyPart : Layout → (sources extension rest : List ℕ) → RtpFault → Type 0
 IsFaultyPart layout sources extension rest Short =
     (sources ≡ []) × (extension ≡ []) × (length rest < 4 * layout.source_count)
@@ -32,7 +32,7 @@ IsFaultyPart layout sources extension rest Padding =
     AreSources layout.source_count sources × IsExtension layout.is_extended extension
     × IsTrue layout.is_padded × HasBadPadding rest
 
--- a header and the parts after it, up to a faulty one
+-- The bytes are a header and the parts after it, up to a faulty part.
 pub record HasFaultyPart (bytes : List ℕ) (fault : RtpFault) : Type 0 where
   pub layout : Layout
   pub header : Header
@@ -42,17 +42,17 @@ pub record HasFaultyPart (bytes : List ℕ) (fault : RtpFault) : Type 0 where
   pub begins : Begins bytes layout header (sources ++ extension ++ rest)
   pub faulty : IsFaultyPart layout sources extension rest fault
 
--- the version, in the two high bits of the first byte
+-- The version, in the two high bits of the first byte.
 abbrev pub version_of : List ℕ → ℕ
 version_of bytes = slice_index bytes 0 / 64
 
--- the bytes have this fault
+-- The bytes have this fault.
 abbrev pub IsFault : List ℕ → RtpFault → Type 0
 IsFault bytes Short = (length bytes < 12) ⊎ HasFaultyPart bytes Short
 IsFault bytes Version = (12 ≤ length bytes) × (version_of bytes ≢ 2)
 IsFault bytes fault = HasFaultyPart bytes fault
 
--- the printed text of a fault
+-- The printed text of a fault.
 abbrev pub fault_text : RtpFault → List ℕ
 fault_text Short = codes "the datagram ends within the header or the sources"
 fault_text Version = codes "the version is not 2"

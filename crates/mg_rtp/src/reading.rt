@@ -30,9 +30,9 @@ const MARKER: u8 = 0x80;
 /// The payload starts after the header, the contributing sources and the extension, which are skipped. It ends before
 /// the padding.
 pub fn read(bytes: &[u8]) -> Result<Packet<'_>, RtpFault>
-    // The result is the packet.
+    // The datagram is the packet that is returned.
     ensures found { IfOk result (λ packet. IsPacket bytes.now packet.header packet.payload.now) }
-    // Every packet is read.
+    // If the datagram is a packet, that packet is returned.
     ensures only { (header : Header) (payload : List ℕ) → IsPacket bytes.now header payload →
         IsOkAnd result (λ packet. (packet.header ≡ header) × (packet.payload.now ≡ payload)) }
     // A fault is returned if and only if the datagram has that fault.

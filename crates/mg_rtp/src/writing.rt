@@ -15,7 +15,7 @@ pub const PACKET_LEN: usize = HEADER_LEN + PAYLOAD_LEN;
 pub fn write(header: Header, payload: &[u8; PAYLOAD_LEN]) -> [u8; PACKET_LEN]
     requires seven_bits { header.payload_type < 128 }
     ensures bytes { result ≡ header_bytes plain header ++ payload.now }
-    // Reading returns the same header and payload.
+    // The result is the packet with this header and payload, so `read` returns both unchanged.
     ensures packet { IsPacket result header payload.now }
 {
     let mut bytes = [0; PACKET_LEN];

@@ -1,4 +1,4 @@
--- The brace that closes a session description, found from brace to brace.
+-- The search for the brace that closes a session description, from one brace to the next.
 use Rattle.std.proofs.Common.{◌≡◌, ℕ, zero, suc, ◌+◌, ◌-◌, ◌<◌, ◌≢◌, ◌⊎◌, inl, inr, Bool, true, false, ◌==◌, List, [], ◌∷◌, length, get_or, drop, Option, Some, None, refl, sym, ap, ◌∙◌, arith}
 use Rattle.std.proofs.lemmas.List.{drop-drop}
 use Rattle.std.proofs.lemmas.Bool.{eqb-true, eq-eqb, ne_eqb, false_from_ne_true}
@@ -6,7 +6,7 @@ use Rattle.memchr.specs.Find.{IsFirstByte, is_byte}
 use Rattle.std.specs.Option.{option_map}
 use Rattle.mg_scan.specs.Tokens.{content_len}
 
--- what content_len of the rest says of the whole, so many bytes on
+-- A position in the rest of a text, as a position in the whole text: `i` bytes further on.
 abbrev pub moved : ℕ → Option ℕ → Option ℕ
 moved i o = option_map (λ n. i + n) o
 
@@ -14,12 +14,12 @@ moved-suc : (i j : ℕ) (o : Option ℕ) → j ≡ 1 + i → option_map (λ n. 1
 moved-suc i j None e = refl
 moved-suc i j (Some n) e = let s : 1 + (i + n) ≡ j + n = omega arith in ap (λ (k : ℕ). Some k) s
 
--- whether the byte before a place is a backslash, where one may stand before the first byte
+-- Whether the byte before position n is a backslash. The flag says so for the byte before the list.
 abbrev pub escaped_at : Bool → List ℕ → ℕ → Bool
 escaped_at escaped bs zero = escaped
 escaped_at escaped bs (suc n) = get_or bs n 0 == 92
 
--- at a brace the content ends, or goes on after it
+-- The length of the content at a brace: the content ends there, or continues if the brace is escaped.
 abbrev pub at_brace : Bool → List ℕ → ℕ → Option ℕ
 at_brace false bs n = Some n
 at_brace true bs n = moved (n + 1) (content_len false (drop (n + 1) bs))
@@ -44,7 +44,7 @@ here true b bs e ne = rw (e, ne) refl
 no_backslash : (b : ℕ) → (b == 125) ≡ true → (b == 92) ≡ false
 no_backslash b e = rw (eqb-true b 125 e) refl
 
--- the first brace decides
+-- The length of the content follows from the first brace in the bytes.
 pub first_brace : (escaped : Bool) (bs : List ℕ) (n : ℕ) → n < length bs →
     ((k : ℕ) → k < n → (get_or bs k 0 == 125) ≡ false) → (get_or bs n 0 == 125) ≡ true →
     content_len escaped bs ≡ at_brace (escaped_at escaped bs n) bs n
@@ -65,7 +65,7 @@ no_brace escaped (b ∷ bs) h =
     let first : (b == 125) ≡ false = h 0 (omega arith) in
     rw (first, no_brace (b == 92) bs (λ k lt. h (suc k) (omega arith))) refl
 
--- one step of the search, in the bytes from a place on
+-- One step of the search, in the bytes from position `from` on.
 module _ (bytes : List ℕ) (from : ℕ) (rest : List ℕ) (is_rest : rest ≡ drop from bytes) where
   found-cases : (t : Bool) (n : ℕ) → IsFirstByte (is_byte 125) rest (Some n) → escaped_at false rest n ≡ t →
       content_len false (drop from bytes) ≡ at_brace t rest n
@@ -95,7 +95,7 @@ module _ (bytes : List ℕ) (from : ℕ) (rest : List ℕ) (is_rest : rest ≡ d
   runs_out none = ap (moved from) (ap (content_len false) (sym is_rest) ∙
       no_brace false rest (λ k lt. false_from_ne_true _ (none k (omega arith) lt)))
 
--- the byte before a brace, as the code looks at it
+-- A brace is not escaped if it is the first byte or if the byte before it is not a backslash.
 pub not_escaped : (rest : List ℕ) (n : ℕ) → (n ≡ 0) ⊎ (get_or rest (n - 1) 0 ≢ 92) → escaped_at false rest n ≡ false
 not_escaped rest zero h = refl
 not_escaped rest (suc n) (inl e) = absurd (omega arith)

@@ -1,4 +1,4 @@
--- How the parts of a text join.
+-- A text consists of white space, its first token, and the rest.
 use Rattle.std.proofs.Common.{◌≡◌, ℕ, ◌+◌, suc, Bool, true, false, not, ◌==◌, ◌&&◌, ◌||◌, cond, eqb, List, [], ◌∷◌, ◌++◌, take, drop, Option, Some, None, Ok, refl, inl, inr, ◌⊎◌, sym, ap, subst, ◌∙◌, append_assoc, arith}
 use Rattle.std.proofs.lemmas.Bool.{eqb-true, and_parts}
 use Rattle.std.proofs.lemmas.List.{take-append-drop}
@@ -15,11 +15,11 @@ pub chosen : {A : Type 0} (b : Bool) (x y z : A) → cond b x y ≡ z → ((b �
 chosen true x y z e = inl (refl, e)
 chosen false x y z e = inr (refl, e)
 
--- what stands after white space is the end of the bytes
+-- The bytes are white space followed by `rest`.
 abbrev HasFront : Bool → List ℕ → List ℕ → Type 0
 HasFront inside bs rest = (white : List ℕ) × IsWhite inside white × (bs ≡ white ++ rest)
 
--- one byte more in front
+-- If the white space can be extended by a byte at the front, the bytes can be extended too.
 grown : (was inside : Bool) (b : ℕ) (bs rest : List ℕ) →
     ((white : List ℕ) → IsWhite inside white → IsWhite was (b ∷ white)) → HasFront inside bs rest →
     HasFront was (b ∷ bs) rest
@@ -59,7 +59,7 @@ white_front false (b ∷ bs) =
 abbrev read_as : TokenKind → List ℕ → List ℕ → TokenAndRest
 read_as kind text rest = record { piece = record { kind = kind; text = text }; rest = rest }
 
--- a token that was token_and_rest has its bytes in front
+-- The bytes are the spelling of the token followed by the rest.
 abbrev Joins : List ℕ → TokenAndRest → Type 0
 Joins bs x = bs ≡ spelled x.piece.kind x.piece.text ++ x.rest
 
@@ -106,7 +106,7 @@ token_joins (b ∷ bs) x e =
       ]
     ]
 
--- a closing brace stands after a session description
+-- Lemmas to show that a closing brace follows a session description.
 some_is : (o : Option ℕ) (n : ℕ) → option_map (λ k. 1 + k) o ≡ Some n → (k : ℕ) × (o ≡ Some k) × (n ≡ 1 + k)
 some_is None n e = absurd cc
 some_is (Some k) n e = (k, refl, cc)
@@ -157,7 +157,7 @@ after_joins named (b ∷ bs) x e =
       | inr other ↦ token_joins (b ∷ bs) x other.1
     ]
 
--- The bytes are white space, the first token, and what stands after it.
+-- The bytes are white space, the spelling of the first token, and the rest.
 pub first_joins : (named : Bool) (bytes : List ℕ) (x : TokenAndRest) → first_token named bytes ≡ Some (Ok x) →
     (white : List ℕ) × IsWhite false white × (bytes ≡ white ++ (spelled x.piece.kind x.piece.text ++ x.rest))
 first_joins named bytes x e =

@@ -1,4 +1,4 @@
--- White space, and what stands after it.
+-- Skipping white space, one blank or comment at a time.
 use Rattle.std.proofs.Common.{◌≡◌, ℕ, ◌+◌, ◌<◌, ◌≤◌, Bool, true, false, cond, List, [], ◌∷◌, length, get_or, drop, refl, sym, ap, ◌∙◌, one-add, ◌≢◌, ◌==◌, not}
 use Rattle.std.proofs.lemmas.List.{drop-drop, drop_more, drop_all}
 use Rattle.std.proofs.lemmas.Bool.{or_parts, ne_eqb}
@@ -6,7 +6,7 @@ use Rattle.std.specs.List.{position_or_len}
 use Rattle.mg_words.specs.LineEnd.{is_line_end}
 use Rattle.mg_scan.specs.Tokens.{is_blank, after_white}
 
--- inside a comment, white space goes on from the line's end
+-- Inside a comment, white space continues at the end of the line.
 after_comment-cases : (t : Bool) (n : ℕ) (b : ℕ) (bs : List ℕ) → is_line_end b ≡ t →
     after_white true bs ≡ after_white false (drop n bs) →
     after_white true (b ∷ bs) ≡ after_white false (drop (cond (not t) (1 + n) 0) (b ∷ bs))

@@ -1,4 +1,4 @@
--- The state of a scanner, and one step of it.
+-- The state of a scanner, and its steps.
 use Rattle.std.specs.Prelude.{◌≡◌, ℕ, Bool, ◌+◌, ◌<◌, ◌≤◌, List, [], drop, length, Option, Some}
 use Rattle.std.specs.Prelude.{None, Result, Ok, Err}
 use Rattle.mg_scan.specs.declared.token.Token.{Token}
@@ -6,13 +6,13 @@ use Rattle.mg_scan.specs.declared.fault.ScanFault.{ScanFault}
 use Rattle.mg_scan.specs.Span.{text_of}
 use Rattle.mg_scan.specs.Tokens.{first_token, token_and_rest, closing_len, names_octets}
 
--- a position in a source, and whether the last token announces a session description
+-- A source, the position in it, and whether the last token announces a session description.
 pub record Scanning : Type 0 where
   pub source : List ℕ
   pub at : ℕ
   pub named : Bool
 
--- the bytes that are not scanned yet
+-- The bytes that are not scanned yet.
 abbrev pub rest_of : Scanning → List ℕ
 rest_of s = drop s.at s.source
 

@@ -13,11 +13,11 @@ use Rattle.mg_scan.specs.declared.kind.TokenKind.TheVariants.{Quoted, Octets}
 use Rattle.mg_scan.specs.declared.fault.ScanFault.{ScanFault}
 use Rattle.mg_scan.specs.declared.fault.ScanFault.TheVariants.{BadByte, OpenQuote, OpenOctets}
 
--- a space, a tab or a line end
+-- Whether a byte is a space, a tab or part of a line end.
 abbrev pub is_blank : ℕ → Bool
 is_blank b = b == 32 || b == 9 || is_line_end b
 
--- a byte that ends a quoted text, properly or not
+-- Whether a byte ends a quoted text, properly or not.
 abbrev pub is_quote_end : ℕ → Bool
 is_quote_end b = b == 34 || b == 13 || b == 10
 
@@ -31,12 +31,12 @@ after_white inside (b ∷ bs) =
     else (if b == 59 then after_white true bs
     else b ∷ bs)))
 
--- a token's kind and text
+-- The kind and the text of a token.
 pub record Piece : Type 0 where
   pub kind : TokenKind
   pub text : List ℕ
 
--- a token, and the bytes after it
+-- A token, and the bytes after the token.
 pub record TokenAndRest : Type 0 where
   pub piece : Piece
   pub rest : List ℕ
@@ -45,16 +45,16 @@ abbrev pub token_and_rest : TokenKind → List ℕ → List ℕ → Option (Resu
 token_and_rest kind text rest =
     Some (Ok (record { piece = record { kind = kind; text = text }; rest = rest }))
 
--- quoted text and what follows it, if the quote is closed
+-- A quoted text and the bytes after it, if the quote is closed.
 abbrev pub closed_at : List ℕ → List ℕ → Option (Result TokenAndRest ScanFault)
 closed_at text [] = Some (Err OpenQuote)
 closed_at text (b ∷ bs) = if b == 34 then token_and_rest Quoted text bs else Some (Err OpenQuote)
 
--- the quoted text after an opening quotation mark
+-- The quoted text after an opening quotation mark.
 abbrev pub quoted_at : List ℕ → Option (Result TokenAndRest ScanFault)
 quoted_at bs = let n = position_or_len is_quote_end bs in closed_at (take n bs) (drop n bs)
 
--- the token that starts at the first byte
+-- The token that starts at the first byte.
 unfoldable pub token_at : List ℕ → Option (Result TokenAndRest ScanFault)
 token_at [] = None
 token_at (b ∷ bs) =
@@ -74,45 +74,44 @@ content_len escaped [] = None
 content_len escaped (b ∷ bs) =
     if b == 125 && not escaped then Some 0 else option_map (λ n. 1 + n) (content_len (b == 92) bs)
 
--- whether any byte is 0
+-- Whether any byte is 0.
 abbrev pub has_null : List ℕ → Bool
 has_null bs = list_any (λ b. b == 0) bs
 
--- a session description of this many bytes, if it is closed
+-- The session description of this many bytes, if it is closed.
 abbrev pub octets_closed : List ℕ → Option ℕ → Option (Result TokenAndRest ScanFault)
 octets_closed bs None = if has_null bs then Some (Err BadByte) else Some (Err OpenOctets)
 octets_closed bs (Some n) =
     if has_null (take n bs) then Some (Err BadByte)
     else token_and_rest Octets (take n bs) (drop (n + 1) bs)
 
--- the session description after an opening brace
+-- The session description after an opening brace.
 abbrev pub octets_at : List ℕ → Option (Result TokenAndRest ScanFault)
 octets_at bs = octets_closed bs (content_len false bs)
 
--- the token that starts at the first byte; the flag says whether the token before it announces a
--- session description
+-- The token that starts at the first byte. The flag says whether the token before it announces a session description.
 unfoldable pub token_after : Bool → List ℕ → Option (Result TokenAndRest ScanFault)
 token_after named [] = None
 token_after named (b ∷ bs) = if named && b == 123 then octets_at bs else token_at (b ∷ bs)
 
--- whether the token announces a session description
+-- Whether the token announces a session description.
 unfoldable pub names_octets : TokenKind → List ℕ → Bool
 names_octets Word text =
     str_eq_ignore_ascii_case text (codes "Local") || str_eq_ignore_ascii_case text (codes "L")
     || str_eq_ignore_ascii_case text (codes "Remote") || str_eq_ignore_ascii_case text (codes "R")
 names_octets _ text = false
 
--- the first token after white space
+-- The first token after white space. The flag says whether the last token announces a session description.
 abbrev pub first_token : Bool → List ℕ → Option (Result TokenAndRest ScanFault)
 first_token named bytes = token_after named (after_white false bytes)
 
--- the spelling of a token in its source
+-- The spelling of a token in its source.
 abbrev pub spelled : TokenKind → List ℕ → List ℕ
 spelled Quoted text = 34 ∷ (text ++ 34 ∷ [])
 spelled Octets text = 123 ∷ (text ++ 125 ∷ [])
 spelled _ text = text
 
--- how many bytes after a token's text close the token
+-- The number of bytes after a token's text that close the token.
 abbrev pub closing_len : TokenKind → ℕ
 closing_len Quoted = 1
 closing_len Octets = 1

@@ -1,4 +1,4 @@
--- What the lines of an alternative say, gone over one after another.
+-- The alternative that results from reading lines one by one offers what the definitions say.
 use Rattle.std.proofs.Common.{◌≡◌, ℕ, Bool, true, false, ◌&&◌, cond, eqb, List, [], ◌∷◌, ◌++◌, Option, Some, None, refl, ap}
 use Rattle.std.proofs.lemmas.List.{append-nil}
 use Rattle.std.proofs.lemmas.List.Elements.{filter_map-append}
@@ -27,7 +27,7 @@ abbrev connection_part : Option (List ℕ) → AlternativePart (Option (List ℕ
 connection_part None = Missing
 connection_part (Some value) = part_of (connection_in (fields_of value))
 
--- what lines with these values of v=, a=, m= and c= say
+-- The alternative whose lines have these values of v=, a=, m= and c=.
 abbrev state_by : List (List ℕ) → List (List ℕ) → List (List ℕ) → List (List ℕ) → Alternative
 state_by versions attributes medias connections = record {
   holds = list_all is_served_version versions && list_all is_served_attribute attributes;
@@ -35,7 +35,7 @@ state_by versions attributes medias connections = record {
   connection = connection_part (last_or None connections);
 }
 
--- what lines say
+-- The alternative that consists of these lines.
 unfoldable pub state_of : List (List ℕ) → Alternative
 state_of lines = state_by (values_of 118 lines) (values_of 97 lines) (values_of 109 lines) (values_of 99 lines)
 
@@ -43,7 +43,7 @@ pub state_of-nil : state_of [] ≡ no_lines
 unfolding state_of
 state_of-nil = refl
 
--- the offer of what lines say is that of the lines
+-- The offer of the alternative is the offer of its lines.
 offer_given : (holds : Bool) (o : Option MediaLine) (address : Option (List ℕ)) →
     offer_at holds (part_of o) address ≡ (o >>= (λ media. cond holds (Some (offer_with media address)) None))
 offer_given holds None address = refl
@@ -62,7 +62,7 @@ offer_connected : (holds : Bool) (medias : List (List ℕ)) (o : Option (Option 
 offer_connected holds medias None = refl
 offer_connected holds medias (Some address) = offer_medias holds medias address
 
--- what the last connection line asks for
+-- The address that the last connection line asks for.
 abbrev address_by : Option (List ℕ) → Option (Option (List ℕ))
 address_by last = option_map_or (λ value. connection_in (fields_of value)) last (Some None)
 
@@ -78,7 +78,7 @@ unfolding state_of offer_of
 offer_by-state_of lines = offer_last (list_all is_served_version (values_of 118 lines) && list_all is_served_attribute
     (values_of 97 lines)) (values_of 109 lines) (last_or None (values_of 99 lines))
 
--- one more line
+-- Reading one more line adds its value to the values of its letter.
 and_version : (a b c : Bool) → ((a && b) && c) ≡ ((a && (c && true)) && b)
 and_version true true true = refl
 and_version true true false = refl
@@ -107,7 +107,7 @@ last_push : (o : Option (List ℕ)) (values : List (List ℕ)) (value : List ℕ
 last_push o [] value = refl
 last_push o (first ∷ values) value = last_push (Some first) values value
 
--- the values with one more, if there is one
+-- The values of letter k after a line with this letter and value.
 abbrev more : List (List ℕ) → ℕ → ℕ → List ℕ → List (List ℕ)
 more values k letter value = values ++ cons_option (cond (eqb letter k) (Some value) None) []
 
@@ -153,7 +153,7 @@ step_other : (versions attributes medias connections : List (List ℕ)) (letter 
     states versions attributes medias connections letter value
 step_other versions attributes medias connections letter value e f g h = rw (e, f, g, h) (simp append-nil)
 
--- a letter that is none of these five
+-- Reading a line with any letter results in the alternative that includes the line.
 cases_step : (versions attributes medias connections : List (List ℕ)) (letter : ℕ) (value : List ℕ) (a b c d : Bool) →
     eqb letter 118 ≡ a → eqb letter 97 ≡ b → eqb letter 109 ≡ c → eqb letter 99 ≡ d
     → with_line (state_by versions attributes medias connections) letter value ≡

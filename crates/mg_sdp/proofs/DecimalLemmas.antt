@@ -1,4 +1,4 @@
--- A number written in decimal is read again.
+-- A number that is written in decimal reads back as itself.
 use Rattle.std.proofs.Common.{◌≡◌, ℕ, ◌+◌, ◌-◌, ◌*◌, ◌/◌, ◌%◌, ◌^◌, ◌<◌, ◌≤◌, Bool, true, false, eqb, leb, List, [], ◌∷◌, ◌++◌, length, map, Some, refl, length-append, arith, decimal}
 use Rattle.std.proofs.lemmas.Fmt.{decimal_by_steps}
 use Rattle.std.proofs.lemmas.Int.Digits.{number_push}
@@ -10,7 +10,7 @@ use Rattle.std.specs.Str.{all_ascii_digits}
 use Rattle.mg_words.specs.Numbers.{value_of_digits, decimal_of, port_of}
 use Rattle.mg_words.proofs.DecimalLemmas.{byte_short, port_short}
 
--- the digits of a number, the last of them apart
+-- The list ds holds the digits of n, and `last` is its last digit.
 pub record IsWritten (n : ℕ) (ds : List ℕ) : Type 0 where
   pub front : List ℕ
   pub last : ℕ
@@ -88,7 +88,7 @@ digits_pass p h (c ∷ cs) e =
     let two = and_parts (is_ascii_digit c) (all_ascii_digits cs) e in
     and_from (p c) (list_all p cs) (digit_passes p h c two.0) (digits_pass p h cs two.1)
 
--- what all digits pass
+-- A property of all digits holds for each byte of a number in decimal.
 pub decimal_passes : (p : ℕ → Bool) → ((c : ℕ) → 48 ≤ c → c ≤ 57 → p c ≡ true) → (n : ℕ) → n < 2 ^ 64 →
     list_all p (decimal n) ≡ true
 decimal_passes p h n small = digits_pass p h (decimal n) (written n small).digits

@@ -1,4 +1,4 @@
--- The first field of a value.
+-- The fields of a value, split off one by one.
 use Rattle.std.proofs.Common.{◌≡◌, ℕ, ◌<◌, Bool, true, false, List, [], ◌∷◌, length, take, drop, refl, sym, ap, ◌∙◌, arith}
 use Rattle.std.specs.List.{prefix_len, position_or_len, slice_split, filter}
 use Rattle.mg_sdp.specs.Lines.{is_space_or_tab, is_filled}
@@ -18,7 +18,7 @@ unfolding fields_of
 blank_step b text true e h = rw (e, one_more (prefix_len is_space_or_tab text)) h
 blank_step b text false e h = rw e (rw e refl)
 
--- blanks at the front hold no field
+-- Skipping the blanks at the start of a text does not change its fields.
 pub fields_after : (text : List ℕ) → fields_of (drop (prefix_len is_space_or_tab text) text) ≡ fields_of text
 fields_after [] = refl
 fields_after (b ∷ text) = blank_step b text (is_space_or_tab b) refl (fields_after text)
@@ -42,7 +42,7 @@ pub fields_none : fields_of [] ≡ []
 unfolding fields_of
 fields_none = refl
 
--- the next field, where the blanks before it end before the value does
+-- If the rest has more than blanks, its first field ends at the next blank.
 pub next_field : (rest text : List ℕ) → text ≡ drop (prefix_len is_space_or_tab rest) rest → 0 < length text →
     fields_of rest ≡ front text ∷ fields_of (after text)
 next_field rest text same some = sym (fields_after rest) ∙ ap fields_of (sym same) ∙ after_blanks rest text same some
@@ -53,7 +53,7 @@ no_field rest [] white w same none = sym (fields_after rest) ∙ ap (λ (k : ℕ
     ap fields_of (sym same) ∙ fields_none
 no_field rest (x ∷ xs) white w same none = absurd (omega arith)
 
--- the same, step by step
+-- The iterator returns the next field and keeps the bytes after it.
 pub field_step : (rest text field next : List ℕ) (blanks len : ℕ) → blanks ≡ prefix_len is_space_or_tab rest →
     text ≡ drop blanks rest → 0 < length text → len ≡ position_or_len is_space_or_tab text
     → field ≡ take len text → next ≡ drop len text → fields_of rest ≡ field ∷ fields_of next

@@ -1,4 +1,4 @@
--- The lines of a content are the lines of its alternatives, in one way alone.
+-- Lines divide into alternatives in exactly one way.
 use Rattle.std.proofs.Common.{◌≡◌, ℕ, Bool, true, false, not, List, [], ◌∷◌, ◌++◌, drop, refl, sym, ap, ◌∙◌, append_assoc}
 use Rattle.std.proofs.lemmas.List.{append-nil}
 use Rattle.std.proofs.lemmas.List.Folds.{list_all-append}
@@ -9,7 +9,7 @@ use Rattle.std.specs.List.{list_all, flat_map, AllByRecursion}
 use Rattle.mg_sdp.specs.Alternatives.{is_version, IsAlternative, BeginsWithVersion, AreAlternatives}
 use Rattle.mg_sdp.specs.Sessions.{one_alternative, alternatives_after}
 
--- the alternatives after the first lines of one are alternatives
+-- The alternatives that `alternatives_after` computes are alternatives of the lines.
 joined_closing : (current : List (List ℕ)) → flat_map (λ ls. ls) (one_alternative current) ≡ current
 joined_closing [] = refl
 joined_closing (line ∷ lines) = append-nil (line ∷ lines)
@@ -36,7 +36,7 @@ joined (line ∷ lines) current = joined_step current line lines (is_version lin
 abbrev continues : List ℕ → Bool
 continues line = not (is_version line)
 
--- lines that an alternative may begin with
+-- The lines of an unfinished alternative: only the first can be a v= line.
 abbrev IsBegun : List (List ℕ) → Type 0
 IsBegun [] = Unit {0}
 IsBegun (line ∷ lines) = IsTrue (list_all continues lines)
@@ -64,7 +64,7 @@ each : (lines current : List (List ℕ)) → IsBegun current →
 each [] current h = rw (← append-nil (one_alternative current)) (each_closing current [] h tt)
 each (line ∷ lines) current h = each_step current line lines (is_version line) refl h (each lines)
 
--- all begin with their v= line where the first does
+-- If the first alternative starts with a v= line, so do all others.
 begin_step : (first : List ℕ) (rest : List (List ℕ)) (line : List ℕ) (lines : List (List ℕ)) (version : Bool) →
     is_version line ≡ version → IsTrue (is_version first)
     → ((first' : List ℕ) (rest' : List (List ℕ)) → IsTrue (is_version first') →
@@ -103,7 +103,7 @@ later (line ∷ lines) current = later_step current line lines (is_version line)
 pub are_alternatives : (lines : List (List ℕ)) → AreAlternatives lines (alternatives_after [] lines)
 are_alternatives lines = record { joined = joined lines []; each = each lines [] tt; later = later lines [] }
 
--- and they are the only ones
+-- The lines have no other alternatives.
 abbrev join : List (List (List ℕ)) → List (List ℕ)
 join alternatives = flat_map (λ ls. ls) alternatives
 
@@ -113,7 +113,7 @@ plain_step : (current : List (List ℕ)) (line : List ℕ) (lines : List (List �
 plain_step current line lines true e h = let bad : not true ≡ true = rw e at h in cc
 plain_step current line lines false e h = rw e refl
 
--- lines that begin no alternative belong to the one that has begun
+-- Lines other than v= lines belong to the current alternative.
 plain_lines : (plain current rest : List (List ℕ)) → list_all continues plain ≡ true →
     alternatives_after current (plain ++ rest) ≡ alternatives_after (current ++ plain) rest
 plain_lines [] current rest h = rw (append-nil current) refl

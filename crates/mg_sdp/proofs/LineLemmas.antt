@@ -1,4 +1,4 @@
--- The first line of a content.
+-- The lines of a content, split off one by one.
 use Rattle.std.proofs.Common.{◌≡◌, ℕ, zero, suc, ◌-◌, ◌<◌, Bool, true, false, ◌||◌, cond, List, [], ◌∷◌, length, map, take, drop, refl, sym, ap, ◌∙◌, arith}
 use Rattle.std.specs.List.{prefix_len, position_or_len, suffix_len, slice_split, filter}
 use Rattle.mg_words.specs.LineEnd.{is_line_end}
@@ -8,7 +8,7 @@ use Rattle.mg_sdp.proofs.SplitLemmas.{split_first, front_fails, suffix_short, on
 abbrev pub is_white : ℕ → Bool
 is_white b = is_space_or_tab b || is_line_end b
 
--- the filled ones among parts without their blanks
+-- The parts after trimming, without the empty parts.
 abbrev filled : List (List ℕ) → List (List ℕ)
 filled parts = filter is_filled (map trimmed parts)
 
@@ -35,12 +35,12 @@ white_step b text true e h = rw (e, one_more (prefix_len is_white text))
     (h ∙ sym (skip_step b text (is_line_end b) (is_space_or_tab b) refl refl e))
 white_step b text false e h = rw e refl
 
--- white space at the front holds no line
+-- Skipping white space at the start of a text does not change its lines.
 pub lines_after : (text : List ℕ) → content_lines (drop (prefix_len is_white text) text) ≡ content_lines text
 lines_after [] = refl
 lines_after (b ∷ text) = white_step b text (is_white b) refl (lines_after text)
 
--- a filled part stays when it is filtered
+-- Filtering keeps a part that is not empty.
 filled_stays : (b : Bool) (part : List ℕ) (parts : List (List ℕ)) → is_filled part ≡ b → b ≡ true →
     cond (is_filled part) (part ∷ parts) parts ≡ part ∷ parts
 filled_stays b part parts e f = rw (e, f) refl
@@ -56,7 +56,7 @@ end_filled : (x : ℕ) (xs : List ℕ) → is_space_or_tab x ≡ false → is_fi
 end_filled x xs e = taken_filled (length (x ∷ xs) - suffix_len is_space_or_tab (x ∷ xs)) x xs
     (omega (arith, suffix_short is_space_or_tab x xs e))
 
--- the front of a text up to its first line's end
+-- The bytes of a text before its first line end.
 abbrev pub front : List ℕ → List ℕ
 front text = take (position_or_len is_line_end text) text
 
@@ -102,7 +102,7 @@ pub lines_none : content_lines [] ≡ []
 unfolding content_lines
 lines_none = refl
 
--- the next line, where the white space before it ends before the content does
+-- If the rest has more than white space, its first line ends at the next line end.
 pub next_line : (rest text : List ℕ) → text ≡ drop (prefix_len is_white rest) rest → 0 < length text →
     content_lines rest ≡ trimmed_end (front text) ∷ content_lines (after text)
 next_line rest text same some = sym (lines_after rest) ∙ ap content_lines (sym same) ∙ after_white rest text same some
@@ -113,7 +113,7 @@ no_line rest [] white w same none = sym (lines_after rest) ∙ ap (λ (k : ℕ).
     ap content_lines (sym same) ∙ lines_none
 no_line rest (x ∷ xs) white w same none = absurd (omega arith)
 
--- the same, step by step
+-- The iterator returns the next line and keeps the bytes after it.
 pub line_step : (rest text line next : List ℕ) (white len blanks : ℕ) → white ≡ prefix_len is_white rest →
     text ≡ drop white rest → 0 < length text → len ≡ position_or_len is_line_end text
     → line ≡ take len text → next ≡ drop len text → blanks ≡ suffix_len is_space_or_tab line →

@@ -1,4 +1,4 @@
--- What is written is read again.
+-- A session description that the gateway writes reads back as what was chosen.
 use Rattle.std.proofs.Common.{◌≡◌, ℕ, suc, ◌+◌, ◌-◌, ◌^◌, ◌<◌, ◌≤◌, Bool, true, false, not, eqb, leb, ltb, List, [], ◌∷◌, ◌++◌, length, get_or, drop, Some, Ok, refl, sym, ap, ◌∙◌, subst, append_assoc, length-append, arith, decimal, codes}
 use Rattle.std.proofs.lemmas.List.{reverse-append, append-nil}
 use Rattle.std.proofs.lemmas.Bool.{leb-true, lt-ltb, ne_eqb, and_parts, and_from, not-true, not_from_false}
@@ -22,7 +22,7 @@ use Rattle.mg_sdp.specs.Written.{law_text, session_text}
 use Rattle.mg_sdp.proofs.LineLemmas.{lines_none}
 use Rattle.mg_sdp.proofs.DecimalLemmas.{written, port_of-decimal, part_of-decimal, decimal_passes}
 
--- a part ends where the first element passes
+-- A part ends at the first element that satisfies p.
 split_seam : (p : ℕ → Bool) (xs : List ℕ) (y : ℕ) (ys : List ℕ) → list_all (λ b. not (p b)) xs ≡ true → p y ≡ true →
     slice_split p (xs ++ y ∷ ys) ≡ xs ∷ slice_split p ys
 split_seam p [] y ys h e = rw e refl
@@ -36,7 +36,7 @@ split_whole p (x ∷ xs) h =
     let two = and_parts (not (p x)) (list_all (λ b. not (p b)) xs) h in
     rw (not-true (p x) two.0, split_whole p xs two.1) refl
 
--- a line and its end, before others
+-- A line ends at its line end, and the text after it has the other lines.
 abbrev continues : ℕ → Bool
 continues b = not (is_line_end b)
 
@@ -51,7 +51,7 @@ trimmed_whole x front z e f =
     let none : length (x ∷ (front ++ z ∷ [])) - 0 ≡ length (x ∷ (front ++ z ∷ [])) = omega arith in
     rw e (rw (reverse-append (x ∷ front) (z ∷ []), f, none) (take-length (x ∷ (front ++ z ∷ []))))
 
--- a field and a space, before others, and the last field
+-- A field ends at the first space, and the last field ends with the value.
 abbrev is_ink : ℕ → Bool
 is_ink b = not (is_space_or_tab b)
 
@@ -71,7 +71,7 @@ all_append p (x ∷ xs) ys h k =
     let two = and_parts (p x) (list_all p xs) h in
     and_from (p x) (list_all p (xs ++ ys)) two.0 (all_append p xs ys two.1 k)
 
--- a text is cut at its first dot
+-- A text whose first part has no dot is cut at the dot after that part.
 pub position_seam : (p : ℕ → Bool) (xs : List ℕ) (y : ℕ) (ys : List ℕ) → list_all (λ b. not (p b)) xs ≡ true →
     p y ≡ true → position_or_len p (xs ++ y ∷ ys) ≡ length xs
 position_seam p [] y ys h e = rw e refl
@@ -93,7 +93,7 @@ cut_seam xs ys h =
     lt-ltb (length xs) (length (xs ++ 46 ∷ ys)) (omega (arith, length-append xs (46 ∷ ys))) in
     rw (position_seam is_dot xs 46 ys h refl, within, take-append_seam xs (46 ∷ ys), drop_seam xs 46 ys) refl
 
--- what digits are not
+-- A digit is neither a dot, nor a blank, nor part of a line end.
 no_dot : (c : ℕ) → 48 ≤ c → c ≤ 57 → not (is_dot c) ≡ true
 no_dot c low high = not_from_false (is_dot c) (ne_eqb c 46 (λ e. absurd (omega arith)))
 
@@ -103,7 +103,7 @@ digit_inks c low high = rw (ne_eqb c 32 (λ e. absurd (omega arith)), ne_eqb c 9
 digit_goes_on : (c : ℕ) → 48 ≤ c → c ≤ 57 → continues c ≡ true
 digit_goes_on c low high = rw (ne_eqb c 13 (λ e. absurd (omega arith)), ne_eqb c 10 (λ e. absurd (omega arith))) refl
 
--- an address by its parts
+-- The text of an address, by its four numbers.
 abbrev pub dotted : ℕ → ℕ → ℕ → ℕ → List ℕ
 dotted a b c d = decimal a ++ (46 ∷ (decimal b ++ (46 ∷ (decimal c ++ (46 ∷ decimal d)))))
 
@@ -135,7 +135,7 @@ address_of-dotted a b c d ha hb hc hd =
       part_of-decimal d hd,
     ) refl
 
--- a text that begins with a digit isn't $
+-- A text that starts with a digit is not `$`.
 not_dollar : (ds rest : List ℕ) → all_ascii_digits ds ≡ true → 0 < length ds → bytes_eq (ds ++ rest) (codes "$") ≡ false
 not_dollar [] rest h some = absurd (omega arith)
 not_dollar (c ∷ cs) rest h some =
@@ -150,7 +150,7 @@ filled_append : (ds rest : List ℕ) → 0 < length ds → is_filled (ds ++ rest
 filled_append [] rest some = absurd (omega arith)
 filled_append (c ∷ cs) rest some = refl
 
--- the fields of the written lines
+-- The fields of the lines that the gateway writes.
 connection_fields : (address : List ℕ) → list_all is_ink address ≡ true → is_filled address ≡ true →
     fields_of (codes "IN IP4 " ++ address) ≡ codes "IN" ∷ codes "IP4" ∷ address ∷ []
 connection_fields address h f =
@@ -217,7 +217,7 @@ media_read port law h =
       law_of-law_text law,
     ) refl
 
--- the written lines
+-- The lines that the gateway writes.
 abbrev version_line : List ℕ
 version_line = codes "v=0"
 
@@ -269,7 +269,7 @@ protocol_goes_on : (law : Law) → list_all continues (codes " RTP/AVP " ++ law_
 protocol_goes_on Mu = refl
 protocol_goes_on A = refl
 
--- the text is these four lines
+-- The written text consists of the four lines, each with its line end.
 abbrev with_ends : List ℕ → List ℕ → List ℕ
 with_ends connection media = version_line ++ 13 ∷ 10 ∷
     (connection ++ 13 ∷ 10 ∷ (media ++ 13 ∷ 10 ∷ (time_line ++ 13 ∷ 10 ∷ [])))

@@ -1,4 +1,4 @@
--- Reading lines one after another gives what their alternatives offer.
+-- Reading lines one by one returns what their alternatives offer.
 use Rattle.std.proofs.Common.{◌≡◌, ℕ, ◌<◌, ◌≤◌, Bool, true, false, cond, eqb, not, ltb, List, [], ◌∷◌, ◌++◌, length, take, map, Option, Some, None, Result, Ok, Err, refl, sym, ap, ◌∙◌, append_assoc, length-append, arith}
 use Rattle.std.proofs.lemmas.List.{append-nil, take-append-le, length-take, take_all, length-map, map-append}
 use Rattle.std.proofs.lemmas.Bool.{lt-ltb, le-ltb, ltb-true, ltb-false}
@@ -21,7 +21,7 @@ abbrev current_of : List (List ℕ) → Option Alternative
 current_of [] = None
 current_of (line ∷ lines) = Some (state_of (line ∷ lines))
 
--- what is kept where these alternatives have ended and these lines have begun one
+-- The progress of reading after these complete alternatives and these lines of the current alternative.
 abbrev progress_of : List (List (List ℕ)) → List (List ℕ) → Progress
 progress_of done current = record {
   offers = take 8 (map offer_of done);
@@ -39,7 +39,7 @@ mapped_push : (done : List (List (List ℕ))) (lines : List (List ℕ)) →
     map offer_of (done ++ lines ∷ []) ≡ map offer_of done ++ offer_of lines ∷ []
 mapped_push done lines = map-append offer_of done (lines ∷ [])
 
--- an alternative ends: within the first eight, or after them
+-- Ending an alternative adds its offer, or marks the limit as exceeded.
 end_within : (done : List (List (List ℕ))) (lines : List (List ℕ)) (over : Bool) → length done < 8 →
     ltb 8 (length done) ≡ over → paused (take 8 (map offer_of done) ++ offer_of lines ∷ []) over ≡
     progress_of (done ++ lines ∷ []) []
@@ -79,7 +79,7 @@ ended-progress_of done [] = rw (append-nil done) refl
 ended-progress_of done (line ∷ lines) = rw (offer_by-state_of (line ∷ lines))
     (end_one done (line ∷ lines) (ltb (length (take 8 (map offer_of done))) 8) (ltb 8 (length done)) refl refl)
 
--- a line goes to the alternative that has begun
+-- A line is added to the current alternative.
 abbrev begun : List (List (List ℕ)) → Alternative → Progress
 begun done alternative = record {
   offers = take 8 (map offer_of done);
@@ -106,12 +106,12 @@ line_step done current line letter value true e f =
     continue_step (done ++ one_alternative current) [] line letter value e
 line_step done current line letter value false e f = continue_step done current line letter value e
 
--- what reading gives from here on
+-- The result of reading the remaining lines from this progress.
 abbrev pub read_on : Progress → List (List ℕ) → Result (List (Option Offer)) SdpFault
 read_on p [] = finished p
 read_on p (line ∷ lines) = cond (is_line line) (read_on (line_read p line) lines) (Err Line)
 
--- the first line at fault decides, and else how many alternatives there are
+-- The result is the fault `Line` if a line is malformed, and otherwise depends on the number of alternatives.
 abbrev given : Bool → List (List (List ℕ)) → Result (List (Option Offer)) SdpFault
 given lined alternatives = cond (not lined) (Err Line)
     (cond (ltb 8 (length alternatives)) (Err TooMany) (Ok (map offer_of alternatives)))
@@ -144,7 +144,7 @@ unfolding line_read
 line_read-progress_of done current line letter value e =
     rw (e, some_if (eqb letter 118) value) (line_step done current line letter value (eqb letter 118) e refl)
 
--- reading the lines after those that were read
+-- Reading the remaining lines yields the result for all lines.
 read_step : (done : List (List (List ℕ))) (current : List (List ℕ)) (line : List ℕ) (lines : List (List ℕ))
     (version : Bool) → is_version line ≡ version
     → ((done' : List (List (List ℕ))) (current' : List (List ℕ)) →
@@ -179,7 +179,7 @@ read_on-progress_of (line ∷ lines) done current =
     read_line done current line lines (letter_and_value line) refl
     (λ done' current'. read_on-progress_of lines done' current')
 
--- a content is read as its lines are, one after another
+-- Reading the lines of a content one by one yields the result that the definitions require.
 pub content_read : (content : List ℕ) → read_on progress_at_start (content_lines content) ≡ sessions_of content
 unfolding sessions_of
 content_read content = read_on-progress_of (content_lines content) [] []
@@ -197,7 +197,7 @@ pub line_fault : (p : Progress) (line : List ℕ) (lines : List (List ℕ)) → 
     read_on p (line ∷ lines) ≡ Err Line
 line_fault p line lines e = rw e refl
 
--- a line at fault decides
+-- The result is the fault `Line` if and only if a line is malformed.
 over_told : (over : Bool) (offers : List (Option Offer)) → cond over (Err TooMany) (Ok offers) ≡ Err Line → ⊥
 over_told true offers e = cc
 over_told false offers e = cc

@@ -1,4 +1,4 @@
--- The parts of a list between the elements that pass a test.
+-- Splitting a list at the elements that satisfy a test.
 use Rattle.std.proofs.Common.{◌≡◌, ℕ, suc, ◌+◌, ◌≤◌, Bool, true, false, List, [], ◌∷◌, ◌++◌, length, take, drop, reverse, refl, arith}
 use Rattle.std.proofs.lemmas.List.{reverse-append, length-reverse}
 use Rattle.std.specs.List.{prefix_len, position_or_len, suffix_len, slice_split}
@@ -6,7 +6,7 @@ use Rattle.std.specs.List.{prefix_len, position_or_len, suffix_len, slice_split}
 pub one_more : (n : ℕ) → 1 + n ≡ suc n
 one_more n = omega arith
 
--- the first part ends where the first element passes, and the rest begins there
+-- The first part of the list xs is `front`, and `rest` splits into an empty part and the other parts.
 pub record BeginsWith (p : ℕ → Bool) (xs front rest : List ℕ) : Type 0 where
   pub others : List (List ℕ)
   pub parts : slice_split p xs ≡ front ∷ others
@@ -27,7 +27,7 @@ pub split_first : (p : ℕ → Bool) (xs : List ℕ) →
 split_first p [] = record { others = []; parts = refl; after = refl }
 split_first p (x ∷ xs) = split_step p x xs (p x) refl (split_first p xs)
 
--- what stands after the longest front that passes begins with an element that doesn't
+-- The first element after the longest prefix that satisfies p does not satisfy p.
 fails_step : (p : ℕ → Bool) (x : ℕ) (xs : List ℕ) (b : Bool) → p x ≡ b →
     ((y : ℕ) (ys : List ℕ) → drop (prefix_len p xs) xs ≡ y ∷ ys → p y ≡ false)
     → (y : ℕ) (ys : List ℕ) → drop (prefix_len p (x ∷ xs)) (x ∷ xs) ≡ y ∷ ys → p y ≡ false
@@ -50,7 +50,7 @@ prefix_push : (p : ℕ → Bool) (xs : List ℕ) (y : ℕ) → p y ≡ false →
 prefix_push p [] y e = rw e (omega arith)
 prefix_push p (x ∷ xs) y e = prefix_step p x xs y (p x) refl (prefix_push p xs y e)
 
--- where the first element fails, the longest back that passes is shorter than the list
+-- If the first element does not satisfy p, the longest suffix that satisfies p is shorter than the list.
 pub suffix_short : (p : ℕ → Bool) (x : ℕ) (xs : List ℕ) → p x ≡ false → suffix_len p (x ∷ xs) ≤ length xs
 suffix_short p x xs e = rw (reverse-append (x ∷ []) xs)
     (omega (arith, prefix_push p (reverse xs) x e, length-reverse xs))

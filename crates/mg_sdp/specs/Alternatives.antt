@@ -11,11 +11,11 @@ use Rattle.mg_sdp.specs.declared.offer.Offer.{Offer}
 use Rattle.mg_sdp.specs.Lines.{content_lines, is_line, line_value}
 use Rattle.mg_sdp.specs.Offer.{offer_of}
 
--- a v= line
+-- Whether a line is a v= line.
 abbrev pub is_version : List ℕ → Bool
 is_version line = is_some (line_value (byte "v") line)
 
--- an alternative is a line and then lines that are not v= lines
+-- The lines are an alternative: there is a first line, and no other line is a v= line.
 abbrev pub IsAlternative : List (List ℕ) → Type 0
 IsAlternative [] = ⊥
 IsAlternative (line ∷ lines) = IsTrue (list_all (λ l. not (is_version l)) lines)
@@ -32,8 +32,7 @@ pub record AreAlternatives (lines : List (List ℕ))
   pub each : AllByRecursion IsAlternative alternatives
   pub later : AllByRecursion BeginsWithVersion (drop 1 alternatives)
 
--- the result of reading: what each of at most eight alternatives offers, provided that every line
--- is well-formed
+-- The result of reading: the offers of at most eight alternatives, if every line is well-formed.
 abbrev pub offers_read : List (List ℕ) → List (List (List ℕ)) →
     Result (List (Option Offer)) SdpFault
 offers_read lines alternatives =
@@ -41,7 +40,7 @@ offers_read lines alternatives =
     else (if nat_lt alternative_limit (length alternatives) then Err TooMany
     else Ok (map offer_of alternatives))
 
--- the result of reading this content
+-- The result of reading a content is what its lines and their alternatives determine.
 abbrev pub IsContentReading : List ℕ → Result (List (Option Offer)) SdpFault → Type 0
 IsContentReading content result =
     (alternatives : List (List (List ℕ))) × AreAlternatives (content_lines content) alternatives

@@ -1,4 +1,4 @@
--- Which alternative is chosen (RFC 3525, section 7.1.8): the first acceptable one.
+-- The alternative that is chosen (RFC 3525, section 7.1.8): the first acceptable one.
 use Rattle.std.specs.Prelude.{ℕ, ◌==◌, ◌&&◌, not, Bool, true, false, List, Option, Some}
 use Rattle.std.specs.Prelude.{is_some, unwrap_or, find}
 use Rattle.std.specs.List.{filter_map}
@@ -9,27 +9,27 @@ use Rattle.mg_g711.specs.declared.law.Law.TheVariants.{Mu}
 use Rattle.mg_sdp.specs.declared.offer.Offer.{Offer}
 use Rattle.mg_sdp.specs.declared.chosen.Chosen.{Chosen}
 
--- the address is left to the gateway, or is the gateway's own
+-- Whether the address is left to the gateway or is the gateway's own.
 abbrev pub is_own_address : List ℕ → Option (List ℕ) → Bool
 is_own_address own asked = option_map_or (λ address. bytes_eq address own) asked true
 
 abbrev pub is_own_port : ℕ → Option ℕ → Bool
 is_own_port own asked = option_map_or (λ port. port == own) asked true
 
--- the port is given, and packets can be sent to it
+-- Whether a port is given and is not 0.
 abbrev pub is_open_port : Option ℕ → Bool
 is_open_port asked = option_map_or (λ port. not (port == 0)) asked false
 
--- the gateway can receive what is offered, at its own address and port
+-- Whether the gateway can receive what is offered, at this address and port.
 abbrev pub is_served_local : List ℕ → ℕ → Offer → Bool
 is_served_local address port offer =
     is_own_address address offer.address && is_own_port port offer.port
 
--- the offer names an address, a port and a law to send to
+-- Whether the offer names an address, a port other than 0, and a law.
 abbrev pub is_served_remote : Offer → Bool
 is_served_remote offer = is_open_port offer.port && is_some offer.address && is_some offer.law
 
--- the offers of the alternatives whose lines are supported
+-- The offers of the alternatives whose lines are supported.
 abbrev pub offers_of : List (Option Offer) → List Offer
 offers_of alternatives = filter_map (λ offer. offer) alternatives
 
@@ -37,7 +37,7 @@ abbrev pub local_of : List ℕ → ℕ → Offer → Chosen
 local_of address port offer =
     record { address = address; port = port; law = unwrap_or offer.law Mu }
 
--- the first offer whose media the gateway can receive, in mu-law if the law is left to the gateway
+-- The first offer whose media the gateway can receive. The law is mu-law if it is left to the gateway.
 abbrev pub local_choice : List ℕ → ℕ → List (Option Offer) → Option Chosen
 local_choice address port alternatives =
     option_map (local_of address port)
@@ -50,7 +50,7 @@ remote_of offer = do
   law ← offer.law
   Some (record { address = address; port = port; law = law })
 
--- the first offer whose media the gateway can send
+-- The first offer whose media the gateway can send.
 abbrev pub remote_choice : List (Option Offer) → Option Chosen
 remote_choice alternatives =
     option_and_then remote_of (find is_served_remote (offers_of alternatives))

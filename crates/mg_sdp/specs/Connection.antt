@@ -4,7 +4,7 @@ use Rattle.std.specs.Str.{str_eq_ignore_ascii_case}
 use Rattle.mg_words.specs.Address.{address_of}
 use Rattle.mg_sdp.specs.Media.{requested_in_field}
 
--- connection = "IN" "IP4" address, ignoring case
+-- The connection line: "IN" "IP4" address, ignoring case.
 unfoldable pub connection_in : List (List ℕ) → Option (Option (List ℕ))
 connection_in (network ∷ kind ∷ address ∷ []) =
     if str_eq_ignore_ascii_case network (codes "IN") && str_eq_ignore_ascii_case kind (codes "IP4")

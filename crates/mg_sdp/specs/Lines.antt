@@ -8,27 +8,27 @@ use Rattle.std.specs.Char.{is_ascii_alphabetic}
 use Rattle.std.specs.Str.{byte}
 use Rattle.mg_words.specs.LineEnd.{is_line_end}
 
--- a space or a tab
+-- Whether a byte is a space or a tab.
 abbrev pub is_space_or_tab : ℕ → Bool
 is_space_or_tab b = b == byte " " || b == byte "\t"
 
--- text that is not empty
+-- Whether a text is not empty.
 abbrev pub is_filled : List ℕ → Bool
 is_filled [] = false
 is_filled (b ∷ text) = true
 
--- text without the spaces and tabs at its end; and text without the spaces and tabs at both ends
+-- A text without the spaces and tabs at its end, and a text without those at both ends.
 abbrev pub trimmed_end : List ℕ → List ℕ
 trimmed_end text = take (length text - suffix_len is_space_or_tab text) text
 
 abbrev pub trimmed : List ℕ → List ℕ
 trimmed text = trimmed_end (drop (prefix_len is_space_or_tab text) text)
 
--- the lines of a descriptor's content
+-- The lines of a descriptor's content.
 unfoldable pub content_lines : List ℕ → List (List ℕ)
 content_lines content = filter is_filled (map trimmed (slice_split is_line_end content))
 
--- a line consists of a letter, = and a value
+-- The letter and the value of a line. A line consists of a letter, = and a value.
 unfoldable pub letter_and_value : List ℕ → Option (ℕ × List ℕ)
 letter_and_value (letter ∷ equals ∷ value) =
     if is_ascii_alphabetic letter && equals == byte "=" then Some (letter, value) else None
@@ -37,12 +37,12 @@ letter_and_value _ = None
 abbrev pub is_line : List ℕ → Bool
 is_line line = is_some (letter_and_value line)
 
--- the value of a line with this letter
+-- The value of a line with this letter.
 abbrev pub line_value : ℕ → List ℕ → Option (List ℕ)
 line_value letter line =
     option_and_then (λ parts. if parts.0 == letter then Some parts.1 else None)
     (letter_and_value line)
 
--- the values of the lines with this letter
+-- The values of the lines with this letter.
 abbrev pub values_of : ℕ → List (List ℕ) → List (List ℕ)
 values_of letter lines = filter_map (line_value letter) lines

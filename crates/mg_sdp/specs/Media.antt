@@ -11,12 +11,12 @@ use Rattle.mg_g711.specs.declared.law.Law.{Law}
 use Rattle.mg_g711.specs.declared.law.Law.TheVariants.{Mu, A}
 use Rattle.mg_sdp.specs.declared.media.MediaLine.{MediaLine}
 
--- the value of a field, or None for $
+-- The value of a field, or `Some None` for $.
 abbrev pub requested_in_field : {X : Type 0} → (List ℕ → Option X) → List ℕ → Option (Option X)
 requested_in_field read field =
     if bytes_eq field (codes "$") then Some None else option_map Some (read field)
 
--- the law of a format: 0 is mu-law, 8 is A-law
+-- The law of a format: mu-law for 0, A-law for 8.
 unfoldable pub law_of : List ℕ → Option (Option Law)
 law_of format =
     if bytes_eq format (codes "0") then Some (Some Mu)
@@ -24,7 +24,7 @@ law_of format =
     else (if bytes_eq format (codes "$") then Some None
     else None))
 
--- the law of the first format that is 0, 8 or $
+-- The law of the first format that is 0, 8 or $.
 abbrev pub first_law : List (List ℕ) → Option (Option Law)
 first_law formats = slice_get (filter_map law_of formats) 0
 
@@ -34,7 +34,7 @@ requested_media port law = do
   law ← law
   Some (record { port = port; law = law })
 
--- media = "audio" port "RTP/AVP" 1*format, ignoring case
+-- The media line: "audio" port "RTP/AVP" 1*format, ignoring case.
 unfoldable pub media_in : List (List ℕ) → Option MediaLine
 media_in (kind ∷ port ∷ protocol ∷ formats) =
     if str_eq_ignore_ascii_case kind (codes "audio")

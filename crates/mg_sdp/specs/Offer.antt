@@ -13,22 +13,22 @@ use Rattle.mg_sdp.specs.Media.{media_in}
 use Rattle.mg_sdp.specs.Connection.{connection_in}
 use Rattle.mg_sdp.specs.declared.offer.Offer.{Offer}
 
--- the version of SDP is 0
+-- Whether the version of SDP is 0.
 abbrev pub is_served_version : List ℕ → Bool
 is_served_version value = bytes_eq value (codes "0")
 
--- a packet time must be 20 ms; all other attributes are ignored
+-- Whether an attribute is supported. A packet time must be 20 ms; all other attributes are ignored.
 abbrev pub is_served_attribute : List ℕ → Bool
 is_served_attribute value =
     not (starts_with nat_eq value (codes "ptime:")) || bytes_eq value (codes "ptime:20")
 
--- what the media line asks for, if there is exactly one
+-- The port and law that the media line asks for, if there is exactly one media line.
 abbrev pub only_media : List (List ℕ) → Option MediaLine
 only_media (value ∷ []) = media_in (fields_of value)
 only_media _ = None
 
--- What an alternative offers, or None if its lines are not supported. The last connection line
--- counts; if there is none, the address is left to the gateway.
+-- The offer of an alternative, or None if its lines are not supported. The last connection line counts. If there is
+-- none, the address is left to the gateway.
 unfoldable pub offer_of : List (List ℕ) → Option Offer
 offer_of lines = do
   address ← option_map_or (λ value. connection_in (fields_of value))

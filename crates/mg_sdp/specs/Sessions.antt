@@ -1,17 +1,17 @@
--- The result of reading as a function, for definitions that use it. By the contract of
--- read_sessions, it is the only result that Alternatives allows.
+-- The result of reading as a function, for definitions that use it. By the contract of read_sessions, it is the only
+-- result that Alternatives allows.
 use Rattle.std.specs.Prelude.{ℕ, List, [], ◌∷◌, ◌++◌, Option, Result, if◌then◌else◌}
 use Rattle.mg_sdp.specs.declared.fault.SdpFault.{SdpFault}
 use Rattle.mg_sdp.specs.declared.offer.Offer.{Offer}
 use Rattle.mg_sdp.specs.Lines.{content_lines}
 use Rattle.mg_sdp.specs.Alternatives.{is_version, offers_read}
 
--- the lines of an alternative as a list of one alternative, or an empty list if there is no line
+-- The lines of an alternative as a list of one alternative, or an empty list if there is no line.
 abbrev pub one_alternative : List (List ℕ) → List (List (List ℕ))
 one_alternative [] = []
 one_alternative (line ∷ lines) = (line ∷ lines) ∷ []
 
--- the alternatives of lines that follow the lines of the current alternative
+-- The alternatives of the current alternative's lines and the lines after them.
 abbrev pub alternatives_after : List (List ℕ) → List (List ℕ) → List (List (List ℕ))
 alternatives_after current [] = one_alternative current
 alternatives_after current (line ∷ lines) =

@@ -6,12 +6,12 @@ use Rattle.mg_g711.specs.declared.law.Law.{Law}
 use Rattle.mg_g711.specs.declared.law.Law.TheVariants.{Mu, A}
 use Rattle.mg_sdp.specs.declared.chosen.Chosen.{Chosen}
 
--- the payload type of a law (RFC 3551, section 6)
+-- The payload type of a law (RFC 3551, section 6).
 abbrev pub law_text : Law → List ℕ
 law_text Mu = codes "0"
 law_text A = codes "8"
 
--- four lines: version, connection, media and packet time
+-- The four lines of a description: version, connection, media and packet time.
 abbrev pub session_text : Chosen → List ℕ
 session_text chosen =
     codes "v=0\r\n"
@@ -20,7 +20,7 @@ session_text chosen =
     ++ (codes " RTP/AVP " ++ (law_text chosen.law ++ (codes "\r\n"
     ++ codes "a=ptime:20\r\n"))))))))
 
--- the offer that is read from the text
+-- The offer that a written description reads back as.
 abbrev pub offer_written : Chosen → Offer
 offer_written chosen =
     record { address = Some chosen.address; port = Some chosen.port; law = Some chosen.law }

@@ -41,7 +41,7 @@ lines_none (suc most) seals number before (b ∷ bs) none =
 
 -- ## Lines that are read
 
--- what is left after some lines, with a seal record in which no seal is wrong
+-- The rest of a text after the lines in `before`: from some state of the check, no seal in `tail` is wrong.
 record Later (before tail : List ℕ) : Type 0 where
   most : ℕ
   seals : Seals
@@ -103,7 +103,7 @@ same_end (b ∷ bs) found rest is l = at l.most l.enough l.none
         (bytes_eq-Decides (drop 9 (b ∷ bs)) (seal_end (last_part found))).0
         (right_if (is_seal (b ∷ bs)) (bytes_eq (drop 9 (b ∷ bs)) (seal_end (last_part found))) l.number l.seals is.is judged_so)
 
--- in a text without a wrong seal, a line of the form of a seal is the seal of what is before it
+-- If no seal of a text is wrong, a complete line with the form of a seal is the seal of the part before it.
 right_seal : (line found rest : List ℕ) → IsLine line → is_whole found ≡ true → HasNoWrong (found ++ (line ++ rest))
     → line ≡ seal_of (last_part found)
 right_seal line found rest is whole none =
@@ -124,7 +124,8 @@ Before all other most = (part one two rest more : List ℕ) → length one < mos
 no_wrong : (all text : List ℕ) → all ≡ text → HasNoWrong all → HasNoWrong text
 no_wrong all text same none = subst (λ (t : List ℕ). HasNoWrong t) same none
 
--- a shorter text ends before the first line of the same last part
+-- The induction step for two texts with the same last part: if a seal begins this part, the texts before that seal are
+-- shorter.
 from_cut : (all other one two rest more : List ℕ) (most : ℕ) → length one < suc most → is_whole one ≡ true
     → is_whole two ≡ true → HasNoWrong all → HasNoWrong other → all ≡ one ++ rest → other ≡ two ++ more
     → last_part one ≡ last_part two → Before all other most → (is : Bool) → begins (last_part one) ≡ is
@@ -165,7 +166,8 @@ from_cut all other one two rest more most within whole also none nor e1 e2 same 
     some [] starts = absurd cc
     some (b ∷ bs) starts = omega arith
 
--- the parts before the same seal are the same, or differ and have the same hash
+-- The induction step for two texts followed by the same seal: their last parts are equal, or differ and have the same
+-- hash.
 from_seal : (all other one two rest more part : List ℕ) (most : ℕ) → length one < suc most → is_whole one ≡ true
     → is_whole two ≡ true → HasNoWrong all → HasNoWrong other → all ≡ one ++ (seal_of part ++ rest)
     → other ≡ two ++ (seal_of part ++ more) → Before all other most → (is : Bool)

@@ -1,4 +1,4 @@
--- The lines of seals, and the parts that begin with them.
+-- The lines of seals, and the parts that begin with a seal.
 use Rattle.std.proofs.Common.{◌≡◌, ◌≢◌, ◌⊎◌, inl, inr, ⊎_elim, ℕ, zero, suc, ◌-◌, ◌/◌, ◌%◌, ◌^◌, ◌<◌, ◌≤◌, Bool, true, false, eqb, cond, All, List, [], ◌∷◌, ◌++◌, length, drop, refl, sym, ap, subst, ◌∙◌, arith, append_assoc, length-append, codes}
 use Rattle.std.proofs.BufReadLemmas.{take_through-append}
 use Rattle.std.proofs.lemmas.Bool.{eqb-true}
@@ -107,7 +107,7 @@ parts b (c ∷ cs) more whole = parts_at b (c ∷ cs) more (eqb b 10) refl (λ o
 
 -- ## The line of a seal
 
--- a complete line of the form of a seal
+-- A complete line with the form of a seal.
 pub record IsLine (line : List ℕ) : Type 0 where
   pub one : take_through 10 line ≡ line
   pub whole : is_whole line ≡ true
@@ -156,7 +156,7 @@ taken_starts (m ∷ ms) (b ∷ bs) none starts =
     let other = no_feed_head m b (has_feed ms) none both.0 in
     rw other.1 (rw both.0 (taken_starts ms bs other.0 both.1))
 
--- the first line of a part that begins like a seal
+-- If a complete part begins like a seal, its first line has the form of a seal.
 pub first_line : (part : List ℕ) → begins part ≡ true → is_whole part ≡ true → IsLine (take_through 10 part)
 first_line [] starts whole = absurd cc
 first_line (b ∷ bs) starts whole =
@@ -197,7 +197,7 @@ unfolding has_mark
 part_shorter [] some = absurd cc
 part_shorter (b ∷ bs) some = omega (arith, ap length (part_cons b bs some), part_le bs)
 
--- a mark that begins at the first byte, or after it
+-- If a text has a mark and its tail has none, the mark begins right after the first byte, which is a line feed.
 first_mark : (b : ℕ) (bs : List ℕ) → has_mark (b ∷ bs) ≡ true → has_mark bs ≡ false
     → (nat_eq 10 b ≡ true) × (begins bs ≡ true)
 unfolding has_mark
@@ -274,7 +274,7 @@ hash_is : (text : List ℕ) → IsBytes (sha256 text)
 unfolding sha256
 hash_is text = digest_is (final_hash initial_hash_256 text) 8
 
--- parts with the same seal have the same hash
+-- Parts with the same seal have the same hash.
 pub same_hash : (one two : List ℕ) → seal_of one ≡ seal_of two → sha256 one ≡ sha256 two
 same_hash one two same =
     let digits : encode_lower (sha256 one) ≡ encode_lower (sha256 two) =

@@ -1,4 +1,4 @@
--- Texts that are written part by part.
+-- Appending the parts of a report one by one gives the whole report.
 use Rattle.std.proofs.Common.{◌≡◌, List, [], ◌++◌, ap, ◌∙◌, append_assoc}
 
 pub joined : {X : Type 0} (a b c : List X) → (a ++ b) ++ c ≡ a ++ (b ++ c)

@@ -14,7 +14,7 @@ use Rattle.mg_sealing.proofs.LineLemmas.{is_line, joined, parts, taken_twice}
 use Rattle.mg_sealing.specs.Sealed.{ended, last_line, needs_seal, printed_with, seal_before, sealed, sealed_with, ticks_left, ticks_with}
 use Rattle.mg_sealing.specs.aids.Copying.{Copying, Copies}
 
--- at the end, nothing is left to copy, and a last seal may be due
+-- If nothing is left to copy, only the last seal may still have to be printed.
 pub at_end : (most ticks : ℕ) (printed : List ℕ) → sealed_with most ticks printed [] ≡ ended printed
 unfolding sealed_with
 at_end zero ticks printed = refl
@@ -33,7 +33,7 @@ copied (Some all) rest start old contents hasher ticks due copies end prints =
     ∙ (ap (λ left. sealed_with copies.most ticks copies.printed left) (sym none) ∙ copies.is))
     (prints copies.printed start copies.last copies.holds copies.prints)
 
--- the same, if the last seal could be printed
+-- If the last seal was printed at the end of the recording, the output is the sealed recording.
 pub copied_if : {T E : Type 0} (printed : Result T E) (text rest start old contents : Option (List ℕ)) (hasher : Sha256)
     (ticks : ℕ) (due : Bool) → Copies text rest start old hasher ticks due → IsAtEnd rest
     → ((printed_text : List ℕ) (start : Option (List ℕ)) → due ≡ needs_seal (last_line printed_text)
@@ -44,7 +44,7 @@ copied_if (Ok done) text rest start old contents hasher ticks due copies end pri
     copied text rest start old contents hasher ticks due copies end prints
 copied_if (Err error) text rest start old contents hasher ticks due copies end prints = tt
 
--- a seal is a complete line
+-- Complete lines, with a seal after them if one is due, are complete lines.
 pub before_whole : (ticks : ℕ) (printed line : List ℕ) → is_whole printed ≡ true
     → is_whole (printed ++ seal_before ticks printed line) ≡ true
 before_whole ticks printed line whole =
@@ -59,7 +59,7 @@ pub printed_whole : (ticks : ℕ) (printed line : List ℕ) → is_whole printed
 printed_whole ticks printed line whole more =
     whole_append (printed ++ seal_before ticks printed line) line (before_whole ticks printed line whole) more
 
--- a line, and the seal before it
+-- After a line and the seal before it, the hasher has hashed the last part of the output.
 pub sealed_hash : {T E : Type 0} (result : Result T E) (ticks : ℕ) (printed line : List ℕ) (middle new : Sha256)
     → is_whole printed ≡ true → Holds256 middle (last_part (printed ++ seal_before ticks printed line))
     → ((text : List ℕ) → is_whole text ≡ true → Holds256 middle (last_part text)
@@ -95,7 +95,7 @@ last_after (b ∷ bs) line whole one some =
     (omega (arith, ap length (parts b bs line whole).1, length-append (drop_through 10 (b ∷ bs)) line, some))
     ∙ last_after bs line (whole_tail b bs whole) one some
 
--- after a line, whether a seal is due at the end
+-- After a line, whether a last seal is due depends on this line alone.
 last_is : (ticks : ℕ) (printed line : List ℕ) → is_whole printed ≡ true → take_through 10 line ≡ line
     → 0 < length line → needs_seal line ≡ needs_seal (last_line (printed_with ticks printed line))
 last_is ticks printed line whole one some =
@@ -138,7 +138,7 @@ step all printed (b ∷ bs) line (suc most) ticks next due new start contents af
           (drop_through 10 (b ∷ bs))) taken ∙ is);
     }
 
--- before the first line
+-- Before the first line, nothing has been copied, and no seal is due.
 pub starts : (text start : Option (List ℕ)) (hasher : Sha256) → Holds256 hasher [] → Copies text text start start hasher 0 false
 starts None start hasher holds = tt
 starts (Some all) start hasher holds = record {
@@ -158,7 +158,7 @@ starts (Some all) start hasher holds = record {
     nothing None = tt
     nothing (Some bytes) = sym (append-nil bytes)
 
--- one more line was copied
+-- Copying one more line continues `Copies`.
 pub goes_on : (text rest new start old contents : Option (List ℕ)) (hasher after : Sha256) (ticks next : ℕ)
     (was due : Bool) (before items line : List ℕ)
     → Copies text rest start old hasher ticks was → IfSome rest (λ xs. items ≡ before ++ take_through 10 xs) → before ≡ []

@@ -1,4 +1,4 @@
--- Sealing a recording that was sealed changes nothing.
+-- Sealing a sealed recording changes nothing.
 use Rattle.std.proofs.Common.{◌≡◌, ℕ, zero, suc, ◌-◌, ◌<◌, ◌≤◌, Bool, true, false, cond, eqb, not, append-nil, append_assoc, length-append, List, [], ◌∷◌, ◌++◌, length, drop, codes, refl, sym, ap, subst, ◌∙◌, arith}
 use Rattle.std.proofs.lemmas.Bool.Decides.{nat_tests}
 use Rattle.std.specs.Prelude.{◌&&◌, nat_eq}
@@ -62,7 +62,7 @@ nothing : (text : List ℕ) → length text ≡ 0 → text ≡ []
 nothing [] none = refl
 nothing (b ∷ bs) none = absurd (omega (arith, none))
 
--- a line, at the end if it isn't complete, and what follows it
+-- Reading up to the next line feed returns `line` and leaves `rest`.
 abbrev Cuts : (line rest : List ℕ) → Type 0
 Cuts line rest = (take_through 10 (line ++ rest) ≡ line) × (drop_through 10 (line ++ rest) ≡ rest)
 
@@ -99,7 +99,7 @@ if_seal : (due is : Bool) (seal : List ℕ) → is ≡ true → cond (due && not
 if_seal true is seal e = rw e refl
 if_seal false is seal e = refl
 
--- no seal is added before a seal
+-- No seal is added before a seal.
 seal_alone : (ticks : ℕ) (printed part : List ℕ) → printed_with ticks printed (seal_of part) ≡ printed ++ seal_of part
 seal_alone ticks printed part =
     ap (λ (l : List ℕ). (printed ++ l) ++ seal_of part)
@@ -117,7 +117,7 @@ seal_step most ticks printed part rest =
 
 -- ## The rest of a sealed recording
 
--- what is printed after a text, which stays the same if it is sealed again
+-- The rest of the output after `printed`, which stays unchanged if it is sealed again.
 record Rest (ticks : ℕ) (printed out : List ℕ) : Type 0 where
   left : List ℕ
   is : out ≡ printed ++ left
@@ -166,7 +166,7 @@ ended_rest ticks printed = at (needs_seal (last_line printed)) refl
       twice = λ most enough. at_end most ticks printed ∙ ended_if printed false e;
     }
 
--- one line more, without a seal before it
+-- The output stays unchanged with one more line, if no seal precedes the line.
 line_twice : (most ticks : ℕ) (printed line left out : List ℕ) → 0 < length line → take_through 10 line ≡ line
     → (is_whole line ≡ false → left ≡ []) → length (line ++ left) ≤ most
     → ((more : ℕ) → length left ≤ more
@@ -180,7 +180,7 @@ line_twice (suc most) ticks printed line left out some one partial enough twice 
     step_at most ticks printed (line ++ left) line left (omega (arith, longer, some)) c.0 c.1
     ∙ twice most (omega (arith, longer, some, enough))
 
--- with a seal before it, which ends the minute
+-- The output stays unchanged with one more line, if a seal that ends the minute precedes the line.
 sealed_twice : (most ticks : ℕ) (printed part line left out : List ℕ) → eqb ticks 3000 ≡ true → 0 < length line
     → take_through 10 line ≡ line → (is_whole line ≡ false → left ≡ []) → length (seal_of part ++ (line ++ left)) ≤ most
     → ((more : ℕ) → length left ≤ more

@@ -1,19 +1,19 @@
--- What right seals show, and what sealing twice does.
+-- The guarantees of right seals, and the effect of sealing a recording twice.
 use Rattle.std.specs.Prelude.{◌≡◌, ◌≢◌, ◌⊎◌, true, ℕ, List, ◌++◌, None}
 use Rattle.sha2.specs.Sha256.{sha256}
 use Rattle.mg_chain.specs.Seals.{is_whole, last_part, seal_of, seals_of}
 use Rattle.mg_sealing.specs.Sealed.{sealed}
 
--- no seal of a text is wrong
+-- No seal of the text is wrong.
 abbrev pub HasNoWrong : List ℕ → Type 0
 HasNoWrong text = (seals_of text).wrong ≡ None
 
--- somewhere in a text, this part is followed by its seal
+-- Somewhere in the text, this part is followed by its seal.
 abbrev pub HasSealed : (text part : List ℕ) → Type 0
 HasSealed text part =
     (front rest : List ℕ) × (text ≡ front ++ (seal_of part ++ rest)) × (last_part front ≡ part)
 
--- each text has a sealed part, and the two parts differ but have the same SHA-256
+-- Each text has a sealed part, and the two parts differ but have the same SHA-256.
 pub record HaveCollision (one two : List ℕ) : Type 0 where
   pub first : List ℕ
   pub second : List ℕ
@@ -21,13 +21,13 @@ pub record HaveCollision (one two : List ℕ) : Type 0 where
   pub differ : first ≢ second
   pub same : sha256 first ≡ sha256 second
 
--- If two texts have no wrong seal and contain the same seal, what precedes it is the same in both, or
--- somebody found a collision of SHA-256.
+-- If two texts have no wrong seal and contain the same seal, the text before that seal is the same in both, or there is
+-- a collision of SHA-256.
 abbrev pub ChangesShow : Type 0
 ChangesShow = (part one two rest more : List ℕ) → is_whole one ≡ true → is_whole two ≡ true
     → HasNoWrong (one ++ (seal_of part ++ rest)) → HasNoWrong (two ++ (seal_of part ++ more))
     → (one ≡ two) ⊎ HaveCollision (one ++ (seal_of part ++ rest)) (two ++ (seal_of part ++ more))
 
--- a sealed recording stays unchanged if it is sealed again
+-- A sealed recording stays unchanged if it is sealed again.
 abbrev pub SealedStays : Type 0
 SealedStays = (text : List ℕ) → sealed (sealed text) ≡ sealed text

@@ -1,10 +1,11 @@
--- What `mg_bridge verify` prints, and what its exit status answers.
+-- The report that `mg_bridge verify` prints, and its exit status.
 use Rattle.std.specs.Prelude.{ℕ, ◌-◌, List, ◌++◌, codes, decimal, Option, Some, None}
 use Rattle.mg_chain.specs.declared.seals.Seals.{Seals}
 use Rattle.mg_options.specs.declared.status.Status.{Status}
 use Rattle.mg_options.specs.declared.status.Status.TheVariants.{Done, BadLine, Unknown}
 
--- after a wrong seal, nothing is said about later lines
+-- The report about seals, given the lines of the last right seal and the first wrong one. After a wrong seal, the
+-- report says nothing about later lines.
 abbrev pub reported : Seals → (right wrong : Option ℕ) → List ℕ
 reported seals (Some right) (Some wrong) =
     codes "changed after line " ++ (decimal right ++ (codes ", up to line " ++ (decimal wrong ++ codes "\n")))

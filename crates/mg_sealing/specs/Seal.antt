@@ -1,14 +1,11 @@
--- What `mg_bridge seal` does.
-use Rattle.std.specs.Prelude.{ℕ, ⊤, List, Option, IfSome}
+-- The effect of `mg_bridge seal`.
+use Rattle.std.specs.Prelude.{◌≡◌, ◌⊎◌, ℕ, List, Option, IfSome}
 use Rattle.std.specs.Io.KnownBytes.{Appends}
 use Rattle.mg_options.specs.declared.status.Status.{Status}
 use Rattle.mg_options.specs.declared.status.Status.TheVariants.{Done, Failed, NoMemory}
 use Rattle.mg_sealing.specs.Sealed.{sealed}
 
--- what is true after a run, given its status: the input was copied, or a read or a write failed, or
--- memory ran out
+-- After a run with this status, the input was copied, or a read or a write failed, or memory ran out.
 abbrev pub SealsInput : (input old new : Option (List ℕ)) → (silent : Type 0) → Status → Type 0
-SealsInput input old new silent Done = IfSome input (λ text. Appends old new (sealed text)) × silent
-SealsInput input old new silent Failed = ⊤
-SealsInput input old new silent NoMemory = ⊤
-SealsInput input old new silent status = ⊥
+SealsInput input old new silent status = (status ≡ Failed) ⊎ (status ≡ NoMemory)
+    ⊎ ((status ≡ Done) × IfSome input (λ text. Appends old new (sealed text)) × silent)

@@ -5,37 +5,37 @@ use Rattle.std.specs.Io.BufRead.{take_through, drop_through}
 use Rattle.std.specs.List.{ends_with}
 use Rattle.mg_chain.specs.Seals.{is_seal, last_part, seal_of}
 
--- the ticks of a minute, with this line
+-- The number of ticks in a minute including this line, given the number before it.
 abbrev pub ticks_with : ℕ → (line : List ℕ) → ℕ
 ticks_with ticks line = if bytes_eq line (codes "tick\n") then ticks + 1 else ticks
 
--- after the ticks of a minute, another minute begins
+-- The number of ticks in the current minute, which is 0 once the minute is over.
 abbrev pub ticks_left : ℕ → ℕ
 ticks_left ticks = if ticks == 3000 then 0 else ticks
 
--- then a seal is due before the next line, unless that is a seal, right or wrong
+-- The seal before the next line: it is due at the end of a minute, unless the next line is a seal, right or wrong.
 abbrev pub seal_before : ℕ → (printed line : List ℕ) → List ℕ
 seal_before ticks printed line = if ticks == 3000 && not (is_seal line) then seal_of (last_part printed) else []
 
--- what is printed, with this line, and a seal before it if one is due
+-- The output including this line, and a seal before the line if one is due.
 abbrev pub printed_with : ℕ → (printed line : List ℕ) → List ℕ
 printed_with ticks printed line = (printed ++ seal_before ticks printed line) ++ line
 
--- the last line of a text, complete or not
+-- The last line of a text, complete or not.
 unfoldable pub last_line : List ℕ → List ℕ
 last_line [] = []
 last_line (b ∷ bs) = if length (drop_through 10 (b ∷ bs)) == 0 then b ∷ bs else last_line bs
 
--- whether a last line is complete and isn't a seal, right or wrong
+-- Whether a last line is complete and isn't a seal, right or wrong.
 abbrev pub needs_seal : List ℕ → Bool
 needs_seal line = ends_with nat_eq line (10 ∷ []) && not (is_seal line)
 
--- at the end, a last seal if the last line needs one
+-- The output at the end of a recording: a last seal is added if the last line needs one.
 abbrev pub ended : (printed : List ℕ) → List ℕ
 ended printed = if needs_seal (last_line printed) then printed ++ seal_of (last_part printed) else printed
 
--- What is printed in the end, given the ticks of this minute so far, what has been printed, and the
--- rest of the recording. It has at most as many lines as bytes.
+-- The whole output, given the number of ticks in this minute so far, the output so far, and the rest of the recording.
+-- The recording has at most as many lines as bytes.
 unfoldable pub sealed_with : (most : ℕ) → ℕ → (printed rest : List ℕ) → List ℕ
 sealed_with zero ticks printed rest = ended printed
 sealed_with (suc most) ticks printed [] = ended printed
@@ -43,6 +43,6 @@ sealed_with (suc most) ticks printed (b ∷ bs) =
     sealed_with most (ticks_with (ticks_left ticks) (take_through 10 (b ∷ bs)))
     (printed_with ticks printed (take_through 10 (b ∷ bs))) (drop_through 10 (b ∷ bs))
 
--- a recording with its seals
+-- The recording with its seals.
 abbrev pub sealed : List ℕ → List ℕ
 sealed text = sealed_with (length text) 0 [] text

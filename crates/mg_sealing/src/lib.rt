@@ -1,12 +1,12 @@
-//! What `mg_bridge seal` and `mg_bridge verify` do: they add seals to a recording, and check those in a recording or a
-//! journal.
+//! `mg_bridge seal` and `mg_bridge verify`: the former adds seals to a recording, and the latter checks the seals in a
+//! recording or a journal.
 //!
 //! ```rust
 //! let status = verify_input(alloc, &mut input, &mut output, &mut errors);
 //! ```
 //!
-//! `mg_chain` defines seals. `specs/Sealed.antt` defines a recording with seals. `specs/Report.antt` defines what is
-//! printed about seals, and what the status answers.
+//! `mg_chain` defines seals. `specs/Sealed.antt` defines a recording with seals. `specs/Report.antt` defines the report
+//! about seals and the exit status.
 #![tactic(auto)]
 
 mod report;

@@ -8,7 +8,7 @@ use mg_chain::Seals;
 /// The maximum length of a report, in bytes.
 const LIMIT: usize = 160;
 
-/// A report, with its line feed.
+/// A report, including its line feed.
 pub(crate) type ReportLine = ArrayVec<u8, LIMIT>;
 
 /// The maximum length, in bytes, of a number in decimal.
@@ -88,7 +88,7 @@ fn report_none(lines: u64) -> ReportLine
     line
 }
 
-/// Returns what is printed about seals.
+/// Returns the report about seals.
 pub(crate) fn report(seals: &Seals) -> ReportLine
     ensures value { result.items ≡ report seals.now }
 {

@@ -30,7 +30,7 @@ fn put<W: Write>(line: &[u8], chain: &mut Chain, output: &mut W) -> io::Result<(
     Ok(())
 }
 
-/// Returns the line of the seal with this end.
+/// Returns the line of the seal that ends with these bytes.
 fn seal_line(end: &[u8; END]) -> [u8; SEAL]
     ensures value { result ≡ codes "# sha256 " ++ end.now }
 {
@@ -40,7 +40,7 @@ fn seal_line(end: &[u8; END]) -> [u8; SEAL]
     line
 }
 
-/// Prints the seal of what was printed.
+/// Prints the seal of the output so far.
 fn put_seal<W: Write>(chain: &mut Chain, output: &mut W) -> io::Result<()>
     ensures prints { (part : List ℕ) → Holds256 chain.old part →
         OnOk result (Appends (W.contents output.old) (W.contents output.new) (seal_of part)) }
@@ -51,7 +51,7 @@ fn put_seal<W: Write>(chain: &mut Chain, output: &mut W) -> io::Result<()>
     put(&line, chain, output)
 }
 
-/// Returns the ticks of a minute after this line, given those before it.
+/// Returns the number of ticks in a minute including this line, given the number before it.
 fn ticks_with(ticks: u32, line: &[u8]) -> u32
     requires few { ticks ≤ TICKS }
     ensures few { result ≤ TICKS }
@@ -98,7 +98,7 @@ fn put_seal_before<W: Write>(
     Ok(())
 }
 
-/// Prints a line, and before it a seal if one is due.
+/// Prints a line, preceded by a seal if one is due.
 fn put_line<W: Write>(ticks: u32, line: &[u8], chain: &mut Chain, output: &mut W) -> io::Result<()>
     ensures prints { (printed : List ℕ) (start : Option (List ℕ)) → is_whole printed ≡ true →
         Holds256 chain.old (last_part printed) → Appends start (W.contents output.old) printed →
@@ -122,7 +122,7 @@ fn put_last_seal<W: Write>(is_due: bool, chain: &mut Chain, output: &mut W) -> i
     Ok(())
 }
 
-/// Copies a recording to its end, with seals. The longest line has to fit in memory.
+/// Copies a recording to its end and adds seals. The longest line has to fit in memory.
 fn write_sealed<R: BufRead, W: Write>(
     alloc: Global,
     reader: &mut R,
@@ -148,7 +148,7 @@ fn write_sealed<R: BufRead, W: Write>(
     Err(Error::from(ErrorKind::FileTooLarge))
 }
 
-/// Copies the text of a reader, with seals.
+/// Copies the text of a reader and adds seals.
 fn seal_text<R: Read, W: Write>(alloc: Global, reader: &mut R, output: &mut W) -> io::Result<()>
     ensures value { OnOk result (IfSome (R.remaining reader.old)
         (λ text. Appends (W.contents output.old) (W.contents output.new) (sealed text))) }
@@ -158,9 +158,9 @@ fn seal_text<R: Read, W: Write>(alloc: Global, reader: &mut R, output: &mut W) -
 }
 
 /// Copies a recording from the input to the output, with a seal after the ticks of each minute and a last one at the
-/// end. The last one is left out after a seal, after a line without a line feed (it would become part of that line), and
-/// if the input is empty. If a seal follows the ticks of a minute, none is added, so a recording that was sealed stays
-/// unchanged. Returns the exit status. A fault is reported to `errors`.
+/// end. The last seal is left out after a seal, after a line without a line feed (the seal would become part of that
+/// line), and if the input is empty. If a seal already follows the ticks of a minute, none is added, so sealing a
+/// sealed recording changes nothing. Returns the exit status. A fault is reported to `errors`.
 pub fn seal<R: Read, W: Write, E: Write>(
     alloc: Global,
     input: &mut R,

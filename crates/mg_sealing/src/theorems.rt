@@ -1,9 +1,10 @@
-//! What right seals show, and what sealing twice does. The functions do nothing: their contracts are the theorems.
+//! The guarantees of right seals, and the effect of sealing a recording twice. The functions do nothing: their
+//! contracts are the theorems.
 
 ghost use Rattle.mg_sealing.specs.Laws.{ChangesShow, SealedStays};
 
-/// If two texts have no wrong seal and contain the same seal, what precedes it is the same in both, or two different
-/// parts of them have the same SHA-256.
+/// If two texts have no wrong seal and contain the same seal, the text before that seal is the same in both, or two
+/// different parts of the texts have the same SHA-256.
 pub fn changes_show()
     ensures theorem { ChangesShow }
 {}

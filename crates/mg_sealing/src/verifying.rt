@@ -1,7 +1,8 @@
 ghost use Rattle.std.specs.Prelude.{◌≡◌, ◌⊎◌, IfOk, IfSome, List, Option, ℕ};
 ghost use Rattle.mg_chain.specs.Seals.{seals_of};
 ghost use Rattle.mg_sealing.specs.Report.{answer};
-ghost use Rattle.mg_sealing.specs.Verify.{IsVerified, Verifies};
+ghost use Rattle.mg_options.specs.Status.{UnlessFault};
+ghost use Rattle.mg_sealing.specs.Verify.{IsVerified};
 
 use crate::report::report;
 use crate::theorems::changes_show;
@@ -13,7 +14,7 @@ use std::io::{self, BufReader, Error, ErrorKind, Read, Write};
 /// The name of standard input in messages.
 const INPUT: &str = "standard input";
 
-/// Returns what the seals in a text say.
+/// Returns what the seals in a text show.
 fn seals_in<R: Read>(alloc: Global, reader: &mut R) -> io::Result<Seals>
     ensures value { IfOk result (λ seals. IfSome (R.remaining reader.old) (λ text. seals ≡ seals_of text)) }
 {
@@ -32,7 +33,7 @@ pub(crate) fn status_of(error: &Error) -> Status
     }
 }
 
-/// Returns the exit status that says whether seals are right.
+/// Returns the exit status that reports whether the seals are right.
 fn answer(seals: &Seals) -> Status
     ensures value { result ≡ answer seals.now.right seals.now.wrong }
 {
@@ -52,8 +53,8 @@ pub fn verify_text<R: Read, W: Write, E: Write>(
     output: &mut W,
     errors: &mut E,
 ) -> Status
-    ensures value { Verifies (IsVerified (R.remaining reader.old) (W.contents output.old) (W.contents output.new)
-        result) (errors.new ≡ errors.old) result }
+    ensures value { UnlessFault (IsVerified (R.remaining reader.old) (W.contents output.old) (W.contents output.new)
+        result × (errors.new ≡ errors.old)) result }
 {
     changes_show();
     let seals = match seals_in(alloc, reader) {
@@ -79,8 +80,8 @@ pub fn verify_input<R: Read, W: Write, E: Write>(
     output: &mut W,
     errors: &mut E,
 ) -> Status
-    ensures value { Verifies (IsVerified (R.remaining input.old) (W.contents output.old) (W.contents output.new)
-        result) (errors.new ≡ errors.old) result }
+    ensures value { UnlessFault (IsVerified (R.remaining input.old) (W.contents output.old) (W.contents output.new)
+        result × (errors.new ≡ errors.old)) result }
 {
     verify_text(alloc, INPUT, input, output, errors)
 }

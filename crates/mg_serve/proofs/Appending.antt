@@ -1,4 +1,4 @@
--- What a session's journal does: ticks in batches, and then a message.
+-- The appends of a session to its journal: ticks in batches, and then a message.
 use Rattle.std.proofs.Common.{◌≡◌, ℕ, false, is_some, zero, suc, ◌+◌, ◌-◌, ◌<◌, ◌≤◌, min, inl, inr, List, [], ◌∷◌, ◌++◌, IsSome, take, replicate, flat_map, Option, Some, None, Result, Ok, Err, refl, sym, ap, subst, ◌∙◌, append_assoc, arith, codes}
 use Rattle.std.proofs.lemmas.List.{append-nil}
 use Rattle.std.proofs.lemmas.List.Elements.{All-nil, All-cons, All-append}
@@ -16,7 +16,8 @@ use Rattle.mg_words.specs.declared.peer.Peer.{Peer}
 use Rattle.mg_core.specs.declared.event.Event.TheVariants as events
 use Rattle.mg_core.specs.Peer.{peer_text}
 use Rattle.mg_core.specs.Recording.{IsDatagram, event_line}
-use Rattle.mg_serve.specs.Journaled.{Lacks, Announces, IsJournaled, IsTried, tick_lines}
+use Rattle.mg_serve.specs.Journaled.{Lacks, Announces, IsJournaled, tick_lines}
+use Rattle.mg_serve.specs.aids.Tried.{IsTried}
 use Rattle.mg_serve.specs.Session.{IsAppended}
 use Rattle.mg_serve.specs.Trace.{TraceEntry, Called, Happened, calls_of}
 use Rattle.mg_serve.specs.aids.Journaling.{AreAppends, AppendsBatch, AppendsBefore, EndsTick, LogsCalls, after_one_tick, with_tick}
@@ -27,7 +28,7 @@ use Rattle.mg_serve.proofs.Taking.{told_both, told_none}
 
 -- ## Texts
 
--- the lines of a batch, cut from the lines of a larger one
+-- The lines for `n` ticks are the first `n` of the `m` tick lines.
 pub batch_lines : (n m : ℕ) → n ≤ m →
     flat_map (λ (line : List ℕ). line) (take n (replicate m (codes "tick\n"))) ≡ tick_lines n
 batch_lines zero m few = refl
@@ -126,7 +127,7 @@ logs_both a b c p q h k = subst (λ (l : List Call). LogsCalls a c l) (sym (call
   journaled = after_both (calls_of p) (calls_of q) a.journal b.journal c.journal h.journaled k.journaled;
 })
 
--- what the journal lacked after all of some ticks, by the trace alone
+-- The trace of the appends leads from the ticks that the journal lacked before to those that it lacks after.
 lacked : (a b : PortsSeen) (j k : JournalView) → (h : AppendsBefore [] (Ok tt) a b j k) →
     IsJournaled j.durability j.lacking h.trace k.lacking
 lacked a b j k h =
@@ -256,7 +257,7 @@ refused_before followed fault p (appended, lines, durability, is, all, inl ticks
     (appended, lines, durability, is, all, inl ticks)
 refused_before followed fault p (appended, lines, durability, is, all, inr none) = absurd none
 
--- ticks that failed, so that no message follows
+-- If an append of ticks failed, no message follows.
 pub not_announced : (followed : List TraceEntry) (fault : AppendFault) (a b : PortsSeen) (j k : JournalView) →
     AppendsBefore [] (Err fault) a b j k → AppendsBefore followed (Err fault) a b j k
 not_announced followed fault a b j k h = record {
@@ -269,7 +270,7 @@ not_announced followed fault a b j k h = record {
   tries = h.tries;
 }
 
--- without a journal
+-- Without a journal, nothing is appended before an event.
 pub nothing_announced : (source : Peer) (bytes : List ℕ) (seen : PortsSeen) (j : JournalView) → j.durability ≡ None →
     AppendsBefore (Happened (events.Control source bytes) ∷ []) (Ok tt) seen seen j j
 nothing_announced source bytes seen j none = record {
@@ -286,7 +287,7 @@ nothing_announced source bytes seen j none = record {
 
 -- ## A tick
 
--- how long ago an append was tried doesn't matter once one is tried
+-- Trying an append has the same effect after one more tick.
 tried_again : (d : Option Durability) (n left : ℕ) (lines : List ℕ) (result : Result (Unit {0}) AppendFault) →
     IsTried d n (Called (Append lines Written result) ∷ []) left →
     IsTried d (after_one_tick d n) (Called (Append lines Written result) ∷ []) left
@@ -316,7 +317,7 @@ pub counted : (d : Option Durability) (lacking : ℕ) → IsSome d → after_one
 counted None lacking some = absurd cc
 counted (Some durable) lacking some = refl
 
--- a tick after which no append is due
+-- A tick after which no append is due is only counted.
 pub tick_alone : (seen : PortsSeen) (j k : JournalView) → j.untried < 10 → k ≡ with_tick j → EndsTick seen seen j k
 tick_alone seen j k few is = subst (λ (v : JournalView). EndsTick seen seen j v) (sym is) (record {
   appends = [];
@@ -335,11 +336,11 @@ without : (d : Option Durability) (lacking untried : ℕ) (fence : Option Fence)
 without None lacking untried fence none = refl
 without (Some durable) lacking untried fence none = absurd cc
 
--- without a journal, no tick counts for it
+-- Without a journal, ticks are not counted.
 pub without_journal : (j : JournalView) → is_some j.durability ≡ false → j ≡ with_tick j
 without_journal j none = without j.durability j.lacking j.untried j.fence none
 
--- with a journal, each tick does
+-- With a journal, each tick is counted.
 pub tick_counted : (j : JournalView) → IsSome j.durability →
     record j { lacking = j.lacking + 1; untried = j.untried + 1 } ≡ with_tick j
 tick_counted j some =

@@ -1,4 +1,4 @@
--- A session by a clock.
+-- A session driven by a clock.
 use Rattle.std.proofs.Common.{◌≡◌, ◌≢◌, ◌⊎◌, ℕ, ◌+◌, ◌-◌, ◌^◌, ◌≤◌, inr, true, false, List, [], ◌∷◌, ◌++◌, length, Ok, Err, refl, sym, ap, subst, ◌∙◌, append_assoc, arith}
 use Rattle.std.proofs.lemmas.List.{append-nil, length_push}
 use Rattle.std.proofs.lemmas.Grind.{flat_map-append}
@@ -27,7 +27,7 @@ use Rattle.mg_serve.proofs.Taking.{each_both, each_one, takes_as, takes_joined, 
 
 -- ## One step
 
--- what is left of a step after its poll
+-- The commands of a step after its poll.
 after_poll : Step → List Command
 after_poll steps.Message = []
 after_poll (steps.Tick timing) = Tick timing ∷ []
@@ -42,7 +42,7 @@ unfolding after_poll
 at_most_one steps.Message = omega arith
 at_most_one (steps.Tick timing) = omega arith
 
--- the poll couldn't be printed
+-- Printing failed during the poll.
 pub poll_fails : (setup : Setup) (step : Step) (failed : WriteFailed) (old mid : CoreState) (x y : Outside) →
     x.printer.has_failed ≡ false → y.printer.has_failed ≡ true → LeadsByTrace old mid x y (Performs setup Poll) →
     LeadsByTrace old mid x y (StepTaken x.printer.form setup step (Err failed))
@@ -69,7 +69,7 @@ both_done setup timing w mid next p q h k =
     each_both (Performs setup) (Poll ∷ []) (Tick timing ∷ []) w mid next p q (each_one (Performs setup) Poll w mid p h)
     (each_one (Performs setup) (Tick timing) mid next q k)
 
--- the tick couldn't be printed
+-- Printing failed during the tick.
 pub tick_fails : (setup : Setup) (timing : Timing) (failed : WriteFailed) (old mid core : CoreState) (x y z : Outside) →
     y.printer.has_failed ≡ false → z.printer.has_failed ≡ true → LeadsByTrace old mid x y (Performs setup Poll) →
     LeadsByTrace mid core y z (Performs setup (Tick timing)) →
@@ -112,7 +112,7 @@ commands_more taken step =
     flat_map-append step_commands taken (step ∷ []) ∙
     ap (λ (l : List Command). commands_of taken ++ l) (append-nil (step_commands step))
 
--- a step more
+-- One more step of the clock was taken.
 pub one_step_more : (form : Form) (setup : Setup) (first s v : TickSchedule) (count : ℕ) (step : Step) (c d e : ClockSeen)
     (old mid core : CoreState) (x y z : Outside) → LeadsByTrace old mid x y (StepsDone setup first count c d s) →
     StepBegins s d e step v → LeadsByTrace mid core y z (StepTaken form setup step (Ok tt)) →
@@ -130,7 +130,7 @@ one_step_more form setup first s v count step c d e old mid core x y z h begins 
 
 -- ## How a run ends
 
--- the clock failed, or so many steps were taken
+-- The run ended because the clock failed or the maximum number of steps was taken.
 pub clock_fails : (form : Form) (setup : Setup) (allowed count : ℕ) (s : TickSchedule) (c d e : ClockSeen)
     (fails : Type 0) (old core : CoreState) (x z : Outside) →
     LeadsByTrace old core x z (StepsDone setup (record { ticks = 0; allowed = allowed; messages = 0 }) count c d s) →
@@ -155,7 +155,7 @@ clock_fails form setup allowed count s c d e fails old core x z h why =
       done,
     ))
 
--- a print failed
+-- The run ended because printing failed.
 pub print_fails : (setup : Setup) (allowed count : ℕ) (s v : TickSchedule) (step : Step) (failed : WriteFailed)
     (c d e : ClockSeen) (fails : Type 0) (old mid core : CoreState) (x y z : Outside) →
     LeadsByTrace old mid x y (StepsDone setup (record { ticks = 0; allowed = allowed; messages = 0 }) count c d s) →
@@ -174,21 +174,19 @@ print_fails setup allowed count s v step failed c d e fails old mid core x y z h
         schedule = v;
         now = e;
         begin = steps_more first s v taken step c d e begin begins;
-        exits = (
+        exits = inr (
           refl,
-          inr (
-            left,
-            commands_more taken step ∙ ap (λ (l : List Command). commands_of taken ++ l) parts ∙
-                sym (append_assoc (commands_of taken) commands left),
-            few,
-            record {
-              front = commands_of taken ++ last.front;
-              command = last.command;
-              is = ap (λ (l : List Command). commands_of taken ++ l) last.is ∙
-                  sym (append_assoc (commands_of taken) last.front (last.command ∷ []));
-              printed = subst (λ (f : Form). prints f last.command ≡ true) logged.prints.form last.printed;
-            },
-          ),
+          left,
+          commands_more taken step ∙ ap (λ (l : List Command). commands_of taken ++ l) parts ∙
+              sym (append_assoc (commands_of taken) commands left),
+          few,
+          record {
+            front = commands_of taken ++ last.front;
+            command = last.command;
+            is = ap (λ (l : List Command). commands_of taken ++ l) last.is ∙
+                sym (append_assoc (commands_of taken) last.front (last.command ∷ []));
+            printed = subst (λ (f : Form). prints f last.command ≡ true) logged.prints.form last.printed;
+          },
         );
       },
       each_both (Performs setup) (commands_of taken) commands w m next p q done performed,

@@ -1,4 +1,4 @@
--- Which entries of a trace a fence is about.
+-- The entries of a trace that a fence checks.
 use Rattle.std.proofs.Common.{◌≡◌, inl, inr, List, [], ◌∷◌, ◌++◌, All, map, Option, Result, Ok, Err, refl, sym, subst}
 use Rattle.std.proofs.lemmas.List.Elements.{All-head, All-tail}
 use Rattle.mg_journal.specs.declared.append_fault.AppendFault.{AppendFault}
@@ -61,6 +61,6 @@ may_fenced fence p (inl none) = subst (λ (l : List TraceEntry). IsFenced fence 
 may_fenced fence p (inr (lines, durability, result, is)) =
     subst (λ (l : List TraceEntry). IsFenced fence l fence) (sym is) refl
 
--- the same, where a view of the journal has the fence afterwards
+-- `IsFenced` also holds with an equal fence at the end.
 pub fenced_as : (old new : Option Fence) (p : List TraceEntry) → new ≡ old → IsFenced old p old → IsFenced old p new
 fenced_as old new p same h = subst (λ (f : Option Fence). IsFenced old p f) (sym same) h

@@ -1,4 +1,4 @@
--- No message is run whose number is below that of a message that was run before.
+-- No message is run if its number is below that of an earlier message that was run.
 use Rattle.std.proofs.Common.{◌≡◌, ℕ, ◌≤◌, max, true, List, [], ◌∷◌, ◌++◌, map, Option, Some, None, refl, sym, ap, subst, ◌∙◌, arith, unwrap_or}
 use Rattle.std.specs.Option.{option_map}
 use Rattle.std.proofs.lemmas.Bool.{leb-true}
@@ -15,19 +15,19 @@ use Rattle.mg_serve.specs.Fenced.{IsFenced}
 use Rattle.mg_serve.specs.FenceLaws.{NoLowerNumberIsRun}
 use Rattle.mg_serve.specs.Trace.{TraceEntry, Called, Happened, Printed, Noted, Stale, events_of_trace}
 
--- a message has one number
+-- A message has at most one number.
 one_number : ReadingsAreUnique → (bytes : List ℕ) (a b : Option ℕ) → HasNumber bytes a → HasNumber bytes b → a ≡ b
 one_number unique bytes a b (p, reads, is) (q, too, same) =
     is ∙ ap (λ (r : Parsed). number_in bytes r) (unique bytes p q reads too) ∙ sym same
 
--- what passes a fence that is at least n isn't below n
+-- If a message passes a fence that has reached at least `n`, the number of the message is at least `n`.
 not_below : (n m : ℕ) (f : Fence) (bytes : List ℕ) (number : Option ℕ) → n ≤ f.reached →
     passes (Some f) bytes number ≡ true → number ≡ Some m → n ≤ m
 not_below n m f bytes None least passed is = absurd cc
 not_below n m f bytes (Some k) least passed is =
     let same : k ≡ m = cc in subst (λ (x : ℕ). n ≤ x) same (omega (arith, least, leb-true f.reached k passed))
 
--- what notes reach after a part of them
+-- The number that a list of notes reaches, counted on from the number that its first part reaches.
 reached_after : ReadingsAreUnique → (from mid last : ℕ) (p q : List Note) → Reaches from p mid → Reaches from (p ++ q) last →
     Reaches mid q last
 reached_after unique from mid last [] q h k = subst (λ (m : ℕ). Reaches m q last) (sym h) k
@@ -40,11 +40,11 @@ reached_after unique from mid last (notes.Happened (events.Media port source byt
     reached_after unique from mid last p q h k
 reached_after unique from mid last (notes.Happened events.Tick ∷ p) q h k = reached_after unique from mid last p q h k
 
--- the events of a trace, as notes of a journal
+-- The events of a trace, as notes of a journal.
 abbrev noted : List TraceEntry → List Note
 noted p = map notes.Happened (events_of_trace p)
 
--- the fence after a part of a trace is what this part has reached
+-- The fence after the first part of a trace has the number that this part reaches.
 fence_after : ReadingsAreUnique → (f : Fence) (fence end : Option Fence) (p q : List TraceEntry) (last : ℕ) →
     fence ≡ Some f → IsFenced fence (p ++ q) end → Reaches f.reached (noted p) last →
     (g : Fence) × (last ≡ g.reached) × IsFenced (Some g) q end

@@ -1,4 +1,4 @@
--- An answer is sent right after its message.
+-- An answer is sent right after its message is handled.
 use Rattle.std.proofs.Common.{◌≡◌, ◌⊎◌, inl, inr, ℕ, zero, suc, ◌+◌, Bool, true, false, List, [], ◌∷◌, ◌++◌, length, map, All, Option, Some, None, Ok, Err, refl, sym, ap, subst, ◌∙◌, codes}
 use Rattle.std.proofs.lemmas.List.Elements.{All-head, All-tail}
 use Rattle.std.specs.List.{range_with_len}
@@ -228,7 +228,7 @@ announced durability told happened (Announces source other) next to bytes journa
       synced,
     )
 
--- the journal of a session follows its trace
+-- The journal of a session follows the session's trace.
 pub journals_of : (setup : Setup) (durability : Durability) (trace : List TraceEntry) (lacking : ℕ)
     → setup.journal ≡ Some durability → IsJournaled setup.journal 0 trace lacking
     → Journals durability (Lacks 0) trace (Lacks lacking)

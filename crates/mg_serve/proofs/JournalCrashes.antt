@@ -1,4 +1,4 @@
--- What a crash loses.
+-- The losses of a crash.
 use Rattle.std.proofs.Common.{◌≡◌, ◌⊎◌, inl, inr, ℕ, zero, suc, List, [], ◌∷◌, ◌++◌, map, replicate, refl, sym, subst, append-nil, arith}
 use Rattle.mg_journal.specs.declared.durability.Durability.{Durability}
 use Rattle.mg_journal.specs.Journal.{JournalState}
@@ -61,7 +61,7 @@ ticks_run (suc n) w =
     let (others, run) = ticks_run n (world_after_tick w) in
     (first ++ others, (first, others, world_after_tick w, (refl, refl), run, refl))
 
--- the front of a session is a run too
+-- The first part of a session is a run too.
 pub front_run : (setup : Setup) (w last : World) (front rest : List TraceEntry) → SendsAreARun setup w (front ++ rest) last
     → (sent : List Sent) × (now : World) × Run w (events_of_trace front) sent now
 front_run setup w last front rest ran =
@@ -92,7 +92,7 @@ told_at durability told happened (Announces source bytes) journal (tells, works,
   },
 )
 
--- what the journal tells at a moment of a session
+-- The events in the journal at a moment of a session.
 pub moment_told : RecordingsAreRead → CutRecordingsAreRead → (setup : Setup) (durability : Durability) (w : World)
     (told : List Event) (front rest : List TraceEntry) (journal : JournalState)
     → IsMoment setup durability w told front rest journal
@@ -111,7 +111,7 @@ moment_told read cut setup durability w told front rest journal moment =
 
 -- ## Resuming
 
--- the world after the lost ticks
+-- After the lost ticks, the worlds agree except for what was received.
 pub after_lost : RtpChangesSpeechOnly → (w v now before : World) (events kept : List Event) (ticks : ℕ) (sent others : List Sent)
     → AgreeExceptReceived w v → Run w events sent now → Run v kept others before
     → without_rtp events ≡ kept ++ replicate ticks Tick → AgreeExceptReceived now (world_after_ticks ticks before)
@@ -185,9 +185,7 @@ agrees_with_itself w = record {
 pub lives_follow : LivesFollow
 lives_follow config told sent resumed missed run =
     let (more, ticked) = ticks_run missed resumed in
-    let w = world_after_ticks missed resumed in
-    record {
-      sent = sent ++ more;
-      run = run_both (start_of config) resumed w told (replicate missed Tick) sent more run ticked;
-      agrees = agrees_with_itself w;
-    }
+    let w = world_after_ticks missed resumed in (
+      (sent ++ more, run_both (start_of config) resumed w told (replicate missed Tick) sent more run ticked),
+      agrees_with_itself w,
+    )

@@ -1,4 +1,4 @@
--- A cut journal tells what happened up to some moment.
+-- A journal that is cut off contains the events up to some moment.
 use Rattle.std.proofs.Common.{◌≡◌, ◌⊎◌, inl, inr, ℕ, List, [], ◌∷◌, ◌++◌, replicate, Option, IfSome, refl, sym, ap, subst, ◌∙◌, append_assoc, append-nil, arith}
 use Rattle.mg_journal.specs.declared.durability.Durability.{Durability}
 use Rattle.mg_journal.specs.Journal.{JournalState}
@@ -31,7 +31,7 @@ apart_more e f a b c d same (inl (x, is, left)) =
 apart_more e f a b c d same (inr (y, is, left)) =
     inr (y, ap (λ (l : List Event). f ∷ l) is ∙ ap (λ (g : Event). g ∷ (a ++ y)) (sym same), left)
 
--- the end of one front is in the other
+-- If two concatenations are equal, one of their first parts is a prefix of the other.
 pub apart : (a b c d : List Event) → a ++ b ≡ c ++ d → Apart a b c d
 apart [] b c d is = inr (c, refl, is)
 apart (e ∷ a) b [] d is = inl (e ∷ a, refl, sym is)
@@ -63,7 +63,7 @@ after_event event first front events loud same (past, later, parts, are) = (
   loud past ∙ (ap (λ (l : List Event). event ∷ l) are ∙ ap (λ (e : Event). e ∷ events) same),
 )
 
--- the moment up to which these events happened
+-- A trace has a moment up to which exactly these events happened, not counting RTP datagrams.
 past_of : (front : List TraceEntry) (events rest : List Event) → without_rtp (events_of_trace front) ≡ events ++ rest
     → IsPast front events
 past_of front [] rest is = ([], front, refl, refl)
@@ -92,7 +92,7 @@ past_of (Stale source bytes ∷ front) (e ∷ events) rest is =
 
 -- ## The law
 
--- the first of what was kept
+-- A prefix of the kept events is what had happened by some moment.
 first_kept : (told : List Event) (front : List TraceEntry) (first more kept rest : List Event) (ticks : ℕ)
     → first ≡ told ++ more → kept ≡ more ++ rest
     → without_rtp (events_of_trace front) ≡ kept ++ replicate ticks Tick → WereTold told front first
@@ -102,7 +102,7 @@ first_kept told front first more kept rest ticks is parts lost =
     (lost ∙ (ap (λ (l : List Event). l ++ replicate ticks Tick) parts ∙ append_assoc more rest (replicate ticks Tick))) in
     inr (past, later, here, inl (is ∙ ap (λ (l : List Event). told ++ l) (sym are)))
 
--- all of it, and a message that was announced then
+-- All kept events and a message that was announced are what the journal contained at some moment.
 with_message : (told : List Event) (front : List TraceEntry) (first more kept : List Event) (ticks : ℕ) (source : Peer)
     (bytes : List ℕ) → first ≡ told ++ more → more ≡ kept ++ Control source bytes ∷ []
     → without_rtp (events_of_trace front) ≡ kept ++ replicate ticks Tick → WereTold told front first

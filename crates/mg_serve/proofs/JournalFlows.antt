@@ -1,4 +1,4 @@
--- A journal tells who heard whom.
+-- A journal shows who heard whom.
 use Rattle.std.proofs.Common.{◌≡◌, ◌⊎◌, inl, inr, ℕ, zero, suc, ◌≤◌, List, [], ◌∷◌, ◌++◌, length, replicate, refl, sym, ap, subst, ◌∙◌, append_assoc, append-nil, arith}
 use Rattle.mg_words.specs.declared.peer.Peer.{Peer}
 use Rattle.mg_engine.specs.Flow.{flow}
@@ -7,7 +7,7 @@ use Rattle.mg_core.specs.declared.event.Event.TheVariants.{Control, Tick}
 use Rattle.mg_core.specs.ExceptReceived.{AgreeExceptReceived, RtpChangesSpeechOnly, without_rtp}
 use Rattle.mg_core.specs.Step.{Run}
 use Rattle.mg_core.specs.World.{World, start_of, world_after_tick, world_after_ticks}
-use Rattle.mg_serve.specs.JournalLaws.{HaveSameFlows, JournalsTellWhoHears, LosesTicks, ticks_lacking}
+use Rattle.mg_serve.specs.JournalLaws.{JournalsTellWhoHears, LosesTicks, ticks_lacking}
 use Rattle.mg_serve.specs.Theorems.{SessionsAreRuns}
 use Rattle.mg_serve.specs.Trace.{TraceEntry, events_of_trace}
 use Rattle.mg_serve.proofs.JournalCrashes.{after_lost, front_run, split_run}
@@ -18,18 +18,22 @@ use Rattle.mg_serve.proofs.JournalSteps.{front_ticks, quiet_both}
 
 -- ## Flows
 
+-- The same speech flows in two worlds.
+abbrev HaveSameFlows : World → World → Type 0
+HaveSameFlows a b = (talker listener : ℕ) → flow a.gateway talker listener ≡ flow b.gateway talker listener
+
 agreeing_flows : (a b : World) → AgreeExceptReceived a b → HaveSameFlows a b
 agreeing_flows a b h talker listener =
     λ i. flow (record a.gateway { rooms = h.rooms i; edits = h.edits i }) talker listener
 
--- ticks change no flow
+-- Ticks do not change any flow.
 ticked_flows : (n : ℕ) (w : World) → HaveSameFlows (world_after_ticks n w) w
 ticked_flows zero w talker listener = refl
 ticked_flows (suc n) w talker listener = ticked_flows n (world_after_tick w) talker listener
 
 -- ## Events up to a moment
 
--- what a journal keeps of the events up to a moment
+-- The events up to a moment are a prefix of the journal's events, except for lost ticks.
 pub record KeepsFront (lacking : ℕ) (happened written : List Event) : Type 0 where
   pub first : List Event
   pub others : List Event
@@ -38,7 +42,7 @@ pub record KeepsFront (lacking : ℕ) (happened written : List Event) : Type 0 w
   pub few : ticks ≤ lacking
   pub lost : happened ≡ first ++ replicate ticks Tick
 
--- what was kept is a front of what was written
+-- The kept events are a prefix of the written ones.
 front_of : (kept written : List Event) → (written ≡ kept)
     ⊎ ((source : Peer) × (bytes : List ℕ) × (written ≡ kept ++ Control source bytes ∷ []))
     → (end : List Event) × (written ≡ kept ++ end)

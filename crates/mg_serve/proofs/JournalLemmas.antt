@@ -1,4 +1,4 @@
--- Appends one after another, and what a journal lacks.
+-- Appends one after another, and the ticks that a journal lacks.
 use Rattle.std.proofs.Common.{◌≡◌, ℕ, ◌+◌, ◌<◌, inl, inr, false, List, [], ◌∷◌, ◌++◌, All, map, IsSome, Option, Some, None, Result, Ok, Err, refl, ap, subst, ◌∙◌}
 use Rattle.std.proofs.lemmas.List.Elements.{All-head, All-tail}
 use Rattle.mg_words.specs.declared.peer.Peer.{Peer}
@@ -13,7 +13,8 @@ use Rattle.mg_ports.specs.Journaled.{JournalAfter}
 use Rattle.mg_core.specs.declared.event.Event.TheVariants as events
 use Rattle.mg_serve.specs.declared.form.Form.{Form}
 use Rattle.mg_serve.specs.declared.form.Form.TheVariants.{Plain, Recording}
-use Rattle.mg_serve.specs.Journaled.{Progress, Lacks, Advances, IsJournaled, IsTried, Journals, Tries, is_append}
+use Rattle.mg_serve.specs.Journaled.{Progress, Lacks, Advances, IsJournaled, Journals, Tries, is_append}
+use Rattle.mg_serve.specs.aids.Tried.{IsTried}
 use Rattle.mg_serve.specs.Session.{IsAppended, MayAppend}
 use Rattle.mg_serve.specs.Trace.{TraceEntry, Called, Happened, Printed, Noted, Stale, calls_of, output_of}
 use Rattle.mg_serve.specs.aids.Journaling.{AreAppends, after_one_tick}
@@ -29,7 +30,7 @@ after_both (Send socket to bytes ∷ p) q a b c h k = after_both p q a b c h k
 after_both (BeginTick timing ∷ p) q a b c h k = after_both p q a b c h k
 after_both (Append lines durability result ∷ p) q a b c h k = (h.0, h.1, after_both p q h.0 b c h.2 k)
 
--- calls without an append
+-- Calls without an append leave the journal unchanged.
 pub after_quiet : (calls : List Call) (a b : JournalState) → list_any is_append calls ≡ false → b ≡ a →
     JournalAfter calls a b
 after_quiet [] a b quiet same = same
@@ -53,7 +54,7 @@ journaled_both None a b c p q h k = (
 )
 journaled_both (Some durable) a b c p q h k = journals_both durable (Lacks a) (Lacks b) (Lacks c) p q h k
 
--- an entry that changes nothing for the journal and for the fence
+-- The entry does not affect the journal or the fence.
 abbrev pub IsIdle : TraceEntry → Type 0
 IsIdle (Called call) = is_append call ≡ false
 IsIdle (Happened (events.Control source bytes)) = ⊥
@@ -100,7 +101,7 @@ pub stale_journaled : (d : Option Durability) (n : ℕ) (source : Peer) (bytes :
 stale_journaled None n source bytes = (refl, refl)
 stale_journaled (Some durable) n source bytes = (Lacks n, refl, refl)
 
--- calls without an append
+-- Calls without an append leave the number of lacking ticks unchanged.
 pub calls_journaled : (d : Option Durability) (n : ℕ) (calls : List Call) → list_any is_append calls ≡ false →
     IsJournaled d n (map (λ (call : Call). Called call) calls) n
 calls_journaled d n [] quiet = nothing_journaled d n
@@ -115,7 +116,7 @@ calls_journaled d n (BeginTick timing ∷ calls) quiet =
     (idle_journaled d n (Called (BeginTick timing)) refl) (calls_journaled d n calls quiet)
 calls_journaled d n (Append lines durability result ∷ calls) quiet = absurd cc
 
--- one more tick
+-- After one more tick, the journal lacks one more tick.
 pub tick_journaled : (d : Option Durability) (n : ℕ) →
     IsJournaled d n (Happened events.Tick ∷ []) (after_one_tick d n)
 tick_journaled None n = (refl, refl)

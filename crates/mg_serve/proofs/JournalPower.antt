@@ -1,4 +1,4 @@
--- What is on the disk when an answer was sent.
+-- The text on the disk after an answer was sent.
 use Rattle.std.proofs.Common.{◌≡◌, ℕ, true, List, [], ◌∷◌, ◌++◌, take, Option, Some, None, IfSome, Result, Ok, Err, refl, sym, ap, subst, ◌∙◌, append_assoc, append-nil}
 use Rattle.std.specs.Io.KnownBytes.{append_known}
 use Rattle.mg_journal.specs.declared.append_fault.AppendFault.{AppendFault}
@@ -26,14 +26,14 @@ use Rattle.mg_serve.proofs.JournalSteps.{after_parts}
 use Rattle.mg_serve.proofs.Printing.{calls_both}
 use Rattle.mg_serve.proofs.JournalText.{cut_script}
 
--- A text is on the disk, and what follows it may be.
+-- The text `base` is on the disk. Text after it may be on the disk too.
 pub record IsOnDisk (base : List ℕ) (journal : JournalState) : Type 0 where
   pub sure : List ℕ
   pub more : List ℕ
   pub synced : journal.synced ≡ Some (base ++ sure)
   pub text : journal.text ≡ Some ((base ++ sure) ++ more)
 
--- the same if the text may be unknown
+-- If the text at the start is known, it is on the disk.
 abbrev Rests : Option (List ℕ) → JournalState → Type 0
 Rests None journal = journal.text ≡ None
 Rests (Some base) journal = IsOnDisk base journal
@@ -113,7 +113,7 @@ same_text a b h = cc
 same_events : (a b : List Event) → Some a ≡ Some b → a ≡ b
 same_events a b h = cc
 
--- a script that begins with another one begins with its events
+-- If a script begins with a complete script, its events begin with those of that script.
 begins_with : (base rest cut : List ℕ) (before first : List Event) → IsScriptOf base before → cut ≡ base ++ rest
     → IsScriptOf (whole_lines cut) first → (others : List Event) × (first ≡ before ++ others)
 begins_with base rest cut before first one is script =

@@ -1,4 +1,4 @@
--- What a journal tells after each entry of a trace.
+-- The events in a journal after each entry of a trace.
 use Rattle.std.proofs.Common.{◌≡◌, ◌⊎◌, inl, inr, ℕ, zero, suc, ◌+◌, ◌-◌, ◌≤◌, Bool, true, false, List, [], ◌∷◌, ◌++◌, length, take, replicate, IfSome, Result, Ok, Err, refl, sym, ap, subst, ◌∙◌, append_assoc, append-nil, arith}
 use Rattle.std.specs.Prelude.{if◌then◌else◌, flat_map}
 use Rattle.std.proofs.lemmas.List.{replicate-append-replicate, replicate_more}
@@ -28,12 +28,12 @@ use Rattle.mg_serve.proofs.JournalText.{Fit, IsWritten, known_more, written, wri
 abbrev pub ticks : ℕ → List Event
 ticks n = replicate n Tick
 
--- What a journal tells of what happened, if it lacks this many ticks. Unless it is broken, that is everything else.
+-- Unless the journal is broken, `told` is everything that happened except for the ticks that the journal lacks.
 abbrev pub Standing : Bool → ℕ → List Event → List Event → Type 0
 Standing false lacking happened told = happened ≡ told ++ ticks lacking
 Standing true lacking happened told = LosesTicks lacking happened told
 
--- What a journal tells, whatever it told at the start.
+-- The events in a journal, which begin with the events `told` that it contained at the start.
 abbrev pub Holds : Durability → List Event → List Event → Progress → JournalState → Type 0
 Holds durability told happened (Lacks lacking) journal =
     (events : List Event) × TellsEvents journal (told ++ events) × Standing journal.is_broken lacking happened events
@@ -73,7 +73,7 @@ tells_more old part told events more tells script =
     subst (λ (l : List Event). IfSome (append_known old.text part) (λ text. IsScriptOf text l)) (append_assoc told events more)
     (known_more old.text part (told ++ events) more tells script)
 
--- nothing more is known of a broken journal
+-- A working journal, too, loses at most the ticks that it lacks.
 pub loses_more : (lacking : ℕ) (happened events : List Event) (b : Bool) → Standing b lacking happened events
     → LosesTicks lacking happened events
 loses_more lacking happened events true stands = stands
@@ -104,7 +104,7 @@ ticks_done durability how told happened events lacking left n part old new works
       subst (λ (b : Bool). Standing b left happened (events ++ ticks n)) (sym works) kept,
     )
 
--- some of the ticks may be there
+-- If an append of ticks breaks the journal, some of the ticks may be in it.
 ticks_broken : (durability : Durability) (told happened events : List Event) (lacking left n : ℕ) (part : List ℕ)
     (old new : JournalState) → CutRecordingsAreRead → Breaks part old new → TellsEvents old (told ++ events)
     → (b : Bool) → old.is_broken ≡ b → Standing b lacking happened events → lacking ≡ left + n → IsWritten part (ticks n)
@@ -141,7 +141,7 @@ message_done durability told happened events source bytes part old new works is 
       λ sync. ap (λ (d : Durability). if is_synced d then append_known old.text part else old.synced) sync,
     )
 
--- the line of the message may be there
+-- If an append of a message breaks the journal, the message may be in it.
 pub one_front : (message : Event) (first others : List Event) → message ∷ [] ≡ first ++ others → (first ≡ []) ⊎ (first ≡ message ∷ [])
 one_front message [] others is = inl refl
 one_front message (x ∷ []) others is =
@@ -250,7 +250,7 @@ tick_holds durability told happened lacking next old new (events, tells, stands)
     (same_state durability told (happened ++ Tick ∷ []) (Lacks (lacking + 1)) old new same
     (events, tells, tick_stands old.is_broken lacking happened events stands))
 
--- the message that was announced was handled
+-- The announced message was handled.
 handled_holds : (durability : Durability) (told happened : List Event) (source : Peer) (bytes : List ℕ) (old : JournalState)
     → Holds durability told happened (Announces source bytes) old
     → Holds durability told (happened ++ Control source bytes ∷ []) (Lacks 0) old
@@ -335,7 +335,7 @@ journals_parts durability old new (one ∷ p) q (next, step, js) =
     let (mid, first, other) = journals_parts durability next new p q js in
     (mid, (next, step, first), other)
 
--- what a journal tells after a trace
+-- The journal still has the events of a session after a trace.
 pub trace_holds : RecordingsAreRead → CutRecordingsAreRead → (durability : Durability) (told happened : List Event)
     (trace : List TraceEntry) (progress next : Progress) (old new : JournalState) → Holds durability told happened progress old
     → Journals durability progress trace next → JournalAfter (calls_of trace) old new
@@ -354,7 +354,7 @@ trace_holds read cut durability told happened (one ∷ trace) progress next old 
     (append_assoc happened (without_rtp (events_of_trace (one ∷ []))) (without_rtp (events_of_trace trace))
     ∙ ap (λ (l : List Event). happened ++ l) (sym (quiet_both (one ∷ []) trace))) there
 
--- at the start
+-- At the start, the journal has only its earlier events.
 pub start_holds : (durability : Durability) (told : List Event) (journal : JournalState) → TellsEvents journal told
     → Holds durability told [] (Lacks 0) journal
 start_holds durability told journal tells =

@@ -1,4 +1,4 @@
--- Journals are scripts: whole lines, one after another.
+-- Journals are scripts: complete lines, one after another.
 use Rattle.std.proofs.Common.{◌≡◌, ◌≢◌, ◌≤◌, ◌⊎◌, inl, inr, ℕ, ◌==◌, Bool, true, false, ◌||◌, List, [], ◌∷◌, ◌++◌, length, map, take, drop, All, Option, Some, None, IfSome, refl, sym, ap, subst, ◌∙◌, append_assoc, append-nil, codes}
 use Rattle.std.specs.Prelude.{if◌then◌else◌, flat_map}
 use Rattle.std.proofs.lemmas.List.{take-append-drop}
@@ -59,7 +59,7 @@ either_none : (none : List (List ℕ)) (q : Bool) → (if q then none else none)
 either_none none true = refl
 either_none none false = refl
 
--- a line ends, or goes on
+-- A line feed ends a line, and any other byte continues the line.
 line_feed : (ended : Bool) (partial : List ℕ) (b : ℕ) (bs : List ℕ) → (b == 10) ≡ true
     → lines_after ended partial (b ∷ bs) ≡ without_return partial ∷ lines_after ended [] bs
 unfolding lines_after
@@ -117,7 +117,7 @@ cut_fed partial (b ∷ bs) fed =
     fed_byte partial b bs (b == 10) refl fed (λ p k. cut_fed p bs k)
     ∙ sym (ap (lines_after true partial) (whole_byte b bs fed))
 
--- the lines of a cut text are those of its whole lines
+-- The lines of a text that is cut off are those of its complete lines.
 pub cut_is : (front : List ℕ) → lines_of false front ≡ lines_of true (whole_lines front)
 cut_is front = after_feed front (has_line_feed front) refl (λ p fed. cut_fed p front fed)
 
@@ -129,7 +129,7 @@ script_more x y es fs one other = (
   ap events_of (lines_more true [] x y one.0 (inl refl)) ∙ events_both (lines_of true x) (lines_of true y) es fs one.1 other.1,
 )
 
--- the same if the first text may be unknown
+-- Appending a script extends a text that may be unknown.
 pub known_more : (known : Option (List ℕ)) (y : List ℕ) (es fs : List Event)
     → IfSome known (λ text. IsScriptOf text es) → IsScriptOf y fs
     → IfSome (append_known known y) (λ text. IsScriptOf text (es ++ fs))
@@ -164,7 +164,7 @@ split_events [] ys es h = ([], es, refl, refl)
 split_events (x ∷ xs) ys es h = split_step (event_of x) (events_of xs) (events_of (xs ++ ys)) es h
     (λ l is. split_events xs ys l is)
 
--- a cut script is a script of the first events
+-- If a script is cut off, its complete lines are a script of its first events.
 pub cut_script : (text cut lost : List ℕ) (es : List Event) → text ≡ cut ++ lost → IsScriptOf text es
     → (fs : List Event) × (gs : List Event) × (es ≡ fs ++ gs) × IsScriptOf (whole_lines cut) fs
 cut_script text cut lost es parts script =
@@ -217,7 +217,7 @@ recording_whole [] = whole_nil
 recording_whole (entry ∷ entries) =
     whole_more (entry_line entry) (recording_of entries) (entry_ends entry).0 (recording_whole entries)
 
--- the events as entries
+-- The events as entries of a recording.
 abbrev entries_of : List Event → List Entry
 entries_of events = map Happened events
 
@@ -234,7 +234,7 @@ events_in_both [] fs = refl
 events_in_both (Happened event ∷ es) fs = ap (λ (l : List Event). event ∷ l) (events_in_both es fs)
 events_in_both (Noted text ∷ es) fs = events_in_both es fs
 
--- Lines for events, perhaps after a comment: a recording.
+-- Lines for these events, possibly with comments.
 pub record IsWritten (part : List ℕ) (events : List Event) : Type 0 where
   pub entries : List Entry
   pub text : part ≡ recording_of entries
@@ -283,13 +283,13 @@ pub written : (known : Option (List ℕ)) (seal comment lines : List ℕ) (event
 written known seal comment lines events seals dated is fit =
     sealed known seal (comment ++ lines) events seals (commented comment lines events dated (bare lines events is fit))
 
--- all of it tells its events
+-- Written lines are a script of their events.
 pub written_script : RecordingsAreRead → (part : List ℕ) (events : List Event) → IsWritten part events → IsScriptOf part events
 written_script law part events w =
     subst (λ (l : List ℕ). IsScriptOf l events) (sym w.text)
     (recording_whole w.entries, law w.entries w.fit ∙ ap (λ (l : List Event). Some l) w.are)
 
--- a front of it tells the first of them
+-- A prefix of written lines is a script of the first events.
 pub written_front : CutRecordingsAreRead → (part : List ℕ) (events : List Event) (n : ℕ) → IsWritten part events
     → (first : List Event) × (others : List Event) × (events ≡ first ++ others) × IsScriptOf (whole_lines (take n part)) first
 written_front law part events n w =

@@ -1,4 +1,4 @@
--- A text as one line, byte by byte.
+-- Text as one line, byte by byte.
 use Rattle.std.proofs.Common.{◌≡◌, ◌≢◌, ℕ, ◌+◌, ◌<◌, ◌≤◌, Bool, true, false, List, [], ◌∷◌, ◌++◌, length, get_or, take, refl, sym, ap, ◌∙◌, not, arith, length-take, length-append, ◌==◌, true≢false}
 use Rattle.std.proofs.lemmas.List.{append-nil, take-append-le, take_all, take_more}
 use Rattle.std.proofs.lemmas.List.Elements.{filter-append}
@@ -6,7 +6,7 @@ use Rattle.std.proofs.lemmas.Bool.{ne_eqb, eq-eqb, eqb-true}
 use Rattle.std.specs.List.{filter}
 use Rattle.mg_serve.specs.Trace.{one_line}
 
--- what no line feed is
+-- The text without its line feeds.
 abbrev kept : List ℕ → List ℕ
 kept text = filter (λ b. not (b == 10)) text
 
@@ -31,12 +31,12 @@ kept_plain text i lt ne =
 pub short : (text : List ℕ) → length (one_line text) ≤ 1000
 short text = omega (arith, length-take 1000 (kept text))
 
--- a line feed is left out
+-- A line feed is left out.
 pub feed : (text : List ℕ) (i : ℕ) → i < length text → get_or text i 0 ≡ 10 →
     one_line (take (i + 1) text) ≡ one_line (take i text)
 feed text i lt is = ap (take 1000) (kept_feed text i lt is)
 
--- what comes after 1,000 bytes too
+-- Bytes after the first 1,000 are left out.
 pub full : (text : List ℕ) (i : ℕ) → i < length text → 1000 ≤ length (one_line (take i text)) →
     one_line (take (i + 1) text) ≡ one_line (take i text)
 full text i lt many = full_by (get_or text i 0 == 10) refl
@@ -50,7 +50,7 @@ full text i lt many = full_by (get_or text i 0 == 10) refl
         ap (take 1000) (kept_plain text i lt (λ e. absurd (true≢false (sym (eq-eqb (get_or text i 0) 10 e) ∙ is)))) ∙
         take-append-le 1000 (kept (take i text)) (get_or text i 0 ∷ []) long
 
--- any other byte stays
+-- Any other byte is kept.
 pub plain : (text : List ℕ) (i : ℕ) → i < length text → get_or text i 0 ≢ 10 →
     length (one_line (take i text)) < 1000 →
     one_line (take (i + 1) text) ≡ one_line (take i text) ++ get_or text i 0 ∷ []

@@ -1,4 +1,4 @@
--- Prints one after another.
+-- Several prints one after another.
 use Rattle.std.proofs.Common.{◌≡◌, ℕ, Bool, true, false, List, [], ◌∷◌, ◌++◌, Option, refl, sym, ap, subst, ◌∙◌, append_assoc}
 use Rattle.std.proofs.KnownBytes.{Appends-nil, Appends-trans, Appends-kept, Keeps-refl, Keeps-trans}
 use Rattle.std.proofs.lemmas.List.Concat.{flat_map-append}
@@ -51,7 +51,7 @@ front_after x y z s t h k = record {
   written = Appends-trans x y z s k.front h k.written;
 }
 
--- what was printed stays printed
+-- If nothing more is written, the printed text remains.
 pub puts_kept : (a b : Bool) (x y z : Option (List ℕ)) (s : List ℕ) → Puts a b s x y → Keeps y z → Puts a b s x z
 puts_kept false false x y z s h same = Appends-kept x y z s h same
 puts_kept false true x y z s h same = (
@@ -92,7 +92,7 @@ prints_both a b c x y z p q h k = record {
       (subst (λ (f : Form). Puts b.has_failed c.has_failed (output_of f q) y z) h.form k.puts));
 }
 
--- what prints nothing
+-- A trace without output prints nothing.
 pub prints_nothing : (a : PrinterView) (x : Option (List ℕ)) (p : List TraceEntry) → output_of a.form p ≡ [] →
     Prints a a x x p
 prints_nothing a x p none = record {

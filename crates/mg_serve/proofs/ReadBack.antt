@@ -1,4 +1,4 @@
--- What is recorded of a session is a script of its events.
+-- A recording of a session is a script of its events.
 use Rattle.std.proofs.Common.{◌≡◌, ◌≢◌, ℕ, ◌+◌, ◌<◌, inl, inr, Bool, true, false, zero, suc, List, [], ◌∷◌, ◌++◌, length, not, Option, Some, refl, sym, ap, subst, ◌∙◌, arith, codes, true≢false, ◌==◌, All, Err}
 use Rattle.std.proofs.lemmas.List.Elements.{All-nil, All-cons, All-head, All-tail, All-append, All-same, All-take, All-weaker, filter_passes}
 use Rattle.std.proofs.lemmas.Bool.{eq-eqb}
@@ -65,7 +65,7 @@ entries_both (Stale source bytes ∷ p) q = entries_both p q
 
 -- ## What can be read back
 
--- all entries can
+-- All entries of the trace can be read back.
 abbrev AreRead : List TraceEntry → Type 0
 AreRead p = All IsRecorded (entries_of p)
 
@@ -112,7 +112,7 @@ each_read R one [] w next p h = read_as p [] h.0 (All-nil IsRecorded)
 each_read R one (x ∷ xs) w next p h = read_as p (h.0 ++ h.1) h.3
     (read_both h.0 h.1 (one x w h.2 h.0 h.4) (each_read R one xs h.2 next h.1 h.5))
 
--- each of some slots in turn
+-- If the traces of each socket can be read back, so can those of all sockets in turn.
 sockets_read : (R : ℕ → World → List TraceEntry → World → Type 0) (first n : ℕ) →
     ((socket : ℕ) (w next : World) (p : List TraceEntry) → socket < first + n → R socket w p next → AreRead p) → (w next : World)
     (p : List TraceEntry) → Each R (range_with_len first n) w p next → AreRead p
@@ -127,13 +127,13 @@ event_read setup event w next p fits (sent, step, is) = read_as p (Happened even
     (read_both (Happened event ∷ []) (sends_of setup sent) (one_entry (entry.Happened event) fits)
     (sends_read setup sent))
 
--- the event of a datagram that can come, at a socket that there is
+-- The event of a datagram that arrived at an existing socket can be read back.
 datagram_read : (setup : Setup) (socket : ℕ) (source : Peer) (bytes : List ℕ) → IsValidConfig setup.config →
     socket < setup.config.slots + 1 → IsDatagram source bytes → IsRecorded (entry.Happened (event_at setup socket source bytes))
 datagram_read setup zero source bytes valid lt fits = fits
 datagram_read setup (suc s) source bytes valid lt fits = (omega (arith, lt, valid.limits.0.last), fits)
 
--- calls alone
+-- A call has no entry in a recording.
 called_read : (call : Call) → AreRead (Called call ∷ [])
 called_read call = All-nil IsRecorded
 
@@ -239,7 +239,7 @@ cut_read_back law setup title commands next p front rest valid h parts =
     events_in_both (entry.Happened event ∷ es) fs = ap (λ (l : List Event). event ∷ l) (events_in_both es fs)
     events_in_both (entry.Noted text ∷ es) fs = events_in_both es fs
 
--- events one after another have one outcome
+-- A list of events has one outcome in each world.
 abbrev pub OneOutcome : Type 0
 OneOutcome = (w : World) (events : List Event) (a b : List Sent) (x y : World) → Run w events a x → Run w events b y
     → (a ≡ b) × (x ≡ y)

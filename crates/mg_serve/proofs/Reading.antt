@@ -1,4 +1,4 @@
--- Lines, the bytes that they come in, and how far a session has come.
+-- Lines, the bytes of these lines, and the progress of a session.
 use Rattle.std.proofs.Common.{◌≡◌, ◌≢◌, ℕ, ◌-◌, ◌<◌, ◌≤◌, Bool, true, false, cond, eqb, List, [], ◌∷◌, ◌++◌, length, map, take, Result, Ok, Err, refl, sym, ap, ◌∙◌, append_assoc, length-take, arith, true≢false}
 use Rattle.std.proofs.lemmas.List.{map-append, take-append-le, take_all, take_at, length-take-le}
 use Rattle.std.proofs.lemmas.Bool.{ne_eqb, ltb-true, ltb-false, false_from_ne_true}
@@ -34,7 +34,7 @@ not_command line long =
           (λ t. absurd (omega (arith, long, ap length ((bytes_eq-Decides line (codes "quit")).0 t)))),
     ) refl
 
--- whether a line has more than 8 bytes
+-- Cutting a line to 8 bytes does not change the command that the line denotes.
 cut_by : (long : Bool) (line : List ℕ) → ltb 8 (length line) ≡ long → line_command (take 8 line) ≡ line_command line
 cut_by true line is = not_command (take 8 line) (omega (arith, length-take 8 line, ltb-true 8 (length line) is)) ∙
     sym (not_command line (omega (arith, ltb-true 8 (length line) is)))
@@ -97,7 +97,7 @@ quit_idle setup Stats w next p is h = absurd cc
 quit_idle setup Quit w next p is h = h
 quit_idle setup Unknown w next p is h = absurd cc
 
--- a byte that ends no line
+-- A byte other than a line feed ends no line.
 pub plain_byte : (form : Form) (setup : Setup) (left : List ℕ) (b : ℕ) (w : World) → b ≢ 10 →
     BytesTaken form setup left (b ∷ []) (take 8 (take 8 left ++ b ∷ [])) (Ok false) w [] w
 plain_byte form setup left b w ne = (
@@ -108,7 +108,7 @@ plain_byte form setup left b w ne = (
   (refl, refl),
 )
 
--- one that ends a line
+-- A line feed ends a line, which is the last one if it is `quit`.
 feed_split : (q ended : Bool) (left more : List ℕ) → is_quit (line_command (without_return left)) ≡ q →
     before_quit (lines_after ended left (10 ∷ more)) ≡
     cond q [] (without_return left ∷ before_quit (lines_after ended [] more))
@@ -139,7 +139,7 @@ pub no_more : before_quit [] ≡ []
 unfolding before_quit
 no_more = refl
 
--- the last line, which has no line feed
+-- At the end of the input, a non-empty partial line is the last line.
 pub last_line : (b : ℕ) (bs : List ℕ) → lines_after true (b ∷ bs) [] ≡ (b ∷ bs) ∷ []
 unfolding lines_after
 last_line b bs = rw (ne_eqb (length (b ∷ bs)) 0 (λ e. absurd (omega (arith, e)))) refl
@@ -166,7 +166,7 @@ feed_fault_by form setup false left kept failed w next p is printed h = (
 feed_fault_by form setup true left kept failed w next p is printed h =
     absurd (quit_prints_nothing form (line_command (without_return left)) is printed)
 
--- a line that is answered by one, and has no line feed
+-- If something is printed for the partial line at the end of the input, that line is not `quit`.
 pub last_stands : (form : Form) (kept left : List ℕ) → kept ≡ take 8 left → 0 < length kept → prints form (line_command
     kept) ≡ true
     → (before_quit (lines_after true left []) ≡ left ∷ []) × (prints form (line_command left) ≡ true)
@@ -232,7 +232,7 @@ pub no_bytes : (form : Form) (setup : Setup) (partial kept : List ℕ) (w : Worl
     BytesTaken form setup partial [] kept (Ok false) w [] w
 no_bytes form setup partial kept w is = ([], partial, is, λ ended more. refl, (refl, refl))
 
--- where no line is to follow, or a print failed, more bytes change nothing
+-- After `quit` or a failed print, more bytes change nothing.
 pub whatever_follows : (form : Form) (setup : Setup) (partial a b kept : List ℕ) (w next : World) (p : List TraceEntry) →
     BytesTaken form setup partial a kept (Ok true) w p next → BytesTaken form setup partial (a ++ b) kept (Ok true) w p
     next

@@ -1,9 +1,11 @@
--- How far a session has come, from a core to a core.
+-- The progress of a session, from one core state to the next.
 use Rattle.std.proofs.Common.{◌≡◌, ◌≢◌, ℕ, ◌+◌, ◌<◌, inl, inr, Bool, true, false, cond, List, [], ◌∷◌, ◌++◌, length, map, get_or, take, drop, Option, Some, None, Result, Ok, Err, refl, sym, ap, subst, ◌∙◌, append_assoc, length-take, arith}
 use Rattle.std.proofs.KnownBytes.{Appends-nil}
 use Rattle.std.proofs.lemmas.List.{append-nil, map-append, take-append-drop, take_more}
 use Rattle.std.proofs.lemmas.Bool.{ne_eqb}
+use Rattle.std.specs.Prelude.{◌⊎◌, IsSome}
 use Rattle.std.specs.Io.KnownBytes.{Appends, Keeps, Consumes, IsAtEnd}
+use Rattle.mg_journal.specs.declared.durability.Durability.{Durability}
 use Rattle.mg_clock.specs.Ticks.{ClockSeen}
 use Rattle.mg_serve.specs.Setup.{Setup}
 use Rattle.mg_core.specs.declared.counts.Counts.{Counts}
@@ -13,22 +15,23 @@ use Rattle.mg_core.specs.declared.state.CoreState.{CoreState}
 use Rattle.mg_core.specs.World.{World, counts_of}
 use Rattle.mg_core.specs.aids.Stands.{StandsFor}
 use Rattle.mg_lines.specs.declared.write_failed.WriteFailed.{WriteFailed}
-use Rattle.mg_lines.specs.Lines.{without_return, lines_after}
+use Rattle.mg_lines.specs.Lines.{without_return, lines_after, lines_of}
 use Rattle.mg_lines.specs.Streams.{WritesFront}
 use Rattle.mg_ports.specs.Journaled.{PortsSeen}
 use Rattle.mg_serve.specs.Fenced.{IsFenced}
-use Rattle.mg_serve.specs.Journaled.{IsJournaled, IsTried}
+use Rattle.mg_serve.specs.Journaled.{IsJournaled, Tries}
+use Rattle.mg_serve.specs.aids.Tried.{IsTried}
 use Rattle.mg_serve.specs.declared.command.Command.{Command}
 use Rattle.mg_serve.specs.declared.form.Form.{Form}
 use Rattle.mg_serve.specs.Lines.{LastPrints, line_command, is_quit, prints, before_quit}
 use Rattle.mg_serve.specs.Session.{Performs, Session}
-use Rattle.mg_serve.specs.Serve.{AreCounted, ClockCommands, ClockExits, Exits, IsOutput, Opens, ReadCommands}
-use Rattle.mg_serve.specs.Serve.{Served, ServedByClock, ServedSession, form_of, opening}
+use Rattle.mg_serve.specs.Serve.{AreCounted, ClockCommands, Exits, IsOutput, Opens, ReadCommands}
+use Rattle.mg_serve.specs.Serve.{Served, form_of, opening}
 use Rattle.mg_serve.specs.Trace.{TraceEntry, output_of}
 use Rattle.mg_serve.specs.aids.Driving.{BytesTaken, EndsBy, EndsByFault, Finished, RanBy, RanByClock, RanLines}
 use Rattle.mg_serve.specs.aids.Printing.{PrinterView, Prints, Puts}
 use Rattle.mg_serve.specs.aids.Outside.{JournalView, Outside, LeadsByTrace, LogsTrace, new_journal}
-use Rattle.mg_serve.proofs.JournalLemmas.{nothing_journaled, nothing_tried}
+use Rattle.mg_serve.proofs.JournalLemmas.{nothing_journaled}
 use Rattle.mg_serve.proofs.Printing.{prints_both}
 use Rattle.mg_serve.proofs.Steps.{finished_prints, prints_some, some_printed}
 use Rattle.mg_serve.proofs.Taking.{tells_both, told_none, takes_none, takes_as, takes_joined, takes_seen, takes_then}
@@ -178,7 +181,7 @@ consumes_none : (i : Option (List ℕ)) → Consumes i i []
 consumes_none None = tt
 consumes_none (Some i) = refl
 
--- a text was read, and its bytes were taken
+-- A text was read, and its bytes were taken.
 abbrev pub Read : Form → Setup → Option (List ℕ) → Option (List ℕ) → List ℕ → Result Bool WriteFailed → World → List
     TraceEntry →
     World → Type 0
@@ -328,11 +331,20 @@ last_prints form kept left lines is some =
       printed = stands.1;
     }
 
--- the input has ended
+-- The reason why no more lines of a text are executed.
+abbrev LineExits : {T : Type 0} → Form → Result T RunFault → Bool → List ℕ → List (List ℕ) → List (List ℕ) → Option (List ℕ)
+    → List Command → Type 0
+LineExits form result ended text lines others left commands = Exits result
+    ((others ≡ []) × (((ended ≡ true) × IsAtEnd left)
+    ⊎ ((more : List ℕ) → before_quit (lines_of true (text ++ more)) ≡ lines)))
+    ((ended ≡ false) × (others ≡ [])) ((lines ≡ []) × (text ≡ [])) (LastPrints form commands)
+
+-- At the end of the input, the partial line is the last line.
 ends_at_end : (form : Form) (setup : Setup) (i j k : Option (List ℕ)) (kept : List ℕ)
     (r : Result (Unit {0}) RunFault) (w mid next : World) (p q : List TraceEntry) → Keeps j k →
     ((text : List ℕ) (lines : List (List ℕ)) (left : List ℕ) → kept ≡ take 8 left →
-    Exits form r true text (lines ++ before_quit (lines_after true left [])) [] k) →
+    LineExits form r true text (lines ++ before_quit (lines_after true left [])) [] k
+    (map line_command (lines ++ before_quit (lines_after true left [])))) →
     Read form setup i j kept (Ok false) w p mid → Finished setup kept mid q next →
     RanLines form setup i k r w (p ++ q) next
 ends_at_end form setup i j k kept r w mid next p q same exits h last =
@@ -365,7 +377,7 @@ takes_end setup i j k kept old mid core x y z first end last =
     (λ w m next p q h l. ends_at_end form setup i j k kept done w m next p q end.0
     (λ text lines left is. (refl, inl (refl, end.1))) h l)
 
--- and a print of the last line failed
+-- Printing failed for the last line of the input.
 pub takes_end_fault : (setup : Setup) (i j k : Option (List ℕ)) (kept : List ℕ)
     (old mid core : CoreState) (x y z : Outside) →
     LeadsByTrace old mid x y (Read x.printer.form setup i j kept (Ok false)) →
@@ -410,7 +422,7 @@ keeps_same : (i : Option (List ℕ)) → Keeps i i
 keeps_same None = tt
 keeps_same (Some i) = refl
 
--- too many reads
+-- A run that exceeds the maximum number of reads ends like one that can't read its input.
 pub takes_enough : (setup : Setup) (i j : Option (List ℕ)) (kept : List ℕ) (old mid : CoreState)
     (x y : Outside) → LeadsByTrace old mid x y (Read x.printer.form setup i j kept (Ok false)) →
     LeadsByTrace old mid x y (RanLines x.printer.form setup i j (failed_by faults.Read))
@@ -421,9 +433,20 @@ takes_enough setup i j kept old mid x y h = takes_unread setup i j j kept old mi
 abbrev ended_by : RunFault → Result Counts RunFault
 ended_by fault = Err fault
 
--- nothing was read
+abbrev ServedSession : Setup → World → Option (List ℕ) → (input rest : Option (List ℕ)) → (old new : PortsSeen)
+    → (held written : Option (List ℕ)) → Result Counts RunFault → Type 0
+ServedSession setup w title input rest old new held written result =
+    Served setup w title (ReadCommands (form_of title) input rest result) old new held written result
+
+abbrev ServedByClock : Setup → World → Option (List ℕ) → (allowed : ℕ) → (clock later : ClockSeen) → (fails : Type 0)
+    → (old new : PortsSeen) → (held written : Option (List ℕ)) → RunFault → Type 0
+ServedByClock setup w title allowed clock later fails old new held written fault =
+    Served setup w title (ClockCommands (form_of title) allowed clock later fails (ended_by fault)) old new held written
+    (ended_by fault)
+
+-- If nothing was read, there are no commands.
 no_lines : (form : Form) (i : Option (List ℕ)) (fault : RunFault) →
-    Exits form (ended_by fault) false [] [] [] i → ReadCommands form i i (ended_by fault) []
+    LineExits form (ended_by fault) false [] [] [] i [] → ReadCommands form i i (ended_by fault) []
 no_lines form i fault exits = record {
   text = [];
   ended = false;
@@ -435,20 +458,28 @@ no_lines form i fault exits = record {
   exits = exits;
 }
 
--- no tick began
-no_ticks : (form : Form) (allowed : ℕ) (clock : ClockSeen) (fails : Type 0) (fault : RunFault) →
-    ClockExits form fault fails [] (record { ticks = 0; allowed = allowed; messages = 0 }) [] clock clock →
-    ClockCommands form allowed clock clock fails fault []
-no_ticks form allowed clock fails fault exits =
-    record {
-      steps = [];
-      schedule = record { ticks = 0; allowed = allowed; messages = 0 };
-      now = clock;
-      begin = (refl, refl);
-      exits = exits;
-    }
+-- If no tick began, there are no commands.
+no_ticks : (form : Form) (allowed : ℕ) (clock : ClockSeen) (fails : Type 0) →
+    ClockCommands form allowed clock clock fails (ended_by faults.NoMemory) []
+no_ticks form allowed clock fails = record {
+  steps = [];
+  schedule = record { ticks = 0; allowed = allowed; messages = 0 };
+  now = clock;
+  begin = (refl, refl);
+  exits = (refl, refl, refl);
+}
 
--- nothing was done
+no_ticks_unprinted : (form : Form) (allowed : ℕ) (clock : ClockSeen) (fails : Type 0) →
+    ClockCommands form allowed clock clock fails (ended_by faults.Write) []
+no_ticks_unprinted form allowed clock fails = record {
+  steps = [];
+  schedule = record { ticks = 0; allowed = allowed; messages = 0 };
+  now = clock;
+  begin = (refl, refl);
+  exits = inl (refl, refl, refl);
+}
+
+-- A run that executed nothing.
 serves_nothing : (setup : Setup) (w : World) (title : Option (List ℕ)) (Gave : List Command → Type 0) (x : PortsSeen)
     (held : Option (List ℕ)) (fault : RunFault) → Opens title (ended_by fault) [] →
     IsOutput (ended_by fault) [] held held → Gave [] → Served setup w title Gave x x held held (ended_by fault)
@@ -464,7 +495,7 @@ serves_nothing setup w title Gave x held fault opens printed gave = record {
   logs = told_none x.calls;
   lacks = nothing_journaled setup.journal 0;
   untried = 0;
-  tries = nothing_tried setup.journal 0;
+  tries = λ some. refl;
   fenced = (setup.fence, refl);
   journaled = refl;
   printed = printed;
@@ -481,11 +512,10 @@ pub no_memory_by_clock : (setup : Setup) (w : World) (title : Option (List ℕ))
     (fails : Type 0) (x : PortsSeen) (held : Option (List ℕ)) →
     ServedByClock setup w title allowed clock clock fails x x held held faults.NoMemory
 no_memory_by_clock setup w title allowed clock fails x held =
-    serves_nothing setup w title (ClockCommands (form_of title) allowed clock clock fails faults.NoMemory) x held
-    faults.NoMemory refl (Appends-nil held)
-    (no_ticks (form_of title) allowed clock fails faults.NoMemory (refl, refl, refl))
+    serves_nothing setup w title (ClockCommands (form_of title) allowed clock clock fails (ended_by faults.NoMemory)) x
+    held faults.NoMemory refl (Appends-nil held) (no_ticks (form_of title) allowed clock fails)
 
--- what was printed, by whether a print failed
+-- The text that was printed: all of it or, if printing failed, a proper prefix.
 all_put : (a b : Bool) (text : List ℕ) (x y : Option (List ℕ)) → a ≡ false → b ≡ false → Puts a b text x y →
     Appends x y text
 all_put false false text x y before after h = h
@@ -498,15 +528,15 @@ front_put false true text x y before after h = h.1
 front_put false false text x y before after h = absurd cc
 front_put true b text x y before after h = absurd cc
 
--- a printer of a form, before it prints
+-- A printer of this form, before it prints.
 abbrev pub new_printer : Form → PrinterView
 new_printer form = record { form = form; has_failed = false }
 
--- the start was printed
+-- The opening was printed.
 abbrev pub Opened : Option (List ℕ) → PrinterView → PrinterView → Option (List ℕ) → Option (List ℕ) → Type 0
 Opened title a b held now = (a ≡ new_printer (form_of title)) × Prints a b held now (opening title)
 
--- the start couldn't be printed
+-- Printing failed during the opening, so no command was executed.
 opens_not : (setup : Setup) (w : World) (title : Option (List ℕ)) (Gave : List Command → Type 0) (x : PortsSeen)
     (a b : PrinterView) (held now : Option (List ℕ)) → Opened title a b held now → b.has_failed ≡ true → Gave [] →
     Served setup w title Gave x x held now (ended_by faults.Write)
@@ -527,7 +557,7 @@ opens_not setup w title Gave x a b held now opened failed gave =
       logs = told_none x.calls;
       lacks = nothing_journaled setup.journal 0;
       untried = 0;
-      tries = nothing_tried setup.journal 0;
+      tries = λ some. refl;
       fenced = (setup.fence, refl);
       journaled = refl;
       printed = front_put a.has_failed b.has_failed (output_of (form_of title) (opening title ++ [])) held now
@@ -548,10 +578,10 @@ pub not_opened_by_clock : (setup : Setup) (w : World) (title : Option (List ℕ)
     (fails : Type 0) (x : PortsSeen) (a b : PrinterView) (held now : Option (List ℕ)) → Opened title a b held now →
     b.has_failed ≡ true → ServedByClock setup w title allowed clock clock fails x x held now faults.Write
 not_opened_by_clock setup w title allowed clock fails x a b held now opened failed =
-    opens_not setup w title (ClockCommands (form_of title) allowed clock clock fails faults.Write) x a b held now opened
-    failed (no_ticks (form_of title) allowed clock fails faults.Write (refl, inl (refl, refl)))
+    opens_not setup w title (ClockCommands (form_of title) allowed clock clock fails (ended_by faults.Write)) x a b held
+    now opened failed (no_ticks_unprinted (form_of title) allowed clock fails)
 
--- what was printed in all
+-- The whole output consists of the opening and the output of the trace.
 all_printed : (title : Option (List ℕ)) (a : PrinterView) (held : Option (List ℕ)) (x z : Outside) (p : List TraceEntry) →
     Opened title a x.printer held x.written → LogsTrace x z p →
     Puts false z.printer.has_failed (output_of (form_of title) (opening title ++ p)) held z.written
@@ -564,7 +594,11 @@ opened_form : (title : Option (List ℕ)) (a b : PrinterView) (held now : Option
     b.form ≡ form_of title
 opened_form title a b held now opened = opened.1.form ∙ ap (λ (v : PrinterView). v.form) opened.0
 
--- a run whose commands were done
+tried_in : (d : Option Durability) (n left : ℕ) (p : List TraceEntry) → IsTried d n p left → IsSome d → Tries n p left
+tried_in None n left p tried some = absurd cc
+tried_in (Some durable) n left p tried some = tried
+
+-- The run of a server after its commands were executed.
 served_by : (setup : Setup) (w : World) (title : Option (List ℕ)) (Gave : Form → List Command → Type 0)
     (result : Result Counts RunFault) (old core : CoreState) (a : PrinterView) (held : Option (List ℕ))
     (x z : Outside) → StandsFor old w → x.journal ≡ new_journal setup → Opened title a x.printer held x.written →
@@ -588,7 +622,8 @@ served_by setup w title Gave result old core a held x z stands journal opened op
       logs = logged.logged;
       lacks = subst (λ (v : JournalView). IsJournaled v.durability v.lacking p z.journal.lacking) journal logged.lacks;
       untried = z.journal.untried;
-      tries = subst (λ (v : JournalView). IsTried v.durability v.untried p z.journal.untried) journal logged.tries;
+      tries = tried_in setup.journal 0 z.journal.untried p
+          (subst (λ (v : JournalView). IsTried v.durability v.untried p z.journal.untried) journal logged.tries);
       fenced = (z.journal.fence, subst (λ (v : JournalView). IsFenced v.fence p z.journal.fence) journal logged.fenced);
       journaled = logged.journaled;
       printed = output (output_of (form_of title) (opening title ++ p)) (all_printed title a held x z p opened logged);
@@ -610,7 +645,8 @@ read_ok counts form i k commands h = record {
 
 read_err : (form : Form) (fault : RunFault) (i k : Option (List ℕ)) (commands : List Command) →
     ((text : List ℕ) (ended : Bool) (lines others : List (List ℕ)) →
-    Exits form (failed_by fault) ended text lines others k → Exits form (ended_by fault) ended text lines others k) →
+    LineExits form (failed_by fault) ended text lines others k commands →
+    LineExits form (ended_by fault) ended text lines others k commands) →
     ReadCommands form i k (failed_by fault) commands → ReadCommands form i k (ended_by fault) commands
 read_err form fault i k commands same h = record {
   text = h.text;
@@ -623,7 +659,7 @@ read_err form fault i k commands same h = record {
   exits = same h.text h.ended h.lines h.others h.exits;
 }
 
--- the same steps, by commands that were given in another way too
+-- If the commands also come from another source, so does the run.
 gave_as : (setup : Setup) (G H : List Command → Type 0) (old core : CoreState) (x z : Outside) →
     ((commands : List Command) → G commands → H commands) → LeadsByTrace old core x z (RanBy setup G) →
     LeadsByTrace old core x z (RanBy setup H)
@@ -643,7 +679,7 @@ served_ok counts setup w title i k old core a held x z stands journal opened end
     (gave_as setup (ReadCommands x.printer.form i k done) (ReadCommands x.printer.form i k (Ok counts)) old core x z
     (read_ok counts x.printer.form i k) h)
 
--- what was printed, by the fault
+-- The output of a run that ended with this fault.
 output_by : (fault : RunFault) (failed : Bool) (text : List ℕ) (held written : Option (List ℕ)) →
     EndsByFault fault failed → Puts false failed text held written → IsOutput (ended_by fault) text held written
 output_by faults.Read failed text held written ends = all_put false failed text held written refl ends
@@ -660,14 +696,15 @@ opens_by faults.NoMemory failed title ends = absurd ends
 opens_by faults.BadConfig failed title ends = absurd ends
 opens_by (faults.Script number) failed title ends = absurd ends
 
-exits_by : (fault : RunFault) (failed : Bool) (form : Form) (k : Option (List ℕ)) → EndsByFault fault failed →
-    (text : List ℕ) (ended : Bool) (lines others : List (List ℕ)) →
-    Exits form (failed_by fault) ended text lines others k → Exits form (ended_by fault) ended text lines others k
-exits_by faults.Read failed form k ends text ended lines others e = e
-exits_by faults.Write failed form k ends text ended lines others e = e
-exits_by faults.NoMemory failed form k ends text ended lines others e = absurd ends
-exits_by faults.BadConfig failed form k ends text ended lines others e = absurd ends
-exits_by (faults.Script number) failed form k ends text ended lines others e = absurd ends
+exits_by : (fault : RunFault) (failed : Bool) (form : Form) (k : Option (List ℕ)) (commands : List Command) →
+    EndsByFault fault failed → (text : List ℕ) (ended : Bool) (lines others : List (List ℕ)) →
+    LineExits form (failed_by fault) ended text lines others k commands →
+    LineExits form (ended_by fault) ended text lines others k commands
+exits_by faults.Read failed form k commands ends text ended lines others e = e
+exits_by faults.Write failed form k commands ends text ended lines others e = e
+exits_by faults.NoMemory failed form k commands ends text ended lines others e = absurd ends
+exits_by faults.BadConfig failed form k commands ends text ended lines others e = absurd ends
+exits_by (faults.Script number) failed form k commands ends text ended lines others e = absurd ends
 
 pub served_err : (fault : RunFault) (setup : Setup) (w : World) (title i k : Option (List ℕ)) (old core : CoreState)
     (a : PrinterView) (held : Option (List ℕ)) (x z : Outside) → StandsFor old w → x.journal ≡ new_journal setup →
@@ -681,7 +718,7 @@ served_err fault setup w title i k old core a held x z stands journal opened end
     (gave_as setup (ReadCommands x.printer.form i k (failed_by fault))
     (ReadCommands x.printer.form i k (ended_by fault)) old core x z
     (λ commands. read_err x.printer.form fault i k commands
-    (exits_by fault z.printer.has_failed x.printer.form k ends)) h)
+    (exits_by fault z.printer.has_failed x.printer.form k commands ends)) h)
 
 pub served_by_clock : (fault : RunFault) (setup : Setup) (w : World) (title : Option (List ℕ)) (allowed : ℕ) (c d : ClockSeen)
     (fails : Type 0) (old core : CoreState) (a : PrinterView) (held : Option (List ℕ)) (x z : Outside) →
@@ -690,6 +727,6 @@ pub served_by_clock : (fault : RunFault) (setup : Setup) (w : World) (title : Op
     LeadsByTrace old core x z (RanByClock x.printer.form setup allowed c d fails fault) →
     ServedByClock setup w title allowed c d fails x.ports z.ports held z.written fault
 served_by_clock fault setup w title allowed c d fails old core a held x z stands journal opened ends h =
-    served_by setup w title (λ form. ClockCommands form allowed c d fails fault) (ended_by fault) old core a held x z
+    served_by setup w title (λ form. ClockCommands form allowed c d fails (ended_by fault)) (ended_by fault) old core a held x z
     stands journal opened (opens_by fault z.printer.has_failed title ends)
     (λ text. output_by fault z.printer.has_failed text held z.written ends) (λ v after. tt) h

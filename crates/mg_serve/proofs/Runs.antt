@@ -1,4 +1,4 @@
--- A session is a run of the gateway.
+-- The events of a session form a run of the gateway.
 use Rattle.std.proofs.Common.{◌≡◌, ℕ, ◌+◌, inl, inr, Bool, true, false, List, [], ◌∷◌, ◌++◌, length, map, zero, suc, All, Err, refl, sym, ap, subst, ◌∙◌, append_assoc, codes}
 use Rattle.std.proofs.lemmas.List.{append-nil, map-append}
 use Rattle.std.proofs.lemmas.List.Elements.{All-head, All-tail, filter-append}
@@ -130,7 +130,7 @@ datagram_ran setup zero event w next p (appended, others, is, all, inr (lines, d
     (ran_as setup w next others refused last (no_run setup w next refused refl refl same)))
 datagram_ran setup (suc s) event w next p h = event_ran setup event w next p h
 
--- a datagram that came, by whether its sender is admitted
+-- A datagram that arrived is a run of at most one event, whether or not its sender is admitted.
 become_ran : (admitted : Bool) (setup : Setup) (socket : ℕ) (datagram : Peer × List ℕ) (w next : World) (p : List TraceEntry) →
     Becomes admitted setup socket datagram w p next → SendsAreARun setup w p next
 become_ran true setup socket datagram w next p (inl h) =

@@ -1,4 +1,4 @@
--- The steps of a server.
+-- The steps of a server, in terms of the worlds that its core represents.
 use Rattle.std.proofs.Common.{◌≡◌, ◌≢◌, ℕ, zero, suc, ◌+◌, ◌-◌, ◌<◌, ◌≤◌, inl, inr, Bool, true, false, List, [], ◌∷◌, ◌++◌, length, map, All, Option, Ok, Err, refl, sym, ap, subst, ◌∙◌, append_assoc, arith, codes}
 use Rattle.std.proofs.lemmas.List.{append-nil, length_push}
 use Rattle.std.proofs.lemmas.List.Elements.{All-nil}
@@ -45,7 +45,7 @@ use Rattle.mg_serve.proofs.JournalLemmas.{appended_prints, may_print, stale_jour
 use Rattle.mg_serve.proofs.Printing.{output_both, prints_nothing}
 use Rattle.mg_serve.proofs.Taking.{called, tells_announced, tells_appends, tells_both, tells_called, tells_print, tells_print_then, tells_refused, each_more, takes_after, takes_none}
 
--- a control datagram that was announced and printed, and whose answer was sent, if there was one
+-- A control datagram was announced and printed, and its answer was sent, if there was one.
 pub control_answered : (setup : Setup) (source : Peer) (bytes : List ℕ) (sent : List Sent) (old new : CoreState)
     (seen later : PortsSeen) (x y : Option (List ℕ)) (a b : PrinterView) (j k m : JournalView) (fence : Option Fence)
     (z : Outside) → AppendsBefore (Happened (events.Control source bytes) ∷ []) (Ok tt) seen later j k →
@@ -71,7 +71,7 @@ control_answered setup source bytes sent old new seen later x y a b j k m fence 
       held,
     )
 
--- a control datagram that wasn't announced, since an append failed
+-- A control datagram was dropped because an append failed.
 pub control_refused : (setup : Setup) (source : Peer) (bytes : List ℕ) (fault : AppendFault) (core : CoreState)
     (seen later : PortsSeen) (x y : Option (List ℕ)) (a b : PrinterView) (j k : JournalView) →
     AppendsBefore (Happened (events.Control source bytes) ∷ []) (Err fault) seen later j k →
@@ -95,7 +95,7 @@ control_refused setup source bytes fault core seen later x y a b j k h printed w
       stands,
     )
 
--- a control datagram for which there is no memory
+-- A control datagram was dropped because memory ran out.
 pub control_unread : (setup : Setup) (source : Peer) (bytes : List ℕ) (core : CoreState) (seen : PortsSeen)
     (x y : Option (List ℕ)) (a b : PrinterView) (j : JournalView) →
     Prints a b x y (Noted (codes "no memory for a control datagram") ∷ []) →
@@ -108,7 +108,7 @@ stale_prints : (form : Form) (source : Peer) (bytes : List ℕ) → output_of fo
 stale_prints Plain source bytes = refl
 stale_prints Recording source bytes = refl
 
--- a control datagram that doesn't pass the fence
+-- A control datagram was dropped because it didn't pass the fence.
 pub control_stale : (setup : Setup) (source : Peer) (bytes : List ℕ) (number : Option ℕ) (core : CoreState)
     (seen : PortsSeen) (x : Option (List ℕ)) (a : PrinterView) (j : JournalView) → HasNumber bytes number →
     passes j.fence bytes number ≡ false →
@@ -124,13 +124,13 @@ control_stale setup source bytes number core seen x a j has fails w stands =
       stands,
     )
 
--- an event without appends before it
+-- An event may be handled without any appends before it.
 handles : (setup : Setup) (socket : ℕ) (event : Event) (w next : World) (p : List TraceEntry) →
     HandlesEvent setup event w p next → HandlesDatagram setup socket event w p next
 handles setup zero event w next p h = ([], p, refl, All-nil IsAppended, inl h)
 handles setup (suc s) event w next p h = h
 
--- a media datagram, which has no call
+-- An RTP datagram is handled without any call on the ports.
 pub media_taken : (setup : Setup) (socket : ℕ) (source : Peer) (bytes : List ℕ) (old new : CoreState)
     (seen : PortsSeen) (x y : Option (List ℕ)) (a b : PrinterView) (j : JournalView) → 1 ≤ socket →
     Leads StandsFor old new (λ w next. Step w (event_at setup socket source bytes) [] next) →
@@ -147,19 +147,19 @@ media_taken setup (suc s) source bytes old new seen x y a b j first h printed w 
       held,
     )
 
--- the same at a socket that is the control socket
+-- Socket 0 is the control socket.
 pub at_control : (setup : Setup) (socket : ℕ) (source : Peer) (bytes : List ℕ) (old new : CoreState)
     (x y : Outside) → socket ≡ 0 → LeadsByTrace old new x y (Becomes true setup 0 (source, bytes)) →
     LeadsByTrace old new x y (Becomes true setup socket (source, bytes))
 at_control setup socket source bytes old new x y is h =
     subst (λ (s : ℕ). LeadsByTrace old new x y (Becomes true setup s (source, bytes))) (sym is) h
 
--- a datagram whose sender isn't admitted
+-- A datagram is ignored if its sender isn't admitted.
 pub not_admitted : (setup : Setup) (socket : ℕ) (datagram : Peer × List ℕ) (core : CoreState) (x : Outside) →
     LeadsByTrace core core x x (Becomes false setup socket datagram)
 not_admitted setup socket datagram core x = takes_none core x (Becomes false setup socket datagram) (λ w. (refl, refl))
 
--- what a datagram becomes, by whether its sender is admitted in this world
+-- The effect of a datagram, which depends on whether its sender is admitted in this world.
 abbrev pub BecomesIfAdmitted : Setup → ℕ → Peer × List ℕ → World → List TraceEntry → World → Type 0
 BecomesIfAdmitted setup socket datagram w trace next =
     Becomes (is_admitted setup w socket datagram.0) setup socket datagram w trace next
@@ -172,7 +172,7 @@ by_admission admitted setup socket datagram old new x y same h w stands =
     let (trace, next, logged, becomes, after) = h w stands in
     (trace, next, logged, subst (λ (b : Bool). Becomes b setup socket datagram w trace next) (same w stands) becomes, after)
 
--- a receive that gave a datagram
+-- A receive returned a datagram, which was handled.
 pub arrived : (setup : Setup) (socket : ℕ) (source : Peer) (bytes : List ℕ) (old new : CoreState) (x y z : Outside) →
     IsDatagram source bytes → LogsTrace x y (Called (Receive socket (Delivered source bytes)) ∷ []) →
     LeadsByTrace old new y z (BecomesIfAdmitted setup socket (source, bytes)) →
@@ -184,7 +184,7 @@ arrived setup socket source bytes old new x y z fits logged h =
 
 -- ## A turn
 
--- so many datagrams came
+-- This many datagrams were received and handled.
 abbrev pub HaveCome : Setup → ℕ → ℕ → World → List TraceEntry → World → Type 0
 HaveCome setup socket n w calls now = (datagrams : List (Peer × List ℕ)) × (length datagrams ≡ n) ×
     Each (ReceivesDatagram setup socket) datagrams w calls now
@@ -294,7 +294,7 @@ finished_some setup (b ∷ bs) w next p some h = h
 
 -- ## What is printed
 
--- of what nothing is printed but in a recording
+-- Nothing is printed for this trace in plain form.
 abbrev IsQuiet : List TraceEntry → Type 0
 IsQuiet p = output_of Plain p ≡ []
 
@@ -359,7 +359,7 @@ quiet_turn setup socket w next p h = quiet_as p (h.received ++ h.last) h.parts
     (quiet_each (ReceivesDatagram setup socket) (quiet_comes setup socket) h.datagrams w next h.received h.arrivals)
     (quiet_end socket (length h.datagrams) h.last h.ends))
 
--- where something is printed for a command, it is one of those for which something is
+-- If a command prints something, it is a command for which something is printed.
 pub prints_some : (form : Form) (setup : Setup) (command : Command) (w next : World) (p : List TraceEntry) →
     Performs setup command w p next → output_of form p ≢ [] → prints form command ≡ true
 prints_some Plain setup Poll w next p h some = absurd
@@ -376,14 +376,14 @@ prints_some Recording setup Stats w next p h some = refl
 prints_some Recording setup Quit w next p h some = absurd (some (ap (output_of Recording) h.0))
 prints_some Recording setup Unknown w next p h some = refl
 
--- for a line that wasn't begun nothing is
+-- If finishing a partial line prints something, the partial line is not empty.
 pub finished_prints : (form : Form) (setup : Setup) (kept : List ℕ) (w next : World) (p : List TraceEntry) →
     Finished setup kept w p next → output_of form p ≢ [] → (0 < length kept) × (prints form (line_command kept) ≡ true)
 finished_prints form setup [] w next p h some = absurd (some (ap (output_of form) h.0))
 finished_prints form setup (b ∷ bs) w next p h some =
     (omega arith, prints_some form setup (line_command (b ∷ bs)) w next p h some)
 
--- a print failed
+-- If printing fails, there was something to print.
 puts_failed : (a b : Bool) (text : List ℕ) (x y : Option (List ℕ)) → a ≡ false → b ≡ true → Puts a b text x y →
     text ≢ []
 puts_failed false true text x y before after h = h.0
@@ -396,7 +396,7 @@ some_printed x y p before after logged =
     puts_failed x.printer.has_failed y.printer.has_failed (output_of x.printer.form p) x.written y.written before after
     logged.prints.puts
 
--- an RTP datagram at a media socket
+-- The step of an RTP datagram at a media socket.
 pub media_steps : (setup : Setup) (socket port : ℕ) (source : Peer) (bytes : List ℕ) (w next : World) (taken : Taken) →
     1 ≤ socket → port ≡ slot_port (limits_of setup.config) (socket - 1) → TakesMedia w port source bytes next taken →
     Step w (event_at setup socket source bytes) [] next

@@ -1,4 +1,4 @@
--- Steps one after another: what is seen from outside, each of a list, and from a core to a core.
+-- Steps one after another: seen from outside, for each element of a list, and from one core state to the next.
 use Rattle.std.proofs.Common.{◌≡◌, ℕ, ◌+◌, false, List, [], ◌∷◌, ◌++◌, map, Option, Some, None, Ok, Err, refl, sym, ap, subst, ◌∙◌, append_assoc, arith}
 use Rattle.std.proofs.lemmas.List.{append-nil, map-id}
 use Rattle.std.proofs.lemmas.List.FromFn.{map-range_with_len_more}
@@ -13,7 +13,8 @@ use Rattle.mg_ports.specs.Calls.{Logged}
 use Rattle.mg_ports.specs.Journaled.{PortsSeen, JournalAfter}
 use Rattle.mg_journal.specs.declared.append_fault.AppendFault.{AppendFault}
 use Rattle.mg_journal.specs.declared.durability.Durability.{Durability}
-use Rattle.mg_serve.specs.Journaled.{IsJournaled, IsTried, is_append}
+use Rattle.mg_serve.specs.Journaled.{IsJournaled, is_append}
+use Rattle.mg_serve.specs.aids.Tried.{IsTried}
 use Rattle.mg_serve.specs.declared.form.Form.{Form}
 use Rattle.mg_serve.specs.declared.form.Form.TheVariants.{Plain, Recording}
 use Rattle.mg_serve.specs.Session.{Each, SocketTurn}
@@ -64,7 +65,7 @@ tells_none a = record {
   fenced = refl;
 }
 
--- what is printed, and what the journal lacks then
+-- An entry is printed, and the state of the journal changes.
 pub tells_print_then : (seen : PortsSeen) (x y : Option (List ℕ)) (a b : PrinterView) (j k : JournalView)
     (did : TraceEntry) → calls_of (did ∷ []) ≡ [] → Prints a b x y (did ∷ []) → k.durability ≡ j.durability →
     IsJournaled j.durability j.lacking (did ∷ []) k.lacking → IsTried j.durability j.untried (did ∷ []) k.untried →
@@ -79,7 +80,7 @@ tells_print_then seen x y a b j k did none h same lacks tries fenced = record {
   fenced = fenced;
 }
 
--- what is printed alone
+-- An entry is printed, and the state of the journal is unchanged.
 pub tells_print : (seen : PortsSeen) (x y : Option (List ℕ)) (a b : PrinterView) (j : JournalView) (did : TraceEntry) →
     calls_of (did ∷ []) ≡ [] → IsIdle did → Prints a b x y (did ∷ []) →
     LogsTrace (outside seen x a j) (outside seen y b j) (did ∷ [])
@@ -87,7 +88,7 @@ tells_print seen x y a b j did none idle h =
     tells_print_then seen x y a b j j did none h refl (idle_journaled j.durability j.lacking did idle)
     (idle_tried j.durability j.untried did idle) (idle_fenced j.fence did idle)
 
--- calls alone
+-- The trace of these calls.
 abbrev pub called : List Call → List TraceEntry
 called calls = map (λ call. Called call) calls
 
@@ -114,7 +115,7 @@ tells_called x a j b c calls logged quiet same = record {
   fenced = calls_fenced j.fence calls;
 }
 
--- appends, after which the journal lacks something else
+-- Appends change the number of ticks that the journal lacks.
 pub tells_appends : (x : Option (List ℕ)) (a : PrinterView) (j k : JournalView) (b c : PortsSeen)
     (trace : List TraceEntry) → LogsCalls b c (calls_of trace) → output_of a.form trace ≡ [] →
     k.durability ≡ j.durability → IsJournaled j.durability j.lacking trace k.lacking →
@@ -130,7 +131,7 @@ tells_appends x a j k b c trace logs none same lacks tries fenced = record {
   fenced = fenced;
 }
 
--- appends, the event that they announce, and the fence after it
+-- Appends are followed by the event that they announce, which may change the fence.
 pub tells_announced : (event : Event) (seen later : PortsSeen) (x y : Option (List ℕ)) (a b : PrinterView)
     (j k : JournalView) (fence : Option Fence) → (h : AppendsBefore (Happened event ∷ []) (Ok tt) seen later j k) →
     Prints a b x y (Happened event ∷ []) → IsFenced j.fence (Happened event ∷ []) fence →
@@ -150,7 +151,7 @@ tells_announced event seen later x y a b j k fence h printed fenced =
           fenced;
     }
 
--- appends, the last of which failed, and a note of that
+-- Appends, of which the last failed, are followed by a note.
 pub tells_refused : (followed : List TraceEntry) (fault : AppendFault) (text : List ℕ) (seen later : PortsSeen)
     (x y : Option (List ℕ)) (a b : PrinterView) (j k : JournalView) →
     (h : AppendsBefore followed (Err fault) seen later j k) → Prints a b x y (Noted text ∷ []) →
@@ -194,7 +195,7 @@ range_more n =
 
 -- ## From a core to a core
 
--- with what was seen from outside
+-- Two steps are joined, and the result may depend on what was seen from outside.
 pub takes_joined : (a b c : CoreState) (x y z : Outside) (R S T : World → List TraceEntry → World → Type 0) →
     LeadsByTrace a b x y R → LeadsByTrace b c y z S →
     ((w mid next : World) (p q : List TraceEntry) → LogsTrace x y p → LogsTrace y z q →
@@ -211,7 +212,7 @@ pub takes_then : (a b c : CoreState) (x y z : Outside) (R S T : World → List T
 takes_then a b c x y z R S T first second join =
     takes_joined a b c x y z R S T first second (λ w mid next p q logged more. join w mid next p q)
 
--- the same, by what was seen from outside
+-- The conclusion of a step may also depend on what was seen from outside.
 pub takes_seen : (a b : CoreState) (x y : Outside) (R T : World → List TraceEntry → World → Type 0) →
     LeadsByTrace a b x y R → ((w next : World) (p : List TraceEntry) → LogsTrace x y p → R w p next → T w p next) →
     LeadsByTrace a b x y T
@@ -225,18 +226,18 @@ takes_as a b x y R T first map w stands =
     let (p, next, logged, r, held) = first w stands in
     (p, next, logged, map w next p r, held)
 
--- nothing was done
+-- A step that does nothing leaves everything unchanged.
 pub takes_none : (a : CoreState) (x : Outside) (R : World → List TraceEntry → World → Type 0) →
     ((w : World) → R w [] w) → LeadsByTrace a a x x R
 takes_none a x R same w stands = ([], w, tells_none x, same w, stands)
 
--- what is seen from outside alone
+-- Entries of a trace that don't change the world.
 pub takes_told : (a : CoreState) (x y : Outside) (calls : List TraceEntry)
     (R : World → List TraceEntry → World → Type 0) → LogsTrace x y calls → ((w : World) → R w calls w) →
     LeadsByTrace a a x y R
 takes_told a x y calls R logged same w stands = (calls, w, logged, same w, stands)
 
--- calls, and then a step of the core
+-- Calls are followed by a step of the core.
 pub takes_after : (a b : CoreState) (x y z : Outside) (calls : List TraceEntry)
     (S T : World → List TraceEntry → World → Type 0) → LogsTrace x y calls → LeadsByTrace a b y z S →
     ((w next : World) (q : List TraceEntry) → S w q next → T w (calls ++ q) next) → LeadsByTrace a b x z T
@@ -244,7 +245,7 @@ takes_after a b x y z calls S T logged second join w stands =
     let (q, next, more, s, kept) = second w stands in
     (calls ++ q, next, tells_both x y z calls q logged more, join w next q s, kept)
 
--- a socket's turn more
+-- One more socket has its turn.
 pub one_turn_more : (a b c : CoreState) (x y z : Outside) (setup : Setup) (socket : ℕ) →
     LeadsByTrace a b x y (Each (SocketTurn setup) (range_with_len 0 socket)) →
     LeadsByTrace b c y z (SocketTurn setup socket) →

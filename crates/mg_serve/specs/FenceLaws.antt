@@ -1,4 +1,4 @@
--- What a fence is for: a controller that another one has replaced can't command any more.
+-- The purpose of a fence: a controller that was replaced by another one can't command the gateway any more.
 use Rattle.std.specs.Prelude.{ℕ, ◌≤◌, List, ◌∷◌, ◌++◌, map, Option, Some}
 use Rattle.mg_words.specs.declared.peer.Peer.{Peer}
 use Rattle.mg_core.specs.declared.event.Event.TheVariants.{Control}
@@ -10,8 +10,8 @@ use Rattle.mg_fence.specs.Reached.{Reaches}
 use Rattle.mg_serve.specs.Fenced.{IsFenced}
 use Rattle.mg_serve.specs.Trace.{TraceEntry, Happened, events_of_trace}
 
--- The number of a message that is run isn't below that of any message that was run before, in this
--- life of the gateway or in those that its journal tells of, since an operator last set the fence.
+-- If a message is run, its number is at least that of every earlier message that was run since an operator last set the
+-- fence. This includes messages in earlier lives of the gateway that are in its journal.
 abbrev pub NoLowerNumberIsRun : Type 0
 NoLowerNumberIsRun =
     (start : Fence) (end : Option Fence) (earlier : List Note) (front rest : List TraceEntry)

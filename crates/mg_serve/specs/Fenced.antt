@@ -1,4 +1,4 @@
--- Which messages a session runs behind a fence.
+-- The messages that a session runs behind a fence.
 use Rattle.std.specs.Prelude.{◌≡◌, ℕ, true, false, List, [], ◌∷◌, Option}
 use Rattle.std.specs.Option.{option_map}
 use Rattle.mg_core.specs.declared.event.Event.TheVariants.{Control}
@@ -7,8 +7,7 @@ use Rattle.mg_fence.specs.Fence.{passes, raised_by}
 use Rattle.mg_fence.specs.Number.{HasNumber}
 use Rattle.mg_serve.specs.Trace.{TraceEntry, Happened, Stale}
 
--- The messages that are run pass the fence, and those that are stale don't. The fences are those
--- before and after the trace.
+-- The messages that are run pass the fence, and stale messages don't. The fences are those before and after the trace.
 abbrev pub IsFenced : Option Fence → List TraceEntry → Option Fence → Type 0
 IsFenced fence [] new = new ≡ fence
 IsFenced fence (Happened (Control source bytes) ∷ trace) new =

@@ -1,4 +1,4 @@
--- What a journal preserves of a session, whenever the gateway crashes.
+-- The events and states of a session that its journal preserves, whenever the gateway crashes.
 use Rattle.std.specs.Prelude.{◌≡◌, ◌⊎◌, ℕ, ◌≤◌, List, [], ◌∷◌, ◌++◌, replicate}
 use Rattle.std.specs.Prelude.{Some, IfSome, true}
 use Rattle.mg_journal.specs.declared.durability.Durability.{Durability}
@@ -23,7 +23,7 @@ use Rattle.mg_serve.specs.Session.{Session}
 use Rattle.mg_serve.specs.Setup.{Setup}
 use Rattle.mg_serve.specs.Trace.{TraceEntry, Called, Happened, calls_of, events_of_trace}
 
--- the lines of this text are all complete, and are a script of these events
+-- The lines of this text are all complete, and are a script of these events.
 abbrev pub IsScriptOf : List ℕ → List Event → Type 0
 IsScriptOf text events = IsWhole text × (events_of (lines_of true text) ≡ Some events)
 
@@ -31,9 +31,8 @@ IsScriptOf text events = IsWhole text × (events_of (lines_of true text) ≡ Som
 abbrev pub TellsEvents : JournalState → List Event → Type 0
 TellsEvents journal events = IfSome journal.text (λ text. IsScriptOf text events)
 
--- A moment of a session that starts in the world w. At the start, the journal contained the events
--- `told`. The entries `front` have happened, and the entries `rest` follow. The journal is in this
--- state now.
+-- A moment of a session that starts in the world `w`. At the start, the journal contained the events `told`. The
+-- entries `front` have happened, and the entries `rest` follow. The journal is in this state at the moment.
 pub record IsMoment (setup : Setup) (durability : Durability) (w : World) (told : List Event)
     (front rest : List TraceEntry) (journal : JournalState) : Type 0 where
   pub commands : List Command
@@ -62,9 +61,8 @@ EachPartIsAMoment =
 
 -- ## Answers
 
--- An answer is due to a peer: that peer's message is what happened last. The journal contains
--- everything that has happened, except RTP datagrams. If messages are synced, all of its text is on
--- the disk.
+-- An answer is due to a peer whose message was the last event. The journal contains everything that has happened,
+-- except for RTP datagrams. If messages are synced, all of the journal's text is on the disk.
 pub record IsKept (durability : Durability) (told : List Event) (front : List TraceEntry)
     (to : Peer) (journal : JournalState) : Type 0 where
   pub before : List TraceEntry
@@ -83,7 +81,7 @@ NothingAnsweredIsForgotten =
 
 -- ## Crashes
 
--- how many ticks a journal lacks
+-- The number of ticks that a journal lacks.
 abbrev pub ticks_lacking : Progress → ℕ
 ticks_lacking (Lacks ticks) = ticks
 ticks_lacking (Announces source bytes) = 0
@@ -98,10 +96,9 @@ pub record LosesTicks (lacking : ℕ) (happened written : List Event) : Type 0 w
   pub wrote : (written ≡ kept)
       ⊎ ((source : Peer) × (bytes : List ℕ) × (written ≡ kept ++ events.Control source bytes ∷ []))
 
--- The same loss, in terms of worlds. The gateway was in the world `now`. There is a world before
--- the lost ticks; once these have passed, it agrees with `now`, except for what was received. The
--- gateway resumes in that world, or in the one after a message that was announced, was not handled
--- and got no answer.
+-- The same loss, in terms of worlds. The gateway was in the world `now`. After the lost ticks, the world `before`
+-- agrees with `now`, except for what was received. The gateway resumes in `before`, or in the world after a message
+-- that was announced, but was neither handled nor answered.
 pub record LosesSpeech (lacking : ℕ) (now resumed : World) : Type 0 where
   pub before : World
   pub ticks : ℕ
@@ -111,9 +108,9 @@ pub record LosesSpeech (lacking : ℕ) (now resumed : World) : Type 0 where
       ⊎ ((source : Peer) × (bytes : List ℕ) × (sent : List Sent)
       × Step before (events.Control source bytes) sent resumed)
 
--- A crash at a moment of a session, in the world `now`. The journal contains what it contained at
--- the start, and then the events `written`. These are what happened, except for RTP datagrams and
--- lost ticks. A run of all events in the journal ends in the world in which a gateway resumes.
+-- A crash at a moment of a session, in the world `now`. The journal contains its events from the start, and then the
+-- events `written`. These are the events that happened, except for RTP datagrams and lost ticks. A run of all events in
+-- the journal ends in the world in which a gateway resumes.
 pub record Survives (setup : Setup) (durability : Durability) (w : World) (told : List Event)
     (front : List TraceEntry) (journal : JournalState) : Type 0 where
   pub now : World
@@ -128,9 +125,9 @@ pub record Survives (setup : Setup) (durability : Durability) (w : World) (told 
       → Run (start_of setup.config) (told ++ written) others resumed
       → LosesSpeech (ticks_lacking progress) now resumed
 
--- A crash loses speech and a few ticks, and nothing else. The session may start in any world that
--- agrees, except for what was received, with the one to which the events of its journal lead. A
--- crash during an append leaves what a broken append leaves: some of the lines.
+-- A crash loses speech and a few ticks, and nothing else. The session may start in any world that agrees, except for
+-- what was received, with the world to which the events of its journal lead. A crash during an append has the same
+-- effect as a broken append: some of the lines are in the journal.
 abbrev pub CrashesLoseSpeechOnly : Type 0
 CrashesLoseSpeechOnly =
     (setup : Setup) (durability : Durability) (w v : World) (told : List Event) (others : List Sent)
@@ -139,25 +136,20 @@ CrashesLoseSpeechOnly =
     → Run (start_of setup.config) told others v → AgreeExceptReceived w v
     → Survives setup durability w told front journal
 
--- So this holds in each life of a gateway. After a crash, it resumes in the world to which the
--- events of its journal lead. It skips the ticks that it missed, and appends them to the journal.
--- In the resulting world, a session may start again: this is the world to which the journal's
--- events lead, and it agrees with itself.
-pub record IsNextLife (config : Config) (told : List Event) (w : World) : Type 0 where
-  pub sent : List Sent
-  pub run : Run (start_of config) told sent w
-  pub agrees : AgreeExceptReceived w w
-
+-- `CrashesLoseSpeechOnly` holds in each life of a gateway. After a crash, the gateway resumes in the world to which the
+-- events of its journal lead. It skips the ticks that it missed, and appends them to the journal. In the resulting
+-- world, a session may start again: the journal's events lead to this world, which agrees with itself.
 abbrev pub LivesFollow : Type 0
 LivesFollow =
     (config : Config) (told : List Event) (sent : List Sent) (resumed : World) (missed : ℕ)
-    → Run (start_of config) told sent resumed
-    → IsNextLife config (told ++ replicate missed events.Tick) (world_after_ticks missed resumed)
+    → Run (start_of config) told sent resumed → let w = world_after_ticks missed resumed in
+    ((all : List Sent) × Run (start_of config) (told ++ replicate missed events.Tick) all w)
+    × AgreeExceptReceived w w
 
 -- ## Cuts
 
--- These events are what had happened, except for RTP datagrams, by an earlier moment: before a
--- session, or at a moment of it, perhaps with a message that was announced then.
+-- These events had happened, except for RTP datagrams, by an earlier moment: before a session, or at a moment of it. A
+-- message that was announced at that moment may follow.
 abbrev pub WereTold : (told : List Event) → (front : List TraceEntry) → List Event → Type 0
 WereTold told front first =
     ((others : List Event) × (told ≡ first ++ others))
@@ -166,8 +158,8 @@ WereTold told front first =
     ⊎ ((source : Peer) × (bytes : List ℕ)
     × (first ≡ (told ++ without_rtp (events_of_trace past)) ++ events.Control source bytes ∷ []))))
 
--- Wherever the text of a journal is cut off, its complete lines are a script of its first events.
--- These are what had happened by some moment.
+-- Wherever the text of a journal is cut off, its complete lines are a script of its first events, which had happened by
+-- some moment.
 abbrev pub AnyCutIsAMoment : Type 0
 AnyCutIsAMoment =
     (setup : Setup) (durability : Durability) (w : World) (told : List Event)
@@ -177,8 +169,8 @@ AnyCutIsAMoment =
     → (first : List Event) × (others : List Event) × IsScriptOf text (first ++ others)
     × IsScriptOf (whole_lines cut) first × WereTold told front first
 
--- A gateway that resumes from these events is in the world of a moment of the session, except for
--- what was received; or in the one after a message that was announced at that moment.
+-- A gateway that resumes from these events is in the world of a moment of the session, except for what was received, or
+-- in the world after a message that was announced at that moment.
 pub record ResumesAt (config : Config) (w : World) (front : List TraceEntry) (first : List Event)
     : Type 0 where
   pub past : List TraceEntry
@@ -190,7 +182,7 @@ pub record ResumesAt (config : Config) (w : World) (front : List TraceEntry) (fi
   pub resumes : (resumed : World) (others : List Sent)
       → Run (start_of config) first others resumed → LosesSpeech 0 then resumed
 
--- So a gateway resumes from a cut journal as it was at some moment: before this session, or in it.
+-- A gateway that resumes from a journal that was cut off is in the state of some moment before the session or in it.
 abbrev pub CutsResumeAMoment : Type 0
 CutsResumeAMoment =
     (setup : Setup) (durability : Durability) (w v : World) (told : List Event) (others : List Sent)
@@ -200,9 +192,9 @@ CutsResumeAMoment =
     → WereTold told front first
     → ((more : List Event) × (told ≡ first ++ more)) ⊎ ResumesAt setup.config w front first
 
--- If messages are synced, nothing answered is forgotten even if the machine loses power. An answer
--- was sent at an earlier moment. The disk has the synced text, and perhaps more of the text, up to
--- any byte. Its complete lines still contain everything that had happened when the answer was sent.
+-- If messages are synced, nothing answered is forgotten even if the machine loses power. An answer was sent at an
+-- earlier moment. The disk has the synced text, and perhaps more of the text, up to any byte. The complete lines on the
+-- disk still contain everything that had happened when the answer was sent.
 abbrev pub PowerLossesForgetNoAnswer : Type 0
 PowerLossesForgetNoAnswer =
     (setup : Setup) (w : World) (told : List Event) (front later rest : List TraceEntry) (to : Peer)
@@ -214,11 +206,6 @@ PowerLossesForgetNoAnswer =
     ((told ++ without_rtp (events_of_trace front)) ++ others)
 
 -- ## Who hears whom
-
--- the same speech flows in two worlds
-abbrev pub HaveSameFlows : World → World → Type 0
-HaveSameFlows a b =
-    (talker listener : ℕ) → flow a.gateway talker listener ≡ flow b.gateway talker listener
 
 -- A moment before the crash, in the world `then`. The journal's first events are those up to this
 -- moment, except for RTP datagrams and lost ticks. They lead to a world in which the same speech
@@ -235,10 +222,10 @@ pub record TellsFlows (config : Config) (w : World) (told written : List Event)
   pub few : ticks ≤ lacking
   pub lost : without_rtp (events_of_trace past) ≡ first ++ replicate ticks events.Tick
   pub flows : (u : World) (all : List Sent)
-      → Run (start_of config) (told ++ first) all u → HaveSameFlows then u
+      → Run (start_of config) (told ++ first) all u
+      → (talker listener : ℕ) → flow then.gateway talker listener ≡ flow u.gateway talker listener
 
--- A journal shows who heard whom, at each moment before a crash. `survives` is what the crash
--- leaves.
+-- A journal shows who heard whom, at each moment before a crash. `survives` describes the journal after the crash.
 abbrev pub JournalsTellWhoHears : Type 0
 JournalsTellWhoHears =
     (setup : Setup) (durability : Durability) (w v : World) (told : List Event) (others : List Sent)

@@ -1,4 +1,4 @@
--- What a session appends to its journal, and when.
+-- The lines that a session appends to its journal, and the times at which it does.
 use Rattle.std.specs.Prelude.{◌≡◌, ◌⊎◌, ℕ, ◌+◌, ◌<◌, min, Bool, true, false, List, [], ◌∷◌, replicate}
 use Rattle.std.specs.Prelude.{flat_map}
 use Rattle.std.specs.Prelude.{Option, Some, None, Result, Ok, Err}
@@ -7,35 +7,33 @@ use Rattle.mg_journal.specs.declared.append_fault.AppendFault.{AppendFault}
 use Rattle.mg_journal.specs.declared.durability.Durability.{Durability}
 use Rattle.mg_journal.specs.declared.durability.Durability.TheVariants.{Written}
 use Rattle.mg_ports.specs.declared.call.Call.{Call}
-use Rattle.mg_ports.specs.declared.call.Call.TheVariants.{Receive, Send, BeginTick, Append}
+use Rattle.mg_ports.specs.declared.call.Call.TheVariants.{Append}
 use Rattle.mg_words.specs.declared.peer.Peer.{Peer}
 use Rattle.mg_core.specs.declared.event.Event.TheVariants as events
 use Rattle.mg_core.specs.Recording.{IsDatagram, event_line}
 use Rattle.mg_serve.specs.Trace.{TraceEntry, Called, Happened, calls_of}
 
 abbrev pub is_append : Call → Bool
-is_append (Receive socket receipt) = false
-is_append (Send socket to bytes) = false
-is_append (BeginTick timing) = false
 is_append (Append lines durability result) = true
+is_append _ = false
 
--- the lines for this many ticks
+-- The lines for this many ticks.
 abbrev pub tick_lines : ℕ → List ℕ
 tick_lines count = flat_map event_line (replicate count events.Tick)
 
--- How far the journal lags behind the events. It lacks this many ticks; or it has everything, and
--- its last line announces a message that is handled next.
+-- How far the journal lags behind the events. It lacks this many ticks, or it has everything and its last line
+-- announces a message that is handled next.
 pub data Progress : Type 0 where
   Lacks : (ticks : ℕ) → Progress
   Announces : (source : Peer) (bytes : List ℕ) → Progress
 
--- the progress after an append, whether or not it succeeded
+-- The progress after an append, whether or not it succeeded.
 abbrev pub after_append : Result (Unit {0}) AppendFault → (appended before : Progress) → Progress
 after_append (Ok done) appended before = appended
 after_append (Err fault) appended before = before
 
--- An append of the ticks that the journal lacks, at most 1,000 at once, or, if it doesn't lack any,
--- of the line for a message that can arrive.
+-- An append. If the journal lacks ticks, these are appended, at most 1,000 at once. Otherwise the line for a message
+-- that can arrive is appended.
 abbrev pub AppendsLines : Durability → ℕ → List ℕ → Durability → Result (Unit {0}) AppendFault
     → Progress → Type 0
 AppendsLines durable lacking lines durability result next =
@@ -46,8 +44,8 @@ AppendsLines durable lacking lines durability result next =
     × (lines ≡ event_line (events.Control source bytes)) × (durability ≡ durable)
     × (next ≡ after_append result (Announces source bytes) (Lacks 0)) × IsDatagram source bytes)
 
--- The progress after an entry of a trace. A message is handled only after it was announced, and
--- then at once. Every tick is one more that the journal lacks.
+-- The progress after an entry of a trace. A message is handled only after it was announced, and then at once. After
+-- each tick, the journal lacks one more tick.
 abbrev pub Advances : Durability → Progress → TraceEntry → Progress → Type 0
 Advances durable (Announces source bytes) entry next =
     (entry ≡ Happened (events.Control source bytes)) × (next ≡ Lacks 0)
@@ -62,23 +60,18 @@ Journals durable old [] new = new ≡ old
 Journals durable old (entry ∷ trace) new =
     (next : Progress) × Advances durable old entry next × Journals durable next trace new
 
--- A session without a journal appends nothing. Otherwise messages are appended with this
--- durability. The numbers are how many ticks the journal lacks, before and after.
+-- A session without a journal appends nothing. Otherwise messages are appended with this durability. The numbers are
+-- those of the ticks that the journal lacks, before and after the trace.
 abbrev pub IsJournaled : Option Durability → ℕ → List TraceEntry → ℕ → Type 0
 IsJournaled None lacking trace left =
     (list_any is_append (calls_of trace) ≡ false) × (left ≡ lacking)
 IsJournaled (Some durable) lacking trace left =
     Journals durable (Lacks lacking) trace (Lacks left)
 
--- Appends are tried in time: never do more than ten ticks happen after the last one, whether or not
--- that succeeded. The numbers are how many ticks have happened since an append was tried.
+-- Appends are tried in time: at most ten ticks happen after an append was tried, whether or not it succeeded. The
+-- numbers are those of the ticks since the last try, before and after the trace.
 abbrev pub Tries : (untried : ℕ) → List TraceEntry → (left : ℕ) → Type 0
 Tries untried [] left = left ≡ untried
 Tries untried (Called (Append lines durability result) ∷ trace) left = Tries 0 trace left
 Tries untried (Happened events.Tick ∷ trace) left = (untried < 10) × Tries (untried + 1) trace left
 Tries untried (entry ∷ trace) left = Tries untried trace left
-
--- nothing has to be tried without a journal
-abbrev pub IsTried : Option Durability → ℕ → List TraceEntry → ℕ → Type 0
-IsTried None untried trace left = left ≡ untried
-IsTried (Some durable) untried trace left = Tries untried trace left

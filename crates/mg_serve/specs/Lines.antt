@@ -7,8 +7,7 @@ use Rattle.mg_clock.specs.declared.timing.Timing.TheVariants.{OnTime}
 use Rattle.mg_serve.specs.declared.form.Form.{Form}
 use Rattle.mg_serve.specs.declared.form.Form.TheVariants.{Plain, Recording}
 
--- The command that a line's text denotes. Whoever writes the lines keeps the time, so no tick is
--- late.
+-- The command that a line's text denotes. The writer of the lines keeps the time, so no tick is late.
 abbrev pub line_command : List ℕ → Command
 line_command line =
     if bytes_eq line (codes "poll") then Poll
@@ -24,22 +23,21 @@ abbrev pub is_quit : Command → Bool
 is_quit Quit = true
 is_quit _ = false
 
--- Something is printed for a command: a line in reply, or its events in a recording.
+-- Whether something is printed for a command: a line in reply, or its events in a recording.
 abbrev pub prints : Form → Command → Bool
-prints form Poll = is_recording form
-prints form (Tick timing) = is_recording form
 prints form Stats = true
 prints form Quit = false
 prints form Unknown = true
+prints form command = is_recording form
 
--- something is printed for the last of these commands
+-- Something is printed for the last of these commands.
 pub record LastPrints (form : Form) (commands : List Command) : Type 0 where
   pub front : List Command
   pub command : Command
   pub is : commands ≡ front ++ command ∷ []
   pub printed : prints form command ≡ true
 
--- the lines before the first `quit`
+-- The lines before the first `quit`.
 unfoldable pub before_quit : List (List ℕ) → List (List ℕ)
 before_quit [] = []
 before_quit (line ∷ lines) =

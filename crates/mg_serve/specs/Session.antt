@@ -22,7 +22,7 @@ use Rattle.mg_serve.specs.Journaled.{tick_lines}
 use Rattle.mg_serve.specs.Setup.{Setup, is_admitted}
 use Rattle.mg_serve.specs.Trace.{TraceEntry, Called, Happened, Printed, Noted, Stale}
 
--- The effects of several items, one after another, each in the world that the previous one left.
+-- The effects of the elements of a list, one after another, each in the world that the previous one left.
 abbrev pub Each : {A : Type 0} → (A → World → List TraceEntry → World → Type 0) → List A → World
     → List TraceEntry → World → Type 0
 Each R [] w trace next = (trace ≡ []) × (next ≡ w)
@@ -33,8 +33,8 @@ Each R (x ∷ xs) w trace next =
 
 -- ## One event
 
--- A datagram is sent with one call: an answer on socket 0, a packet on the socket of the slot that
--- has its port. Each packet's port is a slot's.
+-- The call that sends a datagram. An answer is sent on socket 0, and a packet on the socket of the slot that has the
+-- packet's port. The port of each packet belongs to a slot.
 abbrev pub send_of : Setup → Sent → Call
 send_of setup (Reply to text) = Send 0 to text
 send_of setup (Packet packet) =
@@ -43,13 +43,13 @@ send_of setup (Packet packet) =
 abbrev pub sends_of : Setup → List Sent → List TraceEntry
 sends_of setup sent = map (λ datagram. Called (send_of setup datagram)) sent
 
--- an event, and then a send for each of its datagrams, in order
+-- An event happens, and its datagrams are sent in order, each with one call.
 abbrev pub HandlesEvent : Setup → Event → World → List TraceEntry → World → Type 0
 HandlesEvent setup event w trace next =
     (sent : List Sent) × Step w event sent next
     × (trace ≡ Happened event ∷ sends_of setup sent)
 
--- the event of a datagram that arrived at a socket
+-- The event of a datagram that arrived at a socket.
 abbrev pub event_at : Setup → ℕ → Peer → List ℕ → Event
 event_at setup zero source bytes = events.Control source bytes
 event_at setup (suc s) source bytes = events.Media (slot_port (limits_of setup.config) s) source bytes
@@ -60,12 +60,12 @@ abbrev pub LacksMemory : World → List TraceEntry → World → Type 0
 LacksMemory w trace next =
     (trace ≡ Noted (codes "no memory for a control datagram") ∷ []) × (next ≡ w)
 
--- a successful append; `Advances` says what was appended
+-- A successful append. `Advances` defines the lines that are appended.
 abbrev pub IsAppended : TraceEntry → Type 0
 IsAppended (Called (Append lines durability (Ok done))) = Unit {0}
 IsAppended entry = ⊥
 
--- what is appended before an event: lines for ticks that have passed, or the event's own line
+-- The lines that are appended before an event: those for ticks that have passed, or the event's own line.
 abbrev pub ArePreceding : Event → List ℕ → Type 0
 ArePreceding event lines =
     ((ticks : ℕ) × (lines ≡ tick_lines ticks)) ⊎ (lines ≡ event_line event)
@@ -78,7 +78,7 @@ LacksJournal event w trace next =
     ∷ Noted (codes "no journal for a control datagram") ∷ [])
     × (next ≡ w) × ArePreceding event lines
 
--- The event happens after some appends, or one of these fails. Only a control datagram is appended.
+-- The event happens after some appends, unless one of these fails. Only a control datagram is appended.
 abbrev pub HandlesDatagram : Setup → ℕ → Event → World → List TraceEntry → World → Type 0
 HandlesDatagram setup zero event w trace next =
     (appended : List TraceEntry) × (others : List TraceEntry)
@@ -86,9 +86,8 @@ HandlesDatagram setup zero event w trace next =
     × (HandlesEvent setup event w others next ⊎ LacksJournal event w others next)
 HandlesDatagram setup (suc s) event w trace next = HandlesEvent setup event w trace next
 
--- What happens to a datagram: it is an event if its sender is admitted, unless there is no memory for
--- it or it is stale. `IsFenced` says which control datagrams are stale. A datagram is ignored if its
--- sender isn't admitted.
+-- The effect of a datagram. If its sender is admitted, it is an event, unless there is no memory for it or it is stale.
+-- `IsFenced` determines which control datagrams are stale. A datagram is ignored if its sender isn't admitted.
 abbrev pub Becomes : (admitted : Bool) → Setup → ℕ → Peer × List ℕ → World → List TraceEntry → World
     → Type 0
 Becomes true setup socket datagram w trace next =
@@ -97,7 +96,7 @@ Becomes true setup socket datagram w trace next =
     ⊎ ((trace ≡ Stale datagram.0 datagram.1 ∷ []) × (next ≡ w))))
 Becomes false setup socket datagram w trace next = (trace ≡ []) × (next ≡ w)
 
--- the receive that returned a datagram, and what happens to it
+-- A receive returned a datagram, followed by the effect of the datagram.
 abbrev pub ReceivesDatagram : Setup → ℕ → Peer × List ℕ → World → List TraceEntry → World → Type 0
 ReceivesDatagram setup socket datagram w trace next =
     (others : List TraceEntry) × IsDatagram datagram.0 datagram.1
@@ -106,18 +105,18 @@ ReceivesDatagram setup socket datagram w trace next =
 
 -- ## A poll
 
--- a receive that didn't return a datagram
+-- A receive returned no datagram, or failed.
 abbrev pub ReceivesNothing : ℕ → List TraceEntry → Type 0
 ReceivesNothing socket trace =
     (trace ≡ Called (Receive socket Nothing) ∷ [])
     ⊎ (trace ≡ Called (Receive socket Failed) ∷ [])
 
--- What ends a socket's turn: 64 datagrams, or a receive that returned none or failed.
+-- The end of a socket's turn: after 64 datagrams, or after a receive that returned no datagram or failed.
 abbrev pub EndsTurn : ℕ → ℕ → List TraceEntry → Type 0
 EndsTurn socket arrived last =
     ((arrived ≡ 64) × (last ≡ [])) ⊎ ((arrived < 64) × ReceivesNothing socket last)
 
--- a socket's turn: one datagram after another, and then what ends it
+-- A socket's turn: one datagram after another, and then the end of the turn.
 pub record SocketTurn (setup : Setup) (socket : ℕ) (w : World) (trace : List TraceEntry) (next : World)
     : Type 0 where
   pub datagrams : List (Peer × List ℕ)
@@ -129,22 +128,22 @@ pub record SocketTurn (setup : Setup) (socket : ℕ) (w : World) (trace : List T
 
 -- ## Commands
 
--- at most one append, which may fail
+-- At most one append, which may fail.
 abbrev pub MayAppend : List TraceEntry → Type 0
 MayAppend trace =
     (trace ≡ [])
     ⊎ ((lines : List ℕ) × (durability : Durability) × (result : Result (Unit {0}) AppendFault)
     × (trace ≡ Called (Append lines durability result) ∷ []))
 
--- a tick begins, the event happens, and then lines for ticks may be appended to the journal
+-- A tick begins, its event happens, and then lines for ticks may be appended to the journal.
 abbrev pub Ticks : Setup → Timing → World → List TraceEntry → World → Type 0
 Ticks setup timing w trace next =
     (happening : List TraceEntry) × (appends : List TraceEntry)
     × (trace ≡ Called (BeginTick timing) ∷ (happening ++ appends))
     × HandlesEvent setup events.Tick w happening next × MayAppend appends
 
--- `poll` gives a turn to the control socket, and then to each media socket in ascending order.
--- `tick` is one tick. `stats` prints text that is not specified here.
+-- The effects of a command. `poll` gives a turn to the control socket, and then to each media socket in ascending
+-- order. `tick` is one tick. `stats` prints text that is not specified here.
 abbrev pub Performs : Setup → Command → World → List TraceEntry → World → Type 0
 Performs setup Poll w trace next =
     Each (SocketTurn setup) (range_with_len 0 (setup.config.slots + 1)) w trace next
@@ -154,6 +153,6 @@ Performs setup Quit w trace next = (trace ≡ []) × (next ≡ w)
 Performs setup Unknown w trace next =
     (trace ≡ Printed (codes "unknown command") ∷ []) × (next ≡ w)
 
--- commands one after another, with their effects
+-- Commands one after another, with their effects.
 abbrev pub Session : Setup → List Command → World → List TraceEntry → World → Type 0
 Session setup commands w trace next = Each (Performs setup) commands w trace next

@@ -1,4 +1,4 @@
--- The setup of a session, and whose datagrams it accepts.
+-- The setup of a session, and the peers whose datagrams it accepts.
 use Rattle.std.specs.Prelude.{ℕ, zero, suc, ◌==◌, ◌&&◌, ◌||◌, not, Bool, false, List, length}
 use Rattle.std.specs.Prelude.{Option}
 use Rattle.std.specs.List.{list_any}
@@ -12,9 +12,9 @@ use Rattle.mg_core.specs.World.{World}
 use Rattle.mg_fence.specs.declared.fence.Fence.{Fence}
 use Rattle.mg_journal.specs.declared.durability.Durability.{Durability}
 
--- the gateway's configuration, the addresses of its controllers, whether callers use symmetric RTP,
--- how durably messages are appended to the journal, if there is one, and the fence at the start, if
--- there is one
+-- The setup of a session: the gateway's configuration, the addresses of its controllers, whether callers use symmetric
+-- RTP, the durability with which messages are appended to the journal, if there is one, and the fence at the start, if
+-- there is one.
 pub record Setup : Type 0 where
   pub config : Config
   pub controllers : List (List ℕ)
@@ -27,13 +27,13 @@ abbrev pub may_command : List (List ℕ) → List ℕ → Bool
 may_command controllers address =
     length controllers == 0 || list_any (λ (listed : List ℕ). bytes_eq listed address) controllers
 
--- the peer has the address and the port of a Remote
+-- Whether the peer has the address and the port of a Remote.
 abbrev pub is_remote : Option Chosen → Peer → Bool
 is_remote remote peer =
     option_map_or (λ to. bytes_eq to.address peer.address && to.port == peer.port) remote false
 
--- Whether a datagram from this peer is accepted at a socket: 0 is the control socket. With
--- symmetric RTP (RFC 4961), a media socket accepts packets only from the Remote of its termination.
+-- Whether a datagram from this peer is accepted at a socket. Socket 0 is the control socket. With symmetric RTP (RFC
+-- 4961), a media socket accepts packets only from the Remote of its termination.
 abbrev pub is_admitted : Setup → World → ℕ → Peer → Bool
 is_admitted setup w zero peer = may_command setup.controllers peer.address
 is_admitted setup w (suc slot) peer =

@@ -12,7 +12,7 @@ use Rattle.mg_core.specs.Step.{Sent, Run}
 use Rattle.mg_core.specs.World.{World, start_of}
 use Rattle.mg_lines.specs.Lines.{lines_of}
 use Rattle.mg_ports.specs.declared.call.Call.{Call}
-use Rattle.mg_ports.specs.declared.call.Call.TheVariants.{Receive, Send, BeginTick, Append}
+use Rattle.mg_ports.specs.declared.call.Call.TheVariants.{Send}
 use Rattle.mg_serve.specs.declared.form.Form.TheVariants.{Recording}
 use Rattle.mg_serve.specs.Serve.{opening}
 use Rattle.mg_serve.specs.Session.{Session, send_of}
@@ -21,10 +21,8 @@ use Rattle.mg_serve.specs.declared.command.Command.{Command}
 use Rattle.mg_serve.specs.Trace.{TraceEntry, calls_of, events_of_trace, output_of}
 
 abbrev pub is_send : Call → Bool
-is_send (Receive socket receipt) = false
 is_send (Send socket to bytes) = true
-is_send (BeginTick timing) = false
-is_send (Append lines durability result) = false
+is_send _ = false
 
 -- A session sends exactly the datagrams that a run over its events sends, in order.
 pub record SendsAreARun (setup : Setup) (w : World) (trace : List TraceEntry) (next : World)
@@ -33,13 +31,13 @@ pub record SendsAreARun (setup : Setup) (w : World) (trace : List TraceEntry) (n
   pub run : Run w (events_of_trace trace) sent next
   pub sends : filter is_send (calls_of trace) ≡ map (send_of setup) sent
 
--- This holds for every session.
+-- Every session sends exactly the datagrams that a run over its events sends.
 abbrev pub SessionsAreRuns : Type 0
 SessionsAreRuns =
     (setup : Setup) (commands : List Command) (w next : World) (trace : List TraceEntry)
     → Session setup commands w trace next → SendsAreARun setup w trace next
 
--- the text of a recording of a session
+-- The text of a recording of a session.
 abbrev pub recorded : List ℕ → List TraceEntry → List ℕ
 recorded title trace = output_of Recording (opening (Some title) ++ trace)
 

@@ -1,4 +1,4 @@
--- What a gateway does, in order, and what is printed about it.
+-- The actions of a gateway, in order, and the text that is printed about them.
 use Rattle.std.specs.Prelude.{ℕ, ◌==◌, not, List, [], ◌∷◌, ◌++◌, codes, flat_map, take}
 use Rattle.std.specs.List.{filter}
 use Rattle.mg_words.specs.declared.peer.Peer.{Peer}
@@ -9,8 +9,8 @@ use Rattle.mg_ports.specs.declared.call.Call.{Call}
 use Rattle.mg_serve.specs.declared.form.Form.{Form}
 use Rattle.mg_serve.specs.declared.form.Form.TheVariants.{Plain, Recording}
 
--- The gateway calls its ports, an event happens, the gateway prints text for whoever drives it, it
--- notes text that is printed only in a recording, or it drops a stale control datagram.
+-- An entry of a trace: the gateway calls its ports, an event happens, the gateway prints text for its driver, it notes
+-- text that is printed only in a recording, or it drops a stale control datagram.
 pub data TraceEntry : Type 0 where
   Called : (call : Call) → TraceEntry
   Happened : (event : Event) → TraceEntry
@@ -28,12 +28,12 @@ events_of_trace [] = []
 events_of_trace (Happened event ∷ trace) = event ∷ events_of_trace trace
 events_of_trace (_ ∷ trace) = events_of_trace trace
 
--- text as one line: without line feeds, and at most its first 1,000 bytes
+-- Text as one line: without line feeds, and at most its first 1,000 bytes.
 abbrev pub one_line : List ℕ → List ℕ
 one_line text = take 1000 (filter (λ b. not (b == 10)) text)
 
--- What is printed: in plain form, the text for whoever drives the gateway; in a recording, a script
--- line for each event, and comments.
+-- The text that is printed for an entry. In plain form, this is the text for the gateway's driver. In a recording, it
+-- is a script line for an event, and otherwise a comment.
 abbrev pub printed_text : Form → TraceEntry → List ℕ
 printed_text Plain (Printed text) = one_line text ++ codes "\n"
 printed_text Plain _ = []

@@ -3,7 +3,7 @@ ghost use Rattle.mg_serve.specs.Lines.{line_command};
 
 use mg_clock::Timing;
 
-/// A command to a gateway: what the gateway does next.
+/// A command to a gateway.
 #[derive(Clone, Copy, Debug, PartialEq, Eq)]
 pub enum Command {
     /// Receive the datagrams that arrived at the sockets.

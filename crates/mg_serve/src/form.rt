@@ -1,7 +1,7 @@
 /// The form of a session's output.
 #[derive(Clone, Copy, Debug, PartialEq, Eq)]
 pub enum Form {
-    /// Lines for whoever drives the gateway.
+    /// Lines for the gateway's driver.
     Plain,
     /// A script: one line for each event, and comments.
     Recording,

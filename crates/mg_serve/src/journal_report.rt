@@ -1,4 +1,4 @@
-/// What a monitor learns about the journal. Without a journal, all numbers are 0.
+/// A report about the journal to a monitor. Without a journal, all numbers are 0.
 #[derive(Clone, Copy, Debug, PartialEq, Eq)]
 pub struct JournalReport {
     /// Ticks that have passed but are not in the journal yet.

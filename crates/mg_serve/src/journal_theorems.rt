@@ -1,4 +1,4 @@
-//! What a journal preserves about every session. The functions do nothing: their contracts are the theorems.
+//! Theorems about every session with a journal. The functions do nothing: their contracts are the theorems.
 
 ghost use Rattle.mg_serve.specs.JournalLaws.{EachPartIsAMoment, NothingAnsweredIsForgotten, CrashesLoseSpeechOnly, LivesFollow, AnyCutIsAMoment, CutsResumeAMoment, PowerLossesForgetNoAnswer, JournalsTellWhoHears};
 
@@ -37,7 +37,7 @@ pub fn crashes_lose_speech_only()
 
 /// A journal describes a moment, wherever it is cut off.
 ///
-/// If a journal is cut off after any byte, for example by a power cut, its complete lines say what had happened by an
+/// If a journal is cut off after any byte, for example by a power cut, its complete lines contain the events up to an
 /// earlier moment. They may end with a message that had been appended but not handled yet. A gateway that resumes from
 /// these lines is in the state of that moment, except for received RTP. If messages are synced, that moment isn't
 /// earlier than the last answer.

@@ -25,19 +25,19 @@ const BATCH: usize = 1000;
 /// The lines for the maximum number of ticks in one append.
 const TICK_LINES: [[u8; 5]; BATCH] = [*b"tick\n"; BATCH];
 
-/// How many ticks the journal may lack before they are appended: 0.2 seconds' worth. `heard --never` reports a broken
-/// rule only once the journal has the tick after the message.
+/// The number of ticks that the journal may lack before they are appended: 0.2 seconds' worth. `heard --never` reports
+/// a broken rule only after the journal has the tick after the message.
 const TOGETHER: u64 = 10;
 
-/// The state of a session's journal and of its fence, if it has them: how many ticks the journal lacks, and the highest
-/// number of the messages that have been run.
+/// The state of a session's journal and of its fence, if it has them: the number of ticks that the journal lacks, and
+/// the highest number of the messages that were run.
 ///
 /// A message is appended before it is handled. Ticks are appended five times a second, and before each message.
 #[derive(Drop)]
 pub struct Journaling {
     durability: Option<Durability>,
     lacking: u64,
-    /// How many ticks have happened since an append was tried.
+    /// The number of ticks since an append was tried.
     untried: u64,
     fence: Option<Fence>,
     line: EventLine,
@@ -56,7 +56,7 @@ impl Model for Journaling {
     ghost invariant = { λ j. (j.untried ≤ j.lacking) × (j.untried < 10) };
 }
 
-/// Returns the fence after a message with this number has been run, if there is a fence.
+/// Returns the fence after a message with this number was run, if there is a fence.
 fn raised_by(number: Option<u32>, fence: Option<Fence>) -> Option<Fence>
     ensures value { result ≡ option_map (raised_by number) fence }
 {
@@ -140,14 +140,15 @@ impl Journaling {
         }
     }
 
-    /// Takes note of a message that is run.
+    /// Raises the fence after a message was run.
     pub fn pass(&mut self, number: Option<u32>)
         ensures value { self.new ≡ record self.old { fence = option_map (raised_by number) self.old.fence } }
     {
         self.fence = raised_by(number, self.fence);
     }
 
-    /// Returns what a monitor learns about the journal, given how many messages were dropped because an append failed.
+    /// Returns the report about the journal for a monitor, given the number of messages that were dropped because an
+    /// append failed.
     pub fn report(&self, unjournaled: u64) -> JournalReport
         ensures value { result.lacking ≡ self.now.lacking }
     {

@@ -20,8 +20,8 @@ const PRINTED_LIMIT: usize = 1000;
 /// The maximum length of a text line, in bytes: the comment mark, the text, and a line feed.
 const TEXT_ROOM: usize = 3 + PRINTED_LIMIT;
 
-/// Prints what a gateway does, with one write per line. It flushes the writer after each tick and each text. Once
-/// printing has failed, it prints nothing more.
+/// Prints the events and messages of a gateway, with one write per line. It flushes the writer after each tick and each
+/// text. After printing has failed, it prints nothing more.
 #[derive(Drop)]
 pub struct Printer {
     form: Form,
@@ -133,7 +133,7 @@ impl Printer {
         }
     }
 
-    /// Prints that a tick has passed.
+    /// Prints that a tick passed.
     pub fn tick<W: Write>(&mut self, writer: &mut W)
         ensures value { Prints self.old self.new (W.contents writer.old) (W.contents writer.new)
             (Happened events.Tick ∷ []) }
@@ -144,7 +144,7 @@ impl Printer {
         }
     }
 
-    /// Prints a line: `front` and `text`.
+    /// Prints one line that consists of `front` and `text`.
     fn put_line<W: Write>(&mut self, front: &[u8], text: &[u8], writer: &mut W)
         requires front { length front.now ≤ 2 }
         ensures form { self.new.form ≡ self.old.form }
@@ -158,7 +158,7 @@ impl Printer {
         put_now(&mut self.has_failed, self.text.as_slice(), writer);
     }
 
-    /// Prints `text` as one line, for whoever drives the gateway.
+    /// Prints `text` as one line, for the gateway's driver.
     pub fn print<W: Write>(&mut self, text: &[u8], writer: &mut W)
         ensures value { Prints self.old self.new (W.contents writer.old) (W.contents writer.new)
             (Printed text.now ∷ []) }

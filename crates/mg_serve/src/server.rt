@@ -107,9 +107,9 @@ fn is_remote(remote: Option<Chosen>, peer: Peer) -> bool
     }
 }
 
-/// Exposes to a proof what the types of a datagram's parts imply. Has no effect.
+/// Exposes the bounds of a datagram's parts, which their types imply, to a proof. Has no effect.
 ///
-/// The proof of a generic function can't cite what the type of a local variable implies.
+/// The proof of a generic function can't use the bounds that the type of a local variable implies.
 fn parts_fit(address: &[u8], port: u16, bytes: &[u8])
     requires four { length address.now ≡ 4 }
     requires short { length bytes.now ≤ DATAGRAM_LIMIT }

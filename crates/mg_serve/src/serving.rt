@@ -5,7 +5,7 @@ ghost use Rattle.mg_engine.specs.Config.{IsValidConfig};
 ghost use Rattle.mg_core.specs.World.{World};
 ghost use Rattle.mg_core.specs.aids.Stands.{StandsFor};
 ghost use Rattle.mg_ports.specs.Journaled.{ports_seen};
-ghost use Rattle.mg_serve.specs.Serve.{ServedByClock, ServedSession, form_of};
+ghost use Rattle.mg_serve.specs.Serve.{ClockCommands, ReadCommands, Served, form_of};
 ghost use Rattle.mg_serve.specs.aids.Outside.{new_journal};
 
 use crate::clock_driver::ClockDriver;
@@ -25,11 +25,11 @@ use std::io::{Read, Write};
 /// configuration does not include are not used.
 ///
 /// - `poll` reads at most 64 datagrams from each socket: first from the control socket, then from the media sockets in
-///   ascending order. A control message is answered at once; a message from an address that isn't a controller's is
+///   Ascending order. A control message is answered at once; a message from an address that isn't a controller's is
 ///   dropped, and so is a message that doesn't pass the fence. A failed receive ends that socket's turn.
 /// - `tick` advances by 20 ms and sends the packets. If a send fails, only that packet is lost.
 /// - `stats` prints `control=a media=b ticks=c sent=d failed=e dropped=f,g,h,i,j,k concealed=l`: [`Counts`] explains
-///   these numbers. If there is a fence, its number and the count of stale messages follow, as in `fence=17 stale=0`.
+///   These numbers. If there is a fence, its number and the count of stale messages follow, as in `fence=17 stale=0`.
 /// - Any other line prints `unknown command`.
 ///
 /// With a title, the output is a recording: a script with one line for each event (`control`, `rtp` or `tick`), in
@@ -59,8 +59,9 @@ pub fn serve<P: Ports, R: Read, W: Write, M: Monitor>(
 ) -> Result<Counts, RunFault>
     requires sound { IsValidConfig setup.now.config }
     ensures session { (w : World) → StandsFor core.state w →
-        ServedSession setup.now w (option_map (λ text. text.now) title.entry)
-        (R.remaining reader.old) (R.remaining reader.new)
+        Served setup.now w (option_map (λ text. text.now) title.entry)
+        (ReadCommands (form_of (option_map (λ text. text.now) title.entry)) (R.remaining reader.old)
+        (R.remaining reader.new) result)
         (ports_seen (P.calls ports.old) (P.journal ports.old)) (ports_seen (P.calls ports.new) (P.journal ports.new))
         (W.contents writer.old) (W.contents writer.new) result }
     ensures started { result ≢ Err RunFault.BadConfig }
@@ -87,8 +88,9 @@ fn drive<P: Ports, R: Read, W: Write, M: Monitor>(
     requires journal { driver.old.server.journal ≡ new_journal setup.now }
     requires partial { driver.old.partial ≡ [] }
     ensures session { (w : World) → StandsFor driver.old.server.core.state w →
-        ServedSession setup.now w (option_map (λ text. text.now) title.entry)
-        (R.remaining reader.old) (R.remaining reader.new)
+        Served setup.now w (option_map (λ text. text.now) title.entry)
+        (ReadCommands (form_of (option_map (λ text. text.now) title.entry)) (R.remaining reader.old)
+        (R.remaining reader.new) result)
         (ports_seen (P.calls ports.old) (P.journal ports.old)) (ports_seen (P.calls ports.new) (P.journal ports.new))
         (W.contents writer.old) (W.contents writer.new) result }
     ensures started { result ≢ Err RunFault.BadConfig }
@@ -105,12 +107,12 @@ fn drive<P: Ports, R: Read, W: Write, M: Monitor>(
 
 /// Runs a gateway on the given ports in real time. The gateway is new, or was resumed from a journal.
 ///
-/// Prints `ready`. Then, every 20 ms by the clock, executes what [`serve`] executes for the lines `poll` and `tick`. If
-/// a message arrives in between, also executes what [`serve`] executes for `poll`, up to 20 times before each tick.
+/// Prints `ready`. Then, every 20 ms by the clock, does the same as [`serve`] for the lines `poll` and `tick`. If a
+/// message arrives in between, does the same as [`serve`] for the line `poll`, up to 20 times before each tick.
 ///
-/// The k-th tick begins when a reading of the clock first shows that it is due: `k * 20 ms` after the clock's start.
-/// After a delay, all missed ticks are executed at once. If a tick is more than `allowed` ticks late, its packets are
-/// not sent.
+/// The k-th tick begins at the first reading of the clock at which it is due: `k * 20 ms` after the clock's start, or
+/// later. After a delay, all missed ticks are executed at once. If a tick is more than `allowed` ticks late, its
+/// packets are not sent.
 ///
 /// Returns only on a fault: `Read` if the clock can't be read, `Write` if printing failed, or `NoMemory` before
 /// anything is executed.
@@ -127,11 +129,12 @@ pub fn serve_by_clock<P: Ports, K: Watch, W: Write, M: Monitor>(
 ) -> RunFault
     requires sound { IsValidConfig setup.now.config }
     ensures session { (w : World) → StandsFor core.state w →
-        ServedByClock setup.now w (option_map (λ text. text.now) title.entry) allowed
+        Served setup.now w (option_map (λ text. text.now) title.entry)
+        (ClockCommands (form_of (option_map (λ text. text.now) title.entry)) allowed
         (clock_seen (K.readings watch.old) (K.waits watch.old)) (clock_seen (K.readings watch.new) (K.waits watch.new))
-        (K.Fails watch.new)
+        (K.Fails watch.new) (Err result))
         (ports_seen (P.calls ports.old) (P.journal ports.old)) (ports_seen (P.calls ports.new) (P.journal ports.new))
-        (W.contents writer.old) (W.contents writer.new) result }
+        (W.contents writer.old) (W.contents writer.new) (Err result) }
     ensures started { result ≢ RunFault.BadConfig }
 {
     let Ok(mut driver) = ClockDriver::new(alloc, core, form_of(title), setup, allowed, monitor)
@@ -157,11 +160,12 @@ fn drive_by_clock<P: Ports, K: Watch, W: Write, M: Monitor>(
     requires journal { driver.old.server.journal ≡ new_journal setup.now }
     ensures session { (allowed : ℕ) → driver.old.schedule ≡ record { ticks = 0; allowed = allowed; messages = 0 } →
         (w : World) → StandsFor driver.old.server.core.state w →
-        ServedByClock setup.now w (option_map (λ text. text.now) title.entry) allowed
+        Served setup.now w (option_map (λ text. text.now) title.entry)
+        (ClockCommands (form_of (option_map (λ text. text.now) title.entry)) allowed
         (clock_seen (K.readings watch.old) (K.waits watch.old)) (clock_seen (K.readings watch.new) (K.waits watch.new))
-        (K.Fails watch.new)
+        (K.Fails watch.new) (Err result))
         (ports_seen (P.calls ports.old) (P.journal ports.old)) (ports_seen (P.calls ports.new) (P.journal ports.new))
-        (W.contents writer.old) (W.contents writer.new) result }
+        (W.contents writer.old) (W.contents writer.new) (Err result) }
     ensures started { result ≢ RunFault.BadConfig }
 {
     let Ok(mut buffer) = datagram_buffer(alloc) else {

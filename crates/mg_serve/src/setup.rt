@@ -6,8 +6,8 @@ use mg_fence::Fence;
 use mg_journal::Durability;
 use std::marker::Model;
 
-/// The setup of a session: the gateway's configuration, who may send it commands, whose RTP it accepts, and whether it
-/// has a journal and a fence.
+/// The setup of a session: the gateway's configuration, the addresses that may send it commands, the senders whose RTP
+/// it accepts, and whether it has a journal and a fence.
 #[derive(Drop)]
 pub struct Setup<'a> {
     config: Config,
@@ -34,7 +34,7 @@ impl<'a> Setup<'a> {
     /// Creates the setup of a session with this configuration. Only these IPv4 addresses may send control messages; if
     /// there are none, any address may. With symmetric RTP (RFC 4961), a termination's packets are accepted only from
     /// the address and port of its Remote. If there is a journal, messages are appended to it with this durability. If
-    /// there is a fence, this is where it begins.
+    /// a fence is given, the session starts with it.
     pub fn new(
         config: Config,
         controllers: &'a [[u8; 4]],
@@ -73,7 +73,7 @@ impl<'a> Setup<'a> {
         self.symmetric_rtp
     }
 
-    /// Returns how durably messages are appended to the journal, or `None` if there is no journal.
+    /// Returns the durability with which messages are appended to the journal, or `None` if there is no journal.
     pub fn journal(&self) -> Option<Durability>
         ensures value { result ≡ self.now.journal }
     {

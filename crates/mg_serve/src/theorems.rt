@@ -1,13 +1,14 @@
-//! Properties of every session. The functions do nothing: their contracts are the theorems.
+//! Theorems about every session. The functions do nothing: their contracts are the theorems.
 
 ghost use Rattle.mg_serve.specs.FenceLaws.{NoLowerNumberIsRun};
 ghost use Rattle.mg_serve.specs.Theorems.{SessionsAreRuns, SessionsAreReadBack, CutSessionsAreReadBack, ReplaysAreTheSession};
 
-/// A controller that another one has replaced can't command any more.
+/// A controller that was replaced by another one can't command the gateway any more.
 ///
-/// Once a message with a number has been run, no message with a lower number is run behind a fence: neither in this life
-/// of the gateway nor in a later one that resumes from its journal, unless an operator has set the fence since. The
-/// contracts of [`serve`](crate::serve) and [`serve_by_clock`](crate::serve_by_clock) guarantee that a session is fenced.
+/// After a message with a number was run, no message with a lower number is run behind a fence: neither in this life of
+/// the gateway nor in a later one that resumes from its journal, unless an operator has set the fence since. The
+/// contracts of [`serve`](crate::serve) and [`serve_by_clock`](crate::serve_by_clock) guarantee that a session is
+/// fenced.
 pub fn no_lower_number_is_run()
     ensures theorem { NoLowerNumberIsRun }
 {

@@ -4,7 +4,7 @@ use mg_core::{Config, Core, Counts};
 use mg_fence::Fence;
 use mg_ports::FailureCauses;
 
-/// What a monitor learns at the end of a tick.
+/// The report to a monitor at the end of a tick.
 #[derive(Drop)]
 pub struct TickReport<'a> {
     pub config: Config,

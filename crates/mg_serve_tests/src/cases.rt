@@ -1,4 +1,4 @@
-//! Sessions with what they must leave behind.
+//! Sessions and their expected outcomes.
 
 use crate::equality::assert_equal;
 use crate::sessions::{Outcome, SESSION, Session, play};
@@ -7,13 +7,13 @@ use std::alloc::Global;
 use std::io;
 use std::process::Abort;
 
-/// A session, and what it must leave behind. A text that ends with `..` is only the beginning of what is wanted, and one
+/// A session and its expected outcome. An expected text that ends with `..` is only the beginning of the text, and one
 /// that begins with `..` is only its end.
 #[derive(Drop)]
 pub struct Case<'a> {
     pub name: &'a str,
     pub session: Session<'a>,
-    /// How many lines, control datagrams, RTP datagrams, ticks and sent datagrams are counted, or the fault.
+    /// The expected counts of lines, control datagrams, RTP datagrams, ticks and sent datagrams, or the fault.
     pub ended: Result<[u64; 5], RunFault>,
     pub call_log: &'a [u8],
     pub printed: &'a [u8],
@@ -33,8 +33,8 @@ pub const CASE: Case<'static> = Case {
     last_head: b"..",
 };
 
-/// Returns `wanted` if the text is as wanted, and the text otherwise. A text that ends with `..` is only the beginning of
-/// what is wanted, and one that begins with `..` is only its end.
+/// Returns `wanted` if the text is as expected, and the text otherwise. If `wanted` ends with `..`, it is only the
+/// beginning of the text; if it begins with `..`, it is only the end.
 pub fn compared<'a>(text: &'a [u8], wanted: &'a [u8]) -> &'a [u8] {
     let dots = b"..".as_slice();
     let is_as_wanted = if let Some(start) = wanted.strip_suffix(dots) {
@@ -47,7 +47,7 @@ pub fn compared<'a>(text: &'a [u8], wanted: &'a [u8]) -> &'a [u8] {
     if is_as_wanted { wanted } else { text }
 }
 
-/// Returns how a session ended.
+/// Returns the counts of a session, or the fault that ended it.
 fn ended(outcome: &Outcome) -> Result<[u64; 5], RunFault> {
     match &outcome.result {
         Ok(counts) => Ok([
@@ -61,7 +61,7 @@ fn ended(outcome: &Outcome) -> Result<[u64; 5], RunFault> {
     }
 }
 
-/// Ends the test unless the session left behind what it must.
+/// Ends the test unless the session had its expected outcome.
 fn compare(rt: &impl Abort, case: &Case<'_>, outcome: &Outcome) {
     let texts = [
         compared(outcome.call_log.as_bytes(), case.call_log),
@@ -80,7 +80,7 @@ fn compare(rt: &impl Abort, case: &Case<'_>, outcome: &Outcome) {
     );
 }
 
-/// Plays each session. Ends the test unless each one left behind what it must.
+/// Plays each session. Ends the test unless each one had its expected outcome.
 pub fn play_all(rt: &impl Abort, alloc: Global, cases: &[Case<'_>]) -> io::Result<()> {
     for case in cases {
         let outcome = play(alloc, &case.session)?;

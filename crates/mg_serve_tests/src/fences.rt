@@ -8,7 +8,7 @@ use mg_ports::Peer;
 use mg_serve::Durability;
 use std::test::Fail;
 
-/// An audit of ROOT, whose sender has the number 9, 10 or 4,294,967,295.
+/// An audit of ROOT from a sender with the number 9. The next messages have the numbers 10 and 4,294,967,295.
 const NINE: &[u8] = b"MEGACO/1 <9.lobby.example> T=9{C=-{AV=ROOT{AT{}}}}";
 
 const TEN: &[u8] = b"MEGACO/1 <10.lobby.example> T=10{C=-{AV=ROOT{AT{}}}}";
@@ -75,7 +75,7 @@ const CASES: &[Case<'static>] = &[
         ..CASE
     },
     Case {
-        name: "a fence begins where it is told to",
+        name: "a fence can begin at a given number",
         session: Session {
             fence: Some(Fence {
                 reached: 10,

@@ -9,7 +9,7 @@ use std::alloc::{AllocError, Global};
 use std::process::Abort;
 use std::test::Fail;
 
-/// Stands for events that don't begin with those of the journal's text.
+/// A marker for a recording whose events don't begin with those of the journal's text.
 const OTHERS: &[u8] = b"other events";
 
 /// A recorded session without datagrams.
@@ -18,7 +18,7 @@ const RECORDED: Session<'static> = Session {
     ..SESSION
 };
 
-/// A recorded session, and what it must leave behind. A text that ends with `..` is only the beginning of what is wanted,
+/// A recorded session and its expected outcome. An expected text that ends with `..` is only the beginning of the text,
 /// and one that begins with `..` is only its end.
 #[derive(Drop)]
 struct Case<'a> {
@@ -29,10 +29,10 @@ struct Case<'a> {
     comments: &'a [u8],
     /// The start of the journal's text: its parts, and how often each is repeated.
     start: &'a [(usize, &'a [u8])],
-    /// How many lines the journal's text has, and how many of them are synced.
+    /// The number of lines in the journal's text, and the number of them that are synced.
     lines: usize,
     synced: usize,
-    /// The events of the recording that follow on those of the journal's text, or `OTHERS` if that has other events.
+    /// The events of the recording after those of the journal's text, or `OTHERS` if the journal has other events.
     rest: &'a [u8],
     /// The last report about the journal.
     report: JournalReport,
@@ -82,7 +82,7 @@ const CASES: &[Case<'static>] = &[
     },
     Case {
         name: "a refused message is answered when it is repeated",
-        // The second message's line can't be written. A caller still gets packets.
+        // The second message's line can't be written. A caller still receives packets.
         session: Session {
             journal: Some(Durability::Synced),
             waiting: &[
@@ -230,7 +230,7 @@ fn lines_of(alloc: Global, text: &[u8], comments: bool) -> Result<Vec<u8>, Alloc
     Ok(kept)
 }
 
-/// Returns whether the events of a recording begin with those of the journal's text, and go on as wanted.
+/// Returns whether the events of a recording consist of those of the journal's text and then `rest`.
 fn go_on(events: &[u8], text: &[u8], rest: &[u8]) -> bool {
     match events.strip_prefix(text) {
         Some(found) => compared(found, rest) == rest,
@@ -238,7 +238,7 @@ fn go_on(events: &[u8], text: &[u8], rest: &[u8]) -> bool {
     }
 }
 
-/// Ends the test unless the session left behind what it must.
+/// Ends the test unless the session had its expected outcome.
 fn compare(
     rt: &impl Abort,
     alloc: Global,

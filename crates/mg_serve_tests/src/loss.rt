@@ -1,17 +1,17 @@
-//! How lost packets are counted.
+//! Tests of how lost packets are counted.
 
 use crate::equality::assert_equal;
 use mg_monitor::Loss;
 use mg_rtp::Header;
 
-/// Packets of stream 7, in the order of their arrival, or what was counted so far.
+/// A step of a test: packets of stream 7, in the order of their arrival, or the expected count so far.
 #[derive(Clone, Copy)]
 enum Step {
     /// A packet with this sequence number.
     One(u16),
-    /// As many packets in ascending order as the second number says, from the first number on.
+    /// Packets in ascending order: the first sequence number, and the number of packets.
     Up(u16, u16),
-    /// As many packets in descending order as the second number says, from the first number on.
+    /// Packets in descending order: the first sequence number, and the number of packets.
     Down(u16, u16),
     /// A packet of stream 8 with this sequence number.
     Other(u16),
@@ -106,7 +106,7 @@ fn header(ssrc: u32, sequence: u16) -> Header {
     }
 }
 
-/// Counts the packets of a step. Returns what it wants to be counted so far, and what was counted.
+/// Counts the packets of a step. Returns the expected count and the actual count, if the step has an expected count.
 fn take(loss: &mut Loss, step: Step) -> Option<(u64, u64)> {
     let (first, count, change) = match step {
         One(sequence) => (sequence, 1, 0),

@@ -25,16 +25,16 @@ const WAITING: &[(usize, Peer, &[u8])] = &[
     (1, STRANGER, b"x"),
 ];
 
-/// A session, and what its monitors must write.
+/// A session and the expected output of its monitors.
 struct Case<'a> {
     name: &'a str,
     session: Session<'a>,
-    /// How many times all metrics are written.
+    /// The number of times that all metrics are written.
     texts: usize,
-    /// Lines of the last metrics, and their end.
+    /// Some lines of the last metrics text, and the end of that text.
     metrics: &'a [&'a [u8]],
     end: &'a [u8],
-    /// Lines of the reports.
+    /// Some lines of the reports.
     reports: &'a [&'a [u8]],
 }
 

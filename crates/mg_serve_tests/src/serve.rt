@@ -276,7 +276,7 @@ const CASES: &[Case<'static>] = &[
     },
 ];
 
-/// An input, as in a session, how many lines and ticks are counted, and what is printed.
+/// An input, given as in a session, the expected counts of lines and ticks, and the expected output.
 type Input<'a> = (&'a [(usize, &'a [u8])], u64, u64, &'a [u8]);
 
 const INPUTS: &[Input<'static>] = &[
@@ -312,7 +312,7 @@ const INPUTS: &[Input<'static>] = &[
     (&[(1_000_000, b"q")], 1, 0, b"ready\nunknown command\n"),
 ];
 
-/// Each of the calls of `CALLS`, as a call that fails.
+/// The index of each receive and send of `CALLS`, as a list of calls that fail.
 const EACH_CALL: &[&[u64]] = &[
     &[0],
     &[1],

@@ -30,7 +30,7 @@ pub const ADD: &[u8] = b"MEGACO/1 [127.0.0.1]:2945 Transaction=1{Context=${Add=$
 pub const HEARTBEAT: &[u8] =
     b"MEGACO/1 [127.0.0.1]:2945 Transaction=2{Context=-{AuditValue=ROOT{Audit{}}}}";
 
-/// A session: its setup, what arrives, what fails, and the lines that drive it.
+/// A session: its setup, the datagrams that arrive, the calls that fail, and the lines that drive it.
 #[derive(Drop)]
 pub struct Session<'a> {
     /// The addresses that may send messages. If there are none, any address may.
@@ -40,25 +40,26 @@ pub struct Session<'a> {
     pub fence: Option<Fence>,
     /// The title of the recording. Without a title, the session is not recorded.
     pub title: Option<&'a [u8]>,
-    /// How many seconds pass from one report to the next; 0 disables reports.
+    /// The number of seconds between two reports; 0 disables reports.
     pub seconds: u16,
-    /// How many microseconds the clock of the metrics advances at each reading. Without a step, it can't be read.
+    /// The number of microseconds by which the clock of the metrics advances at each reading. If it is `None`, the
+    /// clock can't be read.
     pub step: Option<u64>,
-    /// The datagrams that are waiting: each one's socket, source and bytes.
+    /// The datagrams that are waiting, each with its socket, source and bytes.
     pub waiting: &'a [(usize, Peer, &'a [u8])],
     /// The sequence numbers of the caller's RTP packets, which are waiting at the first media socket.
     pub packets: &'a [u8],
     /// The numbers of the receives and sends that fail.
     pub failing: &'a [u64],
-    /// The calls to the journal's file that fail: their kind, the number of the first one, and how many they are.
+    /// The calls on the journal's file that fail: their kind, the number of the first one, and the number of calls.
     pub faults: &'a [(FileCall, u64, u64)],
-    /// The parts of the input, and how often each is repeated.
+    /// The parts of the input, each with the number of its repetitions.
     pub lines: &'a [(usize, &'a [u8])],
     /// Whether the session is driven by a clock that is late, and not by lines.
     pub by_clock: bool,
-    /// How many reads of the input succeed.
+    /// The number of reads of the input that succeed.
     pub reads: usize,
-    /// How many writes to the output succeed.
+    /// The number of writes to the output that succeed.
     pub writes: usize,
 }
 
@@ -81,18 +82,18 @@ pub const SESSION: Session<'static> = Session {
     writes: usize::MAX,
 };
 
-/// What the monitors of a session wrote.
+/// The output of a session's monitors.
 #[derive(Drop)]
 pub struct Seen {
     pub reports: Vec<u8>,
-    /// The last metrics, and how many texts there were.
+    /// The last metrics text, and the number of texts.
     pub metrics: Vec<u8>,
     pub texts: usize,
     /// The last report about the journal.
     pub journal: JournalReport,
 }
 
-/// What a session left behind.
+/// The outcome of a session.
 #[derive(Drop)]
 pub struct Outcome {
     pub result: Result<Counts, RunFault>,
@@ -101,7 +102,7 @@ pub struct Outcome {
     pub call_log: String,
     /// The start of the datagram that the last call sent, if the last call is a send.
     pub last_head: Vec<u8>,
-    /// The text in the journal's file, and how many of its bytes are synced.
+    /// The text in the journal's file, and the number of its bytes that are synced.
     pub text: Vec<u8>,
     pub synced: usize,
 }
@@ -124,7 +125,7 @@ fn core(alloc: Global, config: Config) -> Result<Core, AllocError>
     }
 }
 
-/// Returns each text as often as the number before it says.
+/// Returns the texts one after another, each repeated as often as the number in front of it says.
 pub fn repeated(alloc: Global, parts: &[(usize, &[u8])]) -> Result<Vec<u8>, AllocError> {
     let mut text = Vec::new(alloc);
     for (count, part) in parts {
@@ -185,7 +186,7 @@ fn ports_for(alloc: Global, session: &Session<'_>) -> io::Result<FakePorts> {
     Ok(FakePorts::new(alloc, arrivals, session.failing.to_vec(alloc)?).with_journal(journal))
 }
 
-/// Returns how often a byte occurs in a text.
+/// Returns the number of occurrences of a byte in a text.
 pub fn count(text: &[u8], byte: u8) -> usize {
     text.iter().filter(|b| **b == byte).count()
 }
@@ -330,7 +331,7 @@ pub fn play(alloc: Global, session: &Session<'_>) -> io::Result<Outcome> {
     })
 }
 
-/// Returns what the journal's file holds, and how many of its bytes are synced.
+/// Returns the content of the journal's file, and the number of its bytes that are synced.
 fn journal_of(alloc: Global, ports: &FakePorts) -> Result<(Vec<u8>, usize), AllocError> {
     let Some(file) = ports.journal_file() else {
         return Ok((Vec::new(alloc), 0));

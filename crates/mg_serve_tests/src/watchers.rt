@@ -1,4 +1,4 @@
-//! What keeps the last text or report of a session.
+//! Monitors and sinks that keep the last report or text of a session.
 
 use mg_core::Taken;
 use mg_monitor::Sink;

@@ -1,4 +1,4 @@
-//! When a clock's ticks begin, and when the steps of `mg_pace` are due.
+//! Tests of the times at which ticks begin and steps of `mg_pace` are due.
 
 use crate::equality::assert_equal;
 use mg_clock::{
@@ -71,7 +71,7 @@ fn reports_at_most_twenty_messages_before_a_tick(rt: HostRuntime) {
     for _ in 0..20 {
         assert_equal(&rt, schedule.next_step(&mut watch), Ok(Step::Message));
     }
-    // The last message is not reported: the clock is read again, and fails.
+    // The last message is not reported, because the clock is read again and fails.
     assert_equal(&rt, schedule.next_step(&mut watch), Err(ClockFailed));
     assert_equal(&rt, watch.messages, 0);
     let times = [20 * MS, 21 * MS];

@@ -1,4 +1,4 @@
-//! Masks of who is heard and who is silenced.
+//! Tests of the masks of open and silenced talkers.
 
 use crate::equality::assert_right;
 use mg_flow::{FlowTable, Place};
@@ -20,7 +20,7 @@ const ELSEWHERE: Place = Place { room: 1, seat: 0 };
 /// The last place in the last room.
 const LAST: Place = Place { room: 63, seat: 63 };
 
-/// Triples of the first member with the second, the third or all.
+/// Triples of the first member with the second member, the third member or all members.
 const ISOLATE_SECOND: Triple = Triple {
     first: 0b001,
     second: 0b010,
@@ -51,25 +51,25 @@ const ONEWAY_FROM_ALL: Triple = Triple {
     association: Association::Oneway,
 };
 
-/// A call on a table, with its outcome, or what is found after the calls before.
+/// A call on a table with its outcome, or a check of the table after the calls before.
 #[derive(Clone, Copy)]
 enum Action<'a> {
-    /// A member enters at a place, who talks or not and listens or not.
+    /// A member enters at this place. The flags say whether the member talks and whether it listens.
     Enter(Place, bool, bool),
     Leave(Place),
     SetMode(Place, bool, bool),
     /// Triples are applied in the first room.
     Apply(&'a [Triple], Result<(), Overlap>),
-    /// The members who are heard at a place, and those who are silenced there.
+    /// The listener at this place hears the first set of members, and the second set is silenced for it.
     Masks(Place, Mask, Mask),
-    /// The members in a room.
+    /// The room has these members.
     Held(u8, Mask),
     Holds(Place, bool),
     /// Whether a listener hears a talker.
     Hears(Place, Place, bool),
 }
 
-/// Calls on new tables.
+/// The cases: calls on new tables.
 const CASES: [(&str, &[Action<'static>]); 5] = [
     (
         "only talkers are silenced",
@@ -79,12 +79,12 @@ const CASES: [(&str, &[Action<'static>]); 5] = [
             Action::Enter(THIRD, true, true),
             Action::Apply(&[ISOLATE_THIRD], Ok(())),
             Action::Masks(FIRST, 0b010, 0b100),
-            // The third listens and does not talk.
+            // The third member listens and does not talk.
             Action::SetMode(THIRD, false, true),
             Action::Masks(FIRST, 0b010, 0),
             Action::Masks(SECOND, 0b001, 0),
             Action::Masks(THIRD, 0b010, 0b001),
-            // The first moves to a separate context, and returns.
+            // The first member moves to a separate context, and returns.
             Action::Leave(FIRST),
             Action::Enter(ELSEWHERE, true, true),
             Action::Masks(ELSEWHERE, 0, 0),
@@ -169,7 +169,7 @@ fn enter(table: &mut FlowTable, place: Place, talks: bool, listens: bool) -> boo
     true
 }
 
-/// Lets a member leave. Returns whether there was one.
+/// Lets the member at a place leave. Returns whether the place was held.
 fn leave(table: &mut FlowTable, place: Place) -> bool {
     if !table.holds(place) {
         return false;
@@ -178,7 +178,7 @@ fn leave(table: &mut FlowTable, place: Place) -> bool {
     true
 }
 
-/// Sets the mode of a member. Returns whether there is one.
+/// Sets the mode of the member at a place. Returns whether the place is held.
 fn set_mode(table: &mut FlowTable, place: Place, talks: bool, listens: bool) -> bool {
     if !table.holds(place) {
         return false;
@@ -187,7 +187,7 @@ fn set_mode(table: &mut FlowTable, place: Place, talks: bool, listens: bool) -> 
     true
 }
 
-/// Returns whether a member hears and does not hear these.
+/// Returns whether the listener at a place has these masks of open and silenced talkers.
 fn has_masks(table: &FlowTable, place: Place, open: Mask, silenced: Mask) -> bool {
     if !table.holds(place) {
         return false;

@@ -1,4 +1,4 @@
-//! Samples, bytes and frames of both laws.
+//! Tests of samples, bytes and frames of both laws.
 
 use crate::equality::assert_equal;
 use mg_g711::{Law, decode, decode_frame, encode, encode_frame, halve_frame};
@@ -46,7 +46,7 @@ fn known_samples_and_bytes(rt: HostRuntime) {
     assert_equal(&rt, decode_frame(Law::Mu, &[0x80; 160]), [32124; 160]);
 }
 
-/// Samples, and their halves.
+/// Each sample with its half.
 const HALVES: [(i16, i16); 6] = [
     (-32768, -16384),
     (-3, -1),

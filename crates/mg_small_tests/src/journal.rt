@@ -1,4 +1,4 @@
-//! Journals: files to which lines are appended.
+//! Tests of journals, which are files to which lines are appended.
 
 ghost use Rattle.std.specs.Prelude.{IsTrue};
 ghost use Rattle.mg_journal.specs.Text.{EndsInLineFeed};
@@ -15,7 +15,7 @@ use std::test::Fail;
 
 pub const FULL: FaultEffect = FaultEffect::Fail(ErrorKind::StorageFull);
 
-/// Creates a file in memory that holds `text`, with these faults.
+/// Creates a file in memory that holds `text` and has these faults.
 pub fn file(
     alloc: Global,
     text: &[u8],
@@ -24,7 +24,7 @@ pub fn file(
     Ok(MemoryFile::new(text.to_vec(alloc)?, faults.to_vec(alloc)?))
 }
 
-/// Opens a file in memory that holds `text`, with these faults.
+/// Opens a file in memory that holds `text` and has these faults.
 fn opening(
     alloc: Global,
     text: &[u8],
@@ -33,7 +33,7 @@ fn opening(
     Opening::new(file(alloc, text, faults)?)
 }
 
-/// Creates a journal in a file that holds the line `tick`, with these faults.
+/// Creates a journal in a file that holds the line `tick` and has these faults.
 fn journal(alloc: Global, faults: &[InjectedFault]) -> io::Result<FileJournal<MemoryFile>> {
     opening(alloc, b"tick\n", faults)?.accept()
 }
@@ -45,7 +45,7 @@ pub fn ends_in_line_feed(lines: &[u8]) -> bool
     !lines.is_empty() && lines[lines.len() - 1] == b'\n'
 }
 
-/// An append to a journal with its outcome, or what is found after the appends before.
+/// An append to a journal with its outcome, or a check of the journal after the appends before.
 #[derive(Clone, Copy)]
 enum Action<'a> {
     Append(&'a [u8], Durability, Result<(), AppendFault>),
@@ -57,7 +57,7 @@ enum Action<'a> {
     LastError(Option<ErrorKind>),
 }
 
-/// What a journal does in a file that has these faults, and holds the line `tick` at first.
+/// Appends to a journal in a file with these faults. The file holds the line `tick` at first.
 struct Case<'a> {
     name: &'a str,
     faults: &'a [InjectedFault],
@@ -71,7 +71,7 @@ pub const REFUSED: Result<(), AppendFault> = Err(AppendFault::Refused);
 const CASES: [Case<'static>; 6] = [
     Case {
         name: "lines are appended and synced",
-        // The first write stops twice, and the second is interrupted.
+        // The first append takes three writes, two of which stop early. The second append is interrupted.
         faults: &[
             InjectedFault {
                 call: FileCall::Write,
@@ -258,15 +258,15 @@ fn rest(alloc: Global, opening: &mut Opening<MemoryFile>) -> io::Result<Vec<u8>>
     Ok(read)
 }
 
-/// Returns whether a journal's file holds this text, and a line can be appended.
+/// Returns whether the file of a journal holds this text and accepts another line.
 fn goes_on(mut journal: FileJournal<MemoryFile>, text: &[u8]) -> bool {
     journal.file().bytes() == text
         && journal.append(b"three\n", Durability::Synced) == Ok(())
         && journal.file().bytes().strip_prefix(text) == Some(b"three\n".as_slice())
 }
 
-/// Returns whether only the complete lines, `whole`, of a file that holds `text` are read, and a partial last line is
-/// cut off once they are accepted.
+/// Returns whether only the complete lines `whole` of a file that holds `text` are read, and whether the partial last
+/// line is cut off when the lines are accepted.
 fn opens_whole(
     alloc: Global,
     text: &[u8],
@@ -279,7 +279,7 @@ fn opens_whole(
     Ok(is_long && is_read && goes_on(opening.accept()?, whole))
 }
 
-/// The first reads stop early. The last of them is interrupted.
+/// Faults of the first three reads: two of them stop early, and the third is interrupted.
 const EARLY: [InjectedFault; 3] = [
     InjectedFault {
         call: FileCall::Read,
@@ -298,7 +298,7 @@ const EARLY: [InjectedFault; 3] = [
     },
 ];
 
-/// Texts and their complete lines.
+/// Each text with its complete lines.
 const TEXTS: [(&[u8], &[u8]); 5] = [
     (b"", b""),
     (b"one\n", b"one\n"),
@@ -307,7 +307,7 @@ const TEXTS: [(&[u8], &[u8]); 5] = [
     (b"one\n\ntwo\n\0\0", b"one\n\ntwo\n"),
 ];
 
-/// Returns whether these bytes come next.
+/// Returns whether the next bytes that are read are these.
 fn reads_next(opening: &mut Opening<MemoryFile>, wanted: &[u8]) -> io::Result<bool> {
     let mut bytes = [0; 5];
     opening.read_exact(&mut bytes)?;
@@ -321,7 +321,7 @@ fn shows(opening: &mut Opening<MemoryFile>, wanted: &[u8]) -> io::Result<bool> {
     Ok(&bytes[..n] == wanted)
 }
 
-/// A look ahead shows complete lines, and the next read is not affected.
+/// Returns whether a look ahead shows complete lines and does not affect the next read.
 fn peeks_at_whole_lines(alloc: Global) -> io::Result<bool> {
     let mut opening = opening(alloc, b"one\ntwo\nth", &[])?;
     Ok(
@@ -341,7 +341,7 @@ fn long_text(alloc: Global, count: u16) -> Result<Vec<u8>, AllocError> {
     Ok(text)
 }
 
-/// A file is read in chunks of 64 KiB. The partial last line here is longer than that.
+/// Opens a file whose partial last line is longer than 64 KiB, the size of the chunks in which files are read.
 fn opens_long_files(alloc: Global) -> io::Result<bool> {
     let whole = long_text(alloc, 2000)?;
     let mut text = whole.as_slice().to_vec(alloc)?;

@@ -1,4 +1,4 @@
-//! Kept replies.
+//! Tests of kept replies.
 
 use crate::equality::assert_right;
 use mg_kept::Kept;
@@ -11,21 +11,21 @@ const UPPER: &[u8] = b"<MGC.EXAMPLE>:2945";
 
 const OTHER: &[u8] = b"[127.0.0.1]:2946";
 
-/// A call, or what is found after the calls before.
+/// A call with its outcome, or a check of the kept replies after the calls before.
 enum Action<'a> {
-    /// The reply to the sender's request with this number is kept, which was not kept before.
+    /// Keeps a reply to the sender's request with this number, for which no reply was kept.
     Keep(&'a [u8], u32, &'a [u8]),
-    /// A reply is kept for each of these numbers, with the number as its text.
+    /// Keeps a reply for each number from the first to the second, with the number as its text.
     KeepAll(u8, u8),
     /// The sender acknowledges the replies with these numbers.
     Ack(&'a [u8], u32, u32),
-    /// This is the reply to the sender's request with this number.
+    /// This reply is kept for the sender's request with this number.
     Kept(&'a [u8], u32, &'a [u8]),
     /// No reply is kept for the sender's request with this number.
     Gone(&'a [u8], u32),
 }
 
-/// Calls while no reply is kept at first.
+/// The cases: calls that start without kept replies.
 const CASES: [(&str, &[Action<'static>]); 4] = [
     (
         "only the oldest is dropped",
@@ -64,7 +64,7 @@ const CASES: [(&str, &[Action<'static>]); 4] = [
             Action::Gone(LOWER, 7),
             Action::Gone(LOWER, 9),
             Action::Kept(LOWER, 10, &[10]),
-            // Three more fit, and the order is unchanged.
+            // Three more replies fit, and the order of the replies is unchanged.
             Action::KeepAll(33, 35),
             Action::Kept(LOWER, 1, &[1]),
             Action::KeepAll(36, 41),
@@ -81,7 +81,7 @@ const CASES: [(&str, &[Action<'static>]); 4] = [
     ),
 ];
 
-/// Keeps a reply. Returns whether none was kept before.
+/// Keeps a reply. Returns whether no reply was kept before.
 fn keep(kept: &mut Kept, sender: &[u8], number: u32, text: &[u8]) -> bool {
     if kept.find(sender, number).is_some() || sender.len() > 72 || text.len() > 16000 {
         return false;
@@ -90,7 +90,7 @@ fn keep(kept: &mut Kept, sender: &[u8], number: u32, text: &[u8]) -> bool {
     true
 }
 
-/// Keeps a reply for each number. Returns whether none was kept before.
+/// Keeps a reply for each number. Returns whether no reply was kept before.
 fn keep_all(kept: &mut Kept, first: u8, last: u8) -> bool {
     for number in first..=last {
         if !keep(kept, LOWER, u32::from(number), &[number]) {

@@ -1,4 +1,4 @@
-//! Lines, and reading and writing in full.
+//! Tests of lines, and of reading and writing in full.
 
 use mg_lines::{READ_SIZE, read_some, without_return, write_whole};
 use std::alloc::Global;
@@ -16,7 +16,7 @@ fn writes_whole(alloc: Global) -> bool {
     write_whole(b"tick\n", &mut output).is_ok() && output.as_slice() == b"tick\n".as_slice()
 }
 
-/// Texts, and what is left of them.
+/// Each text with the result of `without_return`.
 const TEXTS: [(&[u8], &[u8]); 4] = [
     (b"tick\r", b"tick"),
     (b"tick\r\r", b"tick\r"),

@@ -1,4 +1,4 @@
-//! Runs of `mg_pace` on a scripted clock.
+//! Tests of `mg_pace` on a scripted clock.
 
 use mg_clock::{ClockFailed, MAX_POLLS, Watch};
 use mg_pacer::{Options, PaceFault, Schedule, pace};
@@ -33,7 +33,7 @@ impl<'a> Watch for Script<'a> {
     }
 }
 
-/// Returns the result of a run, and what it writes to both outputs.
+/// Returns the result of a run, and the text that the run writes to each of its two outputs.
 fn outcome(
     alloc: Global,
     options: Options,

@@ -1,4 +1,4 @@
-//! Play lists.
+//! Tests of play lists.
 
 use crate::equality::assert_right;
 use mg_g711::Frame;
@@ -18,9 +18,9 @@ enum Action {
     Place(u16, Placed),
     /// A frame of another source is placed.
     PlaceOther(u16, Placed),
-    /// A tick plays a received frame of this sample.
+    /// A tick plays a received frame whose samples have this value.
     Hear(i16),
-    /// A tick plays a frame of this sample in place of one that is missing.
+    /// A tick conceals a missing frame with a frame whose samples have this value.
     Conceal(i16),
     /// A tick plays silence.
     Rest,
@@ -30,7 +30,7 @@ enum Action {
     Idle(bool),
 }
 
-/// Calls on new play lists, which have four places and wait for two ticks.
+/// The cases: calls on new play lists, which have four places and wait for two ticks.
 const CASES: [(&str, &[Action]); 9] = [
     (
         "frames come in order of sequence",
@@ -45,7 +45,7 @@ const CASES: [(&str, &[Action]); 9] = [
             Action::Hear(-1),
             Action::Hear(0),
             Action::Rest,
-            // The last tick found the list empty, so the next frame starts it.
+            // The last tick found the list empty, so the next frame starts the list.
             Action::Place(1, Placed::Started),
         ],
     ),
@@ -57,7 +57,7 @@ const CASES: [(&str, &[Action]); 9] = [
             // The next number is 107.
             Action::Place(3107, Placed::Started),
             Action::Place(3057, Placed::Late),
-            // 100 behind, 101 behind, 2999 ahead.
+            // These frames are 100 behind, 101 behind and 2999 ahead of the next number.
             Action::Place(3007, Placed::Late),
             Action::Place(3006, Placed::Started),
             Action::Place(6005, Placed::Pushed),
@@ -103,7 +103,7 @@ const CASES: [(&str, &[Action]); 9] = [
             Action::Place(1, Placed::Placed),
             Action::Place(2, Placed::Placed),
             Action::SetDepth(2),
-            // It still waits for 8 ticks, half of its old depth.
+            // The list still waits for 8 ticks, half of its old depth.
             Action::Rest,
             Action::Rest,
             Action::Rest,
@@ -155,7 +155,7 @@ const CASES: [(&str, &[Action]); 9] = [
             Action::Rest,
             Action::Rest,
             Action::Hear(1),
-            // The frame that starts the list is pushed out, so the first frame of the source is missing.
+            // The frame that starts the list is pushed out, so place 0 is empty and there is no last frame.
             Action::PlaceOther(100, Placed::Started),
             Action::PlaceOther(110, Placed::Pushed),
             Action::Rest,
@@ -181,12 +181,12 @@ const CASES: [(&str, &[Action]); 9] = [
     ),
 ];
 
-/// Places a frame. Returns whether it is placed so.
+/// Places a frame. Returns whether the result is the wanted one.
 fn places(playout: &mut Playout, source: u32, sequence: u16, wanted: Placed) -> bool {
     playout.place(source, sequence, frame(sequence.cast_signed())) == wanted
 }
 
-/// Sets the depth. Returns whether it is a possible one.
+/// Sets the depth. Returns whether the depth is within the limits.
 fn set_depth(playout: &mut Playout, depth: usize) -> bool {
     if depth < MIN_DEPTH || depth > MAX_DEPTH {
         return false;
@@ -232,7 +232,7 @@ fn plays_frames(rt: HostRuntime) -> Result<(), Fail> {
     Ok(())
 }
 
-/// Returns whether a frame that is missing is half as loud as the one before.
+/// Returns whether a missing frame is replaced by the frame before it, at half its level.
 fn halves_the_missing_frame(alloc: Global) -> Result<bool, AllocError> {
     let mut received = frame(0);
     received[..4].copy_from_slice(&[-3, -1, 1, 3]);

@@ -1,4 +1,4 @@
-//! In-memory ports.
+//! Tests of in-memory ports.
 
 use crate::equality::assert_equal;
 use crate::journal::{BROKEN, FULL, REFUSED, ends_in_line_feed, file};
@@ -16,7 +16,7 @@ const CALLER: Peer = Peer {
     port: 40000,
 };
 
-/// A call on ports, with its outcome. Datagrams come from the caller and go to it.
+/// A call on ports, with its outcome. Datagrams come from `CALLER` and are sent to `CALLER`.
 #[derive(Clone, Copy)]
 enum Action<'a> {
     Receive(usize, Result<Option<&'a [u8]>, PortFault>),
@@ -25,14 +25,14 @@ enum Action<'a> {
     Append(&'a [u8], Durability, Result<(), AppendFault>),
 }
 
-/// The bytes in a journal's file, and those that are on the disk.
+/// The bytes in a journal's file, and the bytes that are on the disk.
 #[derive(Clone, Copy)]
 struct File<'a> {
     bytes: &'a [u8],
     synced: &'a [u8],
 }
 
-/// What ports do at which `one` and `two` are waiting at socket 0, and `three` at socket 2.
+/// Calls on ports at which `one` and `two` are waiting at socket 0, and `three` at socket 2.
 struct Case<'a> {
     name: &'a str,
     /// The numbers of the receives and sends that fail.
@@ -156,7 +156,7 @@ const CASES: [Case<'static>; 7] = [
     },
 ];
 
-/// The sockets and bytes of the datagrams of each case.
+/// The sockets and bytes of the datagrams that are waiting in each case.
 const WAITING: [(usize, &[u8]); 3] = [(0, b"one"), (2, b"three"), (0, b"two")];
 
 fn arrival(alloc: Global, socket: usize, bytes: &[u8]) -> Result<Arrival, AllocError> {
@@ -167,7 +167,7 @@ fn arrival(alloc: Global, socket: usize, bytes: &[u8]) -> Result<Arrival, AllocE
     })
 }
 
-/// Returns the datagrams of each case.
+/// Returns the datagrams that are waiting in each case.
 fn arrivals(alloc: Global) -> Result<Vec<Arrival>, AllocError> {
     let mut arrivals = Vec::new(alloc);
     for (socket, bytes) in &WAITING {
@@ -176,7 +176,7 @@ fn arrivals(alloc: Global) -> Result<Vec<Arrival>, AllocError> {
     Ok(arrivals)
 }
 
-/// Returns ports with the datagrams of each case.
+/// Returns ports at which these datagrams are waiting.
 fn ports(alloc: Global, failing: &[u64]) -> Result<FakePorts, AllocError> {
     let failing = failing.to_vec(alloc)?;
     Ok(FakePorts::new(alloc, arrivals(alloc)?, failing))
@@ -192,7 +192,7 @@ fn with_journal(
     Ok(ports.with_journal(Opening::new(file)?.accept()?))
 }
 
-/// Receives at a socket. Returns whether the outcome is this one.
+/// Receives at a socket. Returns whether the outcome is the expected one.
 fn receives(
     ports: &mut FakePorts,
     socket: usize,
@@ -234,7 +234,7 @@ fn is_receipt(receipt: &Receipt, outcome: Result<Option<&[u8]>, PortFault>) -> b
     }
 }
 
-/// Returns whether a logged call is an action.
+/// Returns whether a logged call is this action.
 fn is_logged(call: &Call, action: &Action<'_>) -> bool {
     match (call, *action) {
         (Call::Receive(at, receipt), Action::Receive(socket, outcome)) => {
@@ -251,7 +251,7 @@ fn is_logged(call: &Call, action: &Action<'_>) -> bool {
     }
 }
 
-/// Returns whether the calls are logged in order, and no others.
+/// Returns whether the log has exactly these calls, in order.
 fn are_logged(ports: &FakePorts, actions: &[Action<'_>]) -> bool {
     let calls = ports.calls().unwrap_or(&[]);
     if calls.len() != actions.len() {
@@ -265,7 +265,7 @@ fn are_logged(ports: &FakePorts, actions: &[Action<'_>]) -> bool {
     true
 }
 
-/// Returns whether the journal's file is this one.
+/// Returns whether the journal's file is the wanted one.
 fn is_file(file: Option<&MemoryFile>, wanted: Option<File<'_>>) -> bool {
     match (file, wanted) {
         (Some(file), Some(wanted)) => {
@@ -288,7 +288,8 @@ fn first_wrong(ports: &mut FakePorts, case: &Case<'_>) -> Option<usize> {
     None
 }
 
-/// Plays a case. Returns its first wrong action, and whether the log, the failures and the file are as they should.
+/// Runs a case. Returns its first wrong action, whether the log is right, the number of failures, and whether the file
+/// is right.
 fn play(alloc: Global, case: &Case<'_>) -> io::Result<(Option<usize>, bool, u64, bool)> {
     let mut ports = ports(alloc, case.failing)?;
     if let Some(faults) = case.faults {

@@ -1,9 +1,9 @@
-//! Packets and faults.
+//! Tests of reading and writing packets.
 
 use mg_rtp::{Header, PAYLOAD_LEN, Packet, RtpFault, read, write};
 use std::test::Fail;
 
-// Padding, an extension of one word, one contributing source.
+// A packet with padding, an extension of one word, and one contributing source.
 const WHOLE: [u8; 28] = [
     0xb1, 0x08, 0x00, 0x05, 0x00, 0x00, 0x00, 0xa0, 0x00, 0x00, 0x00, 0x63, 0x00, 0x00, 0x00, 0x2a,
     0xbe, 0xde, 0x00, 0x01, 0xaa, 0xbb, 0xcc, 0xdd, 0xd5, 0xd5, 0x00, 0x02,
@@ -25,7 +25,7 @@ fn passes_over_each_part() -> bool {
     read(&WHOLE) == Ok(packet)
 }
 
-/// Returns whether a packet is read that starts with this byte and ends with that one, or what fault it has.
+/// Reads the packet with this first byte and this last byte. Returns whether its payload is not empty, or its fault.
 fn has_payload(first: u8, last: u8) -> Result<bool, RtpFault> {
     let mut bytes = WHOLE;
     bytes[0] = first;
@@ -34,7 +34,7 @@ fn has_payload(first: u8, last: u8) -> Result<bool, RtpFault> {
     Ok(!packet.payload.is_empty())
 }
 
-/// The last byte counts the padding.
+/// Returns whether the last byte counts the padding.
 fn counts_padding() -> bool {
     has_payload(0xb1, 2) == Ok(true)
         && has_payload(0xb1, 4) == Ok(false)
@@ -46,8 +46,8 @@ fn refuses_other_versions() -> bool {
     has_payload(0x31, 2) == other && has_payload(0x71, 2) == other && has_payload(0xf1, 2) == other
 }
 
-/// Returns the length of the first front of a packet that is read or has another fault than it should, or 28 if there is
-/// no such front.
+/// Returns the length of the first prefix of the packet that does not have the expected fault, or 28 if all prefixes
+/// have it.
 fn first_wrong_front() -> usize {
     for n in 0..28 {
         let fault = match n {

@@ -1,8 +1,8 @@
-//! Tokens and faults.
+//! Tests of the scanner.
 
 use mg_scan::{ScanFault, Scanner, TokenKind};
 
-/// What a scanner gives: a token of this kind with this text, a fault, or the end.
+/// The result of a scanner: a token of this kind with this text, a fault, or the end.
 #[derive(Clone, Copy)]
 enum Found<'a> {
     Token(TokenKind, &'a [u8]),
@@ -13,7 +13,7 @@ enum Found<'a> {
 /// Part of a message with short keywords, a comment and a quoted string.
 const SHORT: &[u8] = b"!/1 [127.0.0.1]:2945 ; hello\n\tt = 1 { c = - { av = \"a b\", } }";
 
-/// What is found in each text, in order.
+/// The cases: each text with its tokens and faults, in order.
 const CASES: [(&[u8], &[Found<'static>]); 11] = [
     (
         SHORT,
@@ -38,7 +38,7 @@ const CASES: [(&[u8], &[Found<'static>]); 11] = [
             Found::End,
         ],
     ),
-    // A fault is named once.
+    // A fault is reported once, and no token follows.
     (b"\x7f", &[Found::Fault(ScanFault::BadByte), Found::End]),
     (b"\"a", &[Found::Fault(ScanFault::OpenQuote), Found::End]),
     (
@@ -86,7 +86,7 @@ const CASES: [(&[u8], &[Found<'static>]); 11] = [
             Found::End,
         ],
     ),
-    // A session description has no null.
+    // A session description must not contain a zero byte.
     (
         b"Local{a\0}",
         &[
@@ -103,7 +103,7 @@ const CASES: [(&[u8], &[Found<'static>]); 11] = [
     ),
 ];
 
-/// Returns whether a scanner of a text gives this next.
+/// Returns whether the next result of a scanner is the wanted one.
 fn gives(scanner: &mut Scanner<'_>, text: &[u8], wanted: Found<'_>) -> bool {
     match (scanner.next(), wanted) {
         (Some(Ok(token)), Found::Token(kind, part)) => {
@@ -115,7 +115,7 @@ fn gives(scanner: &mut Scanner<'_>, text: &[u8], wanted: Found<'_>) -> bool {
     }
 }
 
-/// Returns the number of the first token that is another one, or `None` if there is no such token.
+/// Returns the number of the first result that is not the wanted one, or `None` if there is no such result.
 fn first_wrong(text: &[u8], wanted: &[Found<'_>]) -> Option<usize> {
     let mut scanner = Scanner::new(text);
     for at in 0..wanted.len() {

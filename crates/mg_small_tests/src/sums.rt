@@ -1,4 +1,4 @@
-//! The row kernels, totals and mixes.
+//! Tests of the row kernels, totals and mixes.
 
 ghost use Rattle.std.specs.Prelude.{◌≡◌, ℕ, ◌^◌, ◌≤◌, length, EachIndex, IsTrue, unsigned_abs};
 ghost use Rattle.mg_sums.specs.Samples.{sample};
@@ -98,7 +98,7 @@ fn write_difference(out: &mut [i32], total: &[i32], row: &[i16]) -> bool
     false
 }
 
-/// Returns whether the kernels add, subtract and keep what they should at an index of a row of this length.
+/// Returns whether the kernels have the right results at an index, for a row of this length.
 fn add_up(i: usize, len: usize, more: i32, less: i32, rest: i32) -> bool {
     let (sum, sample) = parts(i, len);
     i64::from(more) == sum.wrapping_add(sample)
@@ -242,7 +242,7 @@ fn mix(sums: &mut Sums, room: Room, base: Option<Row>, minus: &[Row]) -> Result<
     Ok(first)
 }
 
-/// A frame in a row that is joined nowhere is kept, and no total knows it.
+/// A row that is not joined to a room keeps its frame, which does not count toward any total.
 fn keep_a_row_that_is_joined_nowhere(rt: &impl Abort, sums: &mut Sums) {
     let row = Row::new((TERMINATIONS - 1) as u8);
     sums.set_frame(row, Some(&[5; 160]));
@@ -266,7 +266,7 @@ fn join_three(sums: &mut Sums, room: Room) -> Result<(), Fail> {
     Ok(())
 }
 
-/// Mixes are limited once: a mix is the limited sum of the other rows, and not the limited total without a row.
+/// A mix is saturated once: it is the saturated sum of the other rows, not the saturated total minus a row.
 fn limit_mixes(rt: &impl Abort, sums: &mut Sums, room: Room) -> Result<(), Fail> {
     let (first, second, third) = (Row::new(0), Row::new(1), Row::new(2));
     assert_equal(rt, *sums.total(room, 0), 32124);
@@ -281,7 +281,7 @@ fn limit_mixes(rt: &impl Abort, sums: &mut Sums, room: Room) -> Result<(), Fail>
     Ok(())
 }
 
-/// Totals are not limited, while the third row moves to another room and the second falls silent.
+/// Totals are not saturated. The third row moves to another room, and the second row falls silent.
 fn keep_totals(rt: &impl Abort, sums: &mut Sums, room: Room) -> Result<(), Fail> {
     let other = Room::new(63);
     let (second, third) = (Row::new(1), Row::new(2));

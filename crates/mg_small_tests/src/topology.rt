@@ -1,10 +1,10 @@
-//! Who hears whom in one context.
+//! Tests of who hears whom in one context.
 
 use crate::equality::assert_right;
 use mg_topology::mask::{self, Mask};
 use mg_topology::{Association, Overlap, SEATS, Topology, Triple};
 
-/// Triples of the first seat with the second or with all, and of all with all.
+/// Triples of the first seat with the second seat or with all seats, and of all seats with all.
 const ISOLATE: Triple = Triple {
     first: 0b01,
     second: 0b10,
@@ -35,24 +35,24 @@ const ALL_TO_ALL: Triple = Triple {
     association: Association::Bothway,
 };
 
-/// A call on a topology, with its outcome, or what is found after the calls before.
+/// A call on a topology with its outcome, or a check of the topology after the calls before.
 #[derive(Clone, Copy)]
 enum Action<'a> {
-    /// A seat is entered that is free.
+    /// A member takes this free seat.
     Enter(usize),
-    /// A seat is left that is held.
+    /// The member in this seat leaves.
     Leave(usize),
     Apply(&'a [Triple], Result<(), Overlap>),
-    /// The seats that hold a member.
+    /// These seats are held.
     Held(Mask),
     Holds(usize, bool),
-    /// The seats that are heard at a seat.
+    /// The listener in this seat hears the members in these seats.
     Talkers(usize, Mask),
     /// Whether a listener hears a talker.
     Hears(usize, usize, bool),
 }
 
-/// Calls on new topologies.
+/// The cases: calls on new topologies.
 const CASES: [(&str, &[Action<'static>]); 4] = [
     (
         "the last of two triples wins",
@@ -117,7 +117,7 @@ const CASES: [(&str, &[Action<'static>]); 4] = [
     ),
 ];
 
-/// Enters a seat. Returns whether it was free.
+/// Takes a seat. Returns whether the seat was free.
 fn enter(topology: &mut Topology, seat: usize) -> bool {
     if seat >= SEATS || topology.holds(seat) {
         return false;
@@ -126,7 +126,7 @@ fn enter(topology: &mut Topology, seat: usize) -> bool {
     true
 }
 
-/// Leaves a seat. Returns whether it was held.
+/// Leaves a seat. Returns whether the seat was held.
 fn leave(topology: &mut Topology, seat: usize) -> bool {
     if !topology.holds(seat) {
         return false;
@@ -184,7 +184,7 @@ fn combines() -> bool {
         && mask::first_seat(mask::EMPTY).is_none()
 }
 
-/// A walk gives each seat, in rising order.
+/// Returns whether an iteration over a mask returns each seat in ascending order.
 fn walks() -> bool {
     let mut seats = mask::seats(0b1000_0110);
     seats.next() == Some(1)

@@ -1,4 +1,4 @@
-//! Numbers, addresses, names of terminations, modes and counters.
+//! Tests of numbers, addresses, names of terminations, modes and counters.
 
 use mg_words::{
     ContextId, ErrorNumber, Mode, Stats, Term, address_of, address_text, after_prefix,

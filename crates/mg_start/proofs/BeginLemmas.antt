@@ -1,4 +1,4 @@
--- How a gateway begins its journal.
+-- The beginning of a gateway's journal.
 use Rattle.std.proofs.Common.{◌≡◌, ℕ, Bool, true, false, List, [], ◌++◌, Option, Some, None, Result, Ok, Err, OnOk, is_err, is_none, sym, ap, ◌∙◌}
 use Rattle.std.specs.Io.KnownBytes.{append_known}
 use Rattle.mg_dates.specs.declared.timeline.Timeline.{Timeline}

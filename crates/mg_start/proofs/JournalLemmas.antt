@@ -1,4 +1,4 @@
--- What a gateway appends to its journal before it starts.
+-- The lines that a gateway appends to its journal before it starts.
 use Rattle.std.proofs.Common.{◌≡◌, ℕ, ne_eqb, ◌+◌, ◌-◌, ◌<◌, ◌≤◌, decimal, List, [], ◌∷◌, ◌++◌, codes, false, replicate, Option, Some, None, refl, sym, ap, subst, ◌∙◌, append_assoc, append-nil, arith, Result, Ok, Err, OnOk}
 use Rattle.std.specs.Prelude.{flat_map}
 use Rattle.std.proofs.lemmas.List.{replicate-append-replicate}
@@ -32,11 +32,11 @@ pub known_none : (text : Option (List ℕ)) → append_known text [] ≡ text
 known_none None = refl
 known_none (Some text) = ap (λ (l : List ℕ). Some l) (append-nil text)
 
--- no tick yet
+-- Before the first batch, the journal has no more ticks.
 pub no_ticks : (old : JournalState) → old ≡ appended (tick_lines 0) Written old
 no_ticks old = ap (λ (text : Option (List ℕ)). record old { text = text }) (sym (known_none old.text))
 
--- a batch more
+-- One more batch appends its ticks to the journal.
 pub ticks_more : (all left batch : ℕ) (old mid new : JournalState) → left ≤ all → batch ≤ left
     → mid ≡ appended (tick_lines (all - left)) Written old → new ≡ appended (tick_lines batch) Written mid
     → new ≡ appended (tick_lines (all - (left - batch))) Written old
@@ -48,7 +48,7 @@ ticks_more all left batch old mid new some few is more =
     ∙ ap (λ (l : List ℕ). append_known old.text l)
     (sym (ticks_both (all - left) batch) ∙ ap tick_lines count))
 
--- the journal with its title, and then with the ticks and the number of a fence
+-- A working journal to which the title and then the start lines were appended has begun.
 pub begins : (title : List ℕ) (missed : ℕ) (fence : Option ℕ) (found : Option (List ℕ)) (titled last : JournalState)
     → titled.is_broken ≡ false → titled.text ≡ append_known found title
     → last ≡ appended (start_lines missed fence) Written titled → HasBegun title missed fence found last
@@ -61,11 +61,11 @@ begins title missed fence found titled last works text is = record {
 feed_after : (front text : List ℕ) → EndsInLineFeed (front ++ (text ++ codes "\n"))
 feed_after front text = subst EndsInLineFeed (append_assoc front text (10 ∷ [])) (ends_line (front ++ text))
 
--- the title is a whole line
+-- The title line ends in a line feed.
 pub title_feed : (config : Config) → EndsInLineFeed (title_line config)
 title_feed config = feed_after (codes "# ") (title_text config)
 
--- the comment, and then the ticks
+-- Appending the comment and then the ticks appends the lines for missed ticks.
 pub marked : (result : Result (Unit {0}) AppendFault) (missed : ℕ) (old mid new : JournalState)
     → mid ≡ appended (missed_comment missed) Written old → OnOk result (new ≡ appended (tick_lines missed) Written mid)
     → OnOk result (new ≡ appended (missed_lines missed) Written old)
@@ -75,18 +75,18 @@ marked (Ok done) missed old mid new comment ticks =
     (known_both old.text (missed_comment missed) (tick_lines missed)))
 marked (Err fault) missed old mid new comment ticks = tt
 
--- the comment is a whole line
+-- The comment about missed ticks ends in a line feed.
 pub comment_feed : (missed : ℕ) → 0 < missed → EndsInLineFeed (missed_comment missed)
 comment_feed missed some =
     rw (ne_eqb missed 0 (λ e. omega (arith, some, e)))
     (subst EndsInLineFeed (ap (λ (l : List ℕ). codes "# missed " ++ l) (append_assoc (decimal missed) (codes " ticks") (codes "\n")))
     (feed_after (codes "# missed ") (decimal missed ++ codes " ticks")))
 
--- the comment about a fence is a whole line
+-- The comment about a fence ends in a line feed.
 pub fence_feed : (number : ℕ) → EndsInLineFeed (fence_comment (Some number))
 fence_feed number = feed_after (codes "# fence ") (decimal number)
 
--- ticks that were missed, and then the number of a fence
+-- Appending the lines for missed ticks and then the comment about a fence appends the start lines.
 pub then_fence : (result : Result (Unit {0}) AppendFault) (missed number : ℕ) (old mid new : JournalState)
     → mid ≡ appended (missed_lines missed) Written old → Appends (fence_comment (Some number)) Written mid new result
     → OnOk result (new ≡ appended (start_lines missed (Some number)) Written old)
@@ -96,11 +96,11 @@ then_fence (Ok done) missed number old mid new ticks more =
     (known_both old.text (missed_lines missed) (fence_comment (Some number))))
 then_fence (Err fault) missed number old mid new ticks more = tt
 
--- ticks that were missed, and no fence
+-- Without a fence, the lines for missed ticks are the start lines.
 pub no_fence : (missed : ℕ) (old new : JournalState) → new ≡ appended (missed_lines missed) Written old
     → new ≡ appended (start_lines missed None) Written old
 no_fence missed old new is = is ∙ ap (λ (l : List ℕ). appended l Written old) (sym (append-nil (missed_lines missed)))
 
--- no tick was missed
+-- If no tick was missed, the journal stays the same.
 pub none_missed : (missed : ℕ) (old : JournalState) → missed ≡ 0 → old ≡ appended (missed_lines missed) Written old
 none_missed missed old none = rw none (no_ticks old)

@@ -1,4 +1,4 @@
--- What a log has of the lines that are appended to a journal before a gateway starts.
+-- The log of the lines that are appended to a journal before a gateway starts.
 use Rattle.std.proofs.Common.{◌≡◌, ℕ, ◌+◌, ◌-◌, ◌≤◌, Bool, true, false, List, [], ◌∷◌, ◌++◌, Option, Some, None, Result, Ok, Err, OnErr, is_err, refl, sym, ap, subst, ◌∙◌, append_assoc, append-nil, arith}
 use Rattle.mg_ports.specs.declared.call.Call.TheVariants.{Append, BeginTick, Receive, Send}
 use Rattle.mg_journal.specs.declared.append_fault.AppendFault.{AppendFault}
@@ -38,7 +38,7 @@ writes_both (Poll polled ∷ p) q a b h k = absurd h
 writes_both (NotReported socket ∷ p) q a b h k = absurd h
 writes_both (NotSent socket to bytes cause ∷ p) q a b h k = absurd h
 
--- what is appended is quiet
+-- Calls that only append lines are quiet.
 pub writes_quiet : (calls : List HostCall) (lines : List ℕ) → Writes calls lines → IsQuiet calls
 writes_quiet [] lines h = tt
 writes_quiet (OnPorts (Append part durability (Ok done)) ∷ p) lines (rest, is, h) = writes_quiet p rest h
@@ -73,7 +73,7 @@ quiet_both (NotSent socket to bytes cause ∷ p) q h k = absurd h
 pub quiet_then : (a b c : Option (List HostCall)) → RunsNoSession a b → RunsNoSession b c → RunsNoSession a c
 quiet_then a b c (p, grows, quiet) (q, more, too) = (p ++ q, grows_both a b c p q grows more, quiet_both p q quiet too)
 
--- lines that were appended, and then others
+-- Appending some lines and then more lines logs all of them in order.
 pub logs_both : {A E : Type 0} (a b c : Option (List HostCall)) (lines more : List ℕ) (result : Result A E)
     → HasWritten a b lines → Logs b c more result → Logs a c (lines ++ more) result
 logs_both a b c lines more (Ok done) (p, grows, writes) (q, then, also) =
@@ -81,7 +81,7 @@ logs_both a b c lines more (Ok done) (p, grows, writes) (q, then, also) =
 logs_both a b c lines more (Err fault) (p, grows, writes) rest =
     quiet_then a b c (p, grows, writes_quiet p lines writes) rest
 
--- one append
+-- One append logs its lines.
 pub logs_one : (a b : Option (List HostCall)) (lines : List ℕ) (durability : Durability) (result : Result (Unit {0}) AppendFault)
     → Grows a b (OnPorts (Append lines durability result) ∷ []) → Logs a b lines result
 logs_one a b lines durability (Ok done) grows =
@@ -91,7 +91,7 @@ logs_one a b lines durability (Err fault) grows = (OnPorts (Append lines durabil
 pub written_none : (a : Option (List HostCall)) → HasWritten a a []
 written_none a = ([], grows_none a, refl)
 
--- an append that succeeded, or that didn't
+-- If an append did not fail, its lines have been written.
 pub logs_done : (a b : Option (List HostCall)) (lines : List ℕ) (result : Result (Unit {0}) AppendFault) → is_err result ≡ false
     → Logs a b lines result → HasWritten a b lines
 logs_done a b lines (Ok done) ok logs = logs
@@ -105,12 +105,12 @@ logs_quiet a b lines (Err fault) logs = logs
 pub written_quiet : (a b : Option (List HostCall)) (lines : List ℕ) → HasWritten a b lines → RunsNoSession a b
 written_quiet a b lines (p, grows, writes) = (p, grows, writes_quiet p lines writes)
 
--- lines that were appended, after which an append failed
+-- If no session runs after lines were appended, no session runs at all.
 pub written_then : (a b c : Option (List HostCall)) (lines : List ℕ) → HasWritten a b lines → RunsNoSession b c
     → RunsNoSession a c
 written_then a b c lines written rest = quiet_then a b c (written_quiet a b lines written) rest
 
--- a batch of ticks more
+-- One more batch of ticks extends the ticks that have been written.
 pub logs_ticks : (a b c : Option (List HostCall)) (all left batch : ℕ) → left ≤ all → batch ≤ left
     → HasWritten a b (tick_lines (all - left)) → HasWritten b c (tick_lines batch)
     → HasWritten a c (tick_lines (all - (left - batch)))
@@ -119,19 +119,19 @@ logs_ticks a b c all left batch some few (p, grows, writes) (q, then, also) =
     subst (λ (l : List ℕ). HasWritten a c l) (sym (ticks_both (all - left) batch) ∙ ap tick_lines count)
     (p ++ q, grows_both a b c p q grows then, writes_both p q (tick_lines (all - left)) (tick_lines batch) writes also)
 
--- lines that were appended, and then others, if that didn't fail
+-- If the second append fails, no session runs.
 pub fails_then : {A E : Type 0} (a b c : Option (List HostCall)) (lines more : List ℕ) (result : Result A E)
     → HasWritten a b lines → Logs b c more result → OnErr result (RunsNoSession a c)
 fails_then a b c lines more (Ok done) written logs = tt
 fails_then a b c lines more (Err fault) written logs = written_then a b c lines written logs
 
--- what is appended first is quiet, whether or not the journal is new
+-- The first lines that are appended start no session, whether or not the journal is new.
 pub first_quiet : {A E : Type 0} (a b : Option (List HostCall)) (is_new : Bool) (lines more : List ℕ) (result : Result A E)
     → (is_new ≡ true → Logs a b lines result) → (is_new ≡ false → Logs a b more result) → RunsNoSession a b
 first_quiet a b true lines more result new old = logs_quiet a b lines result (new refl)
 first_quiet a b false lines more result new old = logs_quiet a b more result (old refl)
 
--- the date was read, and then nothing but this
+-- Reading the date before calls that run no session runs no session.
 pub dated_quiet : (a b c : Option (List HostCall)) (millis : Option ℕ) → Grows a b (ReadDate millis ∷ [])
     → RunsNoSession b c → RunsNoSession a c
 dated_quiet a b c millis grows (p, then, quiet) =

@@ -1,4 +1,4 @@
--- What two followers of a journal have read.
+-- Two readers of a journal, for its times and its fence.
 use Rattle.std.proofs.Common.{◌≡◌, ℕ, List, Result, Ok, Err, OnOk}
 use Rattle.std.specs.Prelude.{reverse}
 use Rattle.mg_core.specs.declared.stopped.Stopped.{Stopped}

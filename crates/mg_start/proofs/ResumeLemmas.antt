@@ -9,7 +9,7 @@ use Rattle.mg_core.specs.World.{start_of}
 use Rattle.mg_core.specs.aids.Stands.{StandsFor}
 use Rattle.mg_engine.specs.declared.config.Config.{Config}
 
--- it is resumed from no line, so from no event
+-- A new gateway is resumed from no lines, so from no events.
 pub new_resumed : (config : Config) (found : Option (List ℕ)) (state : CoreState)
     → IfSome found (λ text. text ≡ []) → StandsFor state (start_of config)
     → (rest : Option (List ℕ)) × IsResumed config found rest state
@@ -42,3 +42,8 @@ pub if_ok_map : {A E : Type 0} {P Q : A → Type 0} (result : Result A E) → ((
     → IfOk result Q
 if_ok_map (Ok a) f p = f a p
 if_ok_map (Err e) f p = tt
+
+pub if_ok_all : {A E : Type 0} {P Q R S : A → Type 0} (result : Result A E) → ((a : A) → P a → Q a → R a → S a)
+    → IfOk result P → IfOk result Q → IfOk result R → IfOk result S
+if_ok_all (Ok a) f p q r = f a p q r
+if_ok_all (Err e) f p q r = tt

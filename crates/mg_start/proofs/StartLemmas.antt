@@ -1,8 +1,11 @@
--- How a gateway finds its journal, chooses its configuration and starts.
+-- The steps of a start: finding the journal, choosing the configuration, and starting.
 use Rattle.std.proofs.Common.{◌≡◌, ◌≢◌, inl, inr, ℕ, zero, suc, ◌<◌, ◌==◌, true, length, take, drop, slice_index, arith, List, [], ◌∷◌, ◌++◌, codes, Option, Some, None, refl, sym, ap, subst, ◌∙◌, append_assoc, append-nil, IfSome, MatchOption, Bor}
 use Rattle.std.specs.Prelude.{reverse, unwrap_or}
 use Rattle.std.specs.Option.{option_map}
 use Rattle.std.proofs.lemmas.Bool.{eqb-true}
+use Rattle.std.proofs.Math.Seq.{take-append_seam}
+use Rattle.std.proofs.lemmas.List.Elements.{All-nil}
+use Rattle.std.specs.Io.{StartsWith}
 use Rattle.std.specs.Io.KnownBytes.{Consumes}
 use Rattle.mg_core.specs.declared.state.CoreState.{CoreState}
 use Rattle.mg_core.specs.aids.Resume.{IsResumed}
@@ -10,7 +13,10 @@ use Rattle.mg_core.specs.Follow.{IsFollowed}
 use Rattle.mg_core.specs.Note.{Note, notes_of}
 use Rattle.mg_core.specs.Run.{HasRead}
 use Rattle.mg_core.specs.Script.{events_of}
-use Rattle.mg_core.specs.World.{world_after_ticks}
+use Rattle.mg_core.specs.World.{start_of, world_after_ticks}
+use Rattle.mg_core.specs.Recording.{IsRecorded}
+use Rattle.mg_core.specs.aids.Stands.{StandsFor}
+use Rattle.mg_core.proofs.RecordingLemmas.{recordings_are_read}
 use Rattle.mg_core.specs.declared.event.Event.{Event}
 use Rattle.mg_dates.specs.declared.timeline.Timeline.{Timeline}
 use Rattle.mg_dates.specs.Times.{missed_since, timeline_of}
@@ -23,7 +29,7 @@ use Rattle.mg_journal.specs.aids.Opened.{text_in}
 use Rattle.mg_journal.specs.Text.{whole_lines}
 use Rattle.mg_host.specs.declared.host_call.HostCall.{HostCall}
 use Rattle.mg_host.specs.declared.host_call.HostCall.TheVariants.{ReadDate}
-use Rattle.mg_host.specs.HostCalls.{Grows, IsLogged, IsLoggedText}
+use Rattle.mg_host.specs.HostCalls.{Grows, IsLogged}
 use Rattle.mg_arguments.specs.declared.draws.Draws.{Draws}
 use Rattle.mg_arguments.specs.declared.given.Given.{Given}
 use Rattle.mg_arguments.specs.Draws.{IsDrawn}
@@ -31,31 +37,31 @@ use Rattle.mg_arguments.specs.Given.{Agrees}
 use Rattle.mg_arguments.specs.Title.{title_line, title_text}
 use Rattle.mg_start.specs.Journal.{missed_after, start_lines, timeline_after}
 use Rattle.mg_start.specs.aids.Starting.{HasBegun, HasReached, HasWritten, KeepsTimes, PassesTicks, missed_by, title_before, CanResume, CanStart}
-use Rattle.mg_start.specs.Start.{BeginsWithTitle, IsChosenBy, started_text}
+use Rattle.mg_start.specs.Start.{IsChosen, started_text}
 use Rattle.mg_start.proofs.LogLemmas.{grows_both}
 
--- the complete lines in a file whose bytes are logged
-pub found_lines : (calls : Option (List HostCall)) (file : FileState) (bytes : List ℕ) → IsLogged calls file bytes
-    → IsLoggedText calls (text_in file) (whole_lines bytes)
+-- If the bytes of a file are logged, its complete lines are the logged text.
+pub found_lines : (calls : Option (List HostCall)) (file : FileState) (bytes : List ℕ) → IsLogged calls file.bytes bytes
+    → IsLogged calls (text_in file) (whole_lines bytes)
 found_lines None file bytes logged = tt
 found_lines (Some all) file bytes logged = ap (λ (known : Option (List ℕ)). option_map whole_lines known) logged
 
--- an empty journal
+-- For an empty journal, a configuration with drawn numbers is a valid choice.
 pub drawn_chosen : (text : Option (List ℕ)) (given : Given) (draws : Draws) (config chosen : Config)
-    → IfSome text (λ t. t ≡ []) → IsDrawn draws config chosen → IsChosenBy text given draws config chosen
+    → IfSome text (λ t. t ≡ []) → IsDrawn draws config chosen → IsChosen text given draws config chosen
 drawn_chosen None given draws config chosen empty drawn = inl drawn
 drawn_chosen (Some []) given draws config chosen empty drawn = drawn
 drawn_chosen (Some (byte ∷ text)) given draws config chosen empty drawn = absurd cc
 
--- a journal with lines
+-- For a journal with lines, the configuration in its title is a valid choice if it agrees with the given options.
 pub agreed_chosen : (text : Option (List ℕ)) (given : Given) (draws : Draws) (config chosen : Config)
-    → IfSome text (λ t. t ≢ []) → Agrees given config chosen → IfSome text (BeginsWithTitle chosen)
-    → IsChosenBy text given draws config chosen
+    → IfSome text (λ t. t ≢ []) → Agrees given config chosen → IfSome text (λ t. StartsWith t (title_line chosen))
+    → IsChosen text given draws config chosen
 agreed_chosen None given draws config chosen lines agrees titled = inr agrees
 agreed_chosen (Some []) given draws config chosen lines agrees titled = absurd (lines refl)
 agreed_chosen (Some (byte ∷ text)) given draws config chosen lines agrees titled = (agrees, titled)
 
--- a known text that was read to its end
+-- If a known text was read to its end, the script is the whole text.
 read_whole : (text script : List ℕ) (rest : Option (List ℕ)) → HasRead (Some text) rest script true → text ≡ script
 read_whole text script None read = absurd read.consumed
 read_whole text script (Some left) read =
@@ -75,13 +81,13 @@ known_notes None rest script notes reached read are reaches = tt
 known_notes (Some text) rest script notes reached read are reaches =
     (notes, ap (λ (l : List ℕ). notes_of (lines_of true l)) (read_whole text script rest read) ∙ are, reaches)
 
--- nothing has been reached in an empty journal
+-- An empty journal has reached the number 0.
 reached_nothing : (text : Option (List ℕ)) → IfSome text (λ t. t ≡ []) → HasReached text 0
 unfolding lines_after notes_of
 reached_nothing None empty = tt
 reached_nothing (Some text) empty = ([], ap (λ (l : List ℕ). notes_of (lines_of true l)) empty, refl)
 
--- where nothing has been reached yet
+-- If `reached` is 0, an empty journal has reached this number.
 pub reached_anew : (text : Option (List ℕ)) (reached : ℕ) → IfSome text (λ t. t ≡ []) → reached ≡ 0
     → HasReached text reached
 reached_anew text reached empty is = subst (λ (n : ℕ). HasReached text n) (sym is) (reached_nothing text empty)
@@ -93,9 +99,9 @@ both_known : (text : Option (List ℕ)) (events : List Event) (reached : ℕ)
 both_known None events reached are reaches = tt
 both_known (Some text) events reached are reaches = (are, reaches)
 
-pub resumes_from : (path : List ℕ) (text rest : Option (List ℕ)) (config : Config) (state : CoreState) (reached : ℕ)
-    → IsResumed config text rest state → HasReached text reached → CanResume (Some path) text config state reached
-resumes_from path text rest config state reached r reaches = record {
+pub resumes_from : (text rest : Option (List ℕ)) (config : Config) (state : CoreState) (reached : ℕ)
+    → IsResumed config text rest state → HasReached text reached → CanResume text config state reached
+resumes_from text rest config state reached r reaches = record {
   world = r.world;
   stands = r.history.1;
   resumes = (
@@ -106,7 +112,19 @@ resumes_from path text rest config state reached r reaches = record {
   );
 }
 
--- the text of the journal, after its title, the ticks that were missed and the number of a fence
+-- Without a journal, there are no events.
+no_events : events_of (lines_of true []) ≡ Some []
+no_events = recordings_are_read [] (All-nil IsRecorded)
+
+pub resumes_anew : (config : Config) (state : CoreState) (reached : ℕ) → StandsFor state (start_of config) → reached ≡ 0
+    → CanResume (Some []) config state reached
+resumes_anew config state reached stands none = record {
+  world = start_of config;
+  stands = stands;
+  resumes = ([], [], (refl, refl), both_known (Some []) [] reached no_events (reached_anew (Some []) reached refl none));
+}
+
+-- The text of the journal after its title, the missed ticks and the fence were appended.
 writes : (timeline : Option Timeline) (config : Config) (missed : ℕ) (fence : Option ℕ) (text : Option (List ℕ))
     (journal : JournalState)
     → KeepsTimes timeline text → HasBegun (title_before timeline config) missed fence text journal
@@ -129,7 +147,7 @@ known_times (Some text) rest script notes timeline read are is =
     is ∙ sym (ap (λ (n : Option (List Note)). timeline_of (reverse (unwrap_or n [])))
     (ap (λ (l : List ℕ). notes_of (lines_of true l)) (read_whole text script rest read) ∙ are))
 
--- the times of a journal that was followed to its end, and what its messages have reached
+-- After a journal was followed to its end, the timeline is that of its text.
 pub times_from : (config : Config) (text rest : Option (List ℕ)) (state : CoreState) (timeline : Timeline) (reached : ℕ)
     → IsFollowed config text rest state (λ notes. (timeline ≡ timeline_of (reverse notes)) × Reaches 0 notes reached)
     → IfSome text (λ found. timeline ≡ timeline_after found)
@@ -147,12 +165,12 @@ pub times_kept : (timeline : Timeline) (text : Option (List ℕ)) → IfSome tex
 times_kept timeline None lines is = tt
 times_kept timeline (Some text) lines is = (lines, is)
 
--- a timeline before any note
+-- The timeline of a new journal has no notes.
 pub new_times : record { start = None; ticks = 0 } ≡ timeline_of (reverse [])
 unfolding timeline_of
 new_times = refl
 
--- nothing was missed before a new journal begins
+-- Before a new journal begins, no ticks were missed.
 none_missed : (millis : Option ℕ) → 0 ≡ missed_after [] millis
 unfolding lines_after notes_of timeline_of
 none_missed None = refl
@@ -164,7 +182,7 @@ times_missed timeline text None is = refl
 times_missed timeline text (Some millis) is =
     ap (λ (t : Timeline). missed_since t (record { millis = millis })) is
 
--- the ticks that were missed, and the lines that are appended before a gateway starts
+-- The number of missed ticks and the appended lines agree with the text of the journal.
 lines_begun : (timeline : Option Timeline) (config : Config) (missed : ℕ) (fence : Option ℕ) (millis : Option ℕ)
     (text : Option (List ℕ))
     → missed ≡ missed_by timeline millis → KeepsTimes timeline text
@@ -179,7 +197,7 @@ lines_begun (Some timeline) config missed fence millis (Some (byte ∷ text)) is
 
 pub starts_from : (path : List ℕ) (text : Option (List ℕ)) (config : Config) (old new : CoreState)
     (timeline : Option Timeline) (missed : ℕ) (fence millis : Option ℕ) (reached : ℕ) (journal : JournalState)
-    (bound read begun : Option (List HostCall)) → CanResume (Some path) text config old reached → KeepsTimes timeline text
+    (bound read begun : Option (List HostCall)) → CanResume text config old reached → KeepsTimes timeline text
     → missed ≡ missed_by timeline millis → Grows bound read (ReadDate millis ∷ []) → PassesTicks missed old new
     → HasBegun (title_before timeline config) missed fence text journal
     → HasWritten read begun (title_before timeline config ++ start_lines missed fence)
@@ -189,7 +207,9 @@ starts_from path text config old new timeline missed fence millis reached journa
   stands = passes can.world can.stands;
   started = record {
     missed = missed;
-    starts = (can.world, can.resumes, refl);
+    resumed = can.world;
+    resumes = can.resumes;
+    starts = refl;
     works = λ some. begins.works;
     writes = λ some. writes timeline config missed fence text journal keeps begins;
     begins = (
@@ -203,19 +223,21 @@ starts_from path text config old new timeline missed fence millis reached journa
   };
 }
 
--- without a journal
+-- A gateway without a journal can start if it can resume.
 pub starts_anew : (text : Option (List ℕ)) (fence : Option ℕ) (config : Config) (state : CoreState) (reached : ℕ)
-    (journal : JournalState) (calls : Option (List HostCall)) → CanResume None text config state reached
+    (journal : JournalState) (calls : Option (List HostCall)) → CanResume text config state reached
     → CanStart None text fence config state reached journal calls calls
 starts_anew text fence config state reached journal calls can = record {
   world = can.world;
   stands = can.stands;
   started = record {
     missed = 0;
-    starts = can.resumes;
+    resumed = can.world;
+    resumes = can.resumes;
+    starts = refl;
     works = λ some. absurd cc;
     writes = λ some. absurd cc;
-    begins = refl;
+    begins = (refl, refl);
   };
 }
 
@@ -225,7 +247,7 @@ at_byte [] k within is = absurd (omega (arith, within))
 at_byte (byte ∷ text) zero within is = ap (λ (b : ℕ). b ∷ text) (eqb-true byte 10 is)
 at_byte (byte ∷ text) (suc k) within is = ap (λ (l : List ℕ). byte ∷ l) (at_byte text k (omega (arith, within)) is)
 
--- the first line of a text, after its mark
+-- The first line of a text that begins with `# `.
 first_line : (text title : List ℕ) (k : ℕ) → k < length text → (slice_index text k == 10) ≡ true
     → take k text ≡ codes "# " ++ title
     → (rest : List ℕ) × (text ≡ (codes "# " ++ (title ++ codes "\n")) ++ rest)
@@ -242,15 +264,15 @@ pub marked_line : (text : List ℕ) (k : ℕ) (found : Option (Bor (List ℕ))) 
 marked_line text k None within is cases = tt
 marked_line text k (Some title) within is cases = first_line text title.now k within is cases
 
--- the first line of what was read is the title of a configuration
+-- If the first line of the text that was read states a title, the text starts with the title line of the configuration.
 pub title_found : (text rest : Option (List ℕ)) (front title more : List ℕ) (config : Config) → Consumes text rest front
     → front ≡ (codes "# " ++ (title ++ codes "\n")) ++ more → title ≡ title_text config
-    → IfSome text (BeginsWithTitle config)
+    → IfSome text (λ t. StartsWith t (title_line config))
 title_found None rest front title more config consumed line is = tt
 title_found (Some text) None front title more config consumed line is = absurd consumed
-title_found (Some text) (Some left) front title more config consumed line is = (
-  more ++ left,
-  consumed ∙ ap (λ (l : List ℕ). l ++ left)
-      (line ∙ ap (λ (l : List ℕ). (codes "# " ++ (l ++ codes "\n")) ++ more) is)
-      ∙ append_assoc (title_line config) more left,
-)
+title_found (Some text) (Some left) front title more config consumed line is =
+    let whole : text ≡ title_line config ++ (more ++ left) = consumed ∙ ap (λ (l : List ℕ). l ++ left)
+    (line ∙ ap (λ (l : List ℕ). (codes "# " ++ (l ++ codes "\n")) ++ more) is)
+    ∙ append_assoc (title_line config) more left in
+    subst (λ (l : List ℕ). StartsWith l (title_line config)) (sym whole)
+    (take-append_seam (title_line config) (more ++ left))

@@ -1,4 +1,4 @@
-ghost use Rattle.std.specs.Prelude.{◌≡◌, None, IfErr, IfOk, IfSome, IsSome, OnErr, OnOk};
+ghost use Rattle.std.specs.Prelude.{◌≡◌, [], Some, IfErr, IfOk, IfSome, IsSome, OnErr, OnOk};
 ghost use Rattle.std.specs.Option.{option_map_or};
 ghost use Rattle.mg_journal.specs.Journal.{no_journal};
 ghost use Rattle.mg_journal.specs.aids.Opened.{text_in};
@@ -17,8 +17,9 @@ use std::alloc::Global;
 use std::io::Write;
 use std::time::Clock;
 
-/// Starts appending to the journal, if there is one, and skips the ticks that the gateway missed. The journal has
-/// reached this number. If that fails, reports the fault to `errors` and returns the program's exit status.
+/// Starts appending to the journal, if there is one, and skips the ticks that the gateway missed. If that fails,
+/// reports the fault to `errors` and returns the program's exit status. `reached` is the number that the journal has
+/// reached.
 pub fn begin_journal<'a, T: Dates, F: JournalFile, C: Clock, E: Write>(
     host: &mut T,
     alloc: Global,
@@ -32,12 +33,12 @@ pub fn begin_journal<'a, T: Dates, F: JournalFile, C: Clock, E: Write>(
 ) -> Result<Option<DatedJournal<'a, FileJournal<F>, C>>, Status>
 where
     F: Drop,
-    requires resumed { CanResume service.now.journal (option_map_or (λ j. text_in j.opening.file) found None)
+    requires resumed { CanResume (option_map_or (λ j. text_in j.opening.file) found (Some []))
         config.now core.old.state reached }
     requires found { IsSome service.now.journal → IsSome found }
     requires times { IfSome found (λ j. KeepsTimes j.timeline (text_in j.opening.file)) }
     ensures started { IfOk result (λ journal. CanStart service.now.journal
-        (option_map_or (λ j. text_in j.opening.file) found None) service.now.fence_from config.now core.new.state reached
+        (option_map_or (λ j. text_in j.opening.file) found (Some [])) service.now.fence_from config.now core.new.state reached
         (option_map_or (λ j. j) journal no_journal) (T.calls host.old) (T.calls host.new)) }
     ensures fails { OnErr result (RunsNoSession (T.calls host.old) (T.calls host.new)) }
     ensures quiet { OnOk result (errors.new ≡ errors.old) }

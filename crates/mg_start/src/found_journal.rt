@@ -25,7 +25,7 @@ use std::time::Clock;
 /// The maximum length of a title's line, in bytes.
 const TITLE_ROOM: usize = TITLE_LIMIT + 3;
 
-/// A title's line, with its line feed.
+/// The line of a title, with its line feed.
 type TitleLine = ArrayVec<u8, TITLE_ROOM>;
 
 /// The maximum number of ticks in one append.
@@ -38,7 +38,7 @@ const TICK_LINES: [[u8; 5]; BATCH] = [*b"tick\n"; BATCH];
 #[derive(Drop)]
 pub struct FoundJournal<F: JournalFile> {
     pub opening: Opening<F>,
-    /// When the journal's ticks happened, or `None` for a new journal.
+    /// The timeline of the journal's ticks, or `None` for a new journal.
     pub timeline: Option<Timeline>,
 }
 
@@ -175,7 +175,7 @@ fn append_comment<T: Tells, J: Journal>(
     )
 }
 
-/// Appends ticks that were missed, after a comment that says how many.
+/// Appends missed ticks, after a comment that says how many.
 fn append_missed<T: Tells, J: Journal>(
     host: &mut T,
     ticks: u64,
@@ -230,7 +230,7 @@ fn append_fence<T: Tells, J: Journal>(
     )
 }
 
-/// Appends ticks that were missed, and then the number to which an operator sets the fence.
+/// Appends missed ticks, and then the number to which an operator sets the fence.
 fn append_start<T: Tells, J: Journal>(
     host: &mut T,
     missed: u64,
@@ -250,8 +250,7 @@ fn append_start<T: Tells, J: Journal>(
     }
 }
 
-/// Appends what comes first: the title, if the journal is new, ticks that were missed, and the number to which an
-/// operator sets the fence.
+/// Appends the title, if the journal is new, then missed ticks, and the number to which an operator sets the fence.
 fn append_first<T: Tells, J: Journal>(
     host: &mut T,
     is_new: bool,
@@ -278,7 +277,7 @@ fn append_first<T: Tells, J: Journal>(
     append_start(host, missed, fence, journal)
 }
 
-/// Returns whether a journal is new: no times are known for it.
+/// Returns whether a journal is new: it has no timeline.
 fn is_new(timeline: &Option<Timeline>) -> bool
     ensures value { result ≡ is_none timeline.now }
 {

@@ -1,12 +1,13 @@
 ghost use Rattle.std.specs.Prelude.{◌≡◌, ◌≢◌, ◌++◌, ℕ, List, Option, true, codes, IfOk, IfSome, IsSome, None, Some, []};
+ghost use Rattle.std.specs.Io.{StartsWith};
 ghost use Rattle.mg_journal.specs.Text.{whole_lines};
 ghost use Rattle.mg_journal.specs.aids.Opened.{text_in};
 ghost use Rattle.mg_core.specs.aids.Resume.{IsResumed};
 ghost use Rattle.mg_engine.specs.Config.{IsValidConfig};
 ghost use Rattle.mg_arguments.specs.Given.{Agrees};
+ghost use Rattle.mg_arguments.specs.Title.{title_line};
 ghost use Rattle.mg_start.specs.Journal.{timeline_after};
 ghost use Rattle.mg_start.specs.aids.Starting.{HasReached, KeepsTimes, may_be_title};
-ghost use Rattle.mg_start.specs.Start.{BeginsWithTitle};
 
 use crate::journal_fault::JournalFault;
 use crate::journal_reader::JournalReader;
@@ -20,13 +21,14 @@ use std::alloc::Global;
 use std::io::{self, ErrorKind};
 use std::marker::Brand;
 
-/// The title and its line feed must fit into this many bytes at the journal's start. A title is at most 512 bytes long.
+/// The number of bytes at the journal's start that must contain the title and its line feed. A title has at most 512
+/// bytes.
 const FRONT: usize = 1024;
 
-/// How a title's line begins.
+/// The beginning of a title's line.
 const TITLE_START: &[u8] = b"# mg_bridge replay ";
 
-/// A gateway in the state that a journal's events lead to.
+/// The state of a gateway after a journal's events.
 #[derive(Drop)]
 pub(crate) struct History {
     pub config: Config,
@@ -36,7 +38,8 @@ pub(crate) struct History {
     pub reached: u32,
 }
 
-/// A journal whose events were run, the gateway in the state that they lead to, and what was read about them.
+/// A journal whose events were run, the gateway after these events, and a reader with the journal's timeline and
+/// number.
 #[derive(Drop)]
 struct Resumed<F: JournalFile> {
     opening: Opening<F>,
@@ -44,14 +47,14 @@ struct Resumed<F: JournalFile> {
     reader: JournalReader,
 }
 
-/// A journal, and what its events lead to, or `None` if it is empty.
+/// A journal, and the gateway's state after the journal's events, or `None` if the journal is empty.
 #[derive(Drop)]
 pub(crate) struct Found<F: JournalFile> {
     pub opening: Opening<F>,
     pub history: Option<History>,
 }
 
-/// Returns the title at the start of a journal's text: the first line, if it is a comment, and `None` otherwise.
+/// Returns the title in the first line of a journal's text, or `None` if the line isn't a comment.
 fn title_in(front: &[u8]) -> Option<&[u8]>
     ensures line { IfSome result (λ title. (rest : List ℕ)
         × (front.now ≡ (codes "# " ++ (title.now ++ codes "\n")) ++ rest)) }
@@ -60,7 +63,7 @@ fn title_in(front: &[u8]) -> Option<&[u8]>
     front[..end].strip_prefix(b"# ".as_slice())
 }
 
-/// Returns whether a text is the beginning of a title, or begins like one.
+/// Returns whether a text is the beginning of a title, or begins like a title.
 fn may_be_title(text: &[u8]) -> bool
     ensures value { result ≡ may_be_title text.now }
 {
@@ -96,7 +99,7 @@ fn config_in<F: JournalFile>(
         IfSome opening.old.file.bytes (λ bytes. may_be_title bytes ≡ true)) }
     ensures lines { IfOk result (λ config. IsSome config → IfSome (text_in opening.old.file) (λ text. text ≢ [])) }
     ensures titled { IfOk result (λ found. IfSome found (λ config.
-        IfSome (text_in opening.old.file) (BeginsWithTitle config))) }
+        IfSome (text_in opening.old.file) (λ text. StartsWith text (title_line config)))) }
 {
     if !opening.has_lines() {
         check_partial(opening)?;
@@ -130,7 +133,7 @@ fn check_config(given: &Given, wanted: &Config, config: &Config) -> Result<(), J
     }
 }
 
-/// Returns why a journal couldn't be run.
+/// Returns the fault for a journal that couldn't be run.
 fn fault_of(fault: RunFault) -> JournalFault {
     match fault {
         RunFault::Script(line) => JournalFault::BadLine(line),
@@ -168,7 +171,7 @@ where
     }
 }
 
-/// Finds the state that a journal's events lead to, if the journal isn't empty. Sends nothing.
+/// Finds the state of a gateway after a journal's events, if the journal isn't empty. Sends nothing.
 pub(crate) fn find<F: JournalFile>(
     alloc: Global,
     given: &Given,
@@ -187,7 +190,7 @@ where
     ensures sound { IfOk result (λ f. IfSome f.history (λ h. IsValidConfig h.config)) }
     ensures agrees { IfOk result (λ f. IfSome f.history (λ h. Agrees given.now wanted.now h.config)) }
     ensures titled { IfOk result (λ f. IfSome f.history (λ h.
-        IfSome (text_in opening.file) (BeginsWithTitle h.config))) }
+        IfSome (text_in opening.file) (λ text. StartsWith text (title_line h.config)))) }
     ensures resumed { IfOk result (λ f. IfSome f.history (λ h. (rest : Option (List ℕ)) ×
         IsResumed h.config (text_in opening.file) rest h.core.state)) }
     ensures reached { IfOk result (λ f. IfSome f.history (λ h. HasReached (text_in opening.file) h.reached)) }

@@ -5,7 +5,7 @@ use mg_options::Status;
 use std::io::{self, Write};
 use thiserror::Error;
 
-/// Why a gateway can't start with its journal.
+/// The reason why a gateway can't start with its journal.
 #[derive(Drop, Debug, Error)]
 pub enum JournalFault {
     #[error("cannot be opened: {0}")]

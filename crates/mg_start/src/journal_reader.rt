@@ -5,7 +5,7 @@ use mg_dates::Timeline;
 use mg_fence::FenceReader;
 use std::alloc::Global;
 
-/// Reads when the ticks of a journal happened, and which number its messages have reached. Stops if memory runs out.
+/// Reads the timeline of a journal, and the number that its messages have reached. Stops if memory runs out.
 #[derive(Drop)]
 pub(crate) struct JournalReader {
     pub timeline: Timeline,

@@ -14,8 +14,8 @@
 //! [`FoundJournal`] is a journal before anything is appended to it. If a gateway can't start, the fault is reported,
 //! and the result is the program's exit status.
 //!
-//! `specs/Start.antt` defines how a gateway starts, and `specs/Journal.antt` defines what it finds in its journal and
-//! what it appends.
+//! `specs/Start.antt` defines how a gateway starts. `specs/Journal.antt` defines the text that a gateway finds in its
+//! journal, and the lines that it appends.
 #![tactic(auto)]
 
 mod beginning;

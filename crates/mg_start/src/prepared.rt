@@ -1,4 +1,4 @@
-ghost use Rattle.std.specs.Prelude.{◌≡◌, ℕ, List, Option, Some, None, IfErr, IfOk, IfSome, IsNone, IsSome, MatchResult, OnOk};
+ghost use Rattle.std.specs.Prelude.{◌≡◌, ℕ, [], List, Option, Some, None, IfErr, IfOk, IfSome, IsNone, IsSome, MatchResult, OnOk};
 ghost use Rattle.std.specs.Option.{option_map_or};
 ghost use Rattle.mg_engine.specs.Config.{IsValidConfig};
 ghost use Rattle.mg_core.specs.aids.Resume.{IsResumed};
@@ -7,7 +7,7 @@ ghost use Rattle.mg_core.specs.aids.Stands.{StandsFor};
 ghost use Rattle.mg_journal.specs.aids.Opened.{text_in};
 ghost use Rattle.mg_arguments.specs.Draws.{IsDrawn};
 ghost use Rattle.mg_start.specs.aids.Starting.{HasReached, KeepsTimes, CanResume};
-ghost use Rattle.mg_start.specs.Start.{FailsToStart, Finds, IsChosen, IsChosenBy, Opens};
+ghost use Rattle.mg_start.specs.Start.{FailsToStart, Finds, IsChosen, Opens};
 
 use crate::found_journal::FoundJournal;
 use crate::history::{Found, find};
@@ -22,7 +22,7 @@ use std::alloc::Global;
 use std::io::{self, ErrorKind, Write};
 use std::random::RandomSource;
 
-/// A gateway and its journal, before the ports are bound and before anything is appended.
+/// A gateway and its journal, before the ports are bound and before anything is appended to the journal.
 #[derive(Drop)]
 pub struct Prepared<F: JournalFile> {
     pub config: Config,
@@ -52,10 +52,6 @@ impl<F: JournalFile> Prepared<F> {
             "journal {path}: continues after {} messages and {} ticks",
             counts.control, counts.ticks
         );
-        if service.fence.is_some() {
-            let from = service.fence_from.unwrap_or(self.reached);
-            let _ = writeln!(line, "fence: begins at {from}");
-        }
         let _ = reports.write_all(line.as_slice());
         let _ = reports.flush();
     }
@@ -76,8 +72,8 @@ where
     ensures drawn { IfOk result (λ p. IsDrawn draws config p.config) }
     ensures start { IfOk result (λ p. StandsFor p.core.state (start_of p.config)) }
     ensures journal { IfOk result (λ p. IsSome opening → IsSome p.journal) }
-    ensures file { IfOk result (λ p. option_map_or (λ j. text_in j.opening.file) p.journal None
-        ≡ option_map_or (λ o. text_in o.file) opening None) }
+    ensures file { IfOk result (λ p. option_map_or (λ j. text_in j.opening.file) p.journal (Some [])
+        ≡ option_map_or (λ o. text_in o.file) opening (Some [])) }
     ensures times { IfOk result (λ p. IfSome p.journal (λ j. IsNone j.timeline)) }
     ensures reached { IfOk result (λ p. p.reached ≡ 0) }
     ensures quiet { OnOk result (errors.new ≡ errors.old) }
@@ -128,11 +124,11 @@ where
     F: Drop,
     requires front { opening.read ≡ 0 }
     ensures sound { IfOk result (λ p. IsValidConfig p.config) }
-    ensures chosen { IfOk result (λ p. IsChosenBy (text_in opening.file) service.now.given draws config p.config) }
+    ensures chosen { IfOk result (λ p. IsChosen (text_in opening.file) service.now.given draws config p.config) }
     ensures resumed { IfOk result (λ p. (rest : Option (List ℕ)) ×
         IsResumed p.config (text_in opening.file) rest p.core.state) }
     ensures reached { IfOk result (λ p. HasReached (text_in opening.file) p.reached) }
-    ensures file { IfOk result (λ p. option_map_or (λ j. text_in j.opening.file) p.journal None ≡ text_in opening.file) }
+    ensures file { IfOk result (λ p. option_map_or (λ j. text_in j.opening.file) p.journal (Some []) ≡ text_in opening.file) }
     ensures times { IfOk result (λ p. IfSome p.journal (λ j. KeepsTimes j.timeline (text_in j.opening.file))) }
     ensures found { IfOk result (λ p. IsSome p.journal) }
     ensures quiet { OnOk result (errors.new ≡ errors.old) }
@@ -157,7 +153,7 @@ where
     })
 }
 
-/// Returns why a journal couldn't be opened.
+/// Returns the fault for a journal that couldn't be opened.
 fn opening_fault(error: io::Error) -> JournalFault {
     match error.kind() {
         ErrorKind::WouldBlock => JournalFault::InUse,
@@ -197,13 +193,13 @@ pub fn prepare<H: Journals, G: RandomSource, E: Write>(
 ) -> Result<Prepared<H::File>, Status>
     ensures opened { MatchResult result
         (λ p. Finds service.now.journal (H.calls host.old) (H.calls host.new)
-        (option_map_or (λ j. text_in j.opening.file) p.journal None))
+        (option_map_or (λ j. text_in j.opening.file) p.journal (Some [])))
         (λ status. Opens service.now.journal (H.calls host.old) (H.calls host.new)) }
     ensures sound { IfOk result (λ p. IsValidConfig p.config) }
-    ensures chosen { IfOk result (λ p. IsChosen service.now.journal
-        (option_map_or (λ j. text_in j.opening.file) p.journal None) service.now.given draws config p.config) }
-    ensures resumed { IfOk result (λ p. CanResume service.now.journal
-        (option_map_or (λ j. text_in j.opening.file) p.journal None) p.config p.core.state p.reached) }
+    ensures chosen { IfOk result (λ p. IsChosen (option_map_or (λ j. text_in j.opening.file) p.journal (Some []))
+        service.now.given draws config p.config) }
+    ensures resumed { IfOk result (λ p. CanResume (option_map_or (λ j. text_in j.opening.file) p.journal (Some []))
+        p.config p.core.state p.reached) }
     ensures found { IfOk result (λ p. IsSome service.now.journal → IsSome p.journal) }
     ensures times { IfOk result (λ p. IfSome p.journal (λ j. KeepsTimes j.timeline (text_in j.opening.file))) }
     ensures quiet { OnOk result (errors.new ≡ errors.old) }

@@ -5,7 +5,7 @@ use mg_journal::{JournalFile, Opening};
 use std::io::{self, Read};
 use std::marker::{Brand, PhantomData};
 
-/// Stands, in proofs, for what is known about the file of a journal.
+/// Represents, in proofs, what is known about the file of a journal.
 pub(crate) trait FileKey {
     ghost file: { FileState };
 }
@@ -14,7 +14,7 @@ impl FileKey for Brand {
     ghost file = { unknown };
 }
 
-/// A journal that is read. What is known about its file stays the same.
+/// A journal that is being read. What is known about its file stays the same.
 #[derive(Drop)]
 pub(crate) struct Reading<F: JournalFile, K: FileKey> {
     opening: Opening<F>,

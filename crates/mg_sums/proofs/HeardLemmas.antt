@@ -1,4 +1,4 @@
--- What is heard of a room without the rows that are left out.
+-- The rows that are heard in a room: the joined rows except those that are left out.
 use Rattle.std.proofs.Common.{◌≡◌, ℕ, ◌+◌, ◌<◌, ◌≤◌, ◌⊎◌, inl, inr, Bool, true, false, not, ◌||◌, ◌==◌, cond, Option, Some, None, ℤ, pos, ◌+ℤ◌, ◌-ℤ◌, List, [], ◌∷◌, ◌++◌, map, length, length-append, get_or, zero, suc, refl, sym, ap, ap₂, subst, ◌∙◌, arith}
 use Rattle.std.specs.Prelude.{All, IsTrue, filter, unsigned_abs}
 use Rattle.std.specs.List.{range_with_len}
@@ -14,7 +14,7 @@ use Rattle.mg_sums.specs.Sums.{SumsState, AreOfRoom, AreAllOfRoom, is_room, is_j
 use Rattle.mg_sums.specs.aids.Sums.{total_of}
 use Rattle.mg_sums.proofs.SumLemmas.{sum_of-filter, sum_of-plus, sum_of-near, sum_of-same, sum_of-among, sum_of-ones, sum_of-append}
 
--- Rows that are joined are below the number of rows.
+-- A row that is joined to a room has a number below the number of rows.
 joined_below : (rooms : List (Option ℕ)) (room row : ℕ) → is_joined rooms room row ≡ true → row < length rooms
 joined_below rooms room row h = elim (cases_lt row (length rooms)) [
   | inl below ↦ below
@@ -41,7 +41,7 @@ among_joined rooms room (r ∷ rs) k h m = elim (or_cases r k (is_among rs k) m)
   | inr later ↦ among_joined rooms room rs k (All-tail (λ (n : ℕ). IsTrue (is_joined rooms room n)) r rs h) later
 ]
 
--- The whole is what is left out, and what is heard.
+-- The total of a room is the sum of the rows that are left out plus the sum of the rows that are heard.
 parts : (joined among : Bool) (v : ℤ) → (among ≡ true → joined ≡ true) →
     cond joined v (pos 0) ≡ cond among v (pos 0) +ℤ cond joined (cond (not among) v (pos 0)) (pos 0)
 parts true true v h = omega (arith, ints)
@@ -64,7 +64,7 @@ whole_is f rooms room out h =
     (λ row. parts (is_joined rooms room row) (is_among out row) (f row) (among_joined rooms room out row h.joined)) in
     omega (arith, ints, left, all, heard, both)
 
--- There are no more of them than rows.
+-- The number of heard rows is at most the number of rows.
 cond_one : (b : Bool) → unsigned_abs (cond b (pos 1) (pos 0)) ≤ 1
 cond_one true = omega arith
 cond_one false = omega arith
@@ -84,7 +84,7 @@ pub few_minus : (base : Option ℕ) (minus : List ℕ) → length minus ≤ leng
 few_minus None minus = omega arith
 few_minus (Some row) minus = omega arith
 
--- The mix, from the difference of the total and of what is left out.
+-- The difference between the total and the rows that are left out, after saturation, is the mix.
 pub mix_is : (kept : SumsState) (room : ℕ) (out : List ℕ) (mix rest : List ℤ) → AreOfRoom kept.rooms room out →
     length mix ≡ 160
     → ((i : ℕ) → i < 160 → sample mix i ≡ nearest_sample (sample rest i))
@@ -97,7 +97,7 @@ mix_is kept room out mix rest are long limits differs =
     omega (arith, ints, differs i l, whole_is (sample_in kept.frames i) kept.rooms room out are) in
     limits i l ∙ ap nearest_sample heard)
 
--- All rows of a room, in any order.
+-- The sum over all rows of a room, in any order, is the room's total.
 among_at : (rows : List ℕ) (k j : ℕ) → j < length rows → get_or rows j k ≡ k → is_among rows k ≡ true
 among_at [] k j l e = absurd (omega arith)
 among_at (r ∷ rs) k zero l e = let here : (k == r) ≡ true = grind (arith, nat_tests) in
@@ -123,7 +123,7 @@ all_is f rooms room rows h =
     (range_with_len 0 (length rooms)) (λ k. ap (λ (b : Bool). cond b (f k) (pos 0)) (same k))
     ∙ sym (sum_of-among f (length rooms) rows (all_below rooms room rows h.are) h.are.different))
 
--- Those that are left out, of all rows of a room.
+-- If a room has the rows `out` and others, the others are heard when `out` is left out.
 first_of : (rooms : List (Option ℕ)) (room : ℕ) (out others : List ℕ) → AreOfRoom rooms room (out ++ others) →
     AreOfRoom rooms room out
 first_of rooms room out others h =

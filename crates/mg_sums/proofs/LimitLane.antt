@@ -1,4 +1,4 @@
--- What the two comparisons of a limit give at one lane.
+-- The two comparisons that saturate a sum, in one lane.
 use Rattle.std.proofs.Common.{◌≡◌, ℕ, ℤ, pos, negsuc, Bool, true, false, cond, refl, ap, sym, subst, ◌∙◌, arith, FitsSigned, to_z, of_z}
 use Rattle.std.specs.Int.{w16, w32}
 use lib.Lanes.{top}
@@ -21,7 +21,7 @@ fits_raised x fits = grind (arith, ints)
 fits_limited : (x : ℤ) → FitsSigned w16 (lowered (raised x))
 fits_limited x = grind (arith, ints)
 
--- A lane of 32 bits is chosen by the top bit of a comparison.
+-- The top bit of a comparison chooses the value of a lane of 32 bits.
 picked : (b : Bool) (x y : ℤ) → cond (top 31 (cond b 4294967295 0)) (of_z w32 y) (of_z w32 x) ≡ of_z w32 (cond b y x)
 picked true x y = refl
 picked false x y = refl

@@ -44,7 +44,7 @@ unfolding sum_of
 one_filtered true f x xs n h = ap (λ m. f x +ℤ m) h
 one_filtered false f x xs n h = omega (arith, ints, h)
 
--- The sum over those that pass a test counts the others as 0.
+-- The sum over the elements that pass a test is the sum over all elements, with the others counted as 0.
 pub sum_of-filter : {A : Type 0} (p : A → Bool) (f : A → ℤ) (xs : List A) →
     sum_of f (filter p xs) ≡ sum_of (λ x. cond (p x) (f x) (pos 0)) xs
 unfolding sum_of
@@ -52,7 +52,7 @@ sum_of-filter p f [] = refl
 sum_of-filter p f (x ∷ xs) = one_filtered (p x) f x (filter p xs) (sum_of (λ y. cond (p y) (f y) (pos 0)) xs)
     (sum_of-filter p f xs)
 
--- The sum of two at each place.
+-- The sum of g x + h x over a list is the sum of g plus the sum of h.
 pub sum_of-plus : {A : Type 0} (f g h : A → ℤ) (xs : List A) → ((x : A) → f x ≡ g x +ℤ h x) →
     sum_of f xs ≡ sum_of g xs +ℤ sum_of h xs
 unfolding sum_of
@@ -70,7 +70,7 @@ unfolding sum_of
 sum_of-near f b [] h = omega (arith, ints)
 sum_of-near f b (x ∷ xs) h = omega (arith, ints, h x, sum_of-near f b xs h)
 
--- Two that are the same but for one number.
+-- If two functions differ only at one number, their sums differ by the difference of their values there.
 same_above : (f g : ℕ → ℤ) (a n : ℕ) → ((k : ℕ) → a ≤ k → f k ≡ g k) →
     sum_of f (range_with_len a n) ≡ sum_of g (range_with_len a n)
 unfolding sum_of
@@ -97,7 +97,8 @@ pub sum_of-changed : (f g : ℕ → ℤ) (row n : ℕ) → row < n → ((k : ℕ
     sum_of f (range_with_len 0 n) +ℤ g row ≡ sum_of g (range_with_len 0 n) +ℤ f row
 sum_of-changed f g changed n l h = changed_from f g changed 0 n (omega arith) (omega arith) h
 
--- Different numbers below a bound, in any order, are those of the numbers below it that are among them.
+-- The sum over different numbers below a bound, in any order, is the sum over the numbers below the bound that are in
+-- the list.
 none_among : (x : ℕ) (xs : List ℕ) → All (λ r. x ≢ r) xs → is_among xs x ≡ false
 none_among x [] h = refl
 none_among x (r ∷ rs) h =
@@ -132,7 +133,7 @@ sum_of-among f n (x ∷ xs) below apart =
     let gone : cond (is_among xs x) (f x) (pos 0) ≡ pos 0 = ap (λ b. cond b (f x) (pos 0)) out in
     omega (arith, ints, sum_of-cons f x xs, rest, step, here, gone)
 
--- One row more that is left out.
+-- The sum of the rows that are left out is the base row's, if there is one, plus those of the rows in `minus`.
 pub left_out-one : (f : ℕ → ℤ) (row : ℕ) → sum_of f (left_out_by (Some row) []) ≡ f row
 left_out-one f row = omega (arith, ints, sum_of-cons f row [], sum_of-nil f)
 
@@ -149,7 +150,7 @@ left_out-more f (Some base) minus k l =
       sum_of-more f minus k 0 l,
     )
 
--- Two functions that agree at each element.
+-- Functions that agree on each element of a list have the same sum over the list.
 pub sum_of-agree : {A : Type 0} (f g : A → ℤ) (xs : List A) → All (λ x. f x ≡ g x) xs → sum_of f xs ≡ sum_of g xs
 unfolding sum_of
 sum_of-agree f g [] h = refl

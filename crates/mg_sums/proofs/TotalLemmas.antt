@@ -1,4 +1,4 @@
--- What becomes of the totals when a row changes.
+-- How the totals change when a row changes.
 use Rattle.std.proofs.Common.{◌≡◌, ◌≢◌, ℕ, ◌<◌, ◌≤◌, inl, inr, Bool, true, false, ◌==◌, cond, Option, Some, None, ℤ, pos, ◌+ℤ◌, ◌-ℤ◌, List, [], length, get_or, set, slice_index_or, refl, sym, ap, subst, ◌∙◌, arith, FitsSigned, replicate, get_or-set_same, get_or-set_other}
 use Rattle.std.specs.Int.{w16}
 use Rattle.std.specs.Prelude.{All, IfSome, unsigned_abs}
@@ -21,7 +21,7 @@ use Rattle.mg_sums.specs.aids.Sums.{total_of}
 use Rattle.mg_sums.specs.aids.Totals.{total_limit, AreTotals}
 use Rattle.mg_sums.proofs.SumLemmas.{sum_of-filter, sum_of-near, sum_of-changed, sum_of-same, sum_of-none}
 
--- What a row adds to sample i of a room's total.
+-- The number that a row adds to sample i of a room's total.
 abbrev pub share : SumsState → ℕ → ℕ → ℕ → ℤ
 share kept room i row = cond (is_joined kept.rooms room row) (sample_in kept.frames i row) (pos 0)
 
@@ -31,7 +31,7 @@ unfolding joined_rows
 total_is kept room i = sum_of-filter (is_joined kept.rooms room) (sample_in kept.frames i)
     (range_with_len 0 (length kept.rooms))
 
--- No sample is farther than 32768 from zero.
+-- The magnitude of a sample is at most 32768.
 fits_near : (v : ℤ) → FitsSigned w16 v → unsigned_abs v ≤ 32768
 fits_near v fits = omega (arith, ints)
 
@@ -57,7 +57,7 @@ total_near kept room i valid =
     let count = length-range_with_len 0 (length kept.rooms) in
     omega (arith, near, count, valid.rooms, ap unsigned_abs (total_is kept room i))
 
--- One row and one total change.
+-- If only one row changes its share, each total changes by the difference of that row's shares.
 module _ (kept kept' : SumsState) (row : ℕ) (long : length kept'.rooms ≡ length kept.rooms)
     (below : row < length kept.rooms) (others : (r i k : ℕ) → k ≢ row → share kept' r i k ≡ share kept r i k) where
   changed_total : (r i : ℕ) → total_of kept' r i +ℤ share kept r i row ≡ total_of kept r i +ℤ share kept' r i row
@@ -92,7 +92,7 @@ module _ (kept kept' : SumsState) (row : ℕ) (long : length kept'.rooms ≡ len
     ];
   }
 
--- A row that is joined to a room adds its sample there, and nothing elsewhere.
+-- A row adds its sample to the room that it is joined to, and 0 to the other rooms.
 pub share-none : (kept : SumsState) (room i row : ℕ) → room_of kept row ≡ None → share kept room i row ≡ pos 0
 share-none kept room i row e = ap (λ (o : Option ℕ). cond (is_room o room) (sample_in kept.frames i row) (pos 0)) e
 
@@ -110,7 +110,7 @@ share-elsewhere kept room other i row e ne =
     ∙ ap (λ (b : Bool). cond b (sample_in kept.frames i row) (pos 0))
     (let no : (room == other) ≡ false = grind (arith, nat_tests) in no)
 
--- The same row with another room, or with another frame.
+-- If a row changes its room or its frame, the shares of the other rows are unchanged.
 moved_others : (frames : List (List ℤ)) (rooms : List (Option ℕ)) (w w' row : ℕ) (home : Option ℕ) (r i k : ℕ) → k ≢ row
     → share (record { frames = frames; rooms = set rooms row home; work = w' }) r i k ≡
     share (record { frames = frames; rooms = rooms; work = w }) r i k
@@ -226,7 +226,7 @@ module _ (frames : List (List ℤ)) (rooms : List (Option ℕ)) (w w' : ℕ) (to
             sym (total_is new r i)));
       }
 
--- Rows of silence that are joined nowhere.
+-- In a list of rows that are not joined to a room, no row has a room.
 joined_nowhere : (n row : ℕ) → get_or (replicate {A = Option ℕ} n None) row None ≡ None
 joined_nowhere n row = elim (cases_lt row n) [
   | inl below ↦ get_or-replicate n row None None below
@@ -262,7 +262,7 @@ first_totals frames rooms totals f r t =
           (λ row. share-none kept room i row (nowhere row))) ∙ sym (total_is kept room i))));
     }
 
--- A kept total that was read.
+-- The sums in a stored total stay within the limit.
 pub read_near : (kept : SumsState) (totals : List (List ℤ)) (room : ℕ) (total : List ℤ) → AreTotals kept totals →
     room < context_limit → total ≡ slice_index_or totals room []
     → (i : ℕ) → i < 160 → unsigned_abs (sample total i) ≤ total_limit
@@ -277,7 +277,7 @@ silent i = elim (cases_lt i 160) [
       get_or_past silence i (pos 0) short
 ]
 
--- The first state.
+-- In the first state, no row is joined to a room.
 pub first_rooms : (row : ℕ) → room_of first_sums row ≡ None
 unfolding first_sums
 first_rooms row = joined_nowhere termination_limit row

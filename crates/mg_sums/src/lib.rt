@@ -19,9 +19,9 @@
 //! assert_eq!(rt; sums.mix(room, Some(second), &[]), [32124; 160]);
 //! ```
 //!
-//! [`Sums::work`] counts how often a row is added or subtracted: once to join or to leave, twice to set the frame of a
-//! joined row, and in a mix once, and once more for each silenced row. Only the module `rows` sees the fields of a row;
-//! other code reads frames and totals through [`Sums::frame`] and [`Sums::total`].
+//! [`Sums::work`] counts how often a row is added or subtracted. Joining or leaving counts once, setting the frame of a
+//! joined row counts twice, and a mix counts once, and once more for each silenced row. Only the module `rows` sees the
+//! fields of a row; other code reads frames and totals through [`Sums::frame`] and [`Sums::total`].
 //!
 //! [`Sums::new`] allocates all memory; no other call allocates. `specs/Sums.antt` defines totals and mixes, and
 //! [`theorems`] states the consequences. The vector code is in [`kernels`]; [`ranges`] supplies proofs with the ranges

@@ -1,4 +1,4 @@
-//! Dates in a journal, and how many ticks a gateway missed according to them.
+//! Tests of the dates in a journal, and of the number of missed ticks that follows from them.
 
 use crate::equality::assert_equal;
 use mg_dates::{Date, DatedJournal, Timeline};
@@ -53,10 +53,10 @@ fn dates_messages_and_old_ticks(rt: HostRuntime) -> Result<(), Fail> {
     for (millis, lines) in [
         // The first lines get a seal, and the date of their first tick.
         (0, b"tick\ntick\n".as_slice()),
-        // In another second, the first message gets a date and the next one doesn't.
+        // In another second, the first message gets a date and the next message does not.
         (1_250, MESSAGE),
         (1_900, MESSAGE),
-        // Ticks get a date only after a minute, and the date a seal.
+        // Ticks get a date only after a minute, and the date gets a seal.
         (61_240, b"tick\n"),
         (61_250, b"tick\n"),
     ] {
@@ -103,7 +103,7 @@ fn counts_missed_ticks(rt: HostRuntime) -> Result<(), Fail> {
     timeline.pass_comment(b"");
     timeline.pass_ticks(40);
     timeline.pass_ticks(10);
-    // One second in which every tick was run, then a gap of 300 ms.
+    // All ticks of the first second were run, and then there is a gap of 300 ms.
     assert_equal(&rt, timeline.missed(after(1_000)), 0);
     assert_equal(&rt, timeline.missed(after(1_319)), 15);
     // The clock was set back.
@@ -117,7 +117,7 @@ fn counts_from_the_first_date(rt: HostRuntime) -> Result<(), Fail> {
     let mut timeline = Timeline::new();
     timeline.pass_comment(b"# time 2026-11-27T14:03:20Z");
     timeline.pass_ticks(50);
-    // A restart: 19 ms were rounded off, and it took 30 ms to start.
+    // A restart: 19 ms were rounded off, and the start took 30 ms.
     assert_equal(&rt, timeline.missed(after(1_219)), 10);
     timeline.pass_ticks(10);
     timeline.pass_comment(b"# time 2026-11-27T14:03:21.249Z");
@@ -132,11 +132,11 @@ fn follows_a_clock_that_is_set(rt: HostRuntime) -> Result<(), Fail> {
     let mut timeline = Timeline::new();
     timeline.pass_comment(b"# time 2026-11-27T14:03:20Z");
     timeline.pass_ticks(50);
-    // An hour ahead.
+    // The clock is set ahead by one hour.
     timeline.pass_comment(b"# time 2026-11-27T15:03:21Z");
     timeline.pass_ticks(50);
     assert_equal(&rt, timeline.missed(after(3_602_100)), 5);
-    // An hour back.
+    // The clock is set back by one hour.
     timeline.pass_comment(b"# time 2026-11-27T14:03:22Z");
     timeline.pass_ticks(50);
     assert_equal(&rt, timeline.missed(after(3_100)), 5);

@@ -1,4 +1,4 @@
-//! The engine: causes of drops, totals, who hears whom by termination number, and the cost of a tick.
+//! Tests of the engine: causes of drops, totals, who hears whom by termination number, and the cost of a tick.
 
 use crate::equality::assert_equal;
 use mg_engine::{
@@ -18,7 +18,7 @@ const CALLER: Peer = Peer {
     port: 40000,
 };
 
-/// Returns the offer that a session description makes.
+/// Returns the setting with the offer of a session description.
 fn offer(description: &[u8]) -> Result<MediaSetting, Fail> {
     match read_sessions(description) {
         Ok(sessions) => Ok(MediaSetting::Offer(sessions)),
@@ -48,7 +48,8 @@ fn changed(mode: Option<Mode>, depth: Option<u16>) -> Settings {
 
 const MU: &[u8] = b"v=0\nc=IN IP4 $\nm=audio $ RTP/AVP 0\n";
 
-/// The callers' Remote. Its port is not the one that their packets come from, and only its address is compared.
+/// The Remote of the callers. Its port differs from the port that their packets come from, because only the address is
+/// compared.
 const REMOTE: &[u8] = b"v=0\nc=IN IP4 127.0.0.1\nm=audio 40002 RTP/AVP 0\n";
 
 /// Returns a packet of 160 equal bytes in mu-law, from one source, with this sequence number.
@@ -107,7 +108,7 @@ fn crowd(alloc: Global, modes: &[Mode]) -> Result<Engine, Fail> {
     Ok(engine)
 }
 
-/// What a test shows on an engine.
+/// A scene that a test shows on an engine.
 #[derive(Clone, Copy)]
 enum Scene {
     FollowModes,
@@ -187,7 +188,7 @@ fn payloads(alloc: Global, outbox: &Outbox) -> Result<Vec<u8>, Fail> {
     Ok(bytes)
 }
 
-/// After a Move, a termination counts toward the new context's total, and no longer toward the old context's total.
+/// After a Move, a termination counts toward the total of its new context only.
 fn leave_the_total(rt: &impl Abort, engine: &mut Engine, outbox: &mut Outbox) -> Result<(), Fail> {
     speak(engine, outbox);
     assert_equal(rt, engine.total(1, 0), Some(32124));
@@ -361,7 +362,7 @@ fn tick_rows(engine: &mut Engine, outbox: &mut Outbox) -> u32 {
     rows_since(engine, before)
 }
 
-/// Three callers speak, and the third tick plays what they said.
+/// Three callers speak, and the third tick plays their speech.
 fn speak(engine: &mut Engine, outbox: &mut Outbox) {
     engine.media(30000, CALLER, &packet(0x80));
     engine.media(30002, CALLER, &packet(0x80));
@@ -531,13 +532,13 @@ fn go_on_alike(
     count_alike(one, other)
 }
 
-/// Makes every termination send from now on.
+/// Makes every termination send.
 fn let_all_send(engine: &mut Engine) -> Result<(), Fail> {
     set_mode(engine, 3, Mode::SendReceive)?;
     set_mode(engine, 4, Mode::SendReceive)
 }
 
-/// Skips these ticks on one engine and runs them on the other. Both engines then behave alike.
+/// Skips ticks on one engine and runs as many on the other. Both engines then behave alike.
 fn compare_skip_with_ticks(
     rt: &impl Abort,
     count: u64,
@@ -557,7 +558,7 @@ fn compare_skip_with_ticks(
     Ok(())
 }
 
-/// Skipping some ticks has the same result as running them on another engine.
+/// Skipping ticks has the same result as running as many on another engine.
 fn skip_and_tick(
     rt: &impl Abort,
     alloc: Global,
@@ -590,7 +591,7 @@ fn sent_by(engine: &Engine, number: u32) -> Option<(u64, u64)> {
     Some((stats.ps, stats.os))
 }
 
-/// After 2^32 ticks, sequence numbers and timestamps are back where they were. Counters stop at their maximum.
+/// After 2^32 ticks, sequence numbers and timestamps have the same values again. Counters stop at their maximum.
 fn skip_for_years(rt: &impl Abort, engine: &mut Engine, outbox: &mut Outbox) -> Result<(), Fail> {
     let at_first = [128, 0, 255, 250, 255, 255, 250, 240];
     hold_frames(engine);

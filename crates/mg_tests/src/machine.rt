@@ -1,4 +1,4 @@
-//! The core as a state machine: what no script can show.
+//! Tests of the core as a state machine, in cases that no script can show.
 
 ghost use Rattle.mg_core.specs.Parsed.{IsReadingOf};
 
@@ -30,7 +30,7 @@ fn start(alloc: Global, config: Config) -> Result<Core, Fail> {
     }
 }
 
-/// Returns whether the first termination is a core's only one.
+/// Returns whether the core has the first termination and no other.
 fn has_one(core: &Core) -> bool {
     let is_alone = core.stats(1).is_some() && core.stats(2).is_none();
     is_alone && core.rooms().members(1) == [1].as_slice()
@@ -84,7 +84,8 @@ fn reads_then_runs(alloc: Global, core: &mut Core, bytes: &[u8]) -> Result<bool,
     runs_around(alloc, core, bytes, &parsed)
 }
 
-/// A datagram is run when it is passed to `run`, in the world at that moment, and not when it is read. Each is counted.
+/// A datagram takes effect in the state of the core when it is passed to `run`, not when it is read. Each datagram is
+/// counted.
 fn run_what_was_read(rt: &impl Abort, alloc: Global, core: &mut Core) -> Result<(), Fail> {
     assert!(rt; rejects_what_is_no_message(alloc, core)?);
     assert_equal(rt, core.counts().control, 1);
@@ -94,7 +95,7 @@ fn run_what_was_read(rt: &impl Abort, alloc: Global, core: &mut Core) -> Result<
     Ok(())
 }
 
-/// Returns the header of a tick's only packet, or `None` if the tick sends another number of packets.
+/// Returns the header of a tick's only packet, or `None` if the tick does not send exactly one packet.
 fn sent_header(core: &mut Core) -> Option<[u8; 12]> {
     core.tick();
     match core.outbox() {
@@ -103,7 +104,7 @@ fn sent_header(core: &mut Core) -> Option<[u8; 12]> {
     }
 }
 
-/// Sequence numbers, timestamps and SSRCs wrap to 0. A skip counts its ticks and makes no packets, and the last answer
+/// Sequence numbers, timestamps and SSRCs wrap to 0. A skip counts its ticks and sends no packets, and the last answer
 /// is unchanged.
 fn send_and_skip(rt: &impl Abort, core: &mut Core) {
     let first = [128, 128, 255, 255, 255, 255, 255, 160, 0, 0, 0, 0];
@@ -117,7 +118,7 @@ fn send_and_skip(rt: &impl Abort, core: &mut Core) {
     assert_equal(rt, core.counts().ticks, u64::MAX);
 }
 
-/// What a program does with a core: it reads and runs messages, and runs or skips ticks.
+/// A core reads and runs messages, and runs or skips ticks, as in a program.
 #[test]
 fn runs_messages_and_ticks(rt: HostRuntime) -> Result<(), Fail> {
     let config = Config {
@@ -133,7 +134,7 @@ fn runs_messages_and_ticks(rt: HostRuntime) -> Result<(), Fail> {
     Ok(())
 }
 
-/// Runs a script with a reader that fails. Returns what it wrote, and how it ended.
+/// Runs a script with a reader that fails. Returns the output and the result of the run.
 fn read_in_pieces(
     alloc: Global,
     script: &[u8],
@@ -150,7 +151,8 @@ fn read_in_pieces(
     (written, outcome)
 }
 
-/// Runs a script with a writer that takes 50 bytes per call and fails. Returns what it wrote, and how it ended.
+/// Runs a script with a writer that takes 50 bytes per call and fails. Returns the output, and the fault if there is
+/// one.
 fn write_in_pieces(alloc: Global, script: &[u8], calls: usize) -> (Vec<u8>, Option<RunFault>) {
     let mut reader = Cursor::new(script);
     let mut writer = FailingWriter::new(alloc, 50, calls);

@@ -1,4 +1,4 @@
-//! The lines of a recording.
+//! Tests of the lines of a recording.
 
 ghost use Rattle.std.specs.Prelude.{◌≤◌, length};
 
@@ -23,7 +23,7 @@ const LAST: Peer = Peer {
     port: 65535,
 };
 
-/// Returns as many of the first bytes as a datagram can hold.
+/// Returns the start of the bytes, limited to the size of a datagram.
 fn sized(bytes: &[u8]) -> &[u8]
     ensures short { length result.now ≤ 65535 }
 {

@@ -1,4 +1,4 @@
-//! Replies.
+//! Tests of replies.
 
 ghost use Rattle.std.specs.Prelude.{◌≤◌};
 

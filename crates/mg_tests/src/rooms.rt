@@ -1,4 +1,4 @@
-//! Terminations and contexts.
+//! Tests of terminations and contexts.
 
 ghost use Rattle.std.specs.Prelude.{◌≡◌};
 
@@ -82,7 +82,7 @@ fn slots_and_contexts_fill_up(rt: HostRuntime) -> Result<(), Fail> {
     Ok(())
 }
 
-/// The first termination when it is created.
+/// The first termination after it was created.
 const FRESH: Record = Record {
     number: 1,
     context: 1,

@@ -8,7 +8,7 @@ use std::io::{Read, Write};
 #[derive(Clone, Copy)]
 pub enum Part<'a> {
     Text(&'a [u8]),
-    /// The line of a frame that arrives at port 30000: its source, and its sequence number in hexadecimal.
+    /// The line of a frame that arrives at port 30000, with its source and its sequence number in hexadecimal.
     Frame(&'a [u8], &'a [u8]),
 }
 
@@ -51,8 +51,8 @@ pub fn script_of(alloc: Global, parts: &[(usize, Part)]) -> Result<Vec<u8>, Allo
     Ok(script)
 }
 
-/// Runs a script with a given configuration. With a literal configuration, the contract of a run takes minutes to
-/// prove.
+/// Runs a script with a given configuration. If the configuration were a literal here, the contract of a run would take
+/// minutes to prove.
 fn run_on<R: Read, W: Write>(
     alloc: Global,
     config: Config,

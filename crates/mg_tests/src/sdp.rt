@@ -1,4 +1,4 @@
-//! Session descriptions.
+//! Tests of session descriptions.
 
 use crate::equality::assert_equal;
 use mg_g711::Law;

@@ -1,4 +1,4 @@
-//! Messages.
+//! Tests of messages.
 
 use crate::equality::assert_equal;
 use mg_scan::Span;

@@ -1,5 +1,5 @@
--- The bytes of a source bound its tokens: each token has at least one byte, and each triple of a topology, with its
--- separator, at least seven.
+-- The bytes of a source bound its tokens. Each token has at least one byte, and each triple of a topology has at least
+-- seven bytes with its separator.
 use Rattle.std.proofs.Common.{◌≡◌, ℕ, ◌+◌, ◌-◌, ◌*◌, ◌≤◌, ◌<◌, max, true, List, [], ◌∷◌, length, drop, Option, Some, None, refl, sym, ap, ◌∙◌, arith, length-take}
 use Rattle.std.proofs.lemmas.List.{length-map}
 use Rattle.std.specs.Option.{option_and_then}
@@ -28,7 +28,7 @@ use Rattle.mg_text.proofs.Shorter.{Measure, span_shorter, mark_shorter}
 
 -- ## Tokens
 
--- the bytes of the texts of tokens, and at least one for each token
+-- The number of bytes in the texts of tokens, counting at least one for each token.
 abbrev pub bytes : List Token → ℕ
 bytes [] = 0
 bytes (t ∷ ts) = max 1 (t.span.end - t.span.start) + bytes ts
@@ -45,7 +45,7 @@ way_within (t ∷ ts) old new way within =
     let rest = way_within ts way.0 new way.3 (omega (arith, step.within, source)) in
     omega (arith, step.start, step.span, step.end, step.progress, rest, source)
 
--- the tokens of a source have no more bytes than the source
+-- The tokens of a source have no more bytes than the source.
 pub tokens_within : (source : List ℕ) (ts : List Token) (fault : Option ScanFault) → AreTokens source ts fault →
     bytes ts ≤ length source
 tokens_within source ts fault are =

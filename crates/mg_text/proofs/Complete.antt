@@ -1,4 +1,5 @@
--- What is in the grammar is read: marks, words, groups and lists. The number of tokens bounds the length of a list.
+-- The parser accepts the marks, words, groups and lists that are in the grammar. The number of tokens bounds the length
+-- of a list.
 use Rattle.std.proofs.Common.{◌≡◌, ℕ, zero, suc, ◌-◌, ◌<◌, ◌≤◌, ◌≢◌, eqb, Bool, true, false, List, [], ◌∷◌, length, Option, Some, None, Result, Ok, refl, inl, inr, ◌∙◌, arith}
 use Rattle.std.proofs.lemmas.Bool.{ne_eqb}
 use Rattle.mg_scan.specs.declared.kind.TokenKind.{TokenKind}
@@ -32,13 +33,13 @@ pub after_read : (kind : TokenKind) (ts rest : List Token) → IsMark kind ts re
 unfolding after_mark
 after_read kind ts rest m = rw (m.1, is_kind-same kind) refl
 
--- another mark stands there
+-- Tokens that start with a mark do not start with another mark.
 pub after_other : (kind other : TokenKind) (ts rest : List Token) → is_kind kind other ≡ false → IsMark kind ts rest →
     after_mark other ts ≡ None
 unfolding after_mark
 after_other kind other ts rest apart m = rw (m.1, apart) refl
 
--- after a part no opening brace and no equals sign stands, so that nothing more belongs to it
+-- The tokens start neither with an opening brace nor with an equals sign, so that a part before them ends there.
 pub record Stops (rest : List Token) : Type 0 where
   pub «open» : after_mark Open rest ≡ None
   pub equals : after_mark Equals rest ≡ None
@@ -64,7 +65,7 @@ pub word_read : (source : List ℕ) (w : Span) (ts rest : List Token) → IsWord
     word_at source ts ≡ Ok (w, rest)
 word_read source w ts rest m = span_read source Word w ts rest m
 
--- where one kind of token stands, no mark of another kind does
+-- Tokens that start with a token of one kind do not start with a mark of another kind.
 pub span_other : (kind other : TokenKind) (w : Span) (ts rest : List Token) → is_kind kind other ≡ false →
     IsSpan kind w ts rest → after_mark other ts ≡ None
 unfolding after_mark
@@ -80,7 +81,7 @@ pub worded_read : {X : Type 0} (meaning : List ℕ → Option X) (source : List 
 unfolding meaning_at
 worded_read meaning source x ts rest m = rw (word_read source m.0 ts rest m.2, m.1) refl
 
--- balanced tokens leave the depth as it is
+-- Skipping tokens with balanced braces does not change the depth.
 balanced_read : (source : List ℕ) (depth : ℕ) (ts rest : List Token) → IsBalanced ts rest →
     after_group source depth ts ≡ after_group source depth rest
 unfolding after_group
@@ -106,7 +107,7 @@ pub term_read : (source : List ℕ) (w : Span) (ts rest : List Token) → IsWord
 unfolding term_at
 term_read source w ts rest m = rw (word_read source w ts rest m.1, m.0) refl
 
--- in a group that has a token, the first token isn't the closing brace
+-- In a group that contains a token, the first token is not its closing brace.
 not_close : (ts b rest : List Token) → IsBalanced ts b → IsMark Close b rest → (IsMark Close ts rest → ⊥) →
     after_mark Close ts ≡ None
 unfolding after_mark
@@ -167,7 +168,7 @@ module _ {X : Type 0} (source : List ℕ) (read : List Token → Result (X × Li
   optional_braced_read (x ∷ xs) ts rest stops m =
       rw (after_read Open ts m.0 m.1, items_read (x ∷ xs) m.0 rest m.2) refl
 
-  -- where an item stands, no closing brace does
+  -- Tokens that start with an item do not start with a closing brace.
   module _ (begins : (ts : List Token) (x : X) (rest : List Token) → P x ts rest → after_mark Close ts ≡ None) where
     pub any_braced_read : (xs : List X) (ts rest : List Token) → IsAnyBraced P xs ts rest →
         any_braced_at source read ts ≡ Ok (xs, rest)
@@ -179,7 +180,7 @@ module _ {X : Type 0} (source : List ℕ) (read : List Token → Result (X × Li
       items_read (x ∷ xs) m.0 rest m.2,
     ) refl
 
--- words that stand for values, as items of a list
+-- Lists of words that have values.
 module _ {X : Type 0} (meaning : List ℕ → Option X) (source : List ℕ) where
   pub each_word_read : (ts : List Token) (x : X) (rest : List Token) → Stops rest →
       IsWorded meaning source x ts rest → meaning_at meaning source ts ≡ Ok (x, rest)

@@ -1,4 +1,4 @@
--- Commands and their descriptors that are in the grammar are read.
+-- The parser accepts the commands and descriptors that are in the grammar.
 use Rattle.std.proofs.Common.{◌≡◌, ℕ, Bool, true, false, List, [], ◌∷◌, None, Ok, refl, inl, inr, ◌∙◌}
 use Rattle.mg_scan.specs.declared.kind.TokenKind.TheVariants.{Word, Open, Close, Equals}
 use Rattle.mg_scan.specs.declared.token.Token.{Token}
@@ -45,7 +45,7 @@ assigned_read source ts rest stops (inr m) =
       filled_read source m.2.0 m.0 rest stops m.2.1,
     ) refl
 
--- where a group stands or nothing, no equals sign does
+-- An optional group that is not followed by an equals sign does not start with one.
 no_equals : (b : Bool) (ts rest : List Token) → after_mark Equals rest ≡ None → IsContent b ts rest →
     after_mark Equals ts ≡ None
 no_equals true ts rest stops m = after_other Open Equals ts m.0.0 refl m.0.1

@@ -1,4 +1,4 @@
--- A Media descriptor and its parts that are in the grammar are read.
+-- The parser accepts each Media descriptor that is in the grammar.
 use Rattle.std.proofs.Common.{◌≡◌, ℕ, Bool, true, false, List, Option, Some, None, Ok, refl, ◌∙◌}
 use Rattle.mg_scan.specs.declared.kind.TokenKind.TheVariants.{Equals, Octets}
 use Rattle.mg_scan.specs.declared.span.Span.{Span}
@@ -40,14 +40,14 @@ optional_value_read source None ts rest stops m = rw (m, stops) refl
 optional_value_read source (Some v) ts rest stops m =
     rw (after_read Equals ts m.0 m.1, value_read source v m.0 rest m.2) refl
 
--- one of the words MODE, RESERVEDVALUE and RESERVEDGROUP
+-- Whether a keyword is MODE, RESERVEDVALUE or RESERVEDGROUP.
 abbrev is_control : Option Keyword → Bool
 is_control (Some keywords.Mode) = true
 is_control (Some keywords.ReservedValue) = true
 is_control (Some keywords.ReservedGroup) = true
 is_control _ = false
 
--- no slash stands in them
+-- A text with a slash is none of these three keywords.
 slash_apart : (text : List ℕ) (k : Option Keyword) → keyword_of text ≡ k → has_slash text ≡ true → is_control k ≡ false
 unfolding forms_of
 slash_apart text (Some keywords.Mode) e h = absurd (no_slash text keywords.Mode e refl refl h)
@@ -111,7 +111,7 @@ stream_part_read source ts (streams.LocalControl xs) rest stops m =
           (control_shorter by_count source) xs m.0 rest m.2,
     ) refl
 
--- a part of a stream is a part of a Media descriptor
+-- A part of a stream is parsed as a part of a Media descriptor.
 media_part_of : (source : List ℕ) (ts : List Token) (x : StreamPart) (rest : List Token) → Stops rest →
     IsStreamPart source x ts rest → media_part_at source ts ≡ Ok (parts.Part x, rest)
 unfolding media_part_at

@@ -1,4 +1,4 @@
--- Reading a list in a loop.
+-- Parsing a list in a loop.
 use Rattle.std.proofs.Common.{◌≡◌, ℕ, suc, ◌-◌, ◌+◌, ◌≤◌, ◌<◌, List, [], ◌∷◌, ◌++◌, Some, None, Result, Ok, Err, refl, sym, ap, ◌∙◌, append_assoc, arith}
 use Rattle.mg_scan.specs.declared.kind.TokenKind.TheVariants.{Close, Comma}
 use Rattle.mg_scan.specs.declared.token.Token.{Token}
@@ -8,7 +8,7 @@ use Rattle.mg_words.specs.ResultSteps.{◌>>=◌}
 use Rattle.mg_text.specs.aids.Reading.{Fails, mark_at, list_at, place_of_rest}
 use Rattle.mg_scan.specs.aids.Marks.{after_mark}
 
--- what was read before, and what is still read
+-- The items of `front`, followed by the items that are parsed from the remaining tokens.
 abbrev pub with_front : {X : Type 0} → List X → Result (List X × List Token) ℕ → Result (List X × List Token) ℕ
 with_front front read = read >>= λ x. Ok (front ++ x.0, x.1)
 

@@ -1,4 +1,4 @@
--- Each datagram is read in exactly one way.
+-- Each datagram has exactly one reading.
 use Rattle.std.proofs.Common.{◌≡◌, ℕ, ◌≤◌, eqb, Bool, true, false, List, Option, Some, None, Result, Ok, Err, refl, inl, inr, sym, ap, subst, ◌∙◌, arith, length}
 use Rattle.std.proofs.lemmas.Bool.{eqb-true, true≢false}
 use Rattle.std.proofs.lemmas.Bool.Decides.{leb_tells}
@@ -18,11 +18,11 @@ use Rattle.mg_text.proofs.ReadLemmas.{headed, told, at_most_one, served_counts, 
 
 -- ## At most one
 
--- a head names one version
+-- A head names at most one version.
 version_is : (n k : ℕ) (a b : List Token) → headed n a ≡ headed k b → n ≡ k
 version_is n k a b e = ap (λ (p : ℕ × List Token). p.0) (ok_is (n, a) (k, b) e)
 
--- what has a tree has no head of another version
+-- Bytes with a tree do not have a head of another version.
 tree_or_version : (source : List ℕ) (m : Message) (n : ℕ) → IsTree source m → HasOtherVersion source n → ⊥
 tree_or_version source m n h k =
     let same = one_scan source h.tokens k.tokens None k.fault h.are k.are in
@@ -89,7 +89,7 @@ fault_in f = Some f
 
 module _ (source : List ℕ) (ts : List Token) (f : Option ScanFault) (short : length source ≤ 8192)
     (are : AreTokens source ts f) where
-  -- a tree's tokens are these, and its head is read from them
+  -- The head of a tree is parsed from the tokens of the bytes.
   tree_head : (m : Message) (h : IsTree source m) → version_at source ts ≡ headed 1 h.is.0
   tree_head m h = ap (version_at source) (one_scan source ts h.tokens f None are h.are).0 ∙
       head_read source 1 h.tokens h.is.0 h.is.1

@@ -1,4 +1,4 @@
--- Reading the parts of an action in a loop.
+-- Parsing the parts of an action in a loop.
 use Rattle.std.proofs.Common.{◌≡◌, ℕ, suc, ◌-◌, ◌+◌, ◌≤◌, ◌<◌, true, false, List, [], ◌∷◌, ◌++◌, Some, None, Result, Ok, Err, refl, sym, ap, ◌∙◌, append_assoc, arith}
 use Rattle.std.proofs.lemmas.List.{append-nil}
 use Rattle.mg_scan.specs.declared.kind.TokenKind.TheVariants.{Close, Comma}
@@ -17,7 +17,7 @@ use Rattle.mg_text.specs.aids.Requests.{begins_property, property_at, parts_at, 
 abbrev pub parts_of : List ContextProperty → List Command → ActionParts
 parts_of properties commands = record { properties = properties; commands = commands }
 
--- what was read before, and what is still read
+-- The properties of `front`, followed by the parts that are parsed from the remaining tokens.
 abbrev pub with_front : List ContextProperty → Result (ActionParts × List Token) ℕ → Result (ActionParts × List Token) ℕ
 with_front front read = read >>= λ x. Ok (parts_of (front ++ x.0.properties) x.0.commands, x.1)
 

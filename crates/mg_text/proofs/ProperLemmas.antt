@@ -1,5 +1,5 @@
--- Requests of a message have actions, the names of terminations in them are words of 1 to 64 bytes, and their
--- topologies have at most 1,200 triples.
+-- Each request of a message has an action, the names of terminations are words of 1 to 64 bytes, and a topology has at
+-- most 1,200 triples.
 use Rattle.std.proofs.Common.{◌≡◌, ℕ, ◌≤◌, ◌&&◌, nat_le, eqb, not, Bool, true, List, [], ◌∷◌, Option, Some, None, length, refl, inl, inr, arith}
 use Rattle.std.proofs.lemmas.Bool.{ne_eqb, le-leb, and_from}
 use Rattle.std.specs.List.{list_all}
@@ -30,11 +30,11 @@ use Rattle.mg_text.specs.Proper.{command_is_proper, triple_is_proper, property_i
 use Rattle.mg_text.proofs.Shorter.{span_shorter, mark_shorter, worded_shorter, command_shorter, triple_shorter, property_shorter, action_shorter, item_shorter}
 use Rattle.mg_text.proofs.ByteLemmas.{bytes, by_bytes, tokens_within, topology_takes}
 
--- tokens of a message: at most 8,192 bytes
+-- The tokens have at most 8,192 bytes.
 abbrev IsSmall : List Token → Type 0
 IsSmall ts = bytes ts ≤ message_limit
 
--- what holds of each item holds of all in a list
+-- If each item passes a test, all items of a list pass it.
 module _ {X : Type 0} (P : X → Production) (f : X → Bool)
     (each : (x : X) (ts rest : List Token) → IsSmall ts → P x ts rest → f x ≡ true)
     (shorter : (ts : List Token) (x : X) (rest : List Token) → P x ts rest → bytes rest ≤ bytes ts) where

@@ -1,4 +1,4 @@
--- What the answers of reading a datagram say.
+-- The postconditions of reading a datagram.
 use Rattle.std.proofs.Common.{◌≡◌, ◌≢◌, ℕ, ◌<◌, ◌≤◌, cond, ◌&&◌, Bool, true, false, eqb, List, length, Option, Some, None, Result, Ok, Err, refl, inl, inr, ◌⊎◌, sym, ap, subst, ◌∙◌}
 use Rattle.std.specs.Prelude.{is_some, nat_le, IfOk}
 use Rattle.std.proofs.lemmas.Bool.{eqb-true, ne_eqb, true≢false, and_parts, leb-true, le-leb, lt-leb}
@@ -37,7 +37,7 @@ told m = Ok m
 same_message : (m n : Message) → told m ≡ told n → m ≡ n
 same_message m n e = cc
 
--- bytes have at most one tree
+-- The bytes have at most one tree.
 pub at_most_one : (source : List ℕ) (m n : Message) → IsTree source m → IsTree source n → m ≡ n
 at_most_one source m n h k =
     let tokens = (one_scan source h.tokens k.tokens None None h.are k.are).0 in
@@ -63,12 +63,12 @@ found_after : (source : List ℕ) (ts : List Token) (f : Option ScanFault) (m : 
 found_after source ts f m (Ok v) short are head g = found_text source ts f m v.0 v.1 (eqb v.0 1) short are head refl g
 found_after source ts f m (Err place) short are head g = absurd (cc g.1)
 
--- what is read is a tree
+-- If a message is read, it is the tree of the bytes.
 is_found : (source : List ℕ) (ts : List Token) (f : Option ScanFault) (m : Message) → IsShort source →
     AreTokens source ts f → AgreesVersioned (Ok m) (version_at source ts) (is_some f) (text_at source) → IsTree source m
 is_found source ts f m short are g = found_after source ts f m (version_at source ts) short are refl g
 
--- an answer is a value, or memory ran out
+-- The result is the wanted result, or memory ran out.
 abbrev pub IsAnswered : Result Message ReadFault → Result Message ReadFault → Type 0
 IsAnswered r want = (r ≡ Err NoMemory) ⊎ (r ≡ want)
 
@@ -80,7 +80,7 @@ only_cases m (Err (Syntax place)) g = absurd (cc g)
 only_cases m (Err (Version n)) g = absurd g
 only_cases m (Err TooMany) g = absurd g
 
--- each tree is read, unless memory runs out
+-- The tree of the bytes is read, unless memory runs out.
 is_only : (source : List ℕ) (ts : List Token) (f : Option ScanFault) (r : Result Message ReadFault) →
     AreTokens source ts f → AgreesVersioned r (version_at source ts) (is_some f) (text_at source) → (m : Message) →
     IsTree source m → IsAnswered r (Ok m)
@@ -102,7 +102,7 @@ version_cases n (Err (Syntax place)) g = inr g
 version_cases n (Err (Version k)) g = inr g
 version_cases n (Err TooMany) g = inr g
 
--- another version is told, unless memory runs out
+-- If the bytes have a head of another version, that version is returned, unless memory runs out.
 is_version : (source : List ℕ) (ts : List Token) (f : Option ScanFault) (r : Result Message ReadFault) →
     AreTokens source ts f → AgreesVersioned r (version_at source ts) (is_some f) (text_at source) → (n : ℕ) →
     HasOtherVersion source n → IsAnswered r (Err (Version n))
@@ -144,7 +144,7 @@ version_only_after source ts f n (Err place) short are head g = absurd (cc g.1)
 abbrev failed : ReadFault → Result Message ReadFault
 failed e = Err e
 
--- only another version is told as one
+-- If another version is returned, the bytes have a head of that version.
 is_version_only : (source : List ℕ) (ts : List Token) (f : Option ScanFault) (len : ℕ) (e : ReadFault) →
     IsShort source → AreTokens source ts f → AgreesVersioned (Err e) (version_at source ts) (is_some f)
     (text_at source) → (n : ℕ) → failed (fault_within len e) ≡ failed (Version n) → HasOtherVersion source n
@@ -179,7 +179,7 @@ counts_refused xs (inl lt) = rw (lt-leb _ _ lt) refl
 counts_refused xs (inr lt) = rw (lt-leb _ _ lt)
     (elim (nat_le (requests_in xs) 4) as (λ b. (b && false) ≡ false) [ true ↦ refl | false ↦ refl ])
 
--- the answer on a message
+-- The result for a message, given whether it is within the limits.
 abbrev on_message : Bool → Message → Result Message ReadFault
 on_message b m = cond b (Ok m) (Err TooMany)
 
@@ -222,7 +222,7 @@ no_many_after : (v : Result (ℕ × List Token) ℕ) (faulty : Bool) (text : Lis
 no_many_after (Ok v) faulty text g = no_many_text (eqb v.0 1) faulty v.0 (text v.1) g
 no_many_after (Err place) faulty text g = cc g.1
 
--- What reading answers, where r is what stands after the head of these tokens.
+-- The postconditions of the final result, where r is the result of parsing after the head of these tokens.
 module _ (source : List ℕ) (ts : List Token) (f : Option ScanFault) (len : ℕ) (short : IsShort source)
     (are : AreTokens source ts f) where
   pub answer_found : (r : Result Message ReadFault) →
@@ -258,7 +258,7 @@ module _ (source : List ℕ) (ts : List Token) (f : Option ScanFault) (len : ℕ
   answer_version_only (Ok m) g n e = absurd (message_no_version (is_served m) m n e)
   answer_version_only (Err fault) g n e = is_version_only source ts f len fault short are g n e
 
--- an answer after the head stays, or is NoMemory
+-- Checking the limits preserves that the result is the wanted one or memory ran out.
 answered : (len : ℕ) (r want : Result Message ReadFault) → IsAnswered r want →
     IsAnswered (answer_of len r) (answer_of len want)
 answered len r want (inl none) = inl (ap (answer_of len) none)

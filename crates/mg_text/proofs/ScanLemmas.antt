@@ -1,4 +1,4 @@
--- The tokens of bytes.
+-- The tokens that a source consists of.
 use Rattle.std.proofs.Common.{◌≡◌, ℕ, ◌-◌, ◌≤◌, List, [], ◌∷◌, ◌++◌, length, drop, Option, Some, None, refl, sym, ap, subst, ◌∙◌, arith, length-drop, length-take}
 use Rattle.mg_scan.specs.declared.token.Token.{Token}
 use Rattle.mg_scan.specs.declared.span.Span.{Span}
@@ -11,7 +11,7 @@ use Rattle.mg_scan.specs.Span.{text_of}
 use Rattle.mg_text.specs.Message.{Reaches, AreTokens, scanning_of}
 use Rattle.mg_text.specs.aids.Parts.{ending}
 
--- one token more
+-- Scanning one more token extends the list of tokens.
 pub Reaches-push : (ts : List Token) (old mid new : Scanning) (t : Token) → Reaches old ts mid →
     new.source ≡ mid.source → IsNext mid t new → Reaches old (ts ++ t ∷ []) new
 Reaches-push [] old mid new t way same gives = (
@@ -45,7 +45,7 @@ length_text source span le within = omega (
 length_rest : (s : Scanning) (source : List ℕ) → s.source ≡ source → length (rest_of s) ≡ length source - s.at
 length_rest s source e = length-drop s.at s.source ∙ ap (λ (l : List ℕ). length l - s.at) e
 
--- a place has one next token, and one place after it
+-- The scanner has at most one next token and at most one next position.
 IsNext-same : (old a b : Scanning) (t u : Token) → a.source ≡ old.source → b.source ≡ old.source → IsNext old t a →
     IsNext old u b → (t ≡ u) × (a ≡ b)
 IsNext-same old a b t u ea eb g h =

@@ -1,4 +1,4 @@
--- How long the name of a sender is, at the most.
+-- The maximum length of a sender's name.
 use Rattle.std.proofs.Common.{◌≡◌, ℕ, ◌+◌, ◌≤◌, Bool, true, false, cond, eqb, leb, add-one, List, [], ◌∷◌, length, Option, Some, None, is_some, refl, arith}
 use Rattle.std.proofs.lemmas.Bool.{false≢true, and_parts}
 use Rattle.std.proofs.lemmas.Bool.Decides.{nat_tests}
@@ -11,7 +11,7 @@ use Rattle.mg_words.specs.Numbers.{decimal_of}
 use Rattle.mg_words.specs.Address.{address_of}
 use Rattle.mg_text.specs.Sender.{is_sender, is_domain, is_address, is_port_part, is_host}
 
--- a text is as long as its two parts and the byte between them
+-- A text that is cut at a byte is as long as its two parts and that byte.
 parts_join : (text : List ℕ) (n : ℕ) (parts : List ℕ × List ℕ) → cut_at text n ≡ Some parts →
     length text ≡ length parts.0 + length parts.1 + 1
 parts_join text n parts e = grind (arith, nat_tests, length-take {A = ℕ}, length-drop {A = ℕ})
@@ -20,7 +20,7 @@ cut_joins : (byte : ℕ) (text : List ℕ) (parts : List ℕ × List ℕ) → cu
     length text ≡ length parts.0 + length parts.1 + 1
 cut_joins byte text parts e = parts_join text (position_or_len (λ b. eqb b byte) text) parts e
 
--- steps that give a value give one at the first of them, and after it
+-- If a sequence of two steps has a value, both steps have a value.
 first_step : {A B : Type 0} (o : Option A) (f : A → Option B) → is_some (o >>= f) ≡ true → (x : A) × (o ≡ Some x) ×
     (is_some o ≡ true) × (is_some (f x) ≡ true)
 first_step None f h = absurd (false≢true h)
@@ -32,7 +32,7 @@ decimal_short most limit text h = grind (arith, nat_tests)
 part_short : (text : List ℕ) → is_some (decimal_of 3 255 text) ≡ true → length text ≤ 3
 part_short text h = decimal_short 3 255 text h
 
--- an address: four numbers of three digits and three dots
+-- An address has at most 15 bytes: four numbers of up to three digits and three dots.
 address_short : (text : List ℕ) → is_some (address_of text) ≡ true → length text ≤ 15
 unfolding address_of
 address_short text h =
@@ -58,12 +58,12 @@ if_both : (p q : Bool) → cond p q false ≡ true → q ≡ true
 if_both true q h = h
 if_both false q h = absurd (false≢true h)
 
--- a colon and five digits
+-- A port part has at most 6 bytes: a colon and up to five digits.
 port_short : (text : List ℕ) → is_port_part text ≡ true → length text ≤ 6
 port_short [] h = omega arith
 port_short (b ∷ port) h = omega (arith, decimal_short 5 65535 port (if_both (eqb b 58) _ h))
 
--- two parts, of which each is short, with a mark between them
+-- The text after the opening bracket is short, since both its parts are.
 address_parts_short : (rest : List ℕ) (parts : Option (List ℕ × List ℕ)) → cut 93 rest ≡ parts →
     is_host is_address parts ≡ true → length rest ≤ 22
 address_parts_short rest None e h = absurd (false≢true h)
@@ -81,7 +81,7 @@ domain_parts_short rest (Some parts) e h =
     let two = and_parts (is_domain parts.0) (is_port_part parts.1) h in
     omega (arith, cut_joins 62 rest parts e, domain_short parts.0 two.0, port_short parts.1 two.1)
 
--- one of three kinds, of which each is short
+-- A sender's name is short, since each of its three forms is.
 kind_short : (n : ℕ) (in_brackets in_angles address domain device : Bool)
     → (address ≡ true → n ≤ 22) → (domain ≡ true → n ≤ 71) → (device ≡ true → n + 1 ≤ 64)
     → cond in_brackets address (cond in_angles domain device) ≡ true → n + 1 ≤ 72

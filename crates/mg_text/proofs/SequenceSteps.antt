@@ -1,4 +1,4 @@
--- Reading the items of a message in a loop.
+-- Parsing the items of a message in a loop.
 use Rattle.std.proofs.Common.{◌≡◌, ℕ, suc, ◌-◌, ◌+◌, ◌≤◌, ◌<◌, eqb, true, false, List, [], ◌∷◌, ◌++◌, length, Option, Some, None, Result, Ok, Err, refl, sym, ap, ◌∙◌, append_assoc, arith}
 use Rattle.std.proofs.lemmas.List.{append-nil}
 use Rattle.mg_scan.specs.declared.token.Token.{Token}
@@ -9,11 +9,11 @@ use Rattle.mg_words.specs.ResultSteps.{◌>>=◌}
 use Rattle.mg_text.specs.aids.Reading.{Fails, place_of_rest}
 use Rattle.mg_text.specs.aids.Requests.{kept_before, item_at, sequence_at}
 
--- what was read before, and what is still read
+-- The items of `front`, followed by the items that are parsed from the remaining tokens.
 abbrev pub with_front : List MessageItem → Result (List MessageItem) ℕ → Result (List MessageItem) ℕ
 with_front front read = read >>= λ xs. Ok (front ++ xs)
 
--- the items with one more after them, if it is kept
+-- The items of `front`, followed by one more item, if that item is kept.
 abbrev pub kept_after : List MessageItem → Option MessageItem → List MessageItem
 kept_after front None = front
 kept_after front (Some x) = front ++ x ∷ []

@@ -1,5 +1,5 @@
--- Fewer tokens follow a part of a message than start with it, by any measure to which each token adds. The number of
--- tokens bounds the length of a list, and their bytes bound the length of a topology.
+-- Parsing a part of a message leaves fewer tokens, by any measure that grows with each token. The number of tokens
+-- bounds the length of a list, and their bytes bound the length of a topology.
 use Rattle.std.proofs.Common.{◌≡◌, ℕ, ◌+◌, ◌<◌, ◌≤◌, Bool, true, false, List, [], ◌∷◌, length, Option, Some, None, inl, inr, ap, arith}
 use Rattle.mg_scan.specs.declared.kind.TokenKind.{TokenKind}
 use Rattle.mg_scan.specs.declared.kind.TokenKind.TheVariants.{Word, Open, Close, Comma, Equals, Quoted, Octets}
@@ -35,12 +35,12 @@ use Rattle.mg_text.specs.Words.{by_keyword, audit_word_named, context_word_named
 use Rattle.mg_text.specs.Production.{Production, ◌▹◌, ◌or◌}
 use Rattle.mg_text.specs.Grammar.{IsMark, IsSpan, IsWorded, IsName, IsOptionalAssigned, IsMore, IsListed, IsBraced, IsOptionalBraced, IsAnyBraced, IsBalanced, nothing, plain, nested, IsGroup, IsContent, IsOptionalGroup, IsValue, IsControlPart, IsStreamPart, IsMediaPart, IsAudit, IsOtherContent, keyword_for, IsDescriptor, IsOptionalAudit, IsDescribed, IsCommand, IsTriple, IsContextProperty, IsParts, IsAction, IsItem, IsSequence}
 
--- a measure of tokens, to which each token adds
+-- A measure of lists of tokens that grows with each token.
 pub record Measure : Type 0 where
   pub of : List Token → ℕ
   pub falls : (t : Token) (ts : List Token) → of ts < of (t ∷ ts)
 
--- the number of tokens
+-- The number of tokens, as a measure.
 abbrev pub by_count : Measure
 by_count = record { of = length; falls = λ t ts. omega arith }
 
@@ -123,7 +123,7 @@ module _ (size : Measure) where
         omega (arith, mark_shorter Open ts m.0 m.1, mark_shorter Close m.0 rest m.2)
     any_braced_shorter (x ∷ xs) ts rest m = braced_shorter (x ∷ xs) ts rest m
 
-  -- words that denote values, as items of a list
+  -- Lists of words that have values.
   pub each_word_shorter : {X : Type 0} (meaning : List ℕ → Option X) (source : List ℕ) (ts : List Token) (x : X)
       (rest : List Token) → IsWorded meaning source x ts rest → size.of rest ≤ size.of ts
   each_word_shorter meaning source ts x rest m = omega (arith, worded_shorter meaning source x ts rest m)

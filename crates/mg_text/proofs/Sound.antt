@@ -1,4 +1,4 @@
--- What is read is in the grammar: tools, marks, words, groups and lists.
+-- If the parser accepts marks, words, groups and lists, they are in the grammar.
 use Rattle.std.proofs.Common.{◌≡◌, ℕ, zero, suc, ◌-◌, ◌≢◌, eqb, Bool, true, false, cond, List, [], ◌∷◌, length, Option, Some, None, Result, Ok, Err, refl, inl, inr, ◌⊎◌, sym, ap, subst, ◌∙◌, arith}
 use Rattle.std.proofs.lemmas.Bool.{ne_eqb, false≢true}
 use Rattle.mg_scan.specs.declared.kind.TokenKind.{TokenKind}
@@ -16,7 +16,7 @@ use Rattle.mg_scan.specs.aids.Marks.{is_kind, after_mark}
 use Rattle.mg_text.specs.Production.{Production}
 use Rattle.mg_text.specs.Grammar.{IsMark, IsSpan, IsWord, IsWordThat, IsWorded, IsMore, IsListed, IsBraced, IsOptionalBraced, IsEmptyBraces, IsAnyBraced, IsBalanced, nothing, plain, nested, IsGroup, IsContent}
 
--- the value of a step that did not fail
+-- If a sequence of two steps succeeds, both steps succeed.
 pub bind_ok : {A B : Type 0} (r : Result A ℕ) (f : A → Result B ℕ) (y : B) → (r >>= f) ≡ Ok y → (x : A) × (r ≡ Ok x) ×
     (f x ≡ Ok y)
 bind_ok (Ok x) f y e = (x, refl, e)
@@ -60,7 +60,7 @@ is_kind-apart a b e same = false≢true (sym e ∙ ap (is_kind a) (sym same) ∙
 abbrev token_of : TokenKind → Span → Token
 token_of kind span = record { kind = kind; span = span }
 
--- a token that stands in front is one of its kind, with its text
+-- A token of this kind at the front is a part of the grammar.
 pub token_is : (kind : TokenKind) (t : Token) (ts rest : List Token) → t.kind ≡ kind → ts ≡ rest →
     IsSpan kind t.span (t ∷ ts) rest
 token_is kind t ts rest k e = ap (λ (j : TokenKind). token_of j t.span ∷ ts) k ∙
@@ -106,7 +106,7 @@ named_found source keyword ts rest e =
     let g = guard_ok (is_named (text_of source w.0.0) keyword) w.0.0.start w.0.1 rest w.2 in
     (w.0.0, g.0, subst (λ (r : List Token). IsWord w.0.0 ts r) g.1 (word_found source ts w.0 w.1))
 
--- one reading or another
+-- The result is that of one branch or the other.
 pub if_some_ok : {A B : Type 0} (o : Option A) (f : A → Result B ℕ) (b : Result B ℕ) (y : B) → if_some o f b ≡ Ok y →
     ((a : A) × (o ≡ Some a) × (f a ≡ Ok y)) ⊎ ((o ≡ None) × (b ≡ Ok y))
 if_some_ok None f b y e = inr (refl, e)
@@ -128,7 +128,7 @@ worded_found meaning source ts x e =
     let g = worded-cases (meaning (text_of source w.0.0)) w.0.1 w.0.0.start x w.2 in
     (w.0.0, g.0, subst (λ (r : List Token). IsWord w.0.0 ts r) g.1 (word_found source ts w.0 w.1))
 
--- balanced tokens and a closing brace, once for each open brace and once more
+-- For each of the n open braces and for the current group, the tokens contain balanced tokens and a closing brace.
 abbrev Closes : ℕ → List Token → List Token → Type 0
 Closes zero ts rest = (b : List Token) × IsBalanced ts b × IsMark Close b rest
 Closes (suc n) ts rest = (b : List Token) × (a : List Token) × IsBalanced ts b × IsMark Close b a × Closes n a rest
@@ -205,7 +205,7 @@ abbrev after_first : List Token → List Token
 after_first [] = []
 after_first (t ∷ ts) = ts
 
--- a group whose first token doesn't close it has a token in it
+-- If the first token of a group does not close the group, the braces are not empty.
 not_empty : (ts a rest : List Token) → IsMark Open ts a → after_mark Close a ≡ None → IsEmptyBraces ts rest → ⊥
 not_empty ts a rest opens none h =
     let same : a ≡ h.0 = ap after_first (sym opens.1 ∙ h.1.1) in
@@ -233,7 +233,7 @@ filled_found source ts x e =
 module _ {X : Type 0} (source : List ℕ) (read : List Token → Result (X × List Token) ℕ)
     (P : X → Production)
     (sound : (ts : List Token) (x : X × List Token) → read ts ≡ Ok x → P x.0 ts x.1) where
-  -- a list that was read is not empty: its first item, and more
+  -- A list that is parsed has a first item, and is in the grammar.
   list_found : (n : ℕ) (ts : List Token) (xs : List X × List Token) → list_at source read n ts ≡ Ok xs →
       IsListed P xs.0 ts xs.1
   unfolding list_at

@@ -1,4 +1,4 @@
--- Commands and their descriptors that are read are in the grammar.
+-- If the parser accepts a command or a descriptor, it is in the grammar.
 use Rattle.std.proofs.Common.{◌≡◌, ℕ, Bool, true, false, List, Ok, refl, inl, inr, subst}
 use Rattle.mg_scan.specs.declared.kind.TokenKind.TheVariants.{Word, Open, Close, Equals}
 use Rattle.mg_scan.specs.declared.token.Token.{Token}

@@ -1,4 +1,4 @@
--- Properties, actions, the items of a message and its text that are read are in the grammar.
+-- If the parser accepts properties, actions, items or a message, they are in the grammar.
 use Rattle.std.proofs.Common.{◌≡◌, ℕ, zero, suc, eqb, List, [], ◌∷◌, length, Option, Ok, refl, inl, inr, ◌⊎◌, sym, ap, subst, ◌∙◌}
 use Rattle.std.proofs.lemmas.Bool.{eqb-true}
 use Rattle.std.proofs.lemmas.List.{nil_from_length}
@@ -256,7 +256,7 @@ item_found source ts x e =
     item_named_found source name.0.0 (place_of_rest source ts) ts name.0.1 x
     (worded_found keyword_of source ts name.0 name.1) name.2
 
--- items of which these are kept
+-- The tokens are a sequence of items, of which these are kept.
 abbrev AreKept : List ℕ → List MessageItem → List Token → Type 0
 AreKept source xs ts = (items : List (Option MessageItem)) × IsSequence source items ts [] × (xs ≡ kept items)
 
@@ -331,7 +331,7 @@ sender_found source ts x e =
     let g = guard_ok (is_sender (text_of source w.0.0)) w.0.0.start w.0 x w.2 in
     subst (IsSpelled (IsWordThat is_sender source) ts) g.1 (g.0, word_found source ts w.0 w.1)
 
--- a text after its head
+-- If the parser accepts the tokens after the head, the tokens are a message.
 pub text_found : (source : List ℕ) (ts a : List Token) (m : Message) → IsWorded version_in_head source 1 ts a →
     text_at source a ≡ Ok m → IsText source m ts
 unfolding text_at

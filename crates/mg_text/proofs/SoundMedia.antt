@@ -1,4 +1,4 @@
--- A Media descriptor and its parts that are read are in the grammar.
+-- If the parser accepts a Media descriptor, the descriptor is in the grammar.
 use Rattle.std.proofs.Common.{◌≡◌, ℕ, List, [], ◌∷◌, Option, Some, Ok, refl, inl, inr, subst}
 use Rattle.mg_scan.specs.declared.kind.TokenKind.{TokenKind}
 use Rattle.mg_scan.specs.declared.kind.TokenKind.TheVariants.{Word, Open, Equals, Quoted, Octets}

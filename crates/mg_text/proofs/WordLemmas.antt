@@ -1,4 +1,4 @@
--- Words of the encoding by their long forms, and as functions that compare none.
+-- The keywords of modes, associations and commands, by their long forms and case by case.
 use Rattle.std.proofs.Common.{◌≡◌, ℕ, zero, suc, Bool, true, false, ◌||◌, ◌==◌, cond, List, [], ◌∷◌, length, take, drop, Option, Some, None, refl, sym, ap, subst, ◌∙◌, arith}
 use Rattle.std.specs.Prelude.{find, codes}
 use Rattle.std.specs.List.{list_any}
@@ -33,7 +33,7 @@ use Rattle.mg_scan.specs.declared.token.Token.{Token}
 
 -- ## Values by long forms
 
--- what has a long form is found by it, and a word's meaning is what has the word's long form
+-- A keyword has the value x if and only if its long form is the text of x.
 module _ {X : Type 0} (text : X → List ℕ) (all : List X) (named : Keyword → Option X)
     (found : (x : X) → find (λ y. bytes_eq (text x) (text y)) all ≡ Some x)
     (of_word : (k : Keyword) → find (λ y. bytes_eq (forms_of k).0 (text y)) all ≡ named k) where
@@ -159,14 +159,14 @@ short_dashless _ = refl
 dashless : (text : List ℕ) (k : Keyword) → keyword_of text ≡ Some k → has_dash text ≡ false
 dashless text k e = markless 45 lower_dash text k e (long_dashless k) (short_dashless k)
 
--- a text with a dash is no word of the encoding
+-- A text with a dash is not a keyword.
 no_keyword : (text : List ℕ) (o : Option Keyword) → keyword_of text ≡ o → has_dash text ≡ true → keyword_of text ≡ None
 no_keyword text None e h = e
 no_keyword text (Some k) e h = absurd (true≢false (sym h ∙ dashless text k e))
 
 -- ## Prefixes of commands
 
--- what stands before the rest is the prefix, but for the case of letters
+-- A text with a prefix starts with that prefix, ignoring case, and continues with the rest.
 front_is : (prefix text rest : List ℕ) → after_prefix prefix text ≡ Some rest →
     (str_to_ascii_lowercase (take (length prefix) text) ≡ str_to_ascii_lowercase prefix)
     × (drop (length prefix) text ≡ rest)
@@ -203,14 +203,14 @@ first_or_zero : List ℕ → ℕ
 first_or_zero [] = 0
 first_or_zero (x ∷ xs) = x
 
--- two fronts of a text begin alike
+-- Two prefixes of the same text start with the same letter, ignoring case.
 begin_alike : (text : List ℕ) (m n a b : ℕ) (xs ys : List ℕ) →
     str_to_ascii_lowercase (take (suc m) text) ≡ a ∷ xs → str_to_ascii_lowercase (take (suc n) text) ≡ b ∷ ys → a ≡ b
 unfolding first_or_zero
 begin_alike [] m n a b xs ys p q = absurd cc
 begin_alike (c ∷ cs) m n a b xs ys p q = sym (ap first_or_zero p) ∙ ap first_or_zero q
 
--- after O- stands a dash where O-W- stood
+-- If a text starts with O-W-, the text after O- has a dash.
 dash_after : (text : List ℕ) → str_to_ascii_lowercase (take 4 text) ≡ 111 ∷ 45 ∷ 119 ∷ 45 ∷ [] →
     has_dash (drop 2 text) ≡ true
 dash_after [] h = absurd cc
@@ -312,7 +312,7 @@ module _ (text : List ℕ) (word : CommandWord) where
   command_means false true h = wildcard_prefix (after_prefix (codes "W-") text) refl h
   command_means false false h = no_prefix (sym (ap (option_and_then long_word) (after_nothing text)) ∙ h)
 
--- what a text of a command says of its head
+-- The text consists of the prefixes and a keyword of the command.
 abbrev IsMeant : List ℕ → CommandHead → Type 0
 IsMeant text h =
     word_after (prefix_of h.is_optional h.wants_wildcard) text ≡ Some (command_text h.word)
@@ -360,7 +360,7 @@ module _ (text : List ℕ) (h : CommandHead) where
   unfolding command_of
   command_is_meant e = by_word (keyword_of text) refl e
 
--- the words of a command by their long form, after the prefix that its flags have
+-- The text of the word consists of the prefixes and a keyword of the command.
 abbrev pub IsCommandWord : List ℕ → CommandHead → Production
 IsCommandWord source h =
     IsWorded (word_after (prefix_of h.is_optional h.wants_wildcard)) source (command_text h.word)

@@ -54,64 +54,64 @@ use Rattle.mg_words.specs.Term.{is_term}
 use Rattle.mg_text.specs.Head.{version_in_head}
 use Rattle.mg_text.specs.Sender.{is_sender}
 
--- one token of a kind, with its text
+-- A single token of this kind, with this text.
 abbrev pub IsSpan : TokenKind → Span → Production
 IsSpan kind w ts rest = ts ≡ record { kind = kind; span = w } ∷ rest
 
--- one token of a kind
+-- A single token of this kind.
 abbrev pub IsMark : TokenKind → Production
 IsMark kind = IsAny (IsSpan kind)
 
 abbrev pub IsWord : Span → Production
 IsWord = IsSpan Word
 
--- a word whose text passes a test
+-- A word whose text passes a test.
 abbrev pub IsWordThat : (List ℕ → Bool) → List ℕ → Span → Production
 IsWordThat test source w ts rest = (test (text_of source w) ≡ true) × IsWord w ts rest
 
--- a word with this value
+-- A word with this value.
 abbrev pub IsWorded : {X : Type 0} → (List ℕ → Option X) → List ℕ → X → Production
 IsWorded meaning source x ts rest =
     (w : Span) × (meaning (text_of source w) ≡ Some x) × IsWord w ts rest
 
--- a keyword, in either of its forms
+-- A keyword, in either of its forms.
 abbrev pub IsName : List ℕ → Keyword → Production
 IsName = IsWorded keyword_of
 
--- ["=" x]
+-- An optional equals sign and value: ["=" x]
 abbrev pub IsOptionalAssigned : {X : Type 0} → (X → Production) → Option X → Production
 IsOptionalAssigned P None = IsNothing
 IsOptionalAssigned P (Some x) = IsMark Equals ▹ P x
 
--- *("," x) "}"
+-- The other items of a list, up to the closing brace: *("," x) "}"
 abbrev pub IsMore : {X : Type 0} → (X → Production) → List X → Production
 IsMore P [] = IsMark Close
 IsMore P (x ∷ xs) = IsMark Comma ▹ P x ▹ IsMore P xs
 
--- x *("," x) "}"
+-- One or more items, up to the closing brace: x *("," x) "}"
 abbrev pub IsListed : {X : Type 0} → (X → Production) → List X → Production
 IsListed P [] ts rest = ⊥
 IsListed P (x ∷ xs) ts rest = (P x ▹ IsMore P xs) ts rest
 
--- "{" x *("," x) "}"
+-- One or more items in braces: "{" x *("," x) "}"
 abbrev pub IsBraced : {X : Type 0} → (X → Production) → List X → Production
 IsBraced P xs = IsMark Open ▹ IsListed P xs
 
--- ["{" x *("," x) "}"]
+-- Optional items in braces: ["{" x *("," x) "}"]
 abbrev pub IsOptionalBraced : {X : Type 0} → (X → Production) → List X → Production
 IsOptionalBraced P [] = IsNothing
 IsOptionalBraced P (x ∷ xs) = IsBraced P (x ∷ xs)
 
--- "{" "}"
+-- Braces without content: "{" "}"
 abbrev pub IsEmptyBraces : Production
 IsEmptyBraces = IsMark Open ▹ IsMark Close
 
--- "{" [x *("," x)] "}"
+-- Any number of items in braces: "{" [x *("," x)] "}"
 abbrev pub IsAnyBraced : {X : Type 0} → (X → Production) → List X → Production
 IsAnyBraced P [] = IsEmptyBraces
 IsAnyBraced P (x ∷ xs) = IsBraced P (x ∷ xs)
 
--- tokens with balanced braces
+-- Tokens with balanced braces.
 pub data IsBalanced : List Token → List Token → Type 0 where
   nothing : (ts : List Token) → IsBalanced ts ts
   plain : (t : Token) (ts rest : List Token) → t.kind ≢ Open → t.kind ≢ Close → IsBalanced ts rest
@@ -119,31 +119,31 @@ pub data IsBalanced : List Token → List Token → Type 0 where
   nested : (ts a b c rest : List Token) → IsMark Open ts a → IsBalanced a b → IsMark Close b c
       → IsBalanced c rest → IsBalanced ts rest
 
--- group = "{" tokens with balanced braces "}"
+-- A group: "{" tokens with balanced braces "}"
 abbrev pub IsGroup : Production
 IsGroup = IsMark Open ▹ IsBalanced ▹ IsMark Close
 
--- [group], and whether it contains a token
+-- An optional group, and whether it contains a token: [group]
 abbrev pub IsContent : Bool → Production
 IsContent true ts rest = IsGroup ts rest × (IsEmptyBraces ts rest → ⊥)
 IsContent false ts rest = (IsNothing or IsEmptyBraces) ts rest
 
--- [group], whatever is in it
+-- An optional group with any content: [group]
 abbrev pub IsOptionalGroup : Production
 IsOptionalGroup = IsAny IsContent
 
--- Word | Quoted | group
+-- The value of a property: Word | Quoted | group
 abbrev pub IsValue : PropertyValue → Production
 IsValue (values.Word w) = IsWord w
 IsValue (values.Quoted w) = IsSpan Quoted w
 IsValue values.Group = IsGroup
 
--- the word has a slash (47)
+-- Whether a word has a slash (47).
 abbrev pub has_slash : List ℕ → Bool
 has_slash text = list_any (λ b. b == 47) text
 
--- lparm = MODE "=" mode | (RESERVEDVALUE | RESERVEDGROUP) "=" (ON | OFF) | prop ["=" (Word |
--- Quoted | group)], where prop = a Word with a slash, which no keyword has
+-- A part of a LocalControl: lparm = MODE "=" mode | (RESERVEDVALUE | RESERVEDGROUP) "=" (ON | OFF) | prop ["=" (Word |
+-- Quoted | group)], where prop is a Word with a slash, which no keyword has.
 abbrev pub IsControlPart : List ℕ → ControlPart → Production
 IsControlPart source (controls.Mode mode) =
     IsName source keywords.Mode ▹ IsMark Equals ▹ IsWorded long_word source (mode_text mode)
@@ -154,14 +154,14 @@ IsControlPart source (controls.ReservedGroup on) =
 IsControlPart source (controls.Property name value) =
     IsWordThat has_slash source name ▹ IsOptionalAssigned IsValue value
 
--- sparm = LOCAL Octets | REMOTE Octets | LOCALCONTROL "{" lparm *("," lparm) "}"
+-- A part of a stream: sparm = LOCAL Octets | REMOTE Octets | LOCALCONTROL "{" lparm *("," lparm) "}"
 abbrev pub IsStreamPart : List ℕ → StreamPart → Production
 IsStreamPart source (streams.Local text) = IsName source keywords.Local ▹ IsSpan Octets text
 IsStreamPart source (streams.Remote text) = IsName source keywords.Remote ▹ IsSpan Octets text
 IsStreamPart source (streams.LocalControl xs) =
     IsName source keywords.LocalControl ▹ IsBraced (IsControlPart source) xs
 
--- mparm = sparm | STREAM "=" number "{" sparm *("," sparm) "}" | TERMINATIONSTATE [group]
+-- A part of a Media descriptor: mparm = sparm | STREAM "=" number "{" sparm *("," sparm) "}" | TERMINATIONSTATE [group]
 abbrev pub IsMediaPart : List ℕ → MediaPart → Production
 IsMediaPart source (parts.Part part) = IsStreamPart source part
 IsMediaPart source (parts.Stream number xs) =
@@ -170,12 +170,13 @@ IsMediaPart source (parts.Stream number xs) =
 IsMediaPart source (parts.TerminationState filled) =
     IsName source keywords.TerminationState ▹ IsContent filled
 
--- audit = AUDIT "{" [aword *("," aword)] "}"
+-- An Audit: audit = AUDIT "{" [aword *("," aword)] "}"
 abbrev pub IsAudit : List ℕ → List AuditWord → Production
 IsAudit source xs =
     IsName source keywords.Audit ▹ IsAnyBraced (IsWorded (by_keyword audit_word_named) source) xs
 
--- [group | "=" group | "=" Word [group]], and whether it is content; bare and empty braces are not
+-- The rest of another descriptor: [group | "=" group | "=" Word [group]]. The flag says whether the descriptor has
+-- content. A bare keyword or empty braces do not count as content.
 abbrev pub IsOtherContent : Bool → Production
 IsOtherContent false = IsContent false
 IsOtherContent true =
@@ -189,9 +190,8 @@ keyword_for others.Mux = keywords.Mux
 keyword_for others.DigitMap = keywords.DigitMap
 keyword_for others.EventBuffer = keywords.EventBuffer
 
--- param = MEDIA "{" mparm *("," mparm) "}" | audit | other
--- other = (SIGNALS | EVENTS | MODEM | MUX | DIGITMAP | EVENTBUFFER) [group | "=" group | "=" Word
--- [group]]
+-- A descriptor: param = MEDIA "{" mparm *("," mparm) "}" | audit | other, where other = (SIGNALS | EVENTS | MODEM | MUX
+-- | DIGITMAP | EVENTBUFFER) [group | "=" group | "=" Word [group]]
 abbrev pub IsDescriptor : List ℕ → Descriptor → Production
 IsDescriptor source (descriptors.Media xs) =
     IsName source keywords.Media ▹ IsBraced (IsMediaPart source) xs
@@ -199,14 +199,14 @@ IsDescriptor source (descriptors.Audit xs) = IsAudit source xs
 IsDescriptor source (descriptors.Other word filled) =
     IsName source (keyword_for word) ▹ IsOtherContent filled
 
--- ["{" audit "}"]
+-- An optional Audit in braces: ["{" audit "}"]
 abbrev pub IsOptionalAudit : List ℕ → List Descriptor → Production
 IsOptionalAudit source [] ts rest = IsNothing ts rest
 IsOptionalAudit source (descriptors.Audit xs ∷ []) ts rest =
     (IsMark Open ▹ IsAudit source xs ▹ IsMark Close) ts rest
 IsOptionalAudit source _ ts rest = ⊥
 
--- [group], without a descriptor
+-- An optional group, which yields no descriptor: [group]
 abbrev pub IsSkipped : List Descriptor → Production
 IsSkipped xs ts rest = (xs ≡ []) × IsOptionalGroup ts rest
 
@@ -221,29 +221,29 @@ IsDescribed source commands.Subtract xs = IsOptionalAudit source xs
 IsDescribed source commands.AuditValue xs = IsOptionalAudit source xs
 IsDescribed source _ xs = IsSkipped xs
 
--- O- before an optional command, W- before a command that requests one reply for all matches
+-- The prefix of a command: O- if the command is optional, then W- if it requests one reply for all matches.
 abbrev pub prefix_of : Bool → Bool → List ℕ
 prefix_of optional wildcard =
     (if optional then codes "O-" else []) ++ (if wildcard then codes "W-" else [])
 
--- the long form of the keyword after a prefix
+-- The long form of the keyword after a prefix.
 abbrev pub word_after : List ℕ → List ℕ → Option (List ℕ)
 word_after prefix text = option_and_then long_word (after_prefix prefix text)
 
--- command = ["O-"]["W-"] word "=" term with its descriptors, where term = a Word of 1 to 64 bytes
+-- A command with its descriptors: command = ["O-"]["W-"] word "=" term, where term is a Word of 1 to 64 bytes.
 abbrev pub IsCommand : List ℕ → Command → Production
 IsCommand source x =
     IsWorded (word_after (prefix_of x.is_optional x.wants_wildcard)) source (command_text x.word)
     ▹ IsMark Equals ▹ IsWordThat is_term source x.term
     ▹ IsDescribed source x.word x.descriptors
 
--- triple = term "," term "," (ISOLATE | ONEWAY | BOTHWAY)
+-- A topology triple: triple = term "," term "," (ISOLATE | ONEWAY | BOTHWAY)
 abbrev pub IsTriple : List ℕ → NamedTriple → Production
 IsTriple source x =
     IsWordThat is_term source x.first ▹ IsMark Comma ▹ IsWordThat is_term source x.second
     ▹ IsMark Comma ▹ IsWorded long_word source (association_text x.association)
 
--- property = TOPOLOGY "{" triple *("," triple) "}" | CONTEXTAUDIT "{" caword *("," caword) "}"
+-- A context property: property = TOPOLOGY "{" triple *("," triple) "}" | CONTEXTAUDIT "{" caword *("," caword) "}"
 --          | PRIORITY "=" Word | EMERGENCY ["=" Word]
 abbrev pub IsContextProperty : List ℕ → ContextProperty → Production
 IsContextProperty source (properties.Topology xs) =
@@ -256,66 +256,66 @@ IsContextProperty source (properties.Priority word) =
 IsContextProperty source (properties.Emergency word) =
     IsName source keywords.Emergency ▹ IsOptionalAssigned IsWord word
 
--- parts "}", where parts = property *("," property) ["," commands] | commands, and commands =
+-- The content of an action: parts "}", where parts = property *("," property) ["," commands] | commands, and commands =
 -- command *("," command)
 abbrev pub IsParts : List ℕ → List ContextProperty → List Command → Production
 IsParts source [] xs = IsListed (IsCommand source) xs
 IsParts source (p ∷ []) [] = IsContextProperty source p ▹ IsMark Close
 IsParts source (p ∷ ps) xs = IsContextProperty source p ▹ IsMark Comma ▹ IsParts source ps xs
 
--- action = CONTEXT "=" context "{" parts "}"
+-- An action: action = CONTEXT "=" context "{" parts "}"
 abbrev pub IsAction : List ℕ → Action → Production
 IsAction source x =
     IsName source keywords.Context ▹ IsMark Equals ▹ IsWorded context_id_of source x.context
     ▹ IsMark Open ▹ IsParts source x.properties x.commands
 
--- request = TRANSACTION "=" number "{" action *("," action) "}"
+-- A transaction request: request = TRANSACTION "=" number "{" action *("," action) "}"
 abbrev pub IsRequest : List ℕ → Request → Production
 IsRequest source x =
     IsName source keywords.Transaction ▹ IsMark Equals ▹ IsWorded number_of source x.number
     ▹ IsBraced (IsAction source) x.actions
 
--- answer = (REPLY | PENDING) "=" number group
+-- A Reply or Pending item: answer = (REPLY | PENDING) "=" number group
 abbrev pub IsAnswer : List ℕ → Production
 IsAnswer source =
     (IsName source keywords.Reply or IsName source keywords.Pending) ▹ IsMark Equals
     ▹ IsAny (IsWorded number_of source) ▹ IsGroup
 
--- item = request | TRANSACTIONRESPONSEACK "{" range *("," range) "}" | answer, where an answer is
--- not kept
+-- An item of a message: item = request | TRANSACTIONRESPONSEACK "{" range *("," range) "}" | answer, where an answer is
+-- not kept.
 abbrev pub IsItem : List ℕ → Option MessageItem → Production
 IsItem source (Some (items.Request x)) = IsRequest source x
 IsItem source (Some (items.Acknowledgement xs)) =
     IsName source keywords.TransactionResponseAck ▹ IsBraced (IsWorded range_of source) xs
 IsItem source None = IsAnswer source
 
--- item *(item)
+-- One or more items of a message: item *(item)
 abbrev pub IsSequence : List ℕ → List (Option MessageItem) → Production
 IsSequence source [] ts rest = ⊥
 IsSequence source (x ∷ []) ts rest = IsItem source x ts rest
 IsSequence source (x ∷ y ∷ xs) ts rest = (IsItem source x ▹ IsSequence source (y ∷ xs)) ts rest
 
--- the body with these items
+-- The body with these items.
 abbrev pub body_of : List MessageItem → Body
 body_of [] = bodies.Ignored
 body_of (x ∷ xs) = bodies.Requests (x ∷ xs)
 
--- error = ERROR "=" Word group
+-- An Error body: error = ERROR "=" Word group
 abbrev pub IsError : List ℕ → Production
 IsError source = IsName source keywords.Error ▹ IsMark Equals ▹ IsMark Word ▹ IsGroup
 
--- item *(item), where the body contains the items that are kept
+-- A body of items: item *(item). The body contains the items that are kept.
 abbrev pub IsItems : List ℕ → Body → Production
 IsItems source x ts rest =
     (xs : List (Option MessageItem)) × (x ≡ body_of (filter_map (λ item. item) xs))
     × IsSequence source xs ts rest
 
--- body = error | item *(item)
+-- The body of a message: body = error | item *(item)
 abbrev pub IsBody : List ℕ → Body → Production
 IsBody source x ts rest =
     ((x ≡ bodies.Ignored) × IsError source ts rest) ⊎ IsItems source x ts rest
 
--- message = head mid body, with version 1 in the head and nothing after the body
+-- A message: message = head mid body, with version 1 in the head and nothing after the body.
 abbrev pub IsText : List ℕ → Message → List Token → Type 0
 IsText source m ts =
     (IsWorded version_in_head source 1 ▹ IsWordThat is_sender source m.sender

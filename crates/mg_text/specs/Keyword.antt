@@ -20,7 +20,7 @@ use Rattle.mg_text.specs.declared.keyword.Keyword.TheVariants.{DigitMap, EventBu
 use Rattle.mg_text.specs.declared.keyword.Keyword.TheVariants.{ObservedEvents, Packages, Priority}
 use Rattle.mg_text.specs.declared.keyword.Keyword.TheVariants.{Emergency}
 
--- the long and the short form of a keyword
+-- The long and the short form of a keyword.
 unfoldable pub forms_of : Keyword → List ℕ × List ℕ
 forms_of Transaction = (codes "Transaction", codes "T")
 forms_of Reply = (codes "Reply", codes "P")
@@ -68,13 +68,13 @@ forms_of Packages = (codes "Packages", codes "PG")
 forms_of Priority = (codes "Priority", codes "PR")
 forms_of Emergency = (codes "Emergency", codes "EG")
 
--- the text is the keyword in one of its forms
+-- Whether the text is the keyword in one of its forms.
 unfoldable pub is_named : List ℕ → Keyword → Bool
 is_named text keyword =
     str_eq_ignore_ascii_case text (forms_of keyword).0
     || str_eq_ignore_ascii_case text (forms_of keyword).1
 
--- all keywords
+-- All keywords.
 abbrev pub keywords : List Keyword
 keywords =
     Transaction ∷ Reply ∷ Pending ∷ TransactionResponseAck ∷ Context ∷ ContextAudit ∷ Add ∷
@@ -84,10 +84,10 @@ keywords =
     ReservedValue ∷ ReservedGroup ∷ Statistics ∷ Error ∷ Signals ∷ Events ∷ Modem ∷ Mux ∷
     DigitMap ∷ EventBuffer ∷ ObservedEvents ∷ Packages ∷ Priority ∷ Emergency ∷ []
 
--- the keyword that the text spells, in either form
+-- The keyword that the text spells, in either form.
 unfoldable pub keyword_of : List ℕ → Option Keyword
 keyword_of text = find (is_named text) keywords
 
--- the long form of the keyword that the text spells
+-- The long form of the keyword that the text spells.
 abbrev pub long_word : List ℕ → Option (List ℕ)
 long_word text = option_map (λ keyword. (forms_of keyword).0) (keyword_of text)

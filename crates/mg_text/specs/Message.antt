@@ -1,4 +1,4 @@
--- Messages, and heads of other versions.
+-- Definitions of messages, and of datagrams that are not valid messages.
 use Rattle.std.specs.Prelude.{◌≡◌, ◌≢◌, ℕ, ◌+◌, ◌<◌, ◌≤◌, ◌⊎◌, false, List, [], ◌∷◌, length, Option}
 use Rattle.std.specs.Prelude.{None, Err}
 use Rattle.std.specs.Option.{option_map}
@@ -16,7 +16,7 @@ use Rattle.mg_text.specs.declared.message.Message.{Message}
 use Rattle.mg_text.specs.Head.{version_in_head}
 use Rattle.mg_text.specs.Grammar.{IsText, IsWorded}
 
--- these tokens lead from one state of a scanner to another
+-- Scanning these tokens leads from the old state of the scanner to the new one.
 abbrev pub Reaches : Scanning → List Token → Scanning → Type 0
 Reaches old [] new = old ≡ new
 Reaches old (t ∷ ts) new =
@@ -25,20 +25,20 @@ Reaches old (t ∷ ts) new =
 abbrev pub scanning_of : List ℕ → Scanning
 scanning_of source = record { source = source; at = 0; named = false }
 
--- the bytes are these tokens, followed by a fault or the end
+-- The bytes consist of these tokens, followed by a fault or the end.
 pub record AreTokens (source : List ℕ) (ts : List Token) (fault : Option ScanFault) : Type 0 where
   pub last : Scanning
   pub way : Reaches (scanning_of source) ts last
   pub end : first_token last.named (rest_of last) ≡ option_map Err fault
 
--- the bytes, at most 8192, follow the grammar, and this is their tree
+-- The bytes, of which there are at most 8192, follow the grammar and have this tree.
 pub record IsTree (source : List ℕ) (m : Message) : Type 0 where
   pub short : length source ≤ message_limit
   pub tokens : List Token
   pub are : AreTokens source tokens None
   pub is : IsText source m tokens
 
--- the number of requests among items, and the total number of commands in them
+-- The number of requests among the items, and the total number of commands in these requests.
 abbrev pub requests_in : List MessageItem → ℕ
 requests_in [] = 0
 requests_in (items.Request x ∷ xs) = 1 + requests_in xs
@@ -63,18 +63,18 @@ pub record IsMessage (source : List ℕ) (m : Message) : Type 0 where
   pub requests : requests_in (items_of m.body) ≤ request_limit
   pub commands : commands_in (items_of m.body) ≤ command_limit
 
--- a message that exceeds the limits
+-- The message exceeds the limit on requests or on commands.
 abbrev pub ExceedsLimits : Message → Type 0
 ExceedsLimits m =
     (request_limit < requests_in (items_of m.body))
     ⊎ (command_limit < commands_in (items_of m.body))
 
--- the bytes are too long, or their tree exceeds the limits
+-- The bytes are too long, or their tree exceeds the limits.
 abbrev pub IsTooMany : List ℕ → Type 0
 IsTooMany source =
     (message_limit < length source) ⊎ ((m : Message) × IsTree source m × ExceedsLimits m)
 
--- the bytes start with a head of another version, whatever follows the head
+-- The bytes start with a head of another version. The head may be followed by anything.
 pub record HasOtherVersion (source : List ℕ) (version : ℕ) : Type 0 where
   pub short : length source ≤ message_limit
   pub tokens : List Token

@@ -4,15 +4,15 @@ use Rattle.mg_words.specs.Limits.{message_limit}
 use Rattle.mg_text.specs.declared.message.Message.{Message}
 use Rattle.mg_text.specs.Message.{IsTree, IsMessage, IsTooMany, HasOtherVersion}
 
--- A message with its tree, a datagram that exceeds a limit, a message of another version, or
--- something that is not a message.
+-- A message with its tree, a datagram that exceeds a limit, a message of another version, or a datagram that is not a
+-- message.
 pub data MessageReading : Type 0 where
   Read : (message : Message) → MessageReading
   TooMany : MessageReading
   OtherVersion : (version : ℕ) → MessageReading
   NoMessage : MessageReading
 
--- bytes within the length limit, without a head of another version, that do not follow the grammar
+-- The bytes are within the length limit, have no head of another version, and do not follow the grammar.
 pub record IsNoMessage (bytes : List ℕ) : Type 0 where
   pub short : length bytes ≤ message_limit
   pub no_version : (n : ℕ) → HasOtherVersion bytes n → ⊥

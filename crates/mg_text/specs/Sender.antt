@@ -10,7 +10,7 @@ use Rattle.mg_words.specs.Numbers.{port_of}
 use Rattle.mg_words.specs.Address.{address_of}
 use Rattle.mg_words.specs.Cut.{cut}
 
--- a letter, a digit, - or .
+-- Whether a byte is a letter, a digit, - or a dot.
 abbrev pub is_domain_byte : ℕ → Bool
 is_domain_byte b = is_ascii_alphanumeric b || b == 45 || b == 46
 
@@ -21,16 +21,17 @@ is_domain text =
 abbrev pub is_address : List ℕ → Bool
 is_address text = is_some (address_of text)
 
--- nothing, or a colon and a port
+-- Whether a text is empty, or a colon and a port.
 abbrev pub is_port_part : List ℕ → Bool
 is_port_part [] = true
 is_port_part (b ∷ port) = if b == 58 then is_some (port_of port) else false
 
--- the part before the closing mark passes the test; a port may follow the mark
+-- Whether the part before the closing mark passes the test, and the part after the mark is empty or a port.
 abbrev pub is_host : (List ℕ → Bool) → Option (List ℕ × List ℕ) → Bool
 is_host test parts = option_map_or (λ p. test p.0 && is_port_part p.1) parts false
 
--- [address] or <domain name>, each with an optional port, or a device name of 1 to 64 bytes
+-- Whether a text names a sender: [address] or <domain name>, each with an optional port, or a device name of 1 to 64
+-- bytes.
 abbrev pub is_sender : List ℕ → Bool
 is_sender [] = false
 is_sender (b ∷ rest) =

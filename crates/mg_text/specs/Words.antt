@@ -14,18 +14,18 @@ use Rattle.mg_text.specs.declared.descriptor.AuditWord.TheVariants as audits
 use Rattle.mg_text.specs.declared.body.Range.{Range}
 use Rattle.mg_text.specs.Keyword.{keyword_of}
 
--- the value of a string that is one form of a keyword
+-- The value of a text that is a keyword in either form.
 abbrev pub by_keyword : {X : Type 0} → (Keyword → Option X) → List ℕ → Option X
 by_keyword meaning text = option_and_then meaning (keyword_of text)
 
--- the properties of a context that ContextAudit asks for
+-- The property of a context that a ContextAudit asks for with this keyword.
 abbrev pub context_word_named : Keyword → Option ContextWord
 context_word_named keywords.Topology = Some contexts.Topology
 context_word_named keywords.Priority = Some contexts.Priority
 context_word_named keywords.Emergency = Some contexts.Emergency
 context_word_named _ = None
 
--- the descriptors that an Audit asks for
+-- The descriptor that an Audit asks for with this keyword.
 abbrev pub audit_word_named : Keyword → Option AuditWord
 audit_word_named keywords.Media = Some audits.Media
 audit_word_named keywords.Statistics = Some audits.Statistics
@@ -39,13 +39,13 @@ audit_word_named keywords.ObservedEvents = Some audits.ObservedEvents
 audit_word_named keywords.Packages = Some audits.Packages
 audit_word_named _ = None
 
--- ON or OFF
+-- The value of ON or OFF.
 abbrev pub switch_of : List ℕ → Option Bool
 switch_of text =
     if str_eq_ignore_ascii_case text (codes "ON") then Some true
     else (if str_eq_ignore_ascii_case text (codes "OFF") then Some false else None)
 
--- a range of transaction numbers: one number, or two with - (45) between them
+-- A range of transaction numbers: one number, or two numbers with - (45) between them.
 abbrev pub range_from : ℕ → Option ℕ → Option Range
 range_from first last = option_map (λ last. record { first = first; last = last }) last
 

@@ -7,7 +7,7 @@ use mg_scan::Token;
 
 /// A type that a word of a message can be parsed as.
 pub trait FromWord: Drop + Sized {
-    /// The value of a string, if it has one.
+    /// The value of a string, if the string has a value.
     ghost meaning: { List ℕ → Option Self };
 
     fn from_word(text: &[u8]) -> Option<Self>

@@ -146,14 +146,14 @@ fn answered(message: Result<Message, ReadFault>, len: usize) -> Result<Message, 
 /// other than 1, whatever follows the head. Returns `Syntax` for anything else that does not follow the grammar.
 /// Returns `TooMany` for a message with more than 4 requests, or with more than 64 commands in total.
 pub fn read(alloc: Global, source: &[u8]) -> Result<Message, ReadFault>
-    // The result is a message.
+    // A result without a fault is a message with its tree.
     ensures found { IfOk result (λ m. IsMessage source.now m) }
     ensures proper { IfOk result (λ m. are_proper source.now (items_of m.body) ≡ true) }
     ensures sender { IfOk result (λ m. length (text_of source.now m.sender) ≤ sender_limit) }
     // Every message is read, unless memory runs out.
     ensures only { (m : Message) → IsMessage source.now m → (result ≡ Err ReadFault.NoMemory) ⊎ (result ≡ Ok m) }
 
-    // The faults and their order.
+    // The conditions for each fault, and the order of the faults.
     ensures long { message_limit < length source.now → result ≡ Err ReadFault.TooMany }
     ensures many { (m : Message) → IsTree source.now m → ExceedsLimits m →
         (result ≡ Err ReadFault.NoMemory) ⊎ (result ≡ Err ReadFault.TooMany) }

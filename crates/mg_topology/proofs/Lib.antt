@@ -1,4 +1,4 @@
--- Lemmas that several proofs share. A crate above may cite each of them.
+-- Lemmas that several proofs share, including proofs of the crates above.
 pub mod EditLemmas
 pub mod MaskLemmas
 pub mod SeatsLemmas

@@ -1,4 +1,4 @@
--- What the bits of a mask say of its seats. Only these lemmas see the bits.
+-- The seats of a mask, in terms of its bits. Only these lemmas see the bits.
 use Rattle.std.proofs.Common.{◌≡◌, ℕ, ◌-◌, ◌*◌, ◌/◌, ◌%◌, ◌^◌, ◌<◌, ◌≤◌, Bool, true, false, not, ◌||◌, ◌&&◌, ◌==◌, nat_eq, nat_lt, zero, suc, min, max, bit_and, bit_or, w64, refl, sym, ap, ◌∙◌, arith, inl, inr}
 use Rattle.std.specs.Int.{bit_at, trailing_zeros, Width}
 use Rattle.std.proofs.lemmas.Nat.Bits.{bit_at_or, bit_at_and, bit_at_not, bit_at-lt, bit_at_above, shr_and_one, bit_at-pow_same, bit_at-pow_other, bit_at-zero, bit_at-suc, bit_at_lowest, bit_at_ones, bit_at-trailing_zeros, same_from_bits}
@@ -8,7 +8,7 @@ use Rattle.std.proofs.lemmas.Bool.{cases_lt, false≢true, ne_eqb, and_from, and
 use Rattle.mg_topology.specs.Mask.{has_seat, is_disjoint, HaveCommonSeat, IsLowest}
 use Rattle.mg_topology.specs.declared.mask.TheConstants.{SEATS}
 
--- the width of a mask: SEATS bits
+-- The width of a mask in bits, one for each seat.
 abbrev pub mask_width : Width
 mask_width = w64
 
@@ -34,32 +34,32 @@ pub has_seat-and : (a b s : ℕ) → has_seat (bit_and a b) s ≡ (has_seat a s 
 unfolding has_seat
 has_seat-and a b s = ap (λ n. n == 1) (bit_at_and a b s) ∙ and_test _ _ (bit_at-lt a s) (bit_at-lt b s)
 
--- in `!b`, a seat below the limit is in exactly where it isn't in b
+-- A seat below the limit is in `!b` if and only if it is not in b.
 pub has_seat-not : (b s : ℕ) → b < 2 ^ SEATS → s < SEATS → has_seat (2 ^ SEATS - 1 - b) s ≡ not (has_seat b s)
 unfolding has_seat
 has_seat-not b s p q = ap (λ n. n == 1) (bit_at_not mask_width b s p q) ∙ not_test _ (bit_at-lt b s)
 
--- the test `mask >> seat & 1 == 1`
+-- The test `mask >> seat & 1 == 1` says whether the seat is in the mask.
 pub has_seat-shr : (a s : ℕ) → nat_eq (bit_and (a / 2 ^ s) 1) 1 ≡ has_seat a s
 unfolding has_seat
 has_seat-shr a s = ap (λ n. n == 1) (shr_and_one a s)
 
--- the mask `1 << k`
+-- The mask `1 << k` contains seat k and no other seat.
 pub has_seat-shl : (k s : ℕ) → k < SEATS → has_seat (1 * 2 ^ k % 2 ^ SEATS) s ≡ (s == k)
 unfolding has_seat
 has_seat-shl k s p = ap (λ n. bit_at n s == 1) (one_shl k SEATS p) ∙ one_test k s
 
 -- ---- which seats a mask can have
--- no seat from the limit on is in it
+-- A mask contains no seat at or above the limit.
 pub has_seat-above : (a s : ℕ) → a < 2 ^ SEATS → SEATS ≤ s → has_seat a s ≡ false
 unfolding has_seat
 has_seat-above a s p q = ap (λ n. n == 1) (bit_at_above a SEATS s p q)
 
--- the same as one test, which `holds` makes
+-- For a mask, the test of `holds`, which includes the limit, agrees with `has_seat`.
 pub has_seat-inside : (a s : ℕ) → a < 2 ^ SEATS → has_seat a s ≡ (nat_lt s SEATS && has_seat a s)
 has_seat-inside a s p = grind (arith, nat_tests, has_seat-above a s p)
 
--- so a seat of it is below the limit
+-- Each seat of a mask is below the limit.
 pub below_limit : (a s : ℕ) → a < 2 ^ SEATS → has_seat a s ≡ true → s < SEATS
 below_limit a s p h =
     elim (cases_lt s SEATS) [
@@ -67,7 +67,7 @@ below_limit a s p h =
       | inr above ↦ absurd (false≢true (sym (has_seat-above a s p above) ∙ h))
     ]
 
--- the empty mask and the full one
+-- The empty mask contains no seat, and the full mask contains every seat below the limit.
 pub has_seat-empty : (s : ℕ) → has_seat 0 s ≡ false
 unfolding has_seat
 has_seat-empty s = ap (λ n. n == 1) (bit_at-zero s)
@@ -81,7 +81,7 @@ outside : (x y z : Bool) → x ≡ false → (x && y) ≡ (x && z)
 outside true y z e = cc
 outside false y z e = refl
 
--- the mask `a & !b`
+-- The mask `a & !b` contains the seats of a that are not in b.
 pub has_seat-less : (a b s : ℕ) → a < 2 ^ SEATS → b < 2 ^ SEATS →
     has_seat (bit_and a (2 ^ SEATS - 1 - b)) s ≡ (has_seat a s && not (has_seat b s))
 has_seat-less a b s p q =
@@ -91,7 +91,7 @@ has_seat-less a b s p q =
     ]
 
 -- ---- two sets with and without a common seat
--- a number that is not 0 has a bit
+-- A number other than 0 has a bit that is 1.
 some_bit : (fuel n : ℕ) → n ≤ fuel → 0 < n → (s : ℕ) × (bit_at n s ≡ 1)
 some_bit zero n p q = absurd (omega (arith))
 some_bit (suc fuel) n p q =
@@ -105,7 +105,7 @@ common_bit : (a b : ℕ) → is_disjoint a b ≡ false → 0 < bit_and a b
 unfolding is_disjoint
 common_bit a b p = grind (arith, nat_tests)
 
--- sets that are not disjoint have a seat in common
+-- Sets that are not disjoint have a seat in common.
 pub has_common_seat : (a b : ℕ) → is_disjoint a b ≡ false → HaveCommonSeat a b
 unfolding has_seat
 has_common_seat a b p =
@@ -113,7 +113,7 @@ has_common_seat a b p =
     let both = and_parts _ _ (sym (has_seat-and a b found.0) ∙ ap (λ n. n == 1) found.1) in
     record { seat = found.0; in_first = both.0; in_second = both.1 }
 
--- and the converse
+-- Sets with a common seat are not disjoint.
 pub is_disjoint-common : (a b : ℕ) → HaveCommonSeat a b → is_disjoint a b ≡ false
 unfolding is_disjoint
 is_disjoint-common a b h =
@@ -121,26 +121,26 @@ is_disjoint-common a b h =
     has_seat-and a b h.seat ∙ and_from _ _ h.in_first h.in_second))
 
 -- ---- masks as numbers
--- a set that is not 0 has a lowest seat, the number of its trailing zeros
+-- A mask other than 0 has a lowest seat, which is the number of its trailing zeros.
 pub lowest_of : (a : ℕ) → 0 < a → a < 2 ^ SEATS → IsLowest a (trailing_zeros mask_width a)
 unfolding has_seat
 lowest_of a p q =
     let z = bit_at-trailing_zeros mask_width a p q in
     record { below_limit = z.0; is_in = ap (λ n. n == 1) z.1; is_least = λ s l. ap (λ n. n == 1) (z.2 s l) }
 
--- a mask that has lost a seat is a smaller number
+-- A mask without one of its seats is a smaller number.
 pub smaller_without : (a b s : ℕ) → b ≤ a → has_seat a s ≡ true → has_seat b s ≡ false → b < a
 smaller_without a b s le p q = grind (arith, ap (λ n. has_seat n s))
 
 same_bit : (x y : ℕ) → x < 2 → y < 2 → (x == 1) ≡ (y == 1) → x ≡ y
 same_bit x y p q e = grind (arith, nat_tests)
 
--- masks with the same seats are equal
+-- Masks with the same seats are equal.
 pub same_mask : (a b : ℕ) → ((s : ℕ) → has_seat a s ≡ has_seat b s) → a ≡ b
 unfolding has_seat
 same_mask a b h = same_from_bits a b (λ i. same_bit _ _ (bit_at-lt a i) (bit_at-lt b i) (h i))
 
 -- ---- for proofs elsewhere
--- what goals about seats mostly want, here and in the crates above: a function names it as
--- `#[tactic(auto, using(mg_topology::proofs::MaskLemmas::seat_rules))]`
+-- Rules for goals about seats, here and in the crates above. A function names them as `#[tactic(auto,
+-- using(mg_topology::proofs::MaskLemmas::seat_rules))]`.
 pub ruleset seat_rules = (nat_tests, has_seat-empty, has_seat-full)

@@ -1,4 +1,4 @@
--- The seats of a mask as a list in rising order.
+-- The seats of a mask as a list in ascending order.
 use Rattle.std.proofs.Common.{◌≡◌, ℕ, zero, suc, ◌+◌, ◌≤◌, ◌<◌, Bool, true, false, ◌==◌, ◌↔◌, cond, List, [], ◌∷◌, length, IsTrue, inl, inr, refl, sym, ap, subst, ◌∙◌, arith}
 use Rattle.std.specs.List.{filter, range_with_len, All, Contains}
 use Rattle.std.specs.List.Sorted.{IsStrictlyIncreasing}
@@ -9,7 +9,7 @@ use Rattle.std.proofs.lemmas.List.Kept.{IsStrictlyIncreasing-filter}
 use Rattle.std.proofs.lemmas.List.FromFn.{length-range_with_len, get_or-range_with_len}
 use Rattle.mg_topology.specs.Mask.{seat_limit, has_seat, seats_of, seat_count, IsEmpty, IsLowest}
 
--- the test p without the number s
+-- The test q agrees with p except that it rejects the number s.
 abbrev IsWithout : (ℕ → Bool) → ℕ → (ℕ → Bool) → Type 0
 IsWithout p s q = (k : ℕ) → q k ≡ cond (k == s) false (p k)
 
@@ -32,7 +32,7 @@ pub filter_none : (p : ℕ → Bool) (a n : ℕ) → ((k : ℕ) → p k ≡ fals
 filter_none p a zero h = refl
 filter_none p a (suc n) h = filtered p a n false (h a) ∙ filter_none p (a + 1) n h
 
--- the first that p keeps, and those that q keeps
+-- Filtering with p yields its first number s, followed by the numbers that q keeps.
 pub filter_first : (p q : ℕ → Bool) (s a n : ℕ) → IsWithout p s q → a ≤ s → s < a + n → p s ≡ true →
     ((k : ℕ) → k < s → p k ≡ false)
     → filter p (range_with_len a n) ≡ s ∷ filter q (range_with_len a n)
@@ -57,7 +57,7 @@ longer : (b : Bool) (x : ℕ) (xs ys : List ℕ) → length xs ≡ length ys + 1
 longer true x xs ys e = omega (arith, e)
 longer false x xs ys e = e
 
--- q keeps one less than p
+-- Filtering with q keeps one number less than filtering with p.
 pub filter_fewer : (p q : ℕ → Bool) (s a n : ℕ) → IsWithout p s q → a ≤ s → s < a + n → p s ≡ true
     → length (filter p (range_with_len a n)) ≡ length (filter q (range_with_len a n)) + 1
 filter_fewer p q s a zero w l r here = absurd (omega (arith, l, r))
@@ -87,7 +87,7 @@ length-filter_at_most p a (suc n) =
 
 -- ---- masks
 
--- the seats of a mask are those that a test passes, where the test tells what the mask has
+-- If a test agrees with a mask on all seats, filtering the seats with the test yields the seats of the mask.
 pub seats_of-listed : (mask : ℕ) (p : ℕ → Bool) → ((s : ℕ) → s < seat_limit → has_seat mask s ≡ p s) →
     seats_of mask ≡ filter p (range_with_len 0 seat_limit)
 unfolding seats_of
@@ -97,7 +97,7 @@ pub seats_of-empty : (mask : ℕ) → IsEmpty mask → seats_of mask ≡ []
 unfolding seats_of
 seats_of-empty mask h = filter_none (has_seat mask) 0 seat_limit h
 
--- the lowest seat, and the seats of the mask without it
+-- The seats of a mask are its lowest seat and then the seats of the mask without it.
 pub seats_of-rest : (mask rest s : ℕ) → ((k : ℕ) → has_seat rest k ≡ cond (k == s) false (has_seat mask k)) →
     IsLowest mask s → seats_of mask ≡ s ∷ seats_of rest
 unfolding seats_of

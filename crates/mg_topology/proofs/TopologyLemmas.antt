@@ -1,4 +1,4 @@
--- How each edit takes what a topology keeps from one list of edits to the next.
+-- After each edit, the topology represents the list of edits with that edit added.
 use Rattle.std.proofs.Common.{◌≡◌, ◌≢◌, ℕ, ◌<◌, Bool, true, false, not, ◌&&◌, ◌==◌, nat_lt, cond, Option, Some, List, [], ◌∷◌, ◌++◌, slice_index, length, get_or, take, ◌+◌, ◌^◌, refl, sym, ap, ◌∙◌, arith}
 use Rattle.std.proofs.lemmas.List.{take_more}
 use Rattle.std.proofs.lemmas.Bool.Decides.{nat_tests}
@@ -13,7 +13,7 @@ use Rattle.mg_topology.proofs.MaskLemmas.{has_seat-inside}
 
 -- ---- seats, and rows at two held seats that differ
 
--- an answer about a pair depends on the row only where both are held and differ
+-- Whether a listener hears a talker depends on the row only if both seats are held and differ.
 same_pair : (x y x' y' d b b' : Bool) → x ≡ x' → y ≡ y' → (x' ≡ true → y' ≡ true → d ≡ false → b ≡ b') →
     (x && (y && (not d && b))) ≡ (x' && (y' && (not d && b')))
 same_pair x y false y' d b b' p q r = rw (p) refl
@@ -25,7 +25,8 @@ row_of_pair : (x y d b b' : Bool) → x ≡ true → y ≡ true → d ≡ false 
     (x && (y && (not d && b))) ≡ (x && (y && (not d && b'))) → b ≡ b'
 row_of_pair x y d b b' p q r e = grind arith
 
--- to stand for a list of edits is to hold its seats, and to have its words in the rows of held seats
+-- A topology represents a list of edits if it holds the same seats and its rows agree with the last words on held
+-- seats.
 pub stands_from : (k : TopologyState) (es : List TopologyEdit) → ((s : ℕ) → holds k s ≡ is_held es s)
     → ((t l : ℕ) → is_held es t ≡ true → is_held es l ≡ true → (t == l) ≡ false →
     has_seat (slice_index k.rows l) t ≡ may_hear es t l)
@@ -115,7 +116,7 @@ apply_all-push : (triples : List Triple) (triple : Triple) (es : List TopologyEd
 apply_all-push [] triple es = refl
 apply_all-push (t ∷ ts) triple es = apply_all-push ts triple (Apply t ∷ es)
 
--- the triples so far, and one more
+-- Applying one more triple adds its edit to the list.
 pub apply_all-more : (triples : List Triple) (i : ℕ) (triple : Triple) (es : List TopologyEdit) → i < length triples →
     triple ≡ get_or triples i triple
     → apply_all (take (i + 1) triples) es ≡ Apply triple ∷ apply_all (take i triples) es
@@ -126,7 +127,8 @@ apply_all-more triples i triple es p e =
 
 -- ---- what a topology tells
 
--- the row of a held listener, without itself and the seats that nobody holds
+-- The row of a held listener, without itself and the seats that are not held, contains the talkers that the listener
+-- hears.
 pub row_tells : (k : TopologyState) (t l : ℕ) (b : Bool) → k.held < 2 ^ SEATS → holds k l ≡ true
     → b ≡ cond (t == l) false (has_seat (slice_index k.rows l) t && has_seat k.held t) → b ≡ hears k t l
 row_tells k t l b p q e = grind (arith, nat_tests, has_seat-inside k.held t p)

@@ -1,4 +1,4 @@
--- When a triple has a seat in both of its sets.
+-- The test on masks finds the triples whose sets share a seat.
 use Rattle.std.proofs.Common.{◌≡◌, ◌↔◌, true, List, Any, IsTrue, refl, ap}
 use Rattle.std.specs.List.{list_any}
 use Rattle.std.proofs.lemmas.Bool.{not-true, not_from_false, and_parts, and_from}
@@ -22,7 +22,7 @@ found triple e =
 tested : (triple : Triple) → Overlaps triple → overlaps triple ≡ true
 tested triple h = and_from _ _ (ap is_oneway h.0) (not_from_false _ (is_disjoint-common triple.first triple.second h.1))
 
--- the test of the masks says whether the triple overlaps
+-- The test `overlaps` agrees with the predicate `Overlaps`.
 pub overlaps-is : (triple : Triple) → IsTrue (overlaps triple) ↔ Overlaps triple
 overlaps-is triple = (found triple, tested triple)
 
@@ -30,7 +30,7 @@ any_from : {P Q : Triple → Type 0} → ((triple : Triple) → P triple → Q t
     Any P triples → Any Q triples
 any_from step triples (k, triple, within, is, p) = (k, triple, within, is, step triple p)
 
--- and so for a list of triples
+-- The test `overlaps` finds a triple in a list if and only if some triple of the list overlaps.
 pub list_any-overlaps : (triples : List Triple) → IsTrue (list_any overlaps triples) ↔ Any Overlaps triples
 list_any-overlaps triples = (
   λ e. any_from found triples (Any-from_list_any overlaps triples e),

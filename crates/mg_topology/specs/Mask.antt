@@ -8,33 +8,33 @@ use Rattle.std.specs.List.{filter, range_with_len}
 abbrev pub seat_limit : ℕ
 seat_limit = 64
 
--- whether the seat is in the set: bit s is for seat s
+-- Whether the seat is in the set: bit s is for seat s.
 unfoldable pub has_seat : ℕ → ℕ → Bool
 has_seat mask seat = bit_at mask seat == 1
 
--- the seats of the set, in ascending order
+-- The seats of the set, in ascending order.
 unfoldable pub seats_of : ℕ → List ℕ
 seats_of mask = filter (has_seat mask) (range_with_len 0 seat_limit)
 
--- how many seats the set has
+-- The number of seats in the set.
 abbrev pub seat_count : ℕ → ℕ
 seat_count mask = length (seats_of mask)
 
--- whether the sets have no seat in common
+-- Whether the sets have no seat in common.
 unfoldable pub is_disjoint : ℕ → ℕ → Bool
 is_disjoint a b = bit_and a b == 0
 
--- some seat is in both sets
+-- Some seat is in both sets.
 pub record HaveCommonSeat (a b : ℕ) : Type 0 where
   pub seat : ℕ
   pub in_first : IsTrue (has_seat a seat)
   pub in_second : IsTrue (has_seat b seat)
 
--- no seat is in the set
+-- No seat is in the set.
 abbrev pub IsEmpty : ℕ → Type 0
 IsEmpty mask = (seat : ℕ) → IsFalse (has_seat mask seat)
 
--- the seat is the lowest of the set
+-- The seat is the lowest of the set.
 pub record IsLowest (mask seat : ℕ) : Type 0 where
   pub below_limit : seat < seat_limit
   pub is_in : IsTrue (has_seat mask seat)

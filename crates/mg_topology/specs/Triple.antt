@@ -5,38 +5,39 @@ use Rattle.mg_topology.specs.declared.triple.Triple.{Triple}
 use Rattle.mg_words.specs.declared.association.Association.{Association}
 use Rattle.mg_words.specs.declared.association.Association.TheVariants.{Isolate, Oneway, Bothway}
 
--- a triple that doesn't mention any pair
+-- A triple that does not mention any pair.
 abbrev pub empty_triple : Triple
 empty_triple = record { first = 0; second = 0; association = Bothway }
 
--- whether the talker is in the first set of the triple and the listener in the second
+-- Whether the talker is in the first set of the triple and the listener in the second.
 abbrev pub is_forward : Triple → ℕ → ℕ → Bool
 is_forward triple talker listener = has_seat triple.first talker && has_seat triple.second listener
 
--- a triple mentions a pair if one of the two is in its first set and the other in its second
+-- Whether a triple mentions a pair: one of the two is in its first set and the other in its second.
 abbrev pub mentions : Triple → ℕ → ℕ → Bool
 mentions triple a b = is_forward triple a b || is_forward triple b a
 
--- whether an association lets the listener hear the talker, given whether the pair is forward
+-- Whether an association lets the listener hear the talker. The flag says whether the talker is in the first set and
+-- the listener in the second.
 abbrev pub permits : Association → Bool → Bool
 permits Isolate forward = false
 permits Oneway forward = forward
 permits Bothway forward = true
 
--- whether a triple that mentions the pair lets the listener hear the talker
+-- Whether a triple that mentions the pair lets the listener hear the talker.
 abbrev pub word_of : Triple → ℕ → ℕ → Bool
 word_of triple talker listener = permits triple.association (is_forward triple talker listener)
 
--- the triple is Oneway, and its two sets share a seat
+-- The triple is Oneway, and its two sets share a seat.
 abbrev pub Overlaps : Triple → Type 0
 Overlaps triple = (triple.association ≡ Oneway) × HaveCommonSeat triple.first triple.second
 
--- whether the association is Oneway
+-- Whether the association is Oneway.
 abbrev pub is_oneway : Association → Bool
 is_oneway Isolate = false
 is_oneway Oneway = true
 is_oneway Bothway = false
 
--- `Overlaps` as a test (`overlap_is_a_common_seat` in src/theorems.rt)
+-- The predicate `Overlaps` as a test (`overlap_is_a_common_seat` in src/theorems.rt).
 abbrev pub overlaps : Triple → Bool
 overlaps triple = is_oneway triple.association && not (is_disjoint triple.first triple.second)

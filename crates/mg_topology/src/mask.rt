@@ -50,7 +50,7 @@ pub fn without_seat(mask: Mask, seat: usize) -> Mask
     requires { seat < SEATS }
     ensures seats { (s : ℕ) → has_seat result s ≡ (if s == seat then false else has_seat mask s) }
 
-    // So a loop that removes one seat after another takes as many steps as the set has seats.
+    // Removing seats one after another ends, because the mask becomes smaller and has one seat less each time.
     ensures smaller { IsTrue (has_seat mask seat) → result < mask }
     ensures fewer { IsTrue (has_seat mask seat) → seat_count mask ≡ seat_count result + 1 }
     ensures rest { IsLowest mask seat → seats_of mask ≡ seat ∷ seats_of result }

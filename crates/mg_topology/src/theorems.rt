@@ -40,7 +40,7 @@ pub fn last_triple_wins()
         last_word (newer ++ Apply triple ∷ older) a b ≡ Some triple }
 {}
 
-/// What each association means for a seat of the first set and a seat of the second.
+/// The meaning of each association for a seat of the first set and a seat of the second.
 pub fn associations()
     ensures isolate { (es : List TopologyEdit) (triple : Triple) (first second : ℕ) →
         IsTrue (is_forward triple first second) → triple.association ≡ Isolate →

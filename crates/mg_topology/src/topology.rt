@@ -58,7 +58,7 @@ impl Topology {
         self.held
     }
 
-    /// Adds a member in a free seat. It hears all others, and they hear it.
+    /// Adds a member in a free seat. The new member hears all others, and they hear the new member.
     pub fn enter(&mut self, seat: usize)
         requires below_limit { seat < SEATS }
         requires free { IsFalse (holds self.old seat) }

@@ -15,7 +15,7 @@ pub struct Triple {
     pub first: Mask,
     /// The second term: the listeners of a Oneway triple.
     pub second: Mask,
-    /// Which of the two hears the other.
+    /// Which of the two sets hears the other.
     pub association: Association,
 }
 

@@ -1,4 +1,4 @@
--- How many digits a number takes.
+-- The maximum lengths of numbers of 8, 16 and 32 bits in decimal.
 use Rattle.std.proofs.Common.{ℕ, ◌^◌, ◌<◌, ◌≤◌, length, arith, decimal}
 use Rattle.std.proofs.lemmas.Fmt.{length-decimal-le}
 

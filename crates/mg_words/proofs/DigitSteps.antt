@@ -9,13 +9,14 @@ use Rattle.std.specs.Int.Digits.{number_from_digits_after}
 use Rattle.std.specs.Prelude.{if◌then◌else◌, nat_le}
 use Rattle.mg_words.specs.Numbers.{decimal_of}
 
--- the value of digits after those of value n, while it is at most the limit
+-- The value of the digits in a list after digits with the value n. It is `None` if the value exceeds the limit or a
+-- byte is not a digit.
 unfoldable pub value_after : ℕ → ℕ → List ℕ → Option ℕ
 value_after limit n [] = Some n
 value_after limit n (d ∷ ds) = if is_ascii_digit d && nat_le (10 * n + (d - 48)) limit then
     value_after limit (10 * n + (d - 48)) ds else None
 
--- one more digit, whose value is small enough
+-- Reading one more digit does not change the value of the whole text, if the value so far is at most the limit.
 pub digit_step : (limit : ℕ) (text : List ℕ) (i n : ℕ) → i < length text → is_ascii_digit (get_or text i 0) ≡ true →
     10 * n + (get_or text i 0 - 48) ≤ limit →
     value_after limit (10 * n + (get_or text i 0 - 48)) (drop (i + 1) text) ≡ value_after limit n (drop i text)
@@ -39,7 +40,7 @@ at_end limit text i n le = rw (drop_all i text le) refl
 abbrev value_from : ℕ → List ℕ → ℕ
 value_from m text = number_from_digits_after 10 m (map (λ c. c - 48) text)
 
--- all are digits, and their value is at most the limit
+-- The number n, if the flag is true and n is at most the limit.
 abbrev checked : ℕ → Bool → ℕ → Option ℕ
 checked limit b n = cond (b && leb n limit) (Some n) None
 
@@ -68,7 +69,7 @@ value_after_is limit [] m small = rw (le-leb _ _ small) refl
 value_after_is limit (d ∷ text) m small = digit_is limit (is_ascii_digit d) (leb (10 * m + (d - 48)) limit) d m text
     refl refl (value_after_is limit text)
 
--- a text of a fit length is its digits' value, while that is at most the limit
+-- If a text is not empty and not too long, reading its digits one by one computes `decimal_of`.
 pub decimal_is : (most limit : ℕ) (text : List ℕ) → 0 < length text → length text ≤ most →
     value_after limit 0 text ≡ decimal_of most limit text
 decimal_is most limit text some fits = rw (ne_eqb (length text) 0 (λ e. absurd (omega arith)), le-leb _ _ fits)

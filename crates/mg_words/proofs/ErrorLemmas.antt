@@ -1,4 +1,4 @@
--- The parts of an error's descriptor, one after another.
+-- The length of an error descriptor, by its parts.
 use Rattle.std.proofs.Common.{ℕ, ◌<◌, ◌≤◌, length, append_assoc, arith, decimal}
 use Rattle.std.proofs.lemmas.Fmt.{length-decimal-le}
 

@@ -1,4 +1,4 @@
--- The table of the bytes of words.
+-- The table `WORD_BYTES` agrees with the definition `is_word_byte`.
 use Rattle.std.proofs.Common.{◌≡◌, ℕ, ◌<◌, Bool, List, map, get_or, refl, ◌∙◌, ap, arith}
 use Rattle.std.proofs.lemmas.List.FromFn.{get_or-map-range_with_len}
 use Rattle.std.specs.List.{range_with_len}

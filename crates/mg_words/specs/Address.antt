@@ -4,7 +4,7 @@ use Rattle.mg_words.specs.OptionSteps.{◌>>=◌}
 use Rattle.mg_words.specs.Cut.{cut}
 use Rattle.mg_words.specs.Numbers.{decimal_of}
 
--- four parts with dots between them, each of one to three digits and at most 255
+-- The four numbers of an address: four parts separated by dots, each of one to three digits and at most 255.
 unfoldable pub address_of : List ℕ → Option (List ℕ)
 address_of text = do
   first ← cut 46 text
@@ -16,7 +16,7 @@ address_of text = do
   d ← decimal_of 3 255 third.1
   Some (a ∷ b ∷ c ∷ d ∷ [])
 
--- an address in dotted decimal, without leading zeros
+-- The text of an address in dotted decimal, without leading zeros.
 abbrev pub address_text : List ℕ → List ℕ
 address_text address =
     decimal (slice_index address 0) ++ (codes "." ++ (decimal (slice_index address 1) ++ (codes "."

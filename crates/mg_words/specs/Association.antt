@@ -3,7 +3,7 @@ use Rattle.std.specs.Prelude.{ℕ, List, codes}
 use Rattle.mg_words.specs.declared.association.Association.{Association}
 use Rattle.mg_words.specs.declared.association.Association.TheVariants.{Isolate, Oneway, Bothway}
 
--- the keyword in its long form
+-- The keyword in its long form.
 unfoldable pub association_text : Association → List ℕ
 association_text Isolate = codes "Isolate"
 association_text Oneway = codes "Oneway"

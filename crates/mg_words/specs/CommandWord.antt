@@ -6,7 +6,7 @@ use Rattle.mg_words.specs.declared.command_word.CommandWord.TheVariants.{Subtrac
 use Rattle.mg_words.specs.declared.command_word.CommandWord.TheVariants.{AuditCapability, Notify}
 use Rattle.mg_words.specs.declared.command_word.CommandWord.TheVariants.{ServiceChange}
 
--- the keyword in its long form
+-- The keyword in its long form.
 unfoldable pub command_text : CommandWord → List ℕ
 command_text Add = codes "Add"
 command_text Modify = codes "Modify"

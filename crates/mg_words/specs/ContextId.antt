@@ -6,7 +6,7 @@ use Rattle.mg_words.specs.Numbers.{number_of}
 use Rattle.mg_words.specs.declared.context_id.ContextId.{ContextId}
 use Rattle.mg_words.specs.declared.context_id.ContextId.TheVariants.{Null, Choose, All, Number}
 
--- the context with this number; three numbers are other spellings of - $ *
+-- The context with this number. Three numbers are other spellings of -, $ and *.
 abbrev pub context_of_number : ℕ → ContextId
 context_of_number n =
     if n == 0 then Null
@@ -14,7 +14,7 @@ context_of_number n =
     else (if n == 4294967295 then All
     else Number n))
 
--- the context that a word names
+-- The context that a word names.
 unfoldable pub context_id_of : List ℕ → Option ContextId
 context_id_of text =
     if bytes_eq text (codes "-") then Some Null
@@ -22,7 +22,7 @@ context_id_of text =
     else (if bytes_eq text (codes "*") then Some All
     else option_map context_of_number (number_of text)))
 
--- the text of a context identifier in a reply
+-- The text of a context identifier in a reply.
 abbrev pub context_text : ContextId → List ℕ
 context_text Null = codes "-"
 context_text Choose = codes "$"

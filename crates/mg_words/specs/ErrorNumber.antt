@@ -3,7 +3,7 @@ use Rattle.std.specs.Prelude.{ℕ, List, ◌++◌, codes, decimal}
 use Rattle.mg_words.specs.declared.error_number.ErrorNumber.{ErrorNumber}
 use Rattle.mg_words.specs.declared.error_number.ErrorNumber.TheVariants as errors
 
--- each error's number and text
+-- The number and the text of each error.
 unfoldable pub error_row : ErrorNumber → ℕ × List ℕ
 error_row errors.Syntax = (400, codes "syntax")
 error_row errors.Version = (406, codes "version")
@@ -24,7 +24,7 @@ error_row errors.NotServed = (501, codes "not served")
 error_row errors.NoMedia = (515, codes "no media that can be served")
 error_row errors.ReplyTooLong = (533, codes "reply too long")
 
--- error = "Error=" number "{" quote text quote "}" (RFC 3525, Annex B.2, errorDescriptor)
+-- The descriptor of an error: "Error=" number "{" quote text quote "}" (RFC 3525, Annex B.2, errorDescriptor).
 abbrev pub error_with : ℕ × List ℕ → List ℕ
 error_with row = codes "Error=" ++ (decimal row.0 ++ (codes "{\"" ++ (row.1 ++ codes "\"}")))
 

@@ -1,20 +1,19 @@
--- The limits of this gateway. Definitions cite them by these names, and none of them repeats a
--- limit as a number. Where another definition says 2^32 or 4294967295, it means the range of 32
--- bits.
+-- The limits of this gateway. Definitions refer to them by name and repeat none as a number. A 2^32 or 4294967295 in
+-- another definition means the range of 32 bits.
 use Rattle.std.specs.Prelude.{ℕ}
 
--- the maximum number of members in a context
+-- The maximum number of members in a context.
 abbrev pub member_limit : ℕ
 member_limit = 64
 
--- the maximum number of contexts of the gateway, and of terminations in all of them
+-- The maximum number of contexts in a gateway, and of terminations in all of them.
 abbrev pub context_limit : ℕ
 context_limit = 64
 
 abbrev pub termination_limit : ℕ
 termination_limit = 256
 
--- the minimum and maximum depth of a play list, in frames, and the depth of a new one
+-- The minimum and maximum depth of a play list, in frames, and the depth of a new play list.
 abbrev pub least_depth : ℕ
 least_depth = 2
 
@@ -24,42 +23,42 @@ greatest_depth = 16
 abbrev pub first_depth : ℕ
 first_depth = 4
 
--- the maximum size of a datagram that is read, in bytes
+-- The maximum size of a datagram that is read, in bytes.
 abbrev pub message_limit : ℕ
 message_limit = 8192
 
--- the maximum number of requests in a message, and of commands in all of them
+-- The maximum number of requests in a message, and of commands in all of them.
 abbrev pub request_limit : ℕ
 request_limit = 4
 
 abbrev pub command_limit : ℕ
 command_limit = 64
 
--- the maximum length, in bytes, of a termination's name, a domain name or a device name
+-- The maximum length, in bytes, of a termination's name, a domain name or a device name.
 abbrev pub name_limit : ℕ
 name_limit = 64
 
--- the maximum length of a sender's name, in bytes: a domain name in angle brackets, a colon and a
--- five-digit port
+-- The maximum length of a sender's name, in bytes: a domain name in angle brackets, a colon and a
+-- five-digit port.
 abbrev pub sender_limit : ℕ
 sender_limit = 72
 
--- the maximum number of alternatives in a session description
+-- The maximum number of alternatives in a session description.
 abbrev pub alternative_limit : ℕ
 alternative_limit = 8
 
--- the maximum size of a reply, in bytes
+-- The maximum size of a reply, in bytes.
 abbrev pub reply_limit : ℕ
 reply_limit = 16000
 
--- the maximum number of replies that are kept to answer retransmissions
+-- The maximum number of replies that are kept to answer retransmissions.
 abbrev pub kept_limit : ℕ
 kept_limit = 32
 
--- the largest number that a termination can have
+-- The largest number that a termination can have.
 abbrev pub last_termination : ℕ
 last_termination = 4294967295
 
--- the largest number that a context can have; the next two numbers denote $ and * (section 6.1.2)
+-- The largest number that a context can have. The next two numbers denote $ and * (RFC 3525, section 6.1.2).
 abbrev pub last_context : ℕ
 last_context = 4294967293

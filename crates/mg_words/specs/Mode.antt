@@ -5,19 +5,19 @@ use Rattle.mg_words.specs.declared.mode.Mode.{Mode}
 use Rattle.mg_words.specs.declared.mode.Mode.TheVariants.{Inactive, SendOnly, ReceiveOnly}
 use Rattle.mg_words.specs.declared.mode.Mode.TheVariants.{SendReceive, Loopback}
 
--- the other members hear a termination in this mode
+-- Whether the other members hear a termination in this mode.
 abbrev pub talks : Mode → Bool
 talks ReceiveOnly = true
 talks SendReceive = true
 talks _ = false
 
--- a termination in this mode hears the other members
+-- Whether a termination in this mode hears the other members.
 abbrev pub listens : Mode → Bool
 listens SendOnly = true
 listens SendReceive = true
 listens _ = false
 
--- the keyword in its long form
+-- The keyword in its long form.
 unfoldable pub mode_text : Mode → List ℕ
 mode_text Inactive = codes "Inactive"
 mode_text SendOnly = codes "SendOnly"

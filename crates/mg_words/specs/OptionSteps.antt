@@ -1,7 +1,7 @@
--- Sequencing of steps that may not return a value.
+-- Sequencing of steps that return an optional value.
 use Rattle.std.specs.Prelude.{Option, Some, None}
 
--- the second step, applied to the value of the first step; none if the first has no value
+-- The second step, applied to the value of the first step, or `None` if the first step has no value.
 infixl 10 ◌>>=◌
 abbrev pub ◌>>=◌ : {A B : Type 0} → Option A → (A → Option B) → Option B
 None >>= f = None

@@ -1,4 +1,4 @@
--- What a follower keeps while a script is run, and what it has reported by then.
+-- The state of a follower while a script runs, and the entries that it has reported.
 use Rattle.std.specs.Prelude.{◌≡◌, ℕ, List, [], length, reverse, Option}
 use Rattle.mg_engine.specs.declared.config.Config.{Config}
 use Rattle.mg_core.specs.declared.event.Event.{Event}
@@ -25,20 +25,19 @@ pub record StandForBoth (first second : CoreState) (v w : World) : Type 0 where
   pub whole : StandsFor first v
   pub without : StandsFor second w
 
--- Whatever worlds two cores represent, an event has arrived at both of them, or only at the first if
--- it is speech of the talker.
+-- For all worlds that two cores represent: an event has arrived at both cores, or only at the first if it is speech of
+-- the talker.
 abbrev pub LeadsBoth : ℕ → Event → (whole without whole_after without_after : CoreState) → Type 0
 LeadsBoth talker event whole without whole_after without_after =
     (v w : World) → StandForBoth whole without v w → (next : World) × (other : World)
     × StepWithout talker v w event next other
     × StandForBoth whole_after without_after next other
 
--- what is reported about a stored interval
+-- The entry that reports a stored interval with this end.
 abbrev pub entry_until : Option Moment → OpenInterval → Entry
 entry_until end x = entries.Audible (record { flow = x.flow; first = x.first; end = end })
 
--- the intervals that have not ended in the newest moment of a past are stored, and the others are
--- reported
+-- The intervals that have not ended in the newest moment of a past are stored, and all others have been reported.
 pub record TellsPast (past : List (List OpenFlow)) (stored : List OpenInterval)
     (Told : List Entry → Type 0) : Type 0 where
   pub lasts : AreLasting past stored
@@ -47,8 +46,8 @@ pub record TellsPast (past : List (List OpenFlow)) (stored : List OpenInterval)
   pub ended_are : audible_in xs ≡ ended past
   pub told : Told xs
 
--- After these notes, two cores represent the worlds to which their events lead, and a follower has
--- reported the audible intervals that have ended, and stores those that haven't.
+-- After these notes, two cores represent the worlds after the events of the notes. A follower has reported the audible
+-- intervals that have ended, and stores the intervals that have not ended.
 pub record KeepsAudible (config : Config) (talker : ℕ) (notes : List Note)
     (whole without : CoreState) (tick : ℕ) (stored : List OpenInterval)
     (Told : List Entry → Type 0) : Type 0 where
@@ -60,8 +59,8 @@ pub record KeepsAudible (config : Config) (talker : ℕ) (notes : List Note)
   pub count : tick ≡ length past
   pub tells : TellsPast past stored Told
 
--- The same, with the dates and gaps of the notes: the clock has passed all notes, and all stored and
--- reported moments are before the next tick.
+-- The state of a follower after these notes, with their dates and gaps: the clock has passed all notes, and all stored
+-- and reported moments are before the next tick.
 pub record KeepsTimed (config : Config) (talker : ℕ) (notes : List Note)
     (whole without : CoreState) (clock : Clock) (stored : List OpenInterval)
     (Told : List Entry → Type 0) : Type 0 where

@@ -9,7 +9,7 @@ pub struct DiskFile {
 }
 
 impl DiskFile {
-    /// Takes a file that is open for reads and appends.
+    /// Creates a journal's file from a file that is open for reads and appends.
     pub fn new(file: File) -> Self {
         DiskFile { file }
     }

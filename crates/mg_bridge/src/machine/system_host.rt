@@ -17,7 +17,7 @@ use std::io::{self, ErrorKind};
 use std::net::{IpAddr, SocketAddr};
 use std::time::{Clock, Duration};
 
-/// What the system reports about sockets.
+/// The system's reports about sockets.
 #[derive(Drop)]
 struct Reports {
     poll: Poll,
@@ -33,17 +33,17 @@ impl Reports {
     }
 }
 
-/// The machine, as the operating system shows it. It logs no calls.
+/// The machine, as the operating system presents it. The host logs no calls.
 #[derive(Drop)]
 pub struct SystemHost<'a, C: Clock> {
     system: &'a HostRuntime,
     clock: &'a C,
     sockets: ArrayVec<Option<UdpSocket>, SOCKETS>,
-    /// `None` until the first socket is bound.
+    /// The system's reports, or `None` until the first socket is bound.
     reports: Option<Reports>,
 }
 
-/// Creates a buffer for what the system reports.
+/// Creates a buffer for the system's reports.
 fn events(system: &HostRuntime) -> io::Result<Events> {
     match Events::with_capacity(system.alloc(), SOCKETS) {
         Ok(events) => Ok(events),
@@ -92,7 +92,7 @@ impl<'a, C: Clock> SystemHost<'a, C> {
         }
     }
 
-    /// Has the system report when a datagram arrives at the next socket.
+    /// Asks the system to report when a datagram arrives at the next socket.
     fn register(&mut self, socket: &mut UdpSocket) -> io::Result<()> {
         let number = self.sockets.len();
         if self.reports.is_none() {

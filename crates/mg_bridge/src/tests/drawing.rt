@@ -1,4 +1,4 @@
-//! Random numbers that count up, random numbers that fail, and a clock that fails.
+//! Tests with random numbers that count up, with random numbers that fail, and with a clock that fails.
 
 use super::equality::assert_equal;
 use super::free_ports;
@@ -51,7 +51,7 @@ impl Clock for FailingClock {
     }
 }
 
-/// How a run of the program ended, and its output and error messages.
+/// The exit status of a run of the program, with its output and error messages.
 #[derive(Drop)]
 struct Outcome {
     status: u8,

@@ -1,4 +1,4 @@
-//! A journal whose file another program empties.
+//! A test with a journal whose file another program empties.
 
 use crate::machine::SystemHost;
 use mg_host::Journals;
@@ -15,8 +15,8 @@ fn kind<T: Drop>(outcome: io::Result<T>) -> Option<ErrorKind> {
     }
 }
 
-/// Another program empties the file after it is opened and before it is read. Returns whether neither a read nor the
-/// acceptance extends it.
+/// Another program empties the file after the file is opened and before it is read. Returns whether neither a read nor
+/// the acceptance extends the file.
 fn is_never_extended(rt: &HostRuntime, path: &str) -> io::Result<bool> {
     fs::write(rt, path, "one\ntw")?;
     let mut opening = Opening::new(SystemHost::new(rt, rt).open_journal(path)?)?;

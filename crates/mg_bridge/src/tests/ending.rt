@@ -1,4 +1,4 @@
-//! How a gateway's process ends.
+//! Tests of how a gateway's process ends.
 
 use super::equality::assert_equal;
 use crate::{status_at_end, status_without_outlets};

@@ -1,4 +1,4 @@
-//! How the system's sockets receive.
+//! Tests of how the system's sockets receive.
 
 use super::equality::assert_equal;
 use super::{caller, free_ports, local};
@@ -10,10 +10,10 @@ use std::net::{SocketAddr, UdpSocket};
 use std::process::Abort;
 use std::test::Fail;
 
-/// The machine.
+/// The machine on which the tests bind sockets.
 type Machine<'a> = SystemHost<'a, HostRuntime>;
 
-/// What a receive returned: the length of a datagram and its sender.
+/// The result of a receive: the length of a datagram and its sender.
 type Received = Result<Option<(usize, Peer)>, PortFault>;
 
 /// Binds a control socket and a media socket to 127.0.0.1.
@@ -25,7 +25,7 @@ fn bind<'a>(rt: &'a HostRuntime, media: u16, control: u16) -> Result<Machine<'a>
     Ok(host)
 }
 
-/// Returns whether the next receive from a socket returns this.
+/// Returns whether the next receive from a socket has this result.
 fn receives(host: &mut Machine<'_>, socket: usize, buffer: &mut [u8; 4], wanted: Received) -> bool {
     host.receive(socket, buffer) == wanted
 }
@@ -37,7 +37,7 @@ fn reported(host: &mut Machine<'_>) -> Result<[bool; 3], Fail> {
     Ok(marks)
 }
 
-/// A datagram is reported once, and received if it is waiting. If none is waiting, the receive returns `None`.
+/// A datagram is reported once, and received if it is waiting. If no datagram is waiting, the receive returns `None`.
 fn receive_what_waits(
     rt: &impl Abort,
     host: &mut Machine<'_>,

@@ -1,11 +1,11 @@
--- How far a text has been read.
+-- The state of reading a text line by line.
 use Rattle.std.specs.Prelude.{◌≡◌, ℕ, ◌<◌, ◌≤◌, true, List, length, Option, Some, IfSome}
 use Rattle.sha2.specs.declared.Sha256.{Sha256}
 use Rattle.sha2.specs.Hashers.{Holds256}
 use Rattle.mg_chain.specs.declared.seals.Seals.{Seals}
 use Rattle.mg_chain.specs.Seals.{after_lines, is_whole, last_part, seals_of}
 
--- the text before and after the next line, which has this number, and what the seals say before it
+-- The text before and after the next line, the number of that line, and the counts before it.
 pub record Reading (text : List ℕ) (rest : Option (List ℕ)) (hasher : Sha256) (seals : Seals)
     (number : ℕ) : Type 0 where
   pub before : List ℕ
@@ -17,6 +17,6 @@ pub record Reading (text : List ℕ) (rest : Option (List ℕ)) (hasher : Sha256
   pub enough : length left ≤ most
   pub is : after_lines most seals number before left ≡ seals_of text
 
--- the same, if the text is known
+-- If the text is known, `Reading` holds for it.
 abbrev pub Reads : (text rest : Option (List ℕ)) → Sha256 → Seals → ℕ → Type 0
 Reads text rest hasher seals number = IfSome text (λ all. Reading all rest hasher seals number)

@@ -1,4 +1,4 @@
--- A request that runs in two gateways, which differ only in what some terminations received.
+-- Running the same request in two gateways that differ only in what some terminations received.
 use Rattle.std.specs.Prelude.{◌≡◌, ℕ, List, map}
 use Rattle.std.specs.Option.{option_map}
 use Rattle.mg_reply.specs.declared.item.Item.{Item}
@@ -19,7 +19,7 @@ abbrev pub outcome_but_received : Outcome → Outcome
 outcome_but_received (Failed e) = Failed e
 outcome_but_received (Done parts) = Done (parts_but_received parts)
 
--- an item of a reply, without the counts of received packets in its statistics
+-- An item of a reply, without the counts of received packets in its statistics.
 abbrev pub item_but_received : Item → Item
 item_but_received (Triple a b association) = Triple a b association
 item_but_received (Command word term outcome) = Command word term (outcome_but_received outcome)

@@ -1,5 +1,5 @@
--- A transaction as nested calls, as the program runs it: each step returns whether it succeeded.
--- `replied` of `Transaction` results in the same gateway and items.
+-- A transaction as nested calls, as the program runs it. Each step returns whether it succeeded. `replied` of
+-- `Transaction` results in the same gateway and items.
 use Rattle.std.specs.Prelude.{ℕ, Bool, ◌&&◌, ◌||◌, true, false, List, [], ◌∷◌, ◌++◌, Option}
 use Rattle.std.specs.Prelude.{None, Result, Ok, Err}
 use Rattle.std.specs.Option.{option_map_or}
@@ -33,8 +33,7 @@ pub record ActionState : Type 0 where
   pub made : Option ℕ
   pub items : List Item
 
--- the action after a command for one name, with that name's spelling in the reply, and whether the
--- command succeeded
+-- The action after a command for one name, which the reply spells as given, and whether the command succeeded.
 abbrev pub after_outcome : CommandWord → List ℕ → ActionState → CommandOutcome → ActionState × Bool
 after_outcome word name run (Ok p) = (
   record {
@@ -54,7 +53,7 @@ with_name source c parameters name run =
     after_outcome c.word (written_as (text_of source c.term) name) run
     (outcome c.word run.gateway run.target name parameters)
 
--- the rest is tried whether or not the first succeeded; all succeeded if both did
+-- The rest is tried whether or not the first succeeded. The result is a success if both succeeded.
 abbrev pub and_then : (ActionState → ActionState × Bool) → ActionState × Bool → ActionState × Bool
 and_then rest (run, is_done) = ((rest run).0, is_done && (rest run).1)
 
@@ -66,7 +65,7 @@ with_names source c parameters [] run = (run, true)
 with_names source c parameters (x ∷ xs) run =
     and_then (with_names source c parameters xs) (with_name source c parameters x run)
 
--- the action after a command, if it can be tried at all
+-- The action after a command. If the command cannot be tried at all, the reply has one error.
 abbrev pub with_trial : List ℕ → Command → ActionState → Result Trial ErrorNumber
     → ActionState × Bool
 with_trial source c run (Ok trial) = with_names source c trial.parameters trial.names run
@@ -76,18 +75,17 @@ with_trial source c run (Err e) =
 abbrev pub with_command : List ℕ → Command → ActionState → ActionState × Bool
 with_command source c run = with_trial source c run (trial_of source run.gateway run.target c)
 
--- an optional command (O-) that fails does not end the action
+-- An optional command (`O-`) that fails does not end the action.
 abbrev pub unless_optional : Command → ActionState × Bool → ActionState × Bool
 unless_optional c (run, is_done) = (run, c.is_optional || is_done)
 
--- the rest is run, unless a command failed
+-- The rest is run unless a command has failed.
 abbrev pub continue_with : (ActionState → ActionState × Bool) → ActionState × Bool
     → ActionState × Bool
 continue_with rest (run, true) = rest run
 continue_with rest (run, false) = (run, false)
 
--- the action after commands, up to the first failure of one that is not optional, and whether
--- there was none
+-- The action after its commands, up to the first non-optional one that fails, and whether all of those succeeded.
 unfoldable pub with_commands : List ℕ → List Command → ActionState → ActionState × Bool
 with_commands source [] run = (run, true)
 with_commands source (c ∷ cs) run =
@@ -95,7 +93,7 @@ with_commands source (c ∷ cs) run =
 
 -- ## Actions
 
--- the state between actions: the gateway, and the items of the reply so far
+-- The state between actions: the gateway, and the items of the reply so far.
 pub record ActionsState : Type 0 where
   pub gateway : Gateway
   pub items : List Item
@@ -104,19 +102,19 @@ abbrev pub action_start : Action → ActionsState → ActionState
 action_start a s =
     record { gateway = s.gateway; target = target_of a.context; made = None; items = s.items }
 
--- the end of an action: what is reported about its context, and the context's number
+-- The end of an action: the items that report about its context, and then the context's number.
 abbrev pub end_of_action : ActionState → Gateway → List Item → ActionsState
 end_of_action run w items =
     record { gateway = w; items = run.items ++ items ++ replies.Action (id_of run.target) ∷ [] }
 
--- the action after its properties, and whether they were applied
+-- The action after its properties, and whether they were applied.
 abbrev pub after_properties : ActionState → Result (Gateway × List Item) ErrorNumber
     → ActionsState × Bool
 after_properties run (Ok p) = (end_of_action run p.0 p.1, true)
 after_properties run (Err e) = (end_of_action run run.gateway (replies.Fault e ∷ []), false)
 
--- The action after its commands, and whether it was completed. Properties follow the commands,
--- unless one failed.
+-- The action after its commands, and whether it was completed. The properties follow the commands, unless a command
+-- failed.
 abbrev pub after_commands : List ℕ → List ContextProperty → ActionState × Bool
     → ActionsState × Bool
 after_commands source ps (run, false) = (end_of_action run run.gateway [], false)
@@ -127,13 +125,13 @@ abbrev pub refusal : Action → ActionsState → ErrorNumber → ActionsState ×
 refusal a s e =
     (record s { items = s.items ++ replies.Fault e ∷ replies.Action a.context ∷ [] }, false)
 
--- an action, unless it is rejected as a whole
+-- The action is run unless it is rejected as a whole.
 unfoldable pub with_action : List ℕ → Action → ActionsState → ActionsState × Bool
 with_action source a s =
     option_map_or (refusal a s) (action_fault a)
     (after_commands source a.properties (with_commands source a.commands (action_start a s)))
 
--- the rest is run, unless an action was not completed
+-- The rest is run unless an action was not completed.
 abbrev pub continue_after_action : (ActionsState → ActionsState) → ActionsState × Bool
     → ActionsState
 continue_after_action rest (s, true) = rest s
@@ -144,7 +142,7 @@ with_actions source [] s = s
 with_actions source (a ∷ actions) s =
     continue_after_action (with_actions source actions) (with_action source a s)
 
--- a request, action by action
+-- A request, run action by action.
 abbrev pub by_actions : List ℕ → Request → Gateway → ActionsState
 by_actions source request w =
     with_actions source request.actions (record { gateway = w; items = [] })

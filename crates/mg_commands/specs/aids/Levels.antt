@@ -1,5 +1,5 @@
--- The first fault in descriptors. As in the code, the search goes level by level: a part is
--- compared with earlier parts at its own level.
+-- The first fault in descriptors. Like the code, this search goes level by level: a part is compared with earlier parts
+-- at its own level.
 use Rattle.std.specs.Prelude.{ℕ, Bool, false, ◌&&◌, ◌||◌, ◌==◌, List, [], ◌∷◌, Option, true, max}
 use Rattle.std.specs.List.{list_any}
 use Rattle.mg_words.specs.declared.error_number.ErrorNumber.{ErrorNumber}
@@ -18,7 +18,7 @@ use Rattle.mg_commands.specs.Support.{is_jitter}
 use Rattle.mg_commands.specs.aids.Words.{stream_word, controls_within, descriptor_word}
 use Rattle.mg_commands.specs.aids.Words.{media_within}
 
--- a part of a LocalControl that must not be repeated
+-- Whether a part of a LocalControl must not be repeated.
 abbrev pub is_single : List ℕ → ControlPart → Bool
 is_single source (controls.Mode mode) = true
 is_single source (controls.ReservedValue is_on) = true
@@ -32,7 +32,7 @@ control_level source n before x =
 abbrev pub is_same_word : List ℕ → Part → ℕ → StreamPart → Bool
 is_same_word source x n y = is_same_part source x (stream_word n y)
 
--- whether a part of stream n occurs in a part of a Media descriptor
+-- Whether a part of stream `n` occurs in a part of a Media descriptor.
 abbrev pub appears_in : List ℕ → Part → ℕ → MediaPart → Bool
 appears_in source x n (media.Part y) = n == 1 && is_same_word source x 1 y
 appears_in source x n (media.Stream k ys) = n == k && list_any (is_same_word source x k) ys
@@ -60,13 +60,13 @@ media_level source before (media.Stream n xs) = first_after (stream_level source
 media_level source before (media.TerminationState has_content) =
     fault_of (list_any is_state before) (parts.TerminationState has_content)
 
--- the stream that a part of a Media descriptor belongs to; 0 if it doesn't belong to one
+-- The stream that a part of a Media descriptor belongs to, or 0 if it belongs to none.
 abbrev pub stream_of : MediaPart → ℕ
 stream_of (media.Part x) = 1
 stream_of (media.Stream n xs) = n
 stream_of (media.TerminationState has_content) = 0
 
--- the largest of these streams; 0 if there is no part
+-- The largest stream number of the parts, or 0 if there is no part.
 abbrev pub greatest_stream : List MediaPart → ℕ
 greatest_stream [] = 0
 greatest_stream (x ∷ xs) = max (stream_of x) (greatest_stream xs)

@@ -1,4 +1,4 @@
--- The fault of an audit of a context.
+-- The fault in the audit of a context.
 use Rattle.std.specs.Prelude.{not, List, Option, Some, if◌then◌else◌}
 use Rattle.std.specs.Bool.{then_some}
 use Rattle.std.specs.List.{list_any}

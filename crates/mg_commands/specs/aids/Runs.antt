@@ -1,6 +1,5 @@
--- The program's state in an action and in a transaction, and which states in the definitions it
--- represents. The engine represents the gateway, and the reply contains the items that were put
--- into it.
+-- The program's state in an action or a transaction, and the states in the definitions that it represents. The engine
+-- represents the gateway, and the reply contains the items that were put into it.
 use Rattle.std.specs.Prelude.{◌≡◌, ℕ, ◌*◌, Bool, true, false, List, Result, Ok, Err}
 use Rattle.mg_words.specs.ResultSteps.{◌>>=◌}
 use Rattle.mg_words.specs.declared.error_number.ErrorNumber.{ErrorNumber}
@@ -17,12 +16,12 @@ use Rattle.mg_commands.specs.aids.Steps.{all_names}
 use Rattle.mg_commands.specs.aids.ByActions.{ActionState, ActionsState, with_trial}
 use Rattle.mg_commands.specs.Work.{edits_reported}
 
--- the state before a request: the reply that was started, and the engine's work counter
+-- The state before a request: the empty reply, and the engine's work counter.
 pub record Base : Type 0 where
   pub reply : Answered
   pub work : ℕ
 
--- the work counter increased by at most four for each edit that the items report
+-- The work counter increased by at most four for each edit that the items report.
 abbrev pub IsPaid : Base → List Item → EngineState → Type 0
 IsPaid base items engine = RisesAtMost (4 * edits_reported items) base.work engine.sums.work
 
@@ -42,7 +41,7 @@ pub record IsActionRun (base : Base) (kept : ActionKept) (run : ActionState) : T
   pub reply : kept.reply ≡ after_all base.reply run.items
   pub work : IsPaid base run.items kept.engine
 
--- an action after a command for all members, whose text has been checked
+-- An action after a command for all members, whose text has been checked.
 abbrev pub with_all : List ℕ → Command → CommandParameters → ActionState → ActionState × Bool
 with_all source c parameters run =
     with_trial source c run (do

@@ -1,4 +1,4 @@
--- Parts of the outcome of commands and actions, one for each function of the program.
+-- Parts of the outcomes of commands and actions, one for each function of the program.
 use Rattle.std.specs.Prelude.{ℕ, ◌&&◌, not, Bool, List, map, Option, Result, Ok, Err, if◌then◌else◌}
 use Rattle.std.specs.Option.{option_map_or}
 use Rattle.mg_words.specs.ResultSteps.{◌>>=◌}
@@ -27,24 +27,24 @@ use Rattle.mg_commands.specs.aids.ByActions.{with_commands}
 abbrev pub is_served : Command → Bool
 is_served c = is_served_word c.word && not c.wants_wildcard
 
--- what the descriptors ask for, if they are supported
+-- The parameters of the descriptors, if they are supported.
 abbrev pub check_descriptors : List ℕ → List Descriptor → Result CommandParameters ErrorNumber
 check_descriptors source xs = do
   _ ← unless (descriptors_fault source xs)
   _ ← unless (properties_fault source xs)
   Ok (parameters_of source xs)
 
--- the gateway is unchanged
+-- The outcome of a command that leaves the gateway unchanged.
 abbrev pub in_same_world : Gateway → Result Served ErrorNumber → CommandOutcome
 in_same_world w r = r >>= (λ s. Ok (w, s))
 
--- the members that * names
+-- The names of all members, which `*` matches.
 abbrev pub all_names : Gateway → Target → CommandWord → Result (List Name) ErrorNumber
 all_names w target word =
     if takes_all word then unless_empty (map names.Number (members_in w target))
     else Err errors.IdentifierNotAllowed
 
--- an audit of a termination
+-- The result of an audit of a termination.
 abbrev pub audit_termination : Gateway → Target → Name → CommandParameters
     → Result Served ErrorNumber
 audit_termination w target name parameters = do
@@ -52,7 +52,7 @@ audit_termination w target name parameters = do
   r ← member w.rooms target n
   Ok (served_at w target r (descriptors_by_audit parameters))
 
--- an action, given whether it is rejected as a whole
+-- An action, given the error with which it is rejected as a whole, if there is one.
 abbrev pub action_unless : Option ErrorNumber → List ℕ → Action → ActionsState
     → ActionsState × Bool
 action_unless fault source a s =

@@ -1,4 +1,4 @@
--- Names for parts of an answer, for proofs.
+-- Names for parts of an answer, used in proofs.
 use Rattle.std.specs.Prelude.{ℕ, List, Option}
 use Rattle.std.specs.Option.{option_map_or}
 use Rattle.mg_text.specs.declared.request.Request.{Request}
@@ -6,7 +6,7 @@ use Rattle.mg_commands.specs.Transaction.{replied}
 use Rattle.mg_core.specs.World.{World}
 use Rattle.mg_core.specs.Answer.{run_and_kept}
 
--- the reply to a request, given the reply that is kept for it, if any
+-- The reply to a request, given the kept reply, if there is one.
 abbrev pub unless_kept : Option (List ℕ) → List ℕ → List ℕ → Request → World → List ℕ × World
 unless_kept kept source sender request w =
     option_map_or (λ text. (text, w)) kept

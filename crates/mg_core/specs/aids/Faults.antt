@@ -11,7 +11,7 @@ use Rattle.mg_core.specs.Step.{Sent, Run}
 use Rattle.mg_core.specs.World.{World, start_of}
 use Rattle.mg_lines.specs.Lines.{lines_of}
 
--- lines were run, but the writer has received only a proper prefix of their text
+-- Lines were run, but only a proper prefix of their text was written.
 pub record RanInPart (shown : Shown) (w : World) (lines : List (List ℕ)) (last : World)
     (old new : Option (List ℕ)) : Type 0 where
   pub events : List Event
@@ -26,8 +26,8 @@ pub record RanInPart (shown : Shown) (w : World) (lines : List (List ℕ)) (last
   pub cut : 0 < length rest
   pub written : Appends old new front
 
--- The lines before the first bad one, which has this number, were run. It is bad, whatever text may
--- follow the text that was read; nothing follows the end.
+-- The lines before the first bad one, which has this number, were run. That line is bad, whatever text may follow the
+-- text that was read. No text follows if the input has ended.
 pub record RanToBadLine (config : Config) (shown : Shown) (input rest : Option (List ℕ))
     (number : ℕ) (old new : Option (List ℕ)) : Type 0 where
   pub text : List ℕ
@@ -41,7 +41,7 @@ pub record RanToBadLine (config : Config) (shown : Shown) (input rest : Option (
   pub last : World
   pub ran : Ran shown (start_of config) lines last old new
 
--- exactly the lines that end in the text that was read were run
+-- Exactly the complete lines of the text that was read were run.
 pub record RanAllRead (config : Config) (shown : Shown) (input rest old new : Option (List ℕ))
     : Type 0 where
   pub text : List ℕ
@@ -49,7 +49,7 @@ pub record RanAllRead (config : Config) (shown : Shown) (input rest old new : Op
   pub last : World
   pub ran : Ran shown (start_of config) (lines_of false text) last old new
 
--- Of the lines of the text that was read, those before this one were run and led to this world.
+-- The lines before this one in the text that was read were run, and led to this world.
 pub record RanUpTo (config : Config) (shown : Shown) (input rest : Option (List ℕ))
     (line : List ℕ) (now : World) (old new : Option (List ℕ)) : Type 0 where
   pub text : List ℕ
@@ -61,7 +61,7 @@ pub record RanUpTo (config : Config) (shown : Shown) (input rest : Option (List 
   pub line_is : lines_of ended text ≡ lines ++ line ∷ others
   pub ran : Ran shown (start_of config) lines now old new
 
--- the lines before this one were run, and this one too, but its text was written only in part
+-- The lines before this one were run, and so was this one, but its text was written only in part.
 pub record RanToCutLine (config : Config) (shown : Shown) (input rest old new : Option (List ℕ))
     : Type 0 where
   pub line : List ℕ
@@ -71,7 +71,7 @@ pub record RanToCutLine (config : Config) (shown : Shown) (input rest old new : 
   pub last : World
   pub cut : RanInPart shown now (line ∷ []) last held new
 
--- the lines before this one were run, and this one had no effect
+-- The lines before this one were run, and this one had no effect.
 pub record RanToUnrunLine (config : Config) (shown : Shown) (input rest old new : Option (List ℕ))
     : Type 0 where
   pub line : List ℕ

@@ -1,4 +1,4 @@
--- How far a follower has come that may be done before the script ends.
+-- Following a script until its end, or until the follower is done.
 use Rattle.std.specs.Prelude.{◌≡◌, ◌⊎◌, ℕ, ◌≤◌, Bool, true, false, List, [], ◌++◌, length, Option, Some}
 use Rattle.mg_engine.specs.declared.config.Config.{Config}
 use Rattle.mg_lines.specs.Lines.{lines_of}
@@ -7,7 +7,7 @@ use Rattle.mg_core.specs.Note.{Note, notes_of}
 use Rattle.mg_core.specs.Run.{HasRead}
 use Rattle.mg_core.specs.Follow.{HasRun}
 
--- A follower had followed the notes of all lines that end in this text, and was not done.
+-- A follower had followed the notes of all complete lines of this text, and was not done.
 pub record GoesOn {F : Type 0} (done : F → Bool) (Follows : F → List Note → Type 0) (text : List ℕ)
     : Type 0 where
   pub follower : F
@@ -16,10 +16,9 @@ pub record GoesOn {F : Type 0} (done : F → Bool) (Follows : F → List Note �
   pub follows : Follows follower notes
   pub undone : done follower ≡ false
 
--- The input was read to its end, or until a follower was done. The lines in its text that have ended
--- are these notes. The state is that of a gateway at which their events arrived, and a follower has
--- followed all the notes. At most 4096 bytes were read since the follower was last asked whether it
--- was done.
+-- The input was read to its end, or until a follower was done. The complete lines of its text are these notes. The
+-- state is that of a gateway at which their events arrived, and a follower has followed all the notes. At most 4096
+-- bytes were read since the follower was last asked whether it was done.
 pub record IsFollowedUntil {F : Type 0} (config : Config) (input rest : Option (List ℕ))
     (state : CoreState) (done : F → Bool) (Follows : F → List Note → Type 0) (last : F) : Type 0 where
   pub front : List ℕ

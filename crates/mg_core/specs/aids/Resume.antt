@@ -1,4 +1,4 @@
--- A gateway that is resumed from a script.
+-- Resuming a gateway from a script.
 use Rattle.std.specs.Prelude.{◌≡◌, ℕ, ◌+◌, Bool, true, List, [], ◌++◌, length, Option, Some}
 use Rattle.mg_engine.specs.declared.config.Config.{Config}
 use Rattle.mg_lines.specs.Lines.{lines_of}
@@ -10,8 +10,8 @@ use Rattle.mg_core.specs.Script.{events_of}
 use Rattle.mg_core.specs.Step.{Sent}
 use Rattle.mg_core.specs.World.{World}
 
--- The input was read to its end. Its text is a script of some events, and the state is that of a
--- gateway that was started with this configuration, and at which these events arrived.
+-- The input was read to its end. Its text is a script of some events, and the state is that of a gateway that was
+-- started with this configuration, and at which these events arrived.
 pub record IsResumed (config : Config) (input rest : Option (List ℕ)) (state : CoreState) : Type 0 where
   pub script : List ℕ
   pub read : HasRead input rest script true
@@ -21,8 +21,8 @@ pub record IsResumed (config : Config) (input rest : Option (List ℕ)) (state :
   pub world : World
   pub history : HasHistory config events sent world state
 
--- The line with this number is the first bad line of the text that was read, whatever text may
--- follow; nothing follows the end.
+-- The line with this number is the first bad line of the text that was read, whatever text may follow. No text follows
+-- if the input has ended.
 pub record FindsBadLine (input rest : Option (List ℕ)) (number : ℕ) : Type 0 where
   pub text : List ℕ
   pub ended : Bool

@@ -22,8 +22,8 @@ abbrev pub HasFollowed : {F : Type 0} → (F → F → Config → List Note → 
 HasFollowed follows start now config notes =
     follows start start config [] → follows start now config notes
 
--- A gateway has run these notes, and a follower has followed them, except for the last ones: this
--- many ticks, which are still pending.
+-- A gateway has run these notes, and a follower has followed them, except for the ticks at their end. This many ticks
+-- are still pending.
 pub record KeepsUp (config : Config) (state : CoreState) (ticks : ℕ) (Follows : List Note → Type 0)
     (notes : List Note) : Type 0 where
   pub past : List Note
@@ -31,18 +31,18 @@ pub record KeepsUp (config : Config) (state : CoreState) (ticks : ℕ) (Follows 
   pub run : HasRun config past state
   pub follows : Follows past
 
--- whatever notes a gateway and a follower had before, they have these in addition
+-- Whatever notes a gateway and a follower had before, they have these notes in addition.
 abbrev pub Adds : (Old New : List Note → Type 0) → List Note → Type 0
 Adds Old New more = (notes : List Note) → Old notes → New (notes ++ more)
 
--- lines were run
+-- Lines were run.
 pub record LinesResumed (Old New : List Note → Type 0) (lines : List (List ℕ)) : Type 0 where
   pub notes : List Note
   pub are : notes_of lines ≡ Some notes
   pub adds : Adds Old New notes
 
--- A step succeeded, or it found that the line with this number is bad. Otherwise memory ran out, or
--- a follower stopped, if it may.
+-- The result of a step that succeeded, found that the line with this number is bad, or ran out of memory. A follower
+-- that may stop can also have stopped.
 abbrev pub Resumes : Bool → (Done : Type 0) → (Bad : ℕ → Type 0) → Result (Unit {0}) LineFault
     → Type 0
 Resumes may_stop Done Bad (Ok done) = Done
@@ -50,36 +50,36 @@ Resumes may_stop Done Bad (Err (stops.Bad number)) = Bad number
 Resumes may_stop Done Bad (Err stops.Write) = may_stop ≡ true
 Resumes may_stop Done Bad (Err stops.NoMemory) = Unit {0}
 
--- an event was run
+-- An event was run.
 abbrev pub EventResumed : Bool → Event → (Old New : List Note → Type 0)
     → Result (Unit {0}) LineFault → Type 0
 EventResumed may_stop event Old New result =
     Resumes may_stop (Adds Old New (Happened event ∷ [])) (λ bad. ⊥) result
 
--- the line with this number was run, or is bad
+-- The line with this number was run, or is bad.
 abbrev pub LineResumed : Bool → ℕ → List ℕ → (Old New : List Note → Type 0)
     → Result (Unit {0}) LineFault → Type 0
 LineResumed may_stop number line Old New result =
     Resumes may_stop (LinesResumed Old New (line ∷ []))
     (λ bad. (bad ≡ number) × (event_of line ≡ None)) result
 
--- the line after this many others is the first bad one of these lines
+-- The first of these lines, which comes after `count` other lines, is bad.
 abbrev pub StartsBad : ℕ → List (List ℕ) → ℕ → Type 0
 StartsBad count lines number = HasBadAfter [] lines × (number ≡ count + 1)
 
--- the line with this text, which a line feed ends, was run, or is the first bad line
+-- The line with this text, which a line feed ends, was run, or is the first bad line.
 abbrev pub EndedResumed : Bool → ℕ → List ℕ → (Old New : List Note → Type 0)
     → Result (Unit {0}) LineFault → Type 0
 EndedResumed may_stop count text Old New result =
     Resumes may_stop (LinesResumed Old New (without_return text ∷ []))
     (λ bad. (more : List ℕ) → StartsBad count (lines_after true text (10 ∷ more)) bad) result
 
--- these are so many `tick` lines and a rest
+-- The text consists of this many `tick` lines and the rest.
 abbrev pub IsAfterTicks : ℕ → (text rest : List ℕ) → Type 0
 IsAfterTicks count text rest = text ≡ concat (replicate count (codes "tick\n")) ++ rest
 
--- Lines were run, and their bytes are a partial line and all bytes but the rest. The next line has a
--- part already.
+-- Lines were run. They consist of a partial line and all bytes except the rest, and the next line starts with the bytes
+-- in `left`.
 pub record BytesRun (count counted : ℕ) (partial bytes left rest : List ℕ)
     (Old New : List Note → Type 0) : Type 0 where
   pub lines : List (List ℕ)
@@ -88,8 +88,7 @@ pub record BytesRun (count counted : ℕ) (partial bytes left rest : List ℕ)
   pub number : counted ≡ count + length lines
   pub resumed : LinesResumed Old New lines
 
--- The line with this number is the first bad line of a partial line and these bytes, whatever
--- follows.
+-- The line with this number is the first bad line of a partial line and these bytes, whatever follows.
 pub record BytesBad (count : ℕ) (partial bytes : List ℕ) (number : ℕ) : Type 0 where
   pub lines : List (List ℕ)
   pub bad : (more : List ℕ) → HasBadAfter lines (lines_after true partial (bytes ++ more))
@@ -97,22 +96,22 @@ pub record BytesBad (count : ℕ) (partial bytes : List ℕ) (number : ℕ) : Ty
   pub notes : List Note
   pub are : notes_of lines ≡ Some notes
 
--- the lines that end in these bytes were run, or one is the first bad line
+-- The complete lines in these bytes were run, or one of them is the first bad line.
 abbrev pub BytesResumed : Bool → ℕ → ℕ → (partial bytes left : List ℕ)
     → (Old New : List Note → Type 0) → Result (Unit {0}) LineFault → Type 0
 BytesResumed may_stop count counted partial bytes left Old New result =
     Resumes may_stop (BytesRun count counted partial bytes left [] Old New)
     (BytesBad count partial bytes) result
 
--- the partial line, if there is one, was run as the last line, or is bad
+-- The partial line, if there is one, was run as the last line, or is bad.
 abbrev pub LastResumed : Bool → ℕ → List ℕ → (Old New : List Note → Type 0)
     → Result (Unit {0}) LineFault → Type 0
 LastResumed may_stop count partial Old New result =
     Resumes may_stop (LinesResumed Old New (lines_after true partial []))
     (StartsBad count (lines_after true partial [])) result
 
--- The whole script was run, or the first bad line was found. Otherwise reading or memory failed, or
--- a follower stopped, if it may.
+-- The whole script was run, or the first bad line was found. Otherwise reading failed, memory ran out, or a follower
+-- that may stop has stopped.
 abbrev pub AllResumed : Bool → Config → (input rest : Option (List ℕ)) → CoreState
     → (Follows : List Note → Type 0) → Result (Unit {0}) ScriptFault → Type 0
 AllResumed may_stop config input rest state Follows (Ok done) =

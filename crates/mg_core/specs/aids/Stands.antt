@@ -1,4 +1,4 @@
--- Which worlds the state of a core represents.
+-- The worlds that the state of a core represents.
 use Rattle.std.specs.Prelude.{◌≡◌}
 use Rattle.mg_engine.specs.aids.Stands as engine_stands
 use Rattle.mg_core.specs.declared.state.CoreState.{CoreState}

@@ -37,36 +37,36 @@ use Rattle.mg_core.specs.Run.{Ran, HasRead, HasBadAfter, lines_for}
 use Rattle.mg_core.specs.aids.Faults.{RanInPart, RanToBadLine, RanAllRead, RanToCutLine}
 use Rattle.mg_core.specs.aids.Faults.{RanToUnrunLine}
 
--- the text grew by the part that was written
+-- For each represented world, `f` gives the written part and the next world, and the text grew by that part.
 abbrev pub TextGrows : CoreState → CoreState → List ℕ → List ℕ → (World → List ℕ × World) → Type 0
 TextGrows old new before text f =
     Leads StandsFor old new (λ w next. (out : List ℕ) × (f w ≡ (out, next))
     × (text ≡ before ++ out))
 
--- the text that is written for a reply: the reply's own text, or an error instead
+-- The text that is written for a reply: the reply's own text, or an error instead.
 abbrev pub put_text : Answered → List ℕ
 put_text r =
     if is_too_long r then reply_text r.number (reported.Fault numbers.ReplyTooLong ∷ [])
     else reply_text r.number r.items
 
--- the error with which a message is rejected, unless memory ran out
+-- The error with which a message is rejected, unless memory ran out.
 abbrev pub refusal_of : ReadFault → Option ErrorNumber
 refusal_of (readings.Syntax place) = Some numbers.Syntax
 refusal_of (readings.Version n) = Some numbers.Version
 refusal_of readings.TooMany = Some numbers.NotServed
 refusal_of readings.NoMemory = None
 
--- a counter after these datagrams were sent; if it reaches the largest 64-bit value, it stays there
+-- A counter after these datagrams were sent. If it reaches the largest 64-bit value, it stays there.
 unfoldable pub after_sent : ℕ → List Sent → ℕ
 after_sent n [] = n
 after_sent n (s ∷ sent) = after_sent (capped (n + 1)) sent
 
--- what is written for an event that leads to the next world
+-- The text that is written for an event that leads to the next world.
 abbrev pub event_text : Shown → World → List Sent → World → List ℕ
 event_text shows.Sent w sent next = lines_for sent
 event_text shows.SentAndFlows w sent next = lines_for sent ++ changes_by w next
 
--- an event was run, its text was written, and the datagrams sent were counted
+-- An event was run, its text was written, and the datagrams sent were counted.
 pub record EventDone (shown : Shown) (event : Event) (w next : World) (n m : ℕ)
     (old new : Option (List ℕ)) : Type 0 where
   pub sent : List Sent
@@ -74,7 +74,7 @@ pub record EventDone (shown : Shown) (event : Event) (w next : World) (n m : ℕ
   pub written : Appends old new (event_text shown w sent next)
   pub counted : m ≡ after_sent n sent
 
--- an event was run, and a prefix of its text was written
+-- An event was run, and only a proper prefix of its text was written.
 pub record EventCut (shown : Shown) (event : Event) (w next : World) (old new : Option (List ℕ))
     : Type 0 where
   pub sent : List Sent
@@ -87,7 +87,7 @@ EventRan shown event w next n m old new (Ok done) = EventDone shown event w next
 EventRan shown event w next n m old new (Err events.Write) = EventCut shown event w next old new
 EventRan shown event w next n m old new (Err events.NoMemory) = Keeps old new × (next ≡ w)
 
--- If changes are shown, an event's changes were written, or only a prefix of their text was.
+-- If changes are shown, an event's changes were written, or only a proper prefix of their text was.
 abbrev pub ChangesWritten : Shown → World → World → Option (List ℕ) → Option (List ℕ)
     → Result (Unit {0}) EventFault → Type 0
 ChangesWritten shows.Sent w next old new result = (result ≡ Ok tt) × Keeps old new
@@ -96,31 +96,30 @@ ChangesWritten shows.SentAndFlows w next old new (Err events.Write) =
     WritesFront (changes_by w next) old new
 ChangesWritten shows.SentAndFlows w next old new (Err events.NoMemory) = ⊥
 
--- the stored terminations match the world, if changes are shown
+-- If changes are shown, the stored terminations are those of the world.
 abbrev pub AreKeptListeners : Shown → Option (List Listener) → World → Type 0
 AreKeptListeners shows.Sent kept w = kept ≡ None
 AreKeptListeners shows.SentAndFlows kept w = kept ≡ Some (listeners_of w.gateway)
 
--- the state represents the world, and the stored terminations are the world's
+-- The state represents the world, and the stored terminations are those of the world.
 pub record Follows (shown : Shown) (state : CoreState) (kept : Option (List Listener)) (w : World)
     : Type 0 where
   pub stands : StandsFor state w
   pub same : AreKeptListeners shown kept w
 
--- Every world that satisfies `Old` leads to a next world, which satisfies `New` if everything
--- succeeded.
+-- Every world that satisfies `Old` leads to a next world. If the result is `Ok`, the next world satisfies `New`.
 abbrev pub LeadsOn : {E : Type 0} → (World → Type 0) → (World → Type 0) → Result (Unit {0}) E
     → (World → World → Type 0) → Type 0
 LeadsOn Old New result Comes =
     (w : World) → Old w → (next : World) × Comes w next × OnOk result (New next)
 
--- lines were run, and the datagrams sent were counted
+-- Lines were run, and the datagrams sent were counted.
 pub record RanCounted (shown : Shown) (w : World) (lines : List (List ℕ)) (last : World)
     (n m : ℕ) (old new : Option (List ℕ)) : Type 0 where
   pub ran : Ran shown w lines last old new
   pub counted : m ≡ after_sent n ran.sent
 
--- a line was run, or the reason why it was not
+-- A line was run. On an error, the reason why it was not, or why its text was not written completely.
 abbrev pub LineRan : Shown → ℕ → List ℕ → World → World → ℕ → ℕ → Option (List ℕ)
     → Option (List ℕ) → Result (Unit {0}) LineFault → Type 0
 LineRan shown number line w next n m old new (Ok done) =
@@ -131,8 +130,8 @@ LineRan shown number line w next n m old new (Err stops.Write) =
     RanInPart shown w (line ∷ []) next old new
 LineRan shown number line w next n m old new (Err stops.NoMemory) = Keeps old new × (next ≡ w)
 
--- The lines that end in these bytes were run, and the next line was started, whatever follows the
--- bytes. Otherwise, the reason why they were not.
+-- The lines that are complete in these bytes were run, and the next line starts with the bytes in `left`, whatever
+-- follows. On an error, the reason why the run stopped.
 abbrev pub BytesRan : Shown → ℕ → ℕ → List ℕ → List ℕ → List ℕ → World → World → ℕ → ℕ
     → Option (List ℕ) → Option (List ℕ) → Result (Unit {0}) LineFault → Type 0
 BytesRan shown count counted partial bytes left w next n m old new (Ok done) =
@@ -153,7 +152,7 @@ BytesRan shown count counted partial bytes left w next n m old new (Err stops.No
     (lines : List (List ℕ)) × (line : List ℕ) × (others : List (List ℕ))
     × (lines_after false partial bytes ≡ lines ++ line ∷ others) × Ran shown w lines next old new
 
--- the partial line, if there is one, is the last line and is counted
+-- If there is a partial line, it is run and counted as the last line.
 abbrev pub Finishes : Shown → ℕ → ℕ → List ℕ → World → World → ℕ → ℕ → Option (List ℕ)
     → Option (List ℕ) → Result (Unit {0}) LineFault → Type 0
 Finishes shown count counted [] w next n m old new result =
@@ -170,7 +169,7 @@ pub record AllRanCounted (config : Config) (shown : Shown) (script : List ℕ) (
   pub stands : StandsFor state last
   pub lines : count ≡ length (lines_of true script)
 
--- a whole input was run, or the result says how far it was run
+-- A whole input was run. On an error, how far it was run.
 abbrev pub AllRan : Config → Shown → (input rest : Option (List ℕ)) → CoreState → ℕ → ℕ
     → (old new : Option (List ℕ)) → Result (Unit {0}) ScriptFault → Type 0
 AllRan config shown input rest state count n old new (Ok done) =

@@ -2,7 +2,7 @@
 use Rattle.std.specs.Prelude.{[], ◌∷◌, replicate}
 use Rattle.mg_engine.specs.declared.datagram.Datagram.{Datagram}
 
--- a datagram of zeros, which fills the free places of an outbox
+-- A datagram of zeros, which fills the free entries of an outbox.
 abbrev pub blank : Datagram
 blank = record {
   from = 0;

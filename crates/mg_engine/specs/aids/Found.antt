@@ -1,4 +1,4 @@
--- Results of lookups, for proofs.
+-- The results of lookups.
 use Rattle.std.specs.Prelude.{◌≡◌, ℕ, ℤ, Bool, false, List, Option, is_some}
 use Rattle.std.specs.List.{slice_get}
 use Rattle.std.specs.Option.{option_map, option_map_or}
@@ -43,7 +43,7 @@ taken_by w r source reading =
     option_map_or (λ r. taken_at w r.number (arrived r source reading)) r
     (w, Dropped causes.NoTermination)
 
--- a termination's counters are those in its slot
+-- The counters of a termination are stored in its slot.
 abbrev pub HasStats : EngineState → Gateway → Record → Type 0
 HasStats kept w r =
     stats_of w r.number ≡ option_map (λ m. m.stats) (slice_get kept.media r.slot)

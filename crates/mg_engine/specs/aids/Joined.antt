@@ -8,22 +8,22 @@ use Rattle.mg_rooms.specs.Registry.{Registry}
 use Rattle.mg_flow.specs.declared.place.Place.{Place}
 use Rattle.mg_engine.specs.aids.Place.{IsOnPlace}
 
--- the room that a row is joined to
+-- The room that a row is joined to.
 abbrev pub room_of_row : List (Option ℕ) → ℕ → Option ℕ
 room_of_row joined row = slice_index_or joined row None
 
--- the room that a member's row is joined to: the member's own, if the member talks
+-- The room that a member's row is joined to: the member's own room if the member talks, and otherwise none.
 abbrev pub room_for : Mode → ℕ → Option ℕ
 room_for mode room = if talks mode then Some room else None
 
--- a member's row is joined if the member talks; no other row is joined
+-- The row of a member is joined to the member's room if the member talks. No other row is joined to a room.
 pub record AreJoined (w : Registry) (joined : List (Option ℕ)) : Type 0 where
   pub each : (n : ℕ) (r : Record) (p : Place) → IsOnPlace w n r p
       → room_of_row joined r.slot ≡ room_for r.mode p.room
   pub nobody : (row room : ℕ) → room_of_row joined row ≡ Some room
       → (n : ℕ) × (r : Record) × (p : Place) × IsOnPlace w n r p × (r.slot ≡ row)
 
--- one row is now joined to a room, or isn't joined to any; the others are unchanged
+-- The row is joined to this room, or to none, and all other rows are unchanged.
 abbrev pub SetsRow : List (Option ℕ) → List (Option ℕ) → ℕ → Option ℕ → Type 0
 SetsRow old new row room =
     (other : ℕ) → room_of_row new other ≡ (if other == row then room else room_of_row old other)

@@ -1,5 +1,4 @@
--- What the table of flows represents: for each member, whose speech flows to it and who is silenced
--- for it (not from a standard).
+-- The flows and the silenced talkers that the table of flows represents for each member (not from a standard).
 use Rattle.std.specs.Prelude.{◌≡◌, ℕ, IsTrue, List}
 use Rattle.mg_rooms.specs.declared.record.Record.{Record}
 use Rattle.mg_flow.specs.declared.place.Place.{Place}
@@ -9,8 +8,8 @@ use Rattle.mg_engine.specs.Flow.{flow, is_silenced}
 use Rattle.mg_engine.specs.aids.Place.{IsOnPlace}
 use Rattle.mg_engine.specs.aids.Stands.{ShareContext}
 
--- The held places are exactly the places of members. For any two members of a context, the flows
--- between them and who is silenced match the gateway.
+-- The held places are exactly the places of members. For any two members of a context, the table and the gateway agree
+-- on whether speech flows and on whether the talker is silenced.
 pub record RepresentsFlows (w : Gateway) (rooms : List table.RoomFlows) : Type 0 where
   pub held : (n : ℕ) (r : Record) (p : Place) → IsOnPlace w.rooms n r p
       → IsTrue (table.holds rooms p)

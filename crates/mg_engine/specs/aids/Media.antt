@@ -1,11 +1,11 @@
--- What is stored for the media of one slot (RFC 3550, section 5.1).
+-- The media that are stored for one slot (RFC 3550, section 5.1).
 use Rattle.std.specs.Prelude.{ℕ, ◌+◌, ◌-◌, ◌%◌, ◌^◌, Bool, false}
 use Rattle.mg_playout.specs.Playout.{PlayList, first_list}
 use Rattle.mg_words.specs.declared.stats.Stats.{Stats}
 use Rattle.mg_words.specs.Stats.{no_packets}
 
--- The play list, the counters, the timestamp of this tick, the sequence number of the next packet,
--- and whether the last tick sent one. The frame of this tick is stored in the slot's row.
+-- The play list, the counters, the timestamp of this tick, the sequence number of the next packet, and whether the last
+-- tick sent a packet. The frame of this tick is stored in the slot's row.
 pub record SlotMedia : Type 0 where
   pub play : PlayList
   pub stats : Stats
@@ -13,11 +13,11 @@ pub record SlotMedia : Type 0 where
   pub sequence : ℕ
   pub is_sending : Bool
 
--- the timestamp of the tick before
+-- The timestamp of the tick before.
 abbrev pub timestamp_before : ℕ → ℕ
 timestamp_before n = (n + (2 ^ 32 - 160)) % 2 ^ 32
 
--- the media of a slot without a termination
+-- The media of a slot without a termination.
 abbrev pub idle : SlotMedia
 idle = record {
   play = first_list;

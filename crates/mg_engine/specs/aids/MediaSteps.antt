@@ -12,12 +12,11 @@ use Rattle.mg_words.specs.declared.stats.Stats.{Stats}
 use Rattle.mg_engine.specs.Steps.{counted_up, play_after, received, transmitted}
 use Rattle.mg_sums.specs.Samples.{frame_or_silence}
 
--- the timestamp of the next tick: 160 samples later
+-- The timestamp of the next tick, which is 160 samples later.
 abbrev pub next_timestamp : ℕ → ℕ
 next_timestamp n = (n + 160) % 2 ^ 32
 
--- the media of a new termination, with the timestamp of its first tick and the sequence number of
--- its first packet
+-- The media of a new termination, with the timestamp of its first tick and the sequence number of its first packet.
 abbrev pub initial_media_at : ℕ → ℕ → SlotMedia
 initial_media_at timestamp sequence =
     record {
@@ -31,17 +30,17 @@ initial_media_at timestamp sequence =
 abbrev pub initial_media : Config → SlotMedia
 initial_media config = initial_media_at config.timestamp config.sequence
 
--- the media with the depth that a command specifies
+-- The media with the depth that a command specifies.
 abbrev pub slot_tuned : Option ℕ → SlotMedia → SlotMedia
 slot_tuned depth m = record m { play = play_after depth m.play }
 
--- a packet was received, and its frame placed
+-- The media after a packet is received and its frame is placed, and the result of placing.
 abbrev pub slot_placed : SlotMedia → Header → List ℤ → SlotMedia × Placed
 slot_placed m header frame =
     let after = play_lists.placed m.play header.ssrc header.sequence frame in
     (record m { play = after.0; stats = received m.stats }, after.1)
 
--- the play list advances
+-- The media after the play list advances.
 abbrev pub slot_played : SlotMedia → SlotMedia
 slot_played m =
     record m {
@@ -49,15 +48,15 @@ slot_played m =
       timestamp = next_timestamp m.timestamp;
     }
 
--- what the play list plays is the frame of this tick
+-- The frame that the play list plays in this tick.
 abbrev pub frame_played : SlotMedia → List ℤ
 frame_played m = frame_or_silence (sound_of ((play_lists.ticked m.play).1))
 
--- whether that frame conceals a missing one
+-- Whether the frame of this tick conceals a missing frame.
 abbrev pub is_concealing : SlotMedia → Bool
 is_concealing m = is_concealed ((play_lists.ticked m.play).1)
 
--- the header of the next packet; the marker is set if the last tick didn't send one
+-- The header of the next packet. The marker is set if the last tick didn't send a packet.
 abbrev pub header : SlotMedia → ℕ → ℕ → Header
 header m payload_type ssrc =
     record {
@@ -68,7 +67,7 @@ header m payload_type ssrc =
       ssrc = ssrc;
     }
 
--- the end of a tick, given whether a packet was sent in it
+-- The media after the end of a tick. The flag says whether a packet was sent in the tick.
 abbrev pub slot_ended : Bool → SlotMedia → SlotMedia
 slot_ended true m =
     record m {
@@ -80,16 +79,16 @@ slot_ended false m = record m { is_sending = false }
 
 -- ## Ticks, one after another
 
--- a tick in which a packet was or was not sent
+-- The media after a tick. The flag says whether a packet was sent in the tick.
 abbrev pub slot_ticked : Bool → SlotMedia → SlotMedia
 slot_ticked is_sent m = slot_ended is_sent (slot_played m)
 
--- this many packets were sent
+-- The counters after this many packets are sent.
 abbrev pub transmitted_by : ℕ → Stats → Stats
 transmitted_by count s =
     record s { ps = counted_up count s.ps; os = counted_up (160 * count) s.os }
 
--- the media after this many ticks, at least one, if the play list is idle
+-- The media after this many ticks (at least one), if the play list is idle.
 abbrev pub slot_passed : Bool → ℕ → SlotMedia → SlotMedia
 slot_passed true count m =
     record m {

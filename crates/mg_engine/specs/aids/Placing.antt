@@ -1,4 +1,4 @@
--- A frame that is placed, given the media of its termination.
+-- The placing of a frame, given the media of its termination.
 use Rattle.std.specs.Prelude.{ℕ, ℤ, List, Option, Some}
 use Rattle.std.specs.Option.{option_map_or}
 use Rattle.mg_playout.specs.Playout as play_lists

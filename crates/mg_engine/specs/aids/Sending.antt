@@ -1,4 +1,4 @@
--- What is sent in a tick, according to the state of an engine.
+-- The packets of a tick, according to the state of an engine.
 use Rattle.std.specs.Prelude.{◌≡◌, ℕ, ℤ, pos, ◌+◌, ◌%◌, ◌^◌, Bool, false, List, ◌++◌, map}
 use Rattle.std.specs.Prelude.{filter_map, Option, Some, None, slice_set, drop, Ok, Err}
 use Rattle.std.specs.Prelude.{if◌then◌else◌, is_some, count_by}
@@ -29,17 +29,17 @@ use Rattle.mg_engine.specs.aids.Stands.{EngineState, media_at}
 use Rattle.mg_engine.specs.Tick.{type_of, sent_to}
 use Rattle.mg_engine.specs.aids.Found.{has_destination}
 
--- a sample of the frame in a slot's row
+-- A sample of the frame in a slot's row.
 abbrev pub sample_at : List (List ℤ) → ℕ → ℕ → ℤ
 sample_at frames slot i = sample_in frames i slot
 
--- whether speech flows from one place to another; none flows if either place is missing
+-- Whether speech flows from one place to another. No speech flows if either place is missing.
 abbrev pub flows_between : List flow.RoomFlows → Option Place → Option Place → Bool
 flows_between table (Some p) (Some q) = flow.flows table p q
 flows_between table (Some p) None = false
 flows_between table None q = false
 
--- whether the talker at one place is silenced for the listener at another
+-- Whether the talker at one place is silenced for the listener at another.
 abbrev pub is_silenced_between : List flow.RoomFlows → Option Place → Option Place → Bool
 is_silenced_between table (Some p) (Some q) = flow.is_silenced table p q
 is_silenced_between table (Some p) None = false
@@ -71,12 +71,12 @@ packet_now k r to = record {
       ++ map (byte_of to.law) (mixed_now k r);
 }
 
--- a packet with another source port, destination and header
+-- A packet with another source port, destination and header.
 abbrev pub addressed : ℕ → Peer → Header → Datagram → Datagram
 addressed from to header d =
     record { from = from; to = to; bytes = header_bytes plain header ++ drop 12 d.bytes }
 
--- what is sent costs one row, plus one for each talker silenced for the listener
+-- The number of talkers that are silenced for the listener.
 abbrev pub silenced_now : EngineState → Record → ℕ
 silenced_now k l =
     count_by
@@ -92,20 +92,20 @@ sending_work_now k l = if is_some (sent_to l) then mix_work_now k l else 0
 abbrev pub packets_now : EngineState → List Datagram
 packets_now k = filter_map (λ r. option_map (packet_now k r) (sent_to r)) k.rooms.terminations
 
--- whether the termination in a slot sends
+-- Whether the termination in a slot sends.
 abbrev pub slot_sends : rooms.Registry → ℕ → Bool
 slot_sends w slot = has_destination (rooms.holder_of w slot)
 
--- the media of a slot after a tick in which its termination has sent a packet, if it sends
+-- The media of a slot after the end of a tick, in which its termination sent a packet if it sends.
 abbrev pub IsEnded : rooms.Registry → List media.SlotMedia → List media.SlotMedia → ℕ → Type 0
 IsEnded w old new slot = media_at new slot
     ≡ media_steps.slot_ended (slot_sends w slot) (media_at old slot)
 
--- the state after mixes, which count their rows, and after packets that share their payloads
+-- The state after mixes, which count their rows, and after packets whose payloads are shared.
 abbrev pub with_mixes : EngineState → ℕ → List (List Share) → EngineState
 with_mixes k work shares = record k { sums = record k.sums { work = work }; shares = shares }
 
--- the outcome of a datagram for a slot: a frame was placed, or the media are unchanged
+-- The outcome of a datagram for a slot: a frame was placed, or the media are unchanged.
 abbrev pub PlacedAt : List media.SlotMedia → List media.SlotMedia → ℕ → Arrived → Taken → Type 0
 PlacedAt old new slot (Ok p) result =
     (new ≡ slice_set old slot (media_steps.slot_placed (media_at old slot) p.0 p.1).0)

@@ -1,4 +1,4 @@
--- The packets of a tick that share their payloads, grouped by room.
+-- The packets of a tick whose payloads are shared, grouped by room.
 use Rattle.std.specs.Prelude.{◌≡◌, ℕ, ℤ, pos, ◌<◌, ◌&&◌, ◌==◌, Bool, false, List, [], ◌∷◌, ◌++◌}
 use Rattle.std.specs.Prelude.{All, length, nat_lt, map, drop, slice_index_or, slice_set}
 use Rattle.std.specs.Prelude.{Option, Some, None, if◌then◌else◌}
@@ -22,11 +22,11 @@ use Rattle.mg_engine.specs.aids.Sending.{sample_at}
 abbrev pub first_share : Share
 first_share = record { talkers = 0; law = Mu; packet = 0 }
 
--- the shares of a room
+-- The shares of a room.
 abbrev pub shares_in : List (List Share) → ℕ → List Share
 shares_in shares room = slice_index_or shares room []
 
--- one more share in a room, if there is a place for it
+-- The shares with one more share, unless there are as many as a context can have members.
 abbrev pub one_more : List Share → Share → List Share
 one_more shares share =
     if nat_lt (length shares) member_limit then shares ++ share ∷ [] else shares
@@ -40,7 +40,7 @@ abbrev pub is_seated_in : ℕ → ℕ → Option Place → Bool
 is_seated_in room mask None = false
 is_seated_in room mask (Some p) = (p.room == room) && has_seat mask p.seat
 
--- whether a termination is in one of these seats
+-- Whether a termination is in one of these seats.
 abbrev pub sits_among : rooms.Registry → ℕ → ℕ → Record → Bool
 sits_among w room mask t = is_seated_in room mask (place_of w t)
 
@@ -50,7 +50,7 @@ heard_on k room mask i =
     (λ t. if sits_among k.rooms room mask t then sample_at k.sums.frames t.slot i else pos 0)
     k.rooms.terminations
 
--- the payload for a listener that hears them
+-- The payload for a listener that hears the members in these seats.
 abbrev pub payload_on : EngineState → ℕ → ℕ → Law → List ℕ
 payload_on k room mask law =
     map (byte_of law) (map (λ i. nearest_sample (heard_on k room mask i)) (range_with_len 0 160))
@@ -60,17 +60,17 @@ payload_on k room mask law =
 abbrev pub packet_at : List Datagram → ℕ → Datagram
 packet_at outbox i = slice_index_or outbox i blank
 
--- the bytes after the header of a packet
+-- The bytes after the header of a packet.
 abbrev pub payload_of : Datagram → List ℕ
 payload_of datagram = drop 12 datagram.bytes
 
--- an outbox has one more packet, with this payload
+-- The outbox has one more packet, which has this payload.
 pub record IsPut (old new : List Datagram) (payload : List ℕ) : Type 0 where
   pub last : Datagram
   pub all : new ≡ old ++ last ∷ []
   pub same : payload_of last ≡ payload
 
--- a packet of the outbox has the payload of its share
+-- The packet of the share has the payload for the share's talkers and law.
 pub record IsShared (k : EngineState) (outbox : List Datagram) (room : ℕ) (share : Share)
     : Type 0 where
   pub sent : share.packet < length outbox

@@ -1,4 +1,4 @@
--- Which gateways the state of an engine represents.
+-- The gateways that the state of an engine represents.
 use Rattle.std.specs.Prelude.{◌≡◌, ◌≢◌, ℕ, ℤ, ◌+◌, ◌*◌, ◌%◌, ◌^◌, List, map, Some, Result, Ok}
 use Rattle.std.specs.Prelude.{Err, slice_index_or}
 use Rattle.mg_words.specs.declared.error_number.ErrorNumber.{ErrorNumber}
@@ -17,9 +17,9 @@ use Rattle.mg_engine.specs.declared.share.Share.{Share}
 use Rattle.mg_sums.specs.Sums as sums
 use Rattle.mg_sums.specs.aids.Sums.{frame_of_row}
 
--- The state of an engine: its configuration, the terminations and contexts, the media of each slot,
--- the table of flows, the frame of each slot's row, the rooms that rows are joined to, and, by
--- room, the packets of the last tick that share their payloads.
+-- The state of an engine: its configuration, the terminations and contexts, the media of each slot, the table of flows,
+-- the frame of each slot's row, the rooms that rows are joined to, and, by room, the packets of the last tick whose
+-- payloads are shared.
 pub record EngineState : Type 0 where
   pub config : Config
   pub rooms : rooms.Registry
@@ -28,12 +28,12 @@ pub record EngineState : Type 0 where
   pub sums : sums.SumsState
   pub shares : List (List Share)
 
--- the media of a slot
+-- The media of a slot.
 abbrev pub media_at : List media.SlotMedia → ℕ → media.SlotMedia
 media_at kept slot = slice_index_or kept slot media.idle
 
--- The stored media and frame match a termination. The timestamp and the sequence number count its
--- ticks and packets, modulo 2^32 and 2^16.
+-- The stored media and frame match a termination. The timestamp and the sequence number count the termination's ticks
+-- and packets, modulo 2^32 and 2^16.
 pub record IsMediaOf (config : Config) (m : media.SlotMedia) (row : List ℤ)
     (s : TerminationMedia) : Type 0 where
   pub play : m.play ≡ s.play
@@ -43,16 +43,16 @@ pub record IsMediaOf (config : Config) (m : media.SlotMedia) (row : List ℤ)
   pub sequence : m.sequence ≡ (config.sequence + s.packets) % 2 ^ 16
   pub is_sending : m.is_sending ≡ s.sent_last
 
--- two different terminations are in the same context, at these places
+-- Two different terminations are in the same context, at these places.
 pub record ShareContext (w : rooms.Registry) (m n : ℕ) (a b : Record) (p q : Place) : Type 0 where
   pub first : IsOnPlace w m a p
   pub second : IsOnPlace w n b q
   pub same : a.context ≡ b.context
   pub apart : m ≢ n
 
--- The configuration, terminations and contexts equal the gateway's. Each termination's media are
--- stored in its slot, and its frame in its slot's row. Between any two members of a context, the
--- table lets one hear the other if and only if the last word does.
+-- The configuration, terminations and contexts equal the gateway's. Each termination's media are stored in its slot,
+-- and its frame is stored in its slot's row. For any two members of a context, the table lets one hear the other if and
+-- only if the last word does.
 pub record StandsFor (kept : EngineState) (w : Gateway) : Type 0 where
   pub config : w.config ≡ kept.config
   pub rooms : w.rooms ≡ kept.rooms
@@ -64,8 +64,7 @@ pub record StandsFor (kept : EngineState) (w : Gateway) : Type 0 where
       → ShareContext kept.rooms talker listener t l p q
       → flow.hears kept.flows p q ≡ may_hear w.edits talker listener
 
--- the result of the call is the outcome; if the call succeeded, the engine represents the gateway
--- after the call
+-- The result of the call is the outcome. If the call succeeded, the engine represents the gateway after the call.
 abbrev pub IsOutcome : {A : Type 0} → EngineState → Result A ErrorNumber
     → Result (Gateway × A) ErrorNumber → Type 0
 IsOutcome kept (Ok x) outcome = (w : Gateway) × (outcome ≡ Ok (w, x)) × StandsFor kept w

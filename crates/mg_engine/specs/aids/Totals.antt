@@ -1,4 +1,4 @@
--- What the stored frames and totals represent (not from a standard).
+-- The frames and totals that an engine stores, compared with the gateway (not from a standard).
 use Rattle.std.specs.Prelude.{◌≡◌, ℕ, ◌<◌, Some}
 use Rattle.mg_rooms.specs.declared.context.Context.{Context}
 use Rattle.mg_rooms.specs.declared.record.Record.{Record}
@@ -8,8 +8,8 @@ use Rattle.mg_sums.specs.aids.Sums.{frame_of_row, total_of}
 use Rattle.mg_engine.specs.Gateway.{Gateway, frame_of}
 use Rattle.mg_engine.specs.Mix.{total}
 
--- The frame in the row of a termination's slot is its current frame. The total of a context's room
--- is the sum over the members that talk.
+-- The frame in the row of a termination's slot is the termination's current frame. The total of a context's room is the
+-- sum over the members that talk.
 pub record RepresentsTotals (w : Gateway) (kept : SumsState) : Type 0 where
   pub frames : (n : ℕ) (r : Record) → record_at w.rooms n ≡ Some r
       → frame_of_row kept r.slot ≡ frame_of w n

@@ -11,22 +11,22 @@ use Rattle.mg_engine.specs.Flow.{has}
 use Rattle.mg_engine.specs.aids.Place.{IsOnPlace}
 use Rattle.mg_engine.specs.Triples.{matched}
 
--- the context exists and has this room
+-- The context exists and has this room.
 abbrev pub IsRoomOf : Registry → ℕ → ℕ → Type 0
 IsRoomOf w c room = option_map (λ x. x.room) (context_at w c) ≡ Some room
 
--- a member of the context c has this seat
+-- A member of the context c has this seat.
 abbrev pub IsSeated : Registry → ℕ → ℕ → ℕ → Type 0
 IsSeated w c n seat =
     (r : Record) × (p : Place) × IsOnPlace w n r p × (r.context ≡ c) × (p.seat ≡ seat)
 
--- the mask contains exactly the seats of the named members, and only members are named
+-- The mask contains exactly the seats of the named members, and only members are named.
 pub record Matches (w : Registry) (c : ℕ) (names : List ℕ) (mask : ℕ) : Type 0 where
   pub same : (n seat : ℕ) → IsSeated w c n seat → has_seat mask seat ≡ has names n
   pub seats : (seat : ℕ) → IsTrue (has_seat mask seat) → (n : ℕ) × IsSeated w c n seat
   pub named : (n : ℕ) → IsTrue (has names n) → (seat : ℕ) × IsSeated w c n seat
 
--- a triple by seats matches one by terms, among the members of the context c
+-- The triple by seats matches the triple by terms, among the members of the context c.
 pub record IsMatched (w : Registry) (c : ℕ) (members : List ℕ) (x : TopologyTriple) (y : Triple)
     : Type 0 where
   pub association : y.association ≡ x.association

@@ -1,18 +1,17 @@
--- One room by its seats, and the masks of each of its listeners.
+-- A room by its seats, and the masks of each of its listeners.
 use Rattle.std.specs.Prelude.{◌≡◌, ℕ, ◌<◌, Bool, not, ◌&&◌, ◌==◌, if◌then◌else◌, List, []}
 use Rattle.std.specs.Prelude.{slice_index}
 use Rattle.mg_topology.specs.Mask.{seat_limit, has_seat, IsEmpty}
 use Rattle.mg_topology.specs.aids.Topology.{TopologyState, holds, hears, StandsFor}
 use Rattle.mg_flow.specs.aids.Table.{RoomFlows}
 
--- nobody has entered the room
+-- The room is empty: no member has entered it.
 pub record IsVacant (room : RoomFlows) : Type 0 where
   pub topology : StandsFor room.topology []
   pub talks : IsEmpty room.talks
   pub listens : IsEmpty room.listens
 
--- The three flags say whether the seat is now held, talks and listens; every other seat is
--- unchanged.
+-- The seat is held, talks and listens as the three flags say, and every other seat is unchanged.
 pub record SetsSeat (old new : RoomFlows) (seat : ℕ)
     (is_held does_talk does_listen : Bool) : Type 0 where
   pub held : (s : ℕ) →
@@ -22,12 +21,12 @@ pub record SetsSeat (old new : RoomFlows) (seat : ℕ)
   pub listeners : (s : ℕ) →
       has_seat new.listens s ≡ (if s == seat then does_listen else has_seat old.listens s)
 
--- whether the talker's speech flows to the listener
+-- Whether the talker's speech flows to the listener.
 abbrev pub flows_to : TopologyState → (talks listens : ℕ) → (talker listener : ℕ) → Bool
 flows_to topology talks listens talker listener =
     has_seat talks talker && (has_seat listens listener && hears topology talker listener)
 
--- whether the talker is another member that the last word mutes for the listener
+-- Whether the talker is another member that the last word mutes for the listener.
 abbrev pub is_blocked_for : TopologyState → (talks : ℕ) → (talker listener : ℕ) → Bool
 is_blocked_for topology talks talker listener =
     has_seat talks talker
@@ -35,7 +34,8 @@ is_blocked_for topology talks talker listener =
     && (holds topology listener
     && (not (talker == listener) && not (hears topology talker listener))))
 
--- for each listener, the masks say whose speech flows to it and who is silenced for it
+-- For each listener, the masks contain the talkers whose speech flows to the listener and those that are silenced for
+-- it.
 pub record AreMasks (room : RoomFlows) (open_masks silenced_masks : List ℕ) : Type 0 where
   pub flows : (talker listener : ℕ) → listener < seat_limit →
       has_seat (slice_index open_masks listener) talker

@@ -1,4 +1,4 @@
--- When nothing has to be compared again.
+-- Cases in which the open flows need not be compared again.
 use Rattle.std.specs.Prelude.{◌≡◌, ℕ, false, List, ◌∷◌, ◌++◌, replicate}
 use Rattle.mg_core.specs.declared.event.Event.{Event}
 use Rattle.mg_core.specs.Counting.{is_control}

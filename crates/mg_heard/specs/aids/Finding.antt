@@ -1,12 +1,12 @@
--- What is found among the entries of a script.
+-- The search for an interval and a gap among the entries of a script.
 use Rattle.std.specs.Prelude.{◌≡◌, List}
 use Rattle.std.specs.Option.{option_or}
 use Rattle.mg_heard.specs.declared.entry.Entry.{Entry}
 use Rattle.mg_heard.specs.declared.instant.Instant.{Instant}
 use Rattle.mg_heard.specs.Verdict.{gap_at, heard_at}
 
--- The same question was asked before and after these entries, and what they have was found, unless
--- something had been found before.
+-- After these entries, the sink has the same question, and it has found the first matching interval and gap, unless it
+-- had found them before.
 pub record HasFound (start now : Instant) (xs : List Entry) : Type 0 where
   pub query : now.query ≡ start.query
   pub time : now.time ≡ start.time

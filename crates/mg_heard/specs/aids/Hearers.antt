@@ -33,7 +33,7 @@ is_same_seated a b =
 abbrev pub is_same_hearer : Hearer → Hearer → Bool
 is_same_hearer a b = (a.talkers == b.talkers) && is_same_seated a.seated b.seated
 
--- whether a talker's speech flows to a listener
+-- Whether a talker's speech flows to a listener.
 abbrev pub is_heard : Hearer → Seated → Bool
 is_heard h t =
     (t.party.context == h.seated.party.context)
@@ -50,12 +50,12 @@ flow_between listener talker = record {
   talker_at = talker.at;
 }
 
--- the flows from these talkers to a listener
+-- The flows from these talkers to a listener.
 abbrev pub flows_heard : List Seated → Hearer → List OpenFlow
 flows_heard talkers h =
     map (λ t. flow_between h.seated.party t.party) (filter (is_heard h) talkers)
 
--- the flows from these terminations to these terminations
+-- The flows among these terminations.
 abbrev pub flows_among : List Hearer → List OpenFlow
 flows_among hs = flat_map (flows_heard (seats_of hs)) hs
 
@@ -64,13 +64,13 @@ flows_among hs = flat_map (flows_heard (seats_of hs)) hs
 abbrev pub AreRising : List Hearer → Type 0
 AreRising hs = AllPairs (λ h later. number_of h < number_of later) hs
 
--- the seats are those of the talkers whose speech flows to this termination
+-- The seats of `h` are exactly the seats of the talkers whose speech flows to this termination.
 pub record HearsTalkers (w : Gateway) (h : Hearer) : Type 0 where
   pub each : (t : Record) → record_at w.rooms t.number ≡ Some t
       → t.context ≡ h.seated.party.context
       → has_seat h.talkers t.seat ≡ flow w t.number (number_of h)
 
--- all terminations of a gateway, in order of their numbers
+-- The list consists of all terminations of a gateway, in order of their numbers.
 pub record AreHearers (w : Gateway) (hs : List Hearer) : Type 0 where
   pub seated : seats_of hs ≡ map seated_of w.rooms.terminations
   pub talkers : All (HearsTalkers w) hs

@@ -1,4 +1,4 @@
--- What a follower keeps while a script is run, and what it has reported by then.
+-- The state of a follower while a script runs, and the entries that it has reported.
 use Rattle.std.specs.Prelude.{◌≡◌, ℕ, Bool, false, List, [], ◌∷◌, length, reverse, Option}
 use Rattle.mg_engine.specs.declared.config.Config.{Config}
 use Rattle.mg_core.specs.Note.{Note, events_in}
@@ -16,12 +16,11 @@ use Rattle.mg_heard.specs.Told.{audible_in, intervals_in}
 use Rattle.mg_heard.specs.aids.Opening.{AreLasting}
 use Rattle.mg_heard.specs.aids.Timing.{AreBegun, IsClock, Timed}
 
--- what is reported about a stored interval
+-- The entry that reports a stored interval with this end.
 abbrev pub entry_until : Option Moment → OpenInterval → Entry
 entry_until end x = entries.Interval (record { flow = x.flow; first = x.first; end = end })
 
--- the intervals that have not ended in the newest moment of a past are stored, and the others are
--- reported
+-- The intervals that have not ended in the newest moment of a past are stored, and all others have been reported.
 pub record TellsPast (past : List (List OpenFlow)) (stored : List OpenInterval)
     (Told : List Entry → Type 0) : Type 0 where
   pub lasts : AreLasting past stored
@@ -41,8 +40,8 @@ pub record KeepsOpen (config : Config) (notes : List Note) (tick : ℕ) (is_chan
   pub same : is_changed ≡ false → now ≡ newest past
   pub tells : TellsPast past stored Told
 
--- The same, with the dates and gaps of the notes, which come newest first: all stored and reported
--- moments are before this tick.
+-- A follower stores and reports the intervals of this past as in `TellsPast`, with the dates and gaps of the notes,
+-- which come newest first. All stored and reported moments are before this tick.
 pub record TellsTimed (older : List Note) (tick : ℕ) (past : List (List OpenFlow))
     (stored : List OpenInterval) (Told : List Entry → Type 0) : Type 0 where
   pub begun : AreBegun older tick stored

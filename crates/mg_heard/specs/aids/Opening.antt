@@ -11,25 +11,25 @@ use Rattle.mg_heard.specs.OpenFlow.{has, is_same}
 
 -- ## Order
 
--- a number for each pair, in order of listeners and then of talkers
+-- A number for each pair. The numbers order pairs by listener, then by talker.
 abbrev pub key_of : OpenFlow → ℕ
 key_of x = x.listener * 2 ^ 32 + x.talker
 
--- the intervals are in order of their pairs, and no pair has two
+-- The intervals are in order of their pairs, and no pair has two intervals.
 abbrev pub IsRising : List OpenInterval → Type 0
 IsRising xs = AllPairs (λ x later. key_of x.flow < key_of later.flow) xs
 
--- each pair is in front of this one
+-- The pairs of all these intervals come before the pair of this flow.
 abbrev pub AreBefore : OpenFlow → List OpenInterval → Type 0
 AreBefore flow xs = All (λ x. key_of x.flow < key_of flow) xs
 
 -- ## Intervals of the same flows
 
--- when the interval of this flow began, if there is one
+-- The moment at which the interval of this flow began, or `None` if the flow has no interval.
 abbrev pub beginning_among : List OpenInterval → OpenFlow → Option Moment
 beginning_among xs flow = option_map (λ x. x.first) (find (λ x. is_same flow x.flow) xs)
 
--- an interval that begins with the earlier one of the same flow, if there is one
+-- An interval that begins with the earlier interval of the same flow, if there is one.
 abbrev pub continued : List OpenInterval → OpenInterval → OpenInterval
 continued earlier x =
     option_map_or (λ first. record x { first = first }) (beginning_among earlier x.flow) x
@@ -37,29 +37,29 @@ continued earlier x =
 abbrev pub flows_of : List OpenInterval → List OpenFlow
 flows_of xs = map (λ x. x.flow) xs
 
--- those whose flows are not among the next ones
+-- The intervals whose flows are not in `flows`.
 abbrev pub without_flows : List OpenFlow → List OpenInterval → List OpenInterval
 without_flows flows xs = filter (λ x. not (has flows x.flow)) xs
 
 -- ## Their places
 
--- the maximum number of flows that can be open
+-- The maximum number of flows that can be open.
 abbrev pub flow_limit : ℕ
 flow_limit = termination_limit * member_limit
 
--- an interval that begins at this moment
+-- An interval that begins at this moment.
 abbrev pub beginning_at : Moment → OpenFlow → OpenInterval
 beginning_at first x = record { flow = x; first = first }
 
 -- ## Without dates
 
--- a stored interval, while it has no end, and with its end
+-- A stored interval while it has no end. `ended_at` gives it an end.
 abbrev pub still_open : OpenInterval → Interval
 still_open x = record { flow = x.flow; first = x.first.tick; end = None }
 
 abbrev pub ended_at : ℕ → OpenInterval → Interval
 ended_at tick x = record { flow = x.flow; first = x.first.tick; end = Some tick }
 
--- these are the intervals that have not ended in the newest moment of a past
+-- The stored intervals are those that have not ended in the newest moment of a past.
 abbrev pub AreLasting : List (List OpenFlow) → List OpenInterval → Type 0
 AreLasting past xs = IsRising xs × (map still_open xs ≡ lasting past)

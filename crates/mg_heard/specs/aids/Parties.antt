@@ -1,4 +1,4 @@
--- Terminations, as an interval describes them.
+-- Terminations as an interval describes them.
 use Rattle.std.specs.Prelude.{◌≡◌}
 use Rattle.std.specs.Option.{option_map}
 use Rattle.mg_rooms.specs.declared.record.Record.{Record}
@@ -13,7 +13,7 @@ party_of r = record {
   at = option_map (λ c. record { address = c.address; port = c.port }) r.remote;
 }
 
--- what an interval says about a termination is true in this gateway
+-- The description of a termination is right in this gateway.
 pub record IsParty (w : Gateway) (p : Party) : Type 0 where
   pub context : p.context ≡ context_of w p.number
   pub at : p.at ≡ remote_of w p.number

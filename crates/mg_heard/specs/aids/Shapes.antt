@@ -10,13 +10,14 @@ use Rattle.mg_heard.specs.declared.claim.Claim.{Claim}
 use Rattle.mg_heard.specs.declared.claim.Claim.TheVariants as claims
 use Rattle.mg_heard.specs.declared.format.Format.{Format}
 use Rattle.mg_heard.specs.declared.format.Format.TheVariants.{Text, Csv, Json, Page}
+use Rattle.mg_heard.specs.declared.gap.Gap.{Gap}
 use Rattle.mg_heard.specs.declared.interval.Interval.{Interval}
 use Rattle.mg_heard.specs.declared.moment.Moment.{Moment}
 use Rattle.mg_heard.specs.declared.named.Named.{Named}
 use Rattle.mg_heard.specs.declared.open_flow.OpenFlow.{OpenFlow}
 use Rattle.mg_heard.specs.declared.violation.Violation.{Violation}
 use Rattle.mg_heard.specs.Escaped.{escaped}
-use Rattle.mg_heard.specs.Lines.{end_text, extent_text, moment_text}
+use Rattle.mg_heard.specs.Lines.{end_text, extent_text, gap_word, moment_text}
 use Rattle.mg_heard.specs.Names.{name_of}
 
 -- ## Sentences
@@ -25,12 +26,12 @@ abbrev pub at_text : Option Peer → List ℕ
 at_text None = []
 at_text (Some peer) = codes " (" ++ (peer_text peer ++ codes ")")
 
--- a Remote after the number in brackets
+-- A comma and the Remote, or nothing if there is no Remote.
 abbrev pub comma_text : Option Peer → List ℕ
 comma_text None = []
 comma_text (Some peer) = codes ", " ++ peer_text peer
 
--- a termination with this name, or without a name if the text is empty
+-- The text for a termination with this name, or without a name if `name` is empty.
 abbrev pub called_text : List ℕ → ℕ → Option Peer → List ℕ
 called_text name n at =
     if length name == 0 then rtp_name n ++ at_text at
@@ -39,7 +40,7 @@ called_text name n at =
 abbrev pub called_party : List Named → ℕ → Option Peer → List ℕ
 called_party names n at = called_text (name_of names n at) n at
 
--- what a sentence says: that the listener could hear the talker, or that he did
+-- The verb of a sentence: the listener could hear the talker, or did hear the talker.
 abbrev pub verb_of : Claim → List ℕ
 verb_of claims.CouldHear = codes " could hear "
 verb_of claims.Heard = codes " heard "
@@ -64,7 +65,7 @@ abbrev pub time_column : List ℕ → Option Date → List ℕ
 time_column time None = []
 time_column time (Some date) = time
 
--- the date of a moment, if there is a moment and its date is known
+-- The date of a moment, or `None` if there is no moment or its date is not known.
 abbrev pub date_of_end : Option Moment → Option Date
 date_of_end end = option_and_then (λ m. m.date) end
 
@@ -74,7 +75,7 @@ extent_columns from until first end =
     ++ (time_column from first.date ++ (codes ","
     ++ time_column until (date_of_end end))))))
 
--- a name in quotes, if there is one; it has no quotes of its own
+-- The name in quotes, or nothing if `name` is empty. Names contain no quotes.
 abbrev pub name_column : List ℕ → List ℕ
 name_column name =
     if length name == 0 then [] else codes "\"" ++ (name ++ codes "\"")
@@ -84,7 +85,7 @@ name_columns names x =
     codes "," ++ (name_column (name_of names x.listener x.listener_at)
     ++ (codes "," ++ (name_column (name_of names x.talker x.talker_at) ++ codes "\n")))
 
--- the kind of a row or an object
+-- The kind of a row or an object.
 abbrev pub kind_of : Claim → List ℕ
 kind_of claims.CouldHear = codes "heard"
 kind_of claims.Heard = codes "audible"
@@ -140,23 +141,23 @@ interval_object claim from until names x =
 
 -- ## Rows of a page
 
--- the tick at which a bar ends; without an end, it is that of the timeline
+-- The tick at which a bar ends. A bar without an end ends with the timeline.
 abbrev pub bar_end : Option Moment → List ℕ
 bar_end None = codes "var(--t1)"
 bar_end (Some end) = decimal end.tick
 
--- the ticks from which the page draws a row's bar
+-- The ticks from which the page draws a row's bar.
 abbrev pub bar_of : Moment → Option Moment → List ℕ
 bar_of first end =
     codes "style=\"--a:" ++ (decimal first.tick ++ (codes ";--b:" ++ (bar_end end ++ codes "\">")))
 
--- the last three cells
+-- The last three cells of a row.
 abbrev pub extent_cells : List ℕ → List ℕ → Moment → Option Moment → List ℕ
 extent_cells from until first end =
     codes "<td>" ++ (moment_text from first.tick first.date ++ (codes "</td><td>"
     ++ (end_text until end ++ codes "</td><td><div></div></td></tr>\n")))
 
--- a termination with this name, or without a name if the text is empty; names have escapes
+-- The text for a termination in a page, with its escaped name, or without a name if `name` is empty.
 abbrev pub shown_text : List ℕ → ℕ → Option Peer → List ℕ
 shown_text name n at =
     if length name == 0 then rtp_name n ++ at_text at
@@ -180,15 +181,17 @@ interval_shape claim Csv from until names x = interval_row claim from until name
 interval_shape claim Json from until names x = interval_object claim from until names x
 interval_shape claim Page from until names x = table_row_shape from until names x
 
-abbrev pub gap_shape : Format → List ℕ → List ℕ → Moment → Moment → List ℕ
-gap_shape Text from until first end = codes "gap" ++ extent_text from until first (Some end)
-gap_shape Csv from until first end =
-    codes "gap,,,,,," ++ (extent_columns from until first (Some end) ++ codes ",,\n")
-gap_shape Json from until first end =
-    codes "{\"kind\":\"gap\"" ++ (extent_members from until first (Some end) ++ codes "}\n")
-gap_shape Page from until first end =
-    codes "<tr class=\"gap\" " ++ (bar_of first (Some end)
-    ++ (codes "<th scope=\"row\" colspan=\"3\">Gap</th>" ++ extent_cells from until first (Some end)))
+abbrev pub gap_shape : Format → List ℕ → List ℕ → Gap → List ℕ
+gap_shape Text from until gap = gap_word gap ++ extent_text from until gap.first (Some gap.end)
+gap_shape Csv from until gap =
+    gap_word gap ++ (codes ",,,,,," ++ (extent_columns from until gap.first (Some gap.end) ++ codes ",,\n"))
+gap_shape Json from until gap =
+    codes "{\"kind\":\"" ++ (gap_word gap ++ (codes "\""
+    ++ (extent_members from until gap.first (Some gap.end) ++ codes "}\n")))
+gap_shape Page from until gap =
+    codes "<tr class=\"gap\" " ++ (bar_of gap.first (Some gap.end)
+    ++ (codes "<th scope=\"row\" colspan=\"3\">" ++ (gap_word gap
+    ++ (codes "</th>" ++ extent_cells from until gap.first (Some gap.end)))))
 
 -- ## Violations
 
@@ -199,7 +202,7 @@ violation_sentence time names v =
     ++ (decimal v.flow.context ++ (codes " from "
     ++ (moment_text time v.at.tick v.at.date ++ codes "\n"))))))
 
--- a sentence, or the line of an interval whose end is not known
+-- The line for a violation: a sentence, or the line of an interval whose end is not known.
 abbrev pub violation_shape : Format → List ℕ → List Named → Violation → List ℕ
 violation_shape Text time names v = violation_sentence time names v
 violation_shape Page time names v = violation_sentence time names v

@@ -1,4 +1,4 @@
--- What a watch keeps while a script is run.
+-- The state of a watch while a script runs.
 use Rattle.std.specs.Prelude.{◌≡◌, ◌&&◌, ℕ, Bool, false, List, ◌∷◌, find, length, reverse, Option, None}
 use Rattle.std.specs.Option.{option_map}
 use Rattle.mg_engine.specs.declared.config.Config.{Config}
@@ -15,11 +15,11 @@ abbrev pub forbids : Rule → OpenFlow → Bool
 forbids rule x =
     is_asked rule.talker x.talker x.talker_at && is_asked rule.listener x.listener x.listener_at
 
--- the first forbidden flow that is open in a moment
+-- The first forbidden flow that is open in a moment.
 abbrev pub forbidden_in : List Rule → List OpenFlow → Option OpenFlow
 forbidden_in rules flows = find (is_forbidden rules) flows
 
--- the forbidden flow of the moment before this tick
+-- The first forbidden flow of the moment before this tick, with the tick.
 abbrev pub forbidden_at : ℕ → List Rule → List OpenFlow → Option (ℕ × OpenFlow)
 forbidden_at tick rules flows = option_map (λ x. (tick, x)) (forbidden_in rules flows)
 

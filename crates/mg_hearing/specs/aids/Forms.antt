@@ -1,4 +1,4 @@
--- Formats.
+-- The output in formats other than a page.
 use Rattle.std.specs.Prelude.{◌≡◌, ℕ, Bool, true, false, List, None, Option, Some}
 use Rattle.mg_dates.specs.declared.date.Date.{Date}
 use Rattle.mg_heard.specs.declared.entry.Entry.{Entry}
@@ -18,7 +18,7 @@ is_page formats.Text = false
 is_page formats.Csv = false
 is_page formats.Json = false
 
--- what is printed in lines
+-- The output about intervals and gaps in lines.
 abbrev pub PrintsLines : Question → Option Date → (old new : Option (List ℕ)) → Status → Extent
     → List Entry → Type 0
 PrintsLines asked None old new status extent xs =

@@ -15,7 +15,7 @@ use Rattle.mg_hearing.specs.declared.page_text.TheConstants.{SOURCE, SIZE, HASH,
 use Rattle.mg_hearing.specs.declared.page_text.TheConstants.{PROGRAM, PROGRAM_HASH, COMMAND, TRUST}
 use Rattle.mg_hearing.specs.Page.{last_words, party_word, script_name}
 
--- a page up to its table, with some texts for the two times
+-- A page up to its table, with some texts for the two times.
 pub record IsFront (request : HeardRequest) (front : List ℕ) : Type 0 where
   pub from : List ℕ
   pub until : List ℕ
@@ -26,15 +26,14 @@ pub record IsFront (request : HeardRequest) (front : List ℕ) : Type 0 where
       ∷ escaped (party_word request.query.talker) ∷ FROM.now ∷ escaped from ∷ UNTIL.now
       ∷ escaped until ∷ ANSWER.now ∷ [])
 
--- the end of a table, and the scale of its timeline
+-- The end of a table, and the scale of its timeline.
 pub record IsScale (text : List ℕ) : Type 0 where
   pub scale : List ℕ
   pub ticks : List ℕ
   pub is : text ≡ concat (
       TABLE_END.now ∷ escaped scale ∷ TICKS.now ∷ escaped ticks ∷ WHOLE.now ∷ [])
 
--- the end of a page: what was read, with this digest, which program wrote the page, and the command
--- that it ran
+-- The end of a page: the script with this digest, the program that wrote the page, and the command that makes the page.
 pub record IsOrigin (file : Option (List ℕ)) (digest text : List ℕ) : Type 0 where
   pub size : List ℕ
   pub covered : List ℕ
@@ -47,7 +46,7 @@ pub record IsOrigin (file : Option (List ℕ)) (digest text : List ℕ) : Type 0
       ∷ PROGRAM_HASH.now ∷ escaped program_digest ∷ COMMAND.now ∷ escaped options
       ∷ escaped (last_words file) ∷ TRUST.now ∷ [])
 
--- a writer has received the front of a page and a row for each entry that is asked for
+-- A writer has received the front of a page and a row for each entry that the query selects.
 abbrev pub WritesTable : HeardRequest → Question → (old new : Option (List ℕ)) → List Entry → Type 0
 WritesTable request asked old new xs =
     (front : List ℕ) × (rows : List ℕ) × IsFront request front

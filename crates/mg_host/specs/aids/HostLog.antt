@@ -2,7 +2,7 @@
 use Rattle.std.specs.Prelude.{◌≡◌, [], ◌∷◌, ◌++◌, List, Option, Some, None}
 use Rattle.mg_host.specs.declared.host_call.HostCall.{HostCall}
 
--- a log grows by a call, or is lost
+-- The log grows by a call, or is lost.
 abbrev pub LogsNext : Option (List HostCall) → Option (List HostCall) → Option HostCall → Type 0
 LogsNext old None call = Unit {0}
 LogsNext old (Some all) None = ⊥

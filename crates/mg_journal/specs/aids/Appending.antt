@@ -13,7 +13,7 @@ use Rattle.mg_journal.specs.Text.{IsWhole, whole_lines}
 use Rattle.mg_journal.specs.Journal.{JournalState, is_synced}
 use Rattle.mg_journal.specs.JournalFile.{FileState, grown, cut_to, synced}
 
--- the journal that a file holds
+-- The journal in a file.
 abbrev pub journal_in : FileState → (is_broken : Bool) → JournalState
 journal_in file is_broken = record {
   text = option_map whole_lines file.bytes;
@@ -34,17 +34,17 @@ abbrev pub IsHashed : FileState → Sha256 → Bool → Type 0
 IsHashed file hasher true = Unit {0}
 IsHashed file hasher false = IfSome file.bytes (λ bytes. Holds256 hasher (last_part bytes))
 
--- a whole text was written, or only a prefix of it
+-- The whole text was written. On an error, only a prefix of it was written.
 abbrev pub Writes : {E : Type 0} → List ℕ → FileState → FileState → Result (Unit {0}) E → Type 0
 Writes text old new (Ok done) = new ≡ grown old text
 Writes text old new (Err error) = (n : ℕ) × (new ≡ grown old (take n text))
 
--- a file was cut to a length or, if that failed, is unchanged
+-- The file was cut to the given length. If that failed, the file is unchanged.
 abbrev pub CutsBack : ℕ → FileState → FileState → AppendFault → Type 0
 CutsBack len old new Refused = new ≡ cut_to len old
 CutsBack len old new Broken = new ≡ old
 
--- a prefix of a text was written, and may then have been cut off
+-- A prefix of the text was written. If the fault is `Refused`, the file was then cut back.
 abbrev pub Leaves : List ℕ → ℕ → FileState → FileState → AppendFault → Type 0
 Leaves text len old new Refused = (n : ℕ) × (new ≡ cut_to len (grown old (take n text)))
 Leaves text len old new Broken = (n : ℕ) × (new ≡ grown old (take n text))

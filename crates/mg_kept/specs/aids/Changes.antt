@@ -1,4 +1,4 @@
--- What one change does to kept replies: the steps of the theorems about a reply over time.
+-- The effect of one change on kept replies, as steps for the theorems about a reply over time.
 use Rattle.std.specs.Prelude.{◌≡◌, ℕ, ◌+◌, ◌<◌, ◌≤◌, ◌&&◌, nat_le, true, false, List, []}
 use Rattle.std.specs.Prelude.{length, Some, None}
 use Rattle.std.specs.Str.{str_eq_ignore_ascii_case}
@@ -31,7 +31,7 @@ LastIsNewest =
     → kept_text replies reply.sender reply.number ≡ None → is_from sender reply ≡ true
     → newer_than (with_reply reply replies) sender reply.number ≡ []
 
--- An acknowledgement that does not name a reply keeps it, and adds no newer one.
+-- An acknowledgement that does not name a reply keeps it, and does not add any newer one.
 abbrev pub UnnamedStay : Type 0
 UnnamedStay =
     (replies : List KeptReply) (sender from : List ℕ) (number first last : ℕ)

@@ -1,4 +1,4 @@
--- The steps of a run: what is written for several steps, and at one reading.
+-- The lines that are written for several steps, and at one reading.
 use Rattle.std.specs.Prelude.{◌≡◌, ℕ, ◌*◌, Bool, nat_le, List, ◌++◌, codes}
 use Rattle.std.specs.Prelude.{Option, Result, Ok, Err}
 use Rattle.std.specs.Io.KnownBytes.{Appends}
@@ -8,7 +8,7 @@ use Rattle.mg_pacer.specs.Pace.{Pace}
 use Rattle.mg_clock.specs.Text.{text}
 use Rattle.mg_pacer.specs.Text.{text_by}
 
--- the line that ends a run
+-- The line that ends a run.
 abbrev pub quit_line : List ℕ
 quit_line = codes "quit\n"
 
@@ -26,14 +26,14 @@ WritesLast polls from to old new result =
     (lines : List ℕ) × (text polls to ++ quit_line ≡ text polls from ++ lines)
     × Writes lines old new result
 
--- the lines of one reading were written, and the result says whether they end the run
+-- The lines of one reading were written, and the result says whether they end the run.
 abbrev pub TurnEnds : ℕ → Pace → List ℕ → Option (List ℕ) → Option (List ℕ)
     → Result Bool WriteFailed → Type 0
 TurnEnds wanted q lines old new (Ok done) =
     (done ≡ nat_le (wanted * q.polls) q.steps) × Appends old new lines
 TurnEnds wanted q lines old new (Err failed) = WritesFront lines old new
 
--- what is written at a reading that leads from one pace to the next
+-- The output at a reading that leads from one pace to the next.
 abbrev pub Turns : ℕ → Pace → Pace → Option (List ℕ) → Option (List ℕ) → Result Bool WriteFailed
     → Type 0
 Turns wanted p q old new result =

@@ -1,4 +1,4 @@
--- What the fields of a schedule represent.
+-- The pace that a schedule represents, and the bounds of its fields.
 use Rattle.std.specs.Prelude.{◌+◌, ◌*◌, ◌<◌, ◌≤◌}
 use Rattle.mg_pacer.specs.declared.schedule.Schedule.TheInside.{Inside}
 use Rattle.mg_pacer.specs.Pace.{Pace}
@@ -9,5 +9,5 @@ pace_of s = record { polls = s.polls; steps = s.steps; left = s.left }
 pub record IsWithinBounds (s : Inside) : Type 0 where
   pub some : 0 < s.polls
   pub few : s.polls ≤ 1000
-  -- no more steps than are due at the largest 64-bit reading
+  -- The number of steps is at most the number that is due at the largest 64-bit reading.
   pub small : s.steps + s.polls * s.left ≤ 922337203685478

@@ -6,18 +6,18 @@ use Rattle.circular_buffer.specs.Buffer.{Buffer}
 use Rattle.mg_g711.specs.Frame.{IsFrame}
 use Rattle.mg_playout.specs.Places.{FramePlaces}
 
--- the invariant of the ring, which holds the last frame and the places
+-- The invariant of the ring, which holds the last frame and the places.
 pub record IsRingOfPlaces (ring : Buffer (Option (List ℤ))) : Type 0 where
   pub capacity : ring.capacity ≡ greatest_depth + 1
   pub at_least : least_depth + 1 ≤ length ring.items
   pub at_most : length ring.items ≤ greatest_depth + 1
   pub frames : All (λ item. IfSome item IsFrame) ring.items
 
--- the frames that a play list keeps: the last one played, if any, and those that are waiting
+-- The frames that a play list keeps: the last frame played, if any, and the frames that are waiting.
 pub record KeptFrames : Type 0 where
   pub last : Option (List ℤ)
   pub places : FramePlaces
 
--- the contents of the ring, whose first item is the last frame
+-- The contents of the ring, whose first item is the last frame.
 abbrev pub kept_in : List (Option (List ℤ)) → KeptFrames
 kept_in items = record { last = slice_index_or items 0 None; places = drop 1 items }

@@ -2,7 +2,7 @@
 use Rattle.std.specs.Prelude.{◌≡◌, [], ◌∷◌, ◌++◌, List, Option, Some, None}
 use Rattle.mg_ports.specs.declared.call.Call.{Call}
 
--- a log grows by a call, or is lost
+-- The log grows by a call, or is lost.
 abbrev pub LogsNext : Option (List Call) → Option (List Call) → Option Call → Type 0
 LogsNext old None call = Unit {0}
 LogsNext old (Some all) None = ⊥

@@ -2,6 +2,6 @@
 use Rattle.std.specs.Prelude.{ℕ, ◌+◌, ◌-◌, length, take}
 use Rattle.mg_reply.specs.Bytes.{Written}
 
--- only the first `len` bytes of the text
+-- The first `len` bytes of the text.
 abbrev pub cut_to : ℕ → Written → Written
 cut_to len old = record { text = take len old.text; room = old.room + (length old.text - len) }

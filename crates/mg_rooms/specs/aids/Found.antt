@@ -1,8 +1,8 @@
--- Results of lookups, for proofs.
+-- The results of lookups.
 use Rattle.std.specs.Prelude.{ℕ, List, [], Option}
 use Rattle.std.specs.Option.{option_map_or}
 use Rattle.mg_rooms.specs.declared.context.Context.{Context}
 
--- the members of a context, if it exists
+-- The members of a context, if it exists.
 abbrev pub members_of : Option Context → List ℕ
 members_of context = option_map_or (λ x. x.members) context []

@@ -1,4 +1,4 @@
--- How a call relates to the outcome of its command.
+-- The relation between a call and the outcome of its command.
 use Rattle.std.specs.Prelude.{◌≡◌, Result, Ok, Err}
 use Rattle.mg_rooms.specs.declared.record.Record.{Record}
 use Rattle.mg_words.specs.declared.error_number.ErrorNumber.{ErrorNumber}

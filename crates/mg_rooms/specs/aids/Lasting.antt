@@ -1,4 +1,4 @@
--- What one command leaves unchanged (not from a standard).
+-- Properties that a command leaves unchanged (not from a standard).
 use Rattle.std.specs.Prelude.{◌≡◌, ◌≢◌, ℕ, Some}
 use Rattle.mg_rooms.specs.declared.record.Record.{Record}
 use Rattle.mg_rooms.specs.declared.context.Context.{Context}
@@ -13,8 +13,8 @@ pub record Lasts (w after : Registry) : Type 0 where
   pub room : (c : ℕ) (x y : Context) → context_at w c ≡ Some x → context_at after c ≡ Some y
       → y.room ≡ x.room
 
--- no termination except n changes, and no context except c and d; even the order of members in
--- other contexts is unchanged
+-- No termination except n changes, and no context except c and d. In other contexts, even the order of members is
+-- unchanged.
 pub record LeavesOthers (w after : Registry) (n c d : ℕ) : Type 0 where
   pub termination : (m : ℕ) → m ≢ n → record_at after m ≡ record_at w m
   pub context : (e : ℕ) → e ≢ c → e ≢ d → context_at after e ≡ context_at w e

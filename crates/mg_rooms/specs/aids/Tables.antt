@@ -1,4 +1,4 @@
--- The registry that tables by slot and by room represent: their contents, in order of numbers.
+-- The registry that the tables by slot and by room represent: their contents, in order of numbers.
 use Rattle.std.specs.Prelude.{◌≡◌, ℕ, ◌<◌, List, length, Option, Some, slice_get}
 use Rattle.mg_rooms.specs.declared.tables.Tables.TheInside.{Inside}
 use Rattle.mg_rooms.specs.Limits.{AreValidLimits}
@@ -16,13 +16,13 @@ registry_of a =
       next_context = a.next_context;
     }
 
--- a table has each key at most once
+-- A table has each key at most once.
 abbrev pub HoldsOnce : {A : Type 0} → (A → ℕ) → List (Option A) → Type 0
 HoldsOnce {A} key t =
     (i j : ℕ) (x y : A) → slice_get t i ≡ Some (Some x) → slice_get t j ≡ Some (Some y)
     → key x ≡ key y → i ≡ j
 
--- each entry names its own place; its key is below the next one, and occurs once
+-- Each entry names its own index. Its key is below the next one and occurs once.
 pub record IsTable {A : Type 0} (key spot : A → ℕ) (next size : ℕ)
     (t : List (Option A)) : Type 0 where
   pub len : length t ≡ size

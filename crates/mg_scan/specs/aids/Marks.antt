@@ -1,4 +1,4 @@
--- What follows a mark at the start of some tokens.
+-- The tokens after a mark.
 use Rattle.std.specs.Prelude.{Bool, true, false, List, [], ◌∷◌, Option, Some, None, if◌then◌else◌}
 use Rattle.mg_scan.specs.declared.kind.TokenKind.{TokenKind}
 use Rattle.mg_scan.specs.declared.kind.TokenKind.TheVariants.{Word, Open, Close, Comma, Equals}

@@ -1,4 +1,4 @@
--- What the code finds, by positions in the bytes.
+-- Tokens that the code finds, given as positions in the bytes.
 use Rattle.std.specs.Prelude.{◌≡◌, ℕ, ◌+◌, ◌<◌, ◌≤◌, List, drop, length, Option, Some, None, Result}
 use Rattle.std.specs.Prelude.{Ok, Err}
 use Rattle.std.specs.List.{slice_range}
@@ -6,7 +6,7 @@ use Rattle.mg_scan.specs.declared.fault.ScanFault.{ScanFault}
 use Rattle.mg_scan.specs.declared.found.Found.{Found}
 use Rattle.mg_scan.specs.Tokens.{TokenAndRest, token_and_rest, closing_len}
 
--- the code found the wanted token, given by positions in the bytes
+-- The positions that the code found delimit the token that the definitions require.
 pub record Places (bytes : List ℕ) (want : Option (Result TokenAndRest ScanFault))
     (x : Found) : Type 0 where
   pub start : x.start ≤ x.end
@@ -15,7 +15,7 @@ pub record Places (bytes : List ℕ) (want : Option (Result TokenAndRest ScanFau
   pub next : x.next ≤ length bytes
   pub is : want ≡ token_and_rest x.kind (slice_range bytes x.start x.end) (drop x.next bytes)
 
--- the result of the code is the wanted one
+-- The code returns the token or the fault that the definitions require.
 abbrev pub FindsAs : List ℕ → Option (Result TokenAndRest ScanFault)
     → Option (Result Found ScanFault)
     → Type 0

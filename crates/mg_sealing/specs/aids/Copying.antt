@@ -1,4 +1,4 @@
--- How far a recording has been copied.
+-- The progress of copying a recording.
 use Rattle.std.specs.Prelude.{◌≡◌, ℕ, ◌<◌, ◌≤◌, Bool, true, List, length, Option, Some, IfSome}
 use Rattle.std.specs.Io.KnownBytes.{Appends}
 use Rattle.sha2.specs.declared.Sha256.{Sha256}
@@ -6,7 +6,7 @@ use Rattle.sha2.specs.Hashers.{Holds256}
 use Rattle.mg_chain.specs.Seals.{is_whole, last_part}
 use Rattle.mg_sealing.specs.Sealed.{last_line, needs_seal, sealed, sealed_with}
 
--- the text that was printed, and the rest of the recording
+-- Part of a recording has been copied: `printed` is the output so far, and `left` is the rest of the recording.
 pub record Copying (text : List ℕ) (rest start contents : Option (List ℕ)) (hasher : Sha256) (ticks : ℕ) (due : Bool)
     : Type 0 where
   pub printed : List ℕ
@@ -20,7 +20,7 @@ pub record Copying (text : List ℕ) (rest start contents : Option (List ℕ)) (
   pub enough : length left ≤ most
   pub is : sealed_with most ticks printed left ≡ sealed text
 
--- the same, if the text is known
+-- The state of copying, if the text is known.
 abbrev pub Copies : (text rest start contents : Option (List ℕ)) → Sha256 → ℕ → (due : Bool) → Type 0
 Copies text rest start contents hasher ticks due =
     IfSome text (λ all. Copying all rest start contents hasher ticks due)

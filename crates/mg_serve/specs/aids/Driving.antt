@@ -18,14 +18,14 @@ use Rattle.mg_serve.specs.Setup.{Setup}
 use Rattle.mg_serve.specs.declared.command.Command.{Command}
 use Rattle.mg_serve.specs.Trace.{TraceEntry}
 
--- a receive, and whether it returned a datagram
+-- A receive, and whether it returned a datagram.
 abbrev pub Received : Setup → ℕ → Bool → World → List TraceEntry → World → Type 0
 Received setup socket true w trace next =
     (datagram : Peer × List ℕ) × ReceivesDatagram setup socket datagram w trace next
 Received setup socket false w trace next = ReceivesNothing socket trace × (next ≡ w)
 
--- The lines that end in these bytes were executed, and the first 8 bytes of the partial line after
--- them are kept. Or a line was the last one, or printing failed for a line.
+-- The complete lines in these bytes were executed, and the first 8 bytes of the partial line after them are kept.
+-- Otherwise one of the lines was the last one, or printing failed for a line.
 abbrev pub BytesTaken : Form → Setup → List ℕ → List ℕ → List ℕ → Result Bool WriteFailed → World
     → List TraceEntry → World → Type 0
 BytesTaken form setup partial bytes kept (Ok false) w trace next =
@@ -44,12 +44,12 @@ BytesTaken form setup partial bytes kept (Err failed) w trace next =
     × (before_quit (lines_after ended partial (bytes ++ more)) ≡ lines ++ others))
     × LastPrints form (map line_command lines) × Session setup (map line_command lines) w trace next
 
--- the partial line is the last, if there is one
+-- The partial line, if there is one, is executed as the last line.
 abbrev pub Finished : Setup → List ℕ → World → List TraceEntry → World → Type 0
 Finished setup [] w trace next = (trace ≡ []) × (next ≡ w)
 Finished setup (b ∷ bs) w trace next = Performs setup (line_command (b ∷ bs)) w trace next
 
--- a run ends with `Write` if and only if printing has failed
+-- A run ends with `Write` if and only if printing has failed.
 abbrev pub EndsBy : {T : Type 0} → Result T RunFault → (has_failed : Bool) → Type 0
 EndsBy (Ok value) has_failed = has_failed ≡ false
 EndsBy (Err faults.Read) has_failed = has_failed ≡ false
@@ -61,7 +61,7 @@ EndsBy (Err (faults.Script number)) has_failed = ⊥
 abbrev pub EndsByFault : RunFault → (has_failed : Bool) → Type 0
 EndsByFault fault has_failed = EndsBy {T = Unit {0}} (Err fault) has_failed
 
--- the commands from a source form a session
+-- The commands from a source form a session.
 abbrev pub RanBy : Setup → (List Command → Type 0) → World → List TraceEntry → World → Type 0
 RanBy setup Gave w trace next =
     (commands : List Command) × Gave commands × Session setup commands w trace next
@@ -74,9 +74,9 @@ RanLines form setup old new result w trace next =
 abbrev pub RanByClock : Form → Setup → ℕ → ClockSeen → ClockSeen → (fails : Type 0) → RunFault
     → World → List TraceEntry → World → Type 0
 RanByClock form setup allowed old new fails fault w trace next =
-    RanBy setup (ClockCommands form allowed old new fails fault) w trace next
+    RanBy setup (ClockCommands form allowed old new fails (Err fault)) w trace next
 
--- the commands of a step were executed, or printing failed for one of them
+-- The commands of a step were executed, or printing failed for one of them.
 abbrev pub StepTaken : Form → Setup → Step → Result (Unit {0}) WriteFailed → World → List TraceEntry
     → World → Type 0
 StepTaken form setup step (Ok done) w trace next = Session setup (step_commands step) w trace next
@@ -85,7 +85,7 @@ StepTaken form setup step (Err failed) w trace next =
     × (step_commands step ≡ commands ++ left) × (length left ≤ 1)
     × LastPrints form commands × Session setup commands w trace next
 
--- this many steps of a clock were taken
+-- This many steps of a clock were taken.
 abbrev pub StepsDone : Setup → TickSchedule → ℕ → ClockSeen → ClockSeen → TickSchedule → World
     → List TraceEntry → World → Type 0
 StepsDone setup first count old now schedule w trace next =

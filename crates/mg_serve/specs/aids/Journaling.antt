@@ -8,12 +8,13 @@ use Rattle.mg_ports.specs.declared.call.Call.{Call}
 use Rattle.mg_ports.specs.declared.call.Call.TheVariants.{Append}
 use Rattle.mg_ports.specs.Calls.{Logged}
 use Rattle.mg_ports.specs.Journaled.{PortsSeen, JournalAfter}
-use Rattle.mg_serve.specs.Journaled.{IsJournaled, IsTried, tick_lines}
+use Rattle.mg_serve.specs.Journaled.{IsJournaled, tick_lines}
+use Rattle.mg_serve.specs.aids.Tried.{IsTried}
 use Rattle.mg_serve.specs.Session.{IsAppended, MayAppend}
 use Rattle.mg_serve.specs.Trace.{TraceEntry, Called, Happened, calls_of}
 use Rattle.mg_serve.specs.aids.Outside.{JournalView}
 
--- a number of ticks that counts for a journal, if there is one, after one more tick
+-- A number of ticks since an append, after one more tick. Without a journal, the number doesn't change.
 abbrev pub after_one_tick : Option Durability → ℕ → ℕ
 after_one_tick None ticks = ticks
 after_one_tick (Some durability) ticks = ticks + 1
@@ -24,12 +25,12 @@ with_tick view = record view {
   untried = after_one_tick view.durability view.untried;
 }
 
--- some calls, as seen by the ports
+-- The effects of some calls, as seen by the ports.
 pub record LogsCalls (old new : PortsSeen) (calls : List Call) : Type 0 where
   pub logged : Logged old.calls new.calls calls
   pub journaled : JournalAfter calls old.journal new.journal
 
--- one append of ticks that the journal lacked
+-- One append of ticks that the journal lacked.
 pub record AppendsBatch (result : Result (Unit {0}) AppendFault) (before after : PortsSeen)
     (old new : JournalView) : Type 0 where
   pub ticks : ℕ
@@ -41,12 +42,12 @@ pub record AppendsBatch (result : Result (Unit {0}) AppendFault) (before after :
   pub tries : IsTried old.durability old.untried
       (Called (Append (tick_lines ticks) Written result) ∷ []) new.untried
 
--- the line of the event that follows
+-- These lines are the line of the event that follows.
 abbrev pub IsLineOf : (followed : List TraceEntry) → List ℕ → Type 0
 IsLineOf (Happened event ∷ followed) lines = lines ≡ event_line event
 IsLineOf followed lines = ⊥
 
--- some appends; if one failed, it was the last, with this error
+-- Some appends. If one failed, it was the last, with this error.
 abbrev pub AreAppends : (followed : List TraceEntry) → Result (Unit {0}) AppendFault
     → List TraceEntry → Type 0
 AreAppends followed (Ok done) trace = All IsAppended trace
@@ -70,7 +71,7 @@ pub record AppendsBefore (followed : List TraceEntry) (result : Result (Unit {0}
   pub lacks : IsJournaled old.durability old.lacking (trace ++ if_ok result followed) new.lacking
   pub tries : IsTried old.durability old.untried (trace ++ if_ok result followed) new.untried
 
--- a tick was counted, and then perhaps ticks were appended
+-- A tick was counted, and then ticks may have been appended.
 pub record EndsTick (before after : PortsSeen) (old new : JournalView) : Type 0 where
   pub appends : List TraceEntry
   pub may : MayAppend appends

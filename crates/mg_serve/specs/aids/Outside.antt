@@ -8,26 +8,26 @@ use Rattle.mg_ports.specs.Calls.{Logged}
 use Rattle.mg_ports.specs.Journaled.{PortsSeen, JournalAfter}
 use Rattle.mg_fence.specs.declared.fence.Fence.{Fence}
 use Rattle.mg_serve.specs.Fenced.{IsFenced}
-use Rattle.mg_serve.specs.Journaled.{IsJournaled, IsTried}
+use Rattle.mg_serve.specs.Journaled.{IsJournaled}
+use Rattle.mg_serve.specs.aids.Tried.{IsTried}
 use Rattle.mg_serve.specs.Setup.{Setup}
 use Rattle.mg_serve.specs.Trace.{TraceEntry, calls_of}
 use Rattle.mg_serve.specs.aids.Printing.{PrinterView, Prints}
 
--- how durably messages are appended to the journal, if there is one, how many ticks it lacks, how
--- many have happened since an append was tried, and the fence, if there is one
+-- A session's view of its journal: the durability with which messages are appended, if there is a journal, the number
+-- of ticks that it lacks, the number of ticks since an append was tried, and the fence, if there is one.
 pub record JournalView : Type 0 where
   pub durability : Option Durability
   pub lacking : ℕ
   pub untried : ℕ
   pub fence : Option Fence
 
--- the journal of a setup, without any tick that it lacks
+-- The journal of a setup at the start, when it doesn't lack any ticks.
 abbrev pub new_journal : Setup → JournalView
 new_journal setup =
     record { durability = setup.journal; lacking = 0; untried = 0; fence = setup.fence }
 
--- a server as seen from outside: its ports, the content of its writer, its printer, and the
--- progress of its journal
+-- A server as seen from outside: its ports, the content of its writer, its printer, and the progress of its journal.
 pub record Outside : Type 0 where
   pub ports : PortsSeen
   pub written : Option (List ℕ)
@@ -38,7 +38,7 @@ abbrev pub outside : PortsSeen → Option (List ℕ) → PrinterView → Journal
 outside ports written printer journal =
     record { ports = ports; written = written; printer = printer; journal = journal }
 
--- the effects of a trace, as seen from outside
+-- The effects of a trace, as seen from outside.
 pub record LogsTrace (old new : Outside) (trace : List TraceEntry) : Type 0 where
   pub logged : Logged old.ports.calls new.ports.calls (calls_of trace)
   pub journaled : JournalAfter (calls_of trace) old.ports.journal new.ports.journal

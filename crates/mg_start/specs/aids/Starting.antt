@@ -1,4 +1,4 @@
--- What the functions that start a gateway tell one another.
+-- Properties that the functions that start a gateway pass on to each other.
 use Rattle.std.specs.Prelude.{◌≡◌, ◌≢◌, ◌++◌, ℕ, false, true, List, [], codes, Option, Some, None, Result, Ok, Err, IfSome, Bool, ◌||◌, nat_eq}
 use Rattle.std.specs.List.{starts_with}
 use Rattle.std.specs.Io.KnownBytes.{append_known}
@@ -19,69 +19,70 @@ use Rattle.mg_arguments.specs.Title.{title_line}
 use Rattle.mg_start.specs.Journal.{RunsNoSession, Writes, missed_comment, start_lines, timeline_after}
 use Rattle.mg_start.specs.Start.{HasStarted, ResumesIn}
 
--- Times are kept for a journal if and only if it has lines, as far as its text is known. They are
--- those of its dates.
+-- A journal has a timeline if and only if it has lines, and the timeline is that of its dates. If the text is not
+-- known, nothing is stated.
 abbrev pub KeepsTimes : Option Timeline → (found : Option (List ℕ)) → Type 0
 KeepsTimes None found = IfSome found (λ text. text ≡ [])
 KeepsTimes (Some timeline) found =
     IfSome found (λ text. (text ≢ []) × (timeline ≡ timeline_after text))
 
--- how many ticks a timeline misses at this date
+-- The number of ticks that a timeline has missed at this date.
 abbrev pub missed_by : Option Timeline → (millis : Option ℕ) → ℕ
 missed_by None millis = 0
 missed_by (Some timeline) None = 0
 missed_by (Some timeline) (Some millis) = missed_since timeline (record { millis = millis })
 
--- the beginning of a title, or a text that begins like one
+-- Whether a text is the beginning of a title, or begins like a title.
 abbrev pub may_be_title : List ℕ → Bool
 may_be_title text =
     let start = codes "# mg_bridge replay " in
     starts_with nat_eq text start || starts_with nat_eq start text
 
--- A new journal, for which no times are known, begins with its title.
+-- The title with which a new journal begins. A journal that has a timeline isn't new.
 abbrev pub title_before : Option Timeline → Config → List ℕ
 title_before None config = title_line config
 title_before (Some timeline) config = []
 
--- these lines were appended to a journal
+-- These lines were appended to a journal.
 abbrev pub HasWritten : (old new : Option (List HostCall)) → (lines : List ℕ) → Type 0
 HasWritten old new lines = (calls : List HostCall) × Grows old new calls × Writes calls lines
 
--- These lines were appended to a journal, or this failed, perhaps after some of them.
+-- These lines were appended to a journal, or this failed, perhaps after some of the lines.
 abbrev pub Logs : {A E : Type 0} → (old new : Option (List HostCall)) → (lines : List ℕ) → Result A E
     → Type 0
 Logs old new lines (Ok done) = HasWritten old new lines
 Logs old new lines (Err fault) = RunsNoSession old new
 
--- this many ticks have passed
+-- This many ticks have passed.
 abbrev pub PassesTicks : ℕ → CoreState → CoreState → Type 0
 PassesTicks ticks old new =
     (w : World) → StandsFor old w → StandsFor new (world_after_ticks ticks w)
 
--- ticks that were missed, after a comment that says how many
+-- The missed ticks, after a comment that says how many.
 abbrev pub missed_lines : ℕ → List ℕ
 missed_lines ticks = missed_comment ticks ++ tick_lines ticks
 
--- A journal that works, and whose text, if it is known, is the text that was found, then the title,
--- then lines for this many missed ticks, and for the number to which an operator sets the fence.
+-- The journal works. If its text is known, it consists of the text that was found, the title, the lines for missed
+-- ticks, and the comment with which an operator sets the fence.
 pub record HasBegun (title : List ℕ) (ticks : ℕ) (fence : Option ℕ) (found : Option (List ℕ))
     (journal : JournalState) : Type 0 where
   pub works : journal.is_broken ≡ false
   pub text : journal.text ≡ append_known (append_known found title) (start_lines ticks fence)
 
--- a core in a world in which the gateway is resumed, and the number that its messages have reached
-pub record CanResume (journal text : Option (List ℕ)) (config : Config) (state : CoreState)
-    (reached : ℕ) : Type 0 where
+-- A core represents a world in which the gateway is resumed, and `reached` is the number that its messages have
+-- reached.
+pub record CanResume (text : Option (List ℕ)) (config : Config) (state : CoreState) (reached : ℕ)
+    : Type 0 where
   pub world : World
   pub stands : StandsFor state world
-  pub resumes : ResumesIn journal text config world reached
+  pub resumes : ResumesIn text config world reached
 
--- the number that the text of a journal has reached
+-- The text of a journal has reached this number.
 abbrev pub HasReached : (text : Option (List ℕ)) → (reached : ℕ) → Type 0
 HasReached text reached = IfSome text (λ lines.
     (notes : List Note) × (notes_of (lines_of true lines) ≡ Some notes) × Reaches 0 notes reached)
 
--- a core in the world in which a gateway starts, and the number that the journal has reached
+-- A core represents the world in which a gateway starts, and `reached` is the number that the journal has reached.
 pub record CanStart (journal text : Option (List ℕ)) (fence : Option ℕ) (config : Config)
     (state : CoreState) (reached : ℕ) (before : JournalState) (bound begun : Option (List HostCall))
     : Type 0 where

@@ -7,7 +7,7 @@ use Rattle.mg_g711.specs.Frame.{IsFrame}
 use Rattle.mg_sums.specs.Samples.{sum_of, silence}
 use Rattle.mg_sums.specs.Sums.{SumsState, sample_in, joined_rows}
 
--- a silent row for each possible termination, not joined to any room
+-- The state at the start: a silent row for each possible termination, not joined to any room.
 unfoldable pub first_sums : SumsState
 first_sums =
     record {
@@ -16,28 +16,29 @@ first_sums =
       work = 0;
     }
 
--- the frame of a row
+-- The frame of a row.
 abbrev pub frame_of_row : SumsState → ℕ → List ℤ
 frame_of_row kept row = slice_index_or kept.frames row []
 
--- the room that a row is joined to
+-- The room that a row is joined to.
 abbrev pub room_of : SumsState → ℕ → Option ℕ
 room_of kept row = slice_index_or kept.rooms row None
 
--- sample i of a room's total: the plain sum over the rows joined to it
+-- Sample i of a room's total: the sum of the rows that are joined to the room, without saturation.
 abbrev pub total_of : SumsState → ℕ → ℕ → ℤ
 total_of kept room i = sum_of (sample_in kept.frames i) (joined_rows kept.rooms room)
 
--- the work counter after this many more additions and subtractions of a row
+-- The work counter after this many more additions and subtractions of rows.
 abbrev pub work_after : ℕ → ℕ → ℕ
 work_after more work = (work + more) % 2 ^ 32
 
--- how many additions and subtractions it takes to set a row's frame: two if it is joined to a room
+-- The number of additions and subtractions that it takes to set a row's frame: two if the row is joined to a room, and
+-- otherwise none.
 abbrev pub frame_calls : Option ℕ → ℕ
 frame_calls None = 0
 frame_calls (Some room) = 2
 
--- a row for each possible termination, with a frame, and joined to at most one room
+-- There is a row for each possible termination. Each row has a frame and is joined to at most one room.
 pub record AreValidSums (kept : SumsState) : Type 0 where
   pub frames : length kept.frames ≡ termination_limit
   pub rooms : length kept.rooms ≡ termination_limit

@@ -5,15 +5,15 @@ use Rattle.mg_sums.specs.Samples.{sample}
 use Rattle.mg_sums.specs.Sums.{SumsState}
 use Rattle.mg_sums.specs.aids.Sums.{AreValidSums, total_of}
 
--- the largest magnitude of a total: a sum of this many samples, each at most 32768
+-- The largest magnitude of a total: a sum of one sample for each termination, each of magnitude at most 32768.
 abbrev pub total_limit : ℕ
 total_limit = termination_limit * 32768
 
--- no number in a row has a magnitude above the limit
+-- No number in the row has a magnitude above the limit.
 abbrev pub AreNear : ℕ → List ℤ → Type 0
 AreNear limit row = (i : ℕ) → i < 160 → unsigned_abs (sample row i) ≤ limit
 
--- each stored total is the plain sum of its room
+-- Each stored total is the sum of its room's frames, without saturation.
 pub record AreTotals (kept : SumsState) (totals : List (List ℤ)) : Type 0 where
   pub valid : AreValidSums kept
   pub rooms : length totals ≡ context_limit

@@ -23,31 +23,31 @@ use Rattle.mg_text.specs.aids.Reading.{keyword_at, term_at, after_group, filled_
 use Rattle.mg_text.specs.aids.Reading.{any_braced_at, optional_braced_at, place_of_rest}
 use Rattle.mg_text.specs.aids.Media.{media_part_at}
 
--- the words of an Audit after its keyword
+-- The words of an Audit after its keyword.
 abbrev pub audit_words_at : List ℕ → List Token → Result (List AuditWord × List Token) ℕ
 audit_words_at source ts = any_braced_at source (meaning_at (by_keyword audit_word_named) source) ts
 
--- the value of a descriptor after its equals sign: a group, or a word and an optional group
+-- The value of a descriptor after its equals sign: a group, or a word and an optional group.
 unfoldable pub assigned_at : List ℕ → List Token → Result (List Token) ℕ
 assigned_at source ts =
     if_some (after_mark Open ts)
     (λ inside. after_group source 0 inside)
     (word_at source ts >>= λ word. filled_at source word.1 >>= λ group. Ok group.1)
 
--- the tokens after the content of another descriptor, and whether there is content
+-- Whether another descriptor has content, and the tokens after the content.
 unfoldable pub content_at : List ℕ → List Token → Result (Bool × List Token) ℕ
 content_at source ts =
     if_some (after_mark Equals ts)
     (λ value. assigned_at source value >>= λ rest. Ok (true, rest))
     (filled_at source ts)
 
--- another descriptor after its keyword
+-- The rest of another descriptor after its keyword.
 unfoldable pub other_at : List ℕ → OtherWord → List Token → Result (Descriptor × List Token) ℕ
 other_at source word ts = do
   content ← content_at source ts
   Ok (descriptors.Other word content.0, content.1)
 
--- a descriptor after its keyword, or the position of that word
+-- The rest of a descriptor after its keyword, or the position of the keyword if it names no descriptor.
 abbrev pub descriptor_named : List ℕ → Keyword → ℕ → List Token → Result (Descriptor × List Token) ℕ
 descriptor_named source keywords.Media place ts =
     braced_at source (media_part_at source) ts >>= λ items. Ok (descriptors.Media items.0, items.1)
@@ -66,7 +66,7 @@ descriptor_at source ts = do
   keyword ← keyword_at source ts
   descriptor_named source keyword.0 (place_of_rest source ts) keyword.1
 
--- an Audit, by its keyword
+-- The rest of an Audit after its keyword, or the position of the keyword if it is another one.
 abbrev pub audit_named : List ℕ → Keyword → ℕ → List Token → Result (List AuditWord × List Token) ℕ
 audit_named source keywords.Audit place ts = audit_words_at source ts
 audit_named source _ place ts = Err place
@@ -76,7 +76,7 @@ audit_at source ts = do
   keyword ← keyword_at source ts
   audit_named source keyword.0 (place_of_rest source ts) keyword.1
 
--- an Audit in braces, if there are braces
+-- An Audit in braces, if there are braces.
 unfoldable pub optional_audit_at : List ℕ → List Token → Result (List Descriptor × List Token) ℕ
 optional_audit_at source ts =
     if_some (after_mark Open ts)
@@ -84,13 +84,13 @@ optional_audit_at source ts =
     (descriptors.Audit words.0 ∷ [], rest))
     (Ok ([], ts))
 
--- a group that is not kept, if there is one
+-- An optional group, which yields no descriptors.
 unfoldable pub skipped_at : List ℕ → List Token → Result (List Descriptor × List Token) ℕ
 skipped_at source ts = do
   group ← filled_at source ts
   Ok ([], group.1)
 
--- the descriptors after the name of a command's termination
+-- The descriptors after the name of a command's termination.
 abbrev pub descriptors_at : List ℕ → CommandWord → List Token
     → Result (List Descriptor × List Token) ℕ
 descriptors_at source commands.Add ts = optional_braced_at source (descriptor_at source) ts

@@ -4,7 +4,7 @@ use Rattle.std.specs.Char.{to_ascii_lowercase}
 use Rattle.mg_text.specs.declared.keyword.Keyword.{Keyword}
 use Rattle.mg_text.specs.Keyword.{forms_of, keywords}
 
--- a form starts with this lower-case letter
+-- Whether a form of a keyword starts with this lower-case letter.
 abbrev pub begins : ℕ → List ℕ → Bool
 begins letter [] = false
 begins letter (b ∷ bs) = letter == to_ascii_lowercase b
@@ -13,6 +13,6 @@ abbrev pub can_begin : ℕ → Keyword → Bool
 can_begin letter keyword =
     begins letter (forms_of keyword).0 || begins letter (forms_of keyword).1
 
--- the keywords that have a form starting with this letter
+-- The keywords that have a form starting with this letter.
 unfoldable pub words_by : ℕ → List Keyword
 words_by letter = filter (can_begin letter) keywords

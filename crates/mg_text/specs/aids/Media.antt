@@ -26,7 +26,7 @@ use Rattle.mg_scan.specs.aids.Marks.{after_mark}
 use Rattle.mg_text.specs.aids.Reading.{keyword_at, number_at, after_group, filled_at, braced_at}
 use Rattle.mg_text.specs.aids.Reading.{place_of_rest}
 
--- the value of a property, by the kind and text of its first token
+-- The value of a property, given the kind and the span of its first token.
 abbrev pub value_kinded : List ℕ → TokenKind → Span → List Token
     → Result (PropertyValue × List Token) ℕ
 value_kinded source Word w ts = Ok (values.Word w, ts)
@@ -45,7 +45,7 @@ optional_value_at source ts =
     (λ rest. value_at source rest >>= λ value. Ok (Some value.0, value.1))
     (Ok (None, ts))
 
--- ON or OFF after an equals sign
+-- The value ON or OFF after an equals sign.
 unfoldable pub switched_at : List ℕ → (Bool → ControlPart) → List Token
     → Result (ControlPart × List Token) ℕ
 switched_at source part ts = do
@@ -65,7 +65,7 @@ package_part_at source name ts =
     then (optional_value_at source ts >>= λ value. Ok (controls.Property name value.0, value.1))
     else Err name.start
 
--- a part of a LocalControl after its first word
+-- The rest of a part of a LocalControl after its first word.
 abbrev pub control_named : List ℕ → Option Keyword → Span → List Token
     → Result (ControlPart × List Token) ℕ
 control_named source (Some keywords.Mode) name ts = mode_part_at source ts
@@ -80,7 +80,7 @@ control_at source ts = do
   name ← word_at source ts
   control_named source (keyword_of (text_of source name.0)) name.0 name.1
 
--- a part of a stream after its keyword, or the position of that word
+-- The rest of a part of a stream after its keyword, or the position of the keyword if it names no such part.
 abbrev pub stream_named : List ℕ → Keyword → ℕ → List Token → Result (StreamPart × List Token) ℕ
 stream_named source keywords.Local place ts =
     span_at source Octets ts >>= λ text. Ok (streams.Local text.0, text.1)
@@ -102,7 +102,7 @@ numbered_at source ts = do
   items ← braced_at source (stream_part_at source) number.1
   Ok (parts.Stream number.0 items.0, items.1)
 
--- a part of a Media descriptor after its keyword; ts starts with that word
+-- A part of a Media descriptor. The tokens `ts` start with its keyword, and `rest` follows the keyword.
 abbrev pub media_named : List ℕ → Keyword → List Token → List Token
     → Result (MediaPart × List Token) ℕ
 media_named source keywords.Stream ts rest = numbered_at source rest

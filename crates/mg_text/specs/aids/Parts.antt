@@ -1,4 +1,4 @@
--- Names for parts of definitions, for proofs.
+-- Names for parts of the definitions, which the proofs use.
 use Rattle.std.specs.Prelude.{ℕ, ◌≤◌, List, length, Option, Result, Err}
 use Rattle.std.specs.List.{filter_map}
 use Rattle.std.specs.Option.{option_map}
@@ -7,14 +7,14 @@ use Rattle.mg_scan.specs.declared.fault.ScanFault.{ScanFault}
 use Rattle.mg_scan.specs.Tokens.{TokenAndRest}
 use Rattle.mg_text.specs.declared.body.MessageItem.{MessageItem}
 
--- what follows the tokens: nothing, or a fault
+-- The result of scanning after the last token: nothing, or a fault.
 abbrev pub ending : Option ScanFault → Option (Result TokenAndRest ScanFault)
 ending fault = option_map Err fault
 
--- the items that are kept
+-- The items that are kept.
 abbrev pub kept : List (Option MessageItem) → List MessageItem
 kept xs = filter_map (λ x. x) xs
 
--- a datagram within the length limit
+-- The datagram is within the length limit.
 abbrev pub IsShort : List ℕ → Type 0
 IsShort source = length source ≤ message_limit

@@ -1,5 +1,5 @@
--- Parsing from left to right, up to the first fault, as the code does. The grammar is a separate
--- relation; lemmas connect the two.
+-- Parsing from left to right, up to the first fault, as the code does. The grammar is a separate relation. The lemmas
+-- of `Sound` and `Complete` connect the two.
 use Rattle.std.specs.Prelude.{◌≡◌, ℕ, zero, suc, ◌-◌, ◌==◌, Bool, true, false, List, [], ◌∷◌}
 use Rattle.std.specs.Prelude.{length, Option, Some, None, Result, Ok, Err, if◌then◌else◌}
 use Rattle.mg_scan.specs.declared.kind.TokenKind.{TokenKind}
@@ -19,8 +19,8 @@ use Rattle.mg_text.specs.Keyword.{is_named, keyword_of}
 use Rattle.mg_words.specs.ContextId.{context_id_of}
 use Rattle.mg_words.specs.Term.{is_term}
 
--- The result of a parser, seen through view, matches the definition, unless memory ran out. The
--- fault of a definition is the position of a syntax fault.
+-- The result of a parser agrees with the definition, unless memory ran out. The function `view` maps the parser's value
+-- to the value in the definition. The fault in a definition is the position of a syntax fault.
 abbrev pub Fails : {Y : Type 0} → ReadFault → Result Y ℕ → Type 0
 Fails NoMemory read = Unit {0}
 Fails (Syntax place) read = read ≡ Err place
@@ -39,7 +39,7 @@ unfoldable pub mark_at : List ℕ → TokenKind → List Token → Result (List 
 mark_at source kind [] = Err (length source)
 mark_at source kind (t ∷ ts) = if is_kind t.kind kind then Ok ts else Err t.span.start
 
--- the span of a token of this kind
+-- The span of a token of this kind.
 unfoldable pub span_at : List ℕ → TokenKind → List Token → Result (Span × List Token) ℕ
 span_at source kind [] = Err (length source)
 span_at source kind (t ∷ ts) = if is_kind t.kind kind then Ok (t.span, ts) else Err t.span.start
@@ -47,7 +47,7 @@ span_at source kind (t ∷ ts) = if is_kind t.kind kind then Ok (t.span, ts) els
 abbrev pub word_at : List ℕ → List Token → Result (Span × List Token) ℕ
 word_at source ts = span_at source Word ts
 
--- one result if there is a value, another if there is none
+-- The result of f for the value of an option, or the other result if there is no value.
 abbrev pub if_some : {A B : Type 0} → Option A → (A → B) → B → B
 if_some None f b = b
 if_some (Some a) f b = f a
@@ -57,7 +57,7 @@ named_at source keyword ts = do
   w ← word_at source ts
   if is_named (text_of source w.0) keyword then Ok w.1 else Err w.0.start
 
--- the value of a word, by its text
+-- The value of a word, computed from its text.
 unfoldable pub meaning_at : {X : Type 0} → (List ℕ → Option X) → List ℕ → List Token
     → Result (X × List Token) ℕ
 meaning_at meaning source ts = do
@@ -73,13 +73,13 @@ number_at = meaning_at number_of
 abbrev pub context_id_at : List ℕ → List Token → Result (ContextId × List Token) ℕ
 context_id_at = meaning_at context_id_of
 
--- the name of a termination
+-- The span of a termination's name.
 unfoldable pub term_at : List ℕ → List Token → Result (Span × List Token) ℕ
 term_at source ts = do
   w ← word_at source ts
   if is_term (text_of source w.0) then Ok w else Err w.0.start
 
--- the tokens after the brace that closes a group in which `depth` groups are open
+-- The tokens after the brace that closes the current group, in which `depth` more groups are open.
 unfoldable pub after_group : List ℕ → ℕ → List Token → Result (List Token) ℕ
 after_group source depth [] = Err (length source)
 after_group source depth (t ∷ ts) =
@@ -93,7 +93,7 @@ group_at source ts = do
   ts ← mark_at source Open ts
   after_group source 0 ts
 
--- an optional group, and whether it exists and contains a token
+-- Whether there is a group that contains a token, and the tokens after the group.
 unfoldable pub filled_at : List ℕ → List Token → Result (Bool × List Token) ℕ
 filled_at source ts =
     if_some (after_mark Open ts)
@@ -101,7 +101,7 @@ filled_at source ts =
     (after_group source 0 inside >>= λ rest. Ok (true, rest)))
     (Ok (false, ts))
 
--- items with commas between them, up to their closing brace; at most n
+-- At most n items with commas between them, up to their closing brace.
 unfoldable pub list_at : {X : Type 0} → List ℕ → (List Token → Result (X × List Token) ℕ) → ℕ
     → List Token → Result (List X × List Token) ℕ
 list_at source read zero ts = Err (place_of_rest source ts)
@@ -115,21 +115,21 @@ abbrev pub items_at : {X : Type 0} → List ℕ → (List Token → Result (X ×
     → Result (List X × List Token) ℕ
 items_at source read ts = list_at source read (length ts) ts
 
--- one or more items in braces
+-- One or more items in braces.
 unfoldable pub braced_at : {X : Type 0} → List ℕ → (List Token → Result (X × List Token) ℕ)
     → List Token → Result (List X × List Token) ℕ
 braced_at source read ts = do
   ts ← mark_at source Open ts
   items_at source read ts
 
--- items in braces; there may be none
+-- Any number of items in braces.
 unfoldable pub any_braced_at : {X : Type 0} → List ℕ → (List Token → Result (X × List Token) ℕ)
     → List Token → Result (List X × List Token) ℕ
 any_braced_at source read ts = do
   ts ← mark_at source Open ts
   if_some (after_mark Close ts) (λ rest. Ok ([], rest)) (items_at source read ts)
 
--- items in braces, if there are braces
+-- Items in braces, if there are braces.
 unfoldable pub optional_braced_at : {X : Type 0} → List ℕ
     → (List Token → Result (X × List Token) ℕ) → List Token → Result (List X × List Token) ℕ
 optional_braced_at source read ts =

@@ -56,7 +56,7 @@ emergency_at source ts =
     (λ rest. word_at source rest >>= λ word. Ok (properties.Emergency (Some word.0), word.1))
     (Ok (properties.Emergency None, ts))
 
--- a property after its keyword, or the position of that word
+-- The rest of a property after its keyword, or the position of the keyword if it names no property.
 abbrev pub property_named : List ℕ → Keyword → ℕ → List Token
     → Result (ContextProperty × List Token) ℕ
 property_named source keywords.Topology place ts =
@@ -73,7 +73,7 @@ property_at source ts = do
   keyword ← keyword_at source ts
   property_named source keyword.0 (place_of_rest source ts) keyword.1
 
--- whether a property starts with this keyword
+-- Whether a keyword names a property of a context.
 abbrev pub is_property : Option Keyword → Bool
 is_property (Some keywords.Topology) = true
 is_property (Some keywords.ContextAudit) = true
@@ -85,14 +85,14 @@ unfoldable pub begins_property : List ℕ → List Token → Bool
 begins_property source [] = false
 begins_property source (t ∷ ts) = is_property (keyword_of (text_of source t.span))
 
--- the parts of an action with one more property at the front, and without properties
+-- The parts of an action with one more property at the front, and the parts of an action without properties.
 abbrev pub with_property : ContextProperty → ActionParts → ActionParts
 with_property x parts = record { properties = x ∷ parts.properties; commands = parts.commands }
 
 abbrev pub just_commands : List Command → ActionParts
 just_commands xs = record { properties = []; commands = xs }
 
--- properties, then commands, up to their closing brace; at most n properties
+-- Properties and then commands, up to their closing brace, with at most n properties.
 unfoldable pub parts_at : List ℕ → ℕ → List Token → Result (ActionParts × List Token) ℕ
 parts_at source zero ts = Err (place_of_rest source ts)
 parts_at source (suc n) ts =
@@ -116,7 +116,7 @@ action_at source ts = do
   parts ← parts_at source (length ts) ts
   Ok (action_of context.0 parts.0, parts.1)
 
--- an item that is kept, or None for one that is not
+-- A request as an item of a message that is kept.
 abbrev pub request_of : ℕ → List Action → Option MessageItem
 request_of number actions = Some (items.Request (record { number = number; actions = actions }))
 
@@ -139,7 +139,7 @@ answer_at source ts = do
   rest ← group_at source number.1
   Ok (None, rest)
 
--- an item after its keyword, or the position of that word
+-- The rest of an item after its keyword, or the position of the keyword if it starts no item.
 abbrev pub item_named : List ℕ → Keyword → ℕ → List Token
     → Result (Option MessageItem × List Token) ℕ
 item_named source keywords.Transaction place ts = request_at source ts
@@ -153,11 +153,11 @@ item_at source ts = do
   keyword ← keyword_at source ts
   item_named source keyword.0 (place_of_rest source ts) keyword.1
 
--- the items with one more at the front, if it is kept
+-- The items with one more item at the front, if that item is kept.
 abbrev pub kept_before : Option MessageItem → List MessageItem → List MessageItem
 kept_before item items = cons_option item items
 
--- the items that are kept, up to the end of the tokens; at most n items
+-- The kept items among at most n items, up to the end of the tokens.
 unfoldable pub sequence_at : List ℕ → ℕ → List Token → Result (List MessageItem) ℕ
 sequence_at source zero ts = Err (place_of_rest source ts)
 sequence_at source (suc n) ts = do
@@ -165,7 +165,7 @@ sequence_at source (suc n) ts = do
   if length x.1 == 0 then Ok (kept_before x.0 [])
       else (sequence_at source n x.1 >>= λ xs. Ok (kept_before x.0 xs))
 
--- an error after its keyword, up to the end of the tokens
+-- An Error body after its keyword, up to the end of the tokens.
 unfoldable pub error_at : List ℕ → List Token → Result Body ℕ
 error_at source ts = do
   ts ← mark_at source Equals ts
@@ -173,7 +173,7 @@ error_at source ts = do
   rest ← group_at source word.1
   if length rest == 0 then Ok bodies.Ignored else Err (place_of_rest source rest)
 
--- a body, by its keyword; ts starts with that word
+-- The body of a message. The tokens `ts` start with its keyword, and `rest` follows the keyword.
 abbrev pub body_named : List ℕ → Keyword → List Token → List Token → Result Body ℕ
 body_named source keywords.Error ts rest = error_at source rest
 body_named source _ ts rest = sequence_at source (length ts) ts >>= λ xs. Ok (body_of xs)

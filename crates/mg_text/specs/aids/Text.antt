@@ -34,29 +34,29 @@ text_at source ts = do
   body ← body_at source sender.1
   Ok (message_of sender.0 body)
 
--- a fault with its position clamped to a source of this length
+-- The fault, with its position clamped to a source of this length.
 abbrev pub fault_within : ℕ → ReadFault → ReadFault
 fault_within len NoMemory = NoMemory
 fault_within len (Syntax place) = Syntax (min place len)
 fault_within len (Version n) = Version n
 fault_within len TooMany = TooMany
 
--- the difference of two numbers, if it is not negative
+-- The difference of two numbers, if it is not negative.
 abbrev pub left_after : ℕ → ℕ → Option ℕ
 left_after most n = if nat_le n most then Some (most - n) else None
 
--- there are at most this many requests, with at most this many commands in total
+-- Whether there are at most this many requests, with at most this many commands in total.
 abbrev pub is_within : ℕ → ℕ → List MessageItem → Bool
 is_within requests commands xs =
     nat_le (requests_in xs) requests && nat_le (commands_in xs) commands
 
--- the message, if it is within the limits; otherwise the fault
+-- The message if it is within the limits, and otherwise the fault.
 abbrev pub answer_of : ℕ → Result Message ReadFault → Result Message ReadFault
 answer_of len (Ok m) =
     if is_within request_limit command_limit (items_of m.body) then Ok m else Err TooMany
 answer_of len (Err fault) = Err (fault_within len fault)
 
--- a fact, unless memory ran out
+-- The statement P holds unless memory ran out.
 abbrev pub UnlessNoMemory : Result Message ReadFault → Type 0 → Type 0
 UnlessNoMemory (Ok m) P = P
 UnlessNoMemory (Err NoMemory) P = Unit {0}

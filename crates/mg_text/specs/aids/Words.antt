@@ -1,5 +1,5 @@
--- The values of single words, case by case. The grammar defines modes, associations and commands by
--- their long words; `proofs/WordLemmas` proves that both agree.
+-- The values of single words, case by case. The grammar defines modes, associations and commands by their long words.
+-- `proofs/WordLemmas` proves that both agree.
 use Rattle.std.specs.Prelude.{Bool, true, false, List, ℕ, Option, Some, None, codes}
 use Rattle.std.specs.Option.{option_map, option_map_or}
 use Rattle.mg_words.specs.Cut.{after_prefix}
@@ -16,14 +16,14 @@ use Rattle.mg_text.specs.declared.command_head.CommandHead.{CommandHead}
 use Rattle.mg_text.specs.Keyword.{keyword_of}
 use Rattle.mg_text.specs.Words.{by_keyword}
 
--- associations: Isolate, Oneway, Bothway
+-- The association with this keyword: Isolate, Oneway or Bothway.
 abbrev pub association_named : Keyword → Option Association
 association_named keywords.Isolate = Some associations.Isolate
 association_named keywords.Oneway = Some associations.Oneway
 association_named keywords.Bothway = Some associations.Bothway
 association_named _ = None
 
--- modes of a stream
+-- The mode with this keyword.
 abbrev pub mode_named : Keyword → Option Mode
 mode_named keywords.SendOnly = Some modes.SendOnly
 mode_named keywords.ReceiveOnly = Some modes.ReceiveOnly
@@ -32,7 +32,7 @@ mode_named keywords.Inactive = Some modes.Inactive
 mode_named keywords.Loopback = Some modes.Loopback
 mode_named _ = None
 
--- commands
+-- The command with this keyword.
 abbrev pub command_named : Keyword → Option CommandWord
 command_named keywords.Add = Some commands.Add
 command_named keywords.Modify = Some commands.Modify
@@ -44,18 +44,18 @@ command_named keywords.Notify = Some commands.Notify
 command_named keywords.ServiceChange = Some commands.ServiceChange
 command_named _ = None
 
--- a command's keyword, and whether it has the prefixes O- and W-
+-- The keyword of a command with these prefixes.
 abbrev pub headed : Bool → Bool → Keyword → Option CommandHead
 headed optional wildcard keyword =
     option_map (λ word. record { word = word; is_optional = optional; wants_wildcard = wildcard })
     (command_named keyword)
 
--- the command after a prefix; otherwise another result
+-- The command after a prefix, or another result if the prefix is missing.
 abbrev pub prefixed : Bool → Bool → Option (List ℕ) → Option CommandHead → Option CommandHead
 prefixed optional wildcard (Some rest) other = by_keyword (headed optional wildcard) rest
 prefixed optional wildcard None other = other
 
--- a command: a keyword, alone or after O-W-, O- or W-
+-- The keyword of a command, alone or after O-W-, O- or W-.
 unfoldable pub command_of : List ℕ → Option CommandHead
 command_of text =
     option_map_or (headed false false) (keyword_of text)
@@ -63,6 +63,6 @@ command_of text =
     (prefixed true false (after_prefix (codes "O-") text)
     (prefixed false true (after_prefix (codes "W-") text) None)))
 
--- the keyword of a command with its prefixes
+-- The keyword and the prefixes of a command.
 abbrev pub head_of : Command → CommandHead
 head_of x = record { word = x.word; is_optional = x.is_optional; wants_wildcard = x.wants_wildcard }

@@ -3,7 +3,7 @@ use Rattle.std.specs.Prelude.{ℕ, Bool, if◌then◌else◌}
 use Rattle.mg_topology.specs.declared.triple.Triple.{Triple}
 use Rattle.mg_topology.specs.Triple.{mentions, word_of}
 
--- whether the listener hears the talker after the triple, given whether it did before
+-- Whether the listener hears the talker after the triple. The flag says whether the listener heard the talker before.
 abbrev pub after_triple : Triple → ℕ → ℕ → Bool → Bool
 after_triple triple talker listener before =
     if mentions triple talker listener then word_of triple talker listener else before

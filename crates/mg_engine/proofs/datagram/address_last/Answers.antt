@@ -2,7 +2,7 @@ use Rattle.mg_engine.proofs.Common.{◌≡◌, ℕ, ◌-◌, ◌++◌, ◌∷◌
 use Rattle.mg_engine.proofs.OutboxLemmas.{refilled, last_set}
 use Rattle.mg_engine.proofs.datagram.address_last.Goals as goal
 
--- what is read past the end of a list
+-- A default packet for lookups past the end of a list.
 abbrev none : Datagram
 none = record { from = 0; to = record { address = []; port = 0 }; bytes = [] }
 

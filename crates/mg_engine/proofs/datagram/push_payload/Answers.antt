@@ -2,7 +2,7 @@ use Rattle.mg_engine.proofs.Common.{◌≡◌, ◌-◌, ◌∷◌, [], List, len
 use Rattle.mg_engine.proofs.OutboxLemmas.{refilled, last_set}
 use Rattle.mg_engine.proofs.datagram.push_payload.Goals as goal
 
--- what is read past the end of a list
+-- A default packet for lookups past the end of a list.
 abbrev none : Datagram
 none = record { from = 0; to = record { address = []; port = 0 }; bytes = [] }
 

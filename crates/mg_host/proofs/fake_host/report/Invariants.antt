@@ -3,7 +3,7 @@ use Rattle.mg_host.specs.declared.host_call.HostCall.TheVariants.{Reported}
 use Rattle.mg_host.specs.HostCalls.{Grows, mark_all}
 use Rattle.mg_host.proofs.fake_host.report.Given as goal
 
--- the sockets so far were reported and marked
+-- The sockets so far were reported and marked.
 abbrev pub invariant-loop-arrival : goal.invariant-loop-arrival
 invariant-loop-arrival l =
     (sockets : List ℕ) × Grows l.initial.log l.log (map Reported sockets)

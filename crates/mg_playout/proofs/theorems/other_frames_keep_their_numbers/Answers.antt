@@ -16,12 +16,12 @@ use Rattle.mg_playout.proofs.PlacesLemmas.{frame_at-fallen}
 use Rattle.mg_playout.proofs.TurnLemmas.{list_in, placed_by_turn}
 use Rattle.mg_playout.proofs.theorems.other_frames_keep_their_numbers.Goals as goal
 
--- the other frame stays in what a frame makes of the list
+-- If the list does not start and still has a place for the other frame, the other frame keeps its sequence number.
 abbrev Stays : PlayList → Source → ℕ → PlayList × Placed → Type 0
 Stays list after other x = x.1 ≢ answer.Started → x.0.source ≡ Some after →
     steps_between after.next other < depth_of list → frame_under x.0 other ≡ frame_under list other
 
--- the place that a turn names is that of the sequence number
+-- The place of the turn belongs to this sequence number.
 abbrev Suits : Source → FramePlaces → ℕ → Turn → Type 0
 Suits source places sequence (At place) = place ≡ steps_between source.next sequence
 Suits source places sequence (Push count) =
@@ -66,7 +66,7 @@ by_turn : (list : PlayList) (ssrc sequence : ℕ) (frame : List ℤ) (after : So
 by_turn list ssrc sequence frame after other =
     by_source list.phase list.source list.last list.places ssrc sequence frame after other
 
--- where a list starts, the other frame is gone
+-- If the list starts, the other frame is dropped.
 abbrev Goes : ℕ → PlayList × Placed → Type 0
 Goes other x = x.1 ≡ answer.Started → frame_under x.0 other ≡ None
 

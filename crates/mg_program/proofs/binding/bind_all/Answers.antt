@@ -1,4 +1,4 @@
-use Rattle.mg_program.specs.Serve.{first_binds}
+use Rattle.mg_program.specs.aids.Binding.{first_binds}
 use Rattle.mg_program.proofs.PortLemmas.{binds_more, binds_quiet, no_session_then}
 use Rattle.mg_program.proofs.binding.bind_all.Goals as goal
 

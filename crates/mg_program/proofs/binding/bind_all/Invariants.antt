@@ -1,5 +1,5 @@
 use Rattle.mg_host.specs.HostCalls.{Grows}
-use Rattle.mg_program.specs.Serve.{first_binds}
+use Rattle.mg_program.specs.aids.Binding.{first_binds}
 use Rattle.mg_program.proofs.binding.bind_all.Given as goal
 
 abbrev pub invariant-loop-slot : goal.invariant-loop-slot

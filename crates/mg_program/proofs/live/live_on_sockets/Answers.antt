@@ -1,15 +1,15 @@
-use Rattle.std.proofs.Common.{false, sym, subst, Option, List}
-use Rattle.std.specs.Prelude.{⊤}
+use Rattle.std.proofs.Common.{false, sym, subst, Option, List, Err}
 use Rattle.std.specs.Option.{option_map_or}
 use Rattle.mg_clock.specs.Ticks.{ClockSeen, clock_seen}
 use Rattle.mg_journal.specs.Journal.{no_journal}
 use Rattle.mg_ports.specs.Journaled.{PortsSeen, ports_seen}
-use Rattle.mg_serve.specs.Serve.{ServedByClock}
+use Rattle.mg_serve.specs.Serve.{Served, form_of}
 use Rattle.mg_host.specs.declared.host_call.HostCall.{HostCall}
 use Rattle.mg_host.specs.HostCalls.{port_calls}
 use Rattle.mg_arguments.specs.Setup.{setup_of}
 use Rattle.mg_arguments.specs.Title.{title_if}
 use Rattle.mg_program.specs.Decisions.{HasDecided, knows}
+use Rattle.mg_program.specs.Serve.{ByClock, Gives}
 use Rattle.mg_program.proofs.FailLemmas.{fault_ran, served_any}
 use Rattle.mg_program.proofs.live.live_on_sockets.Goals as goal
 
@@ -27,6 +27,12 @@ returns g c =
     let clock = clock_seen (g.H.Watch.Watch.readings c.live_on-fault.new.watch)
     (g.H.Watch.Watch.waits c.live_on-fault.new.watch) in
     let known = knows ports.timing ports.ready false in
+    let begun = g.H.Tells.calls c.args.host in
+    let setup = setup_of config c.args.ready.reached service in
+    let title = title_if service.records config in
+    let fault = c.live_on-fault.result in
+    let held = g.W.Write.contents c.args.output.now in
+    let written = g.W.Write.contents c.live_on-fault.new.output in
     record {
       value = λ text bound can. record {
         sound = c.requires.sound;
@@ -37,22 +43,15 @@ returns g c =
         after = after;
         begun = g.H.Tells.calls c.args.host;
         started = can.started;
-        served = (
-          unread,
-          c.requires.unread,
-          subst (λ (s : ClockSeen). ServedByClock (setup_of config c.args.ready.reached service) can.world (title_if service.records config)
-              c.args.late unread s ⊤ old (new last) (g.W.Write.contents c.args.output.now)
-              (g.W.Write.contents c.live_on-fault.new.output) c.live_on-fault.result) (sym c.stop.ensures.stopped)
-              (subst (λ (x : Option (List HostCall)). ServedByClock (setup_of config c.args.ready.reached service) can.world
-              (title_if service.records config) c.args.late unread clock ⊤ old (new x)
-              (g.W.Write.contents c.args.output.now) (g.W.Write.contents c.live_on-fault.new.output)
-              c.live_on-fault.result) (sym c.stop.ensures.same)
-              (served_any (setup_of config c.args.ready.reached service) can.world (title_if service.records config) c.args.late unread clock
-              (g.H.Watch.Watch.Fails c.live_on-fault.new.watch) old (new (g.H.Tells.calls ports.host))
-              (g.W.Write.contents c.args.output.now) (g.W.Write.contents c.live_on-fault.new.output)
-              c.live_on-fault.result (rw (c.new-ports.ensures.host, c.new-ports.ensures.journal) at
-              (c.live_on-fault.ensures.session can.world can.stands)))),
-        );
+        served = subst (λ (s : ClockSeen). Served setup can.world title (Gives (ByClock c.args.late s) (form_of title) begun (Err fault))
+            old (new last) held written (Err fault)) (sym c.stop.ensures.stopped)
+            (subst (λ (x : Option (List HostCall)). Served setup can.world title
+            (Gives (ByClock c.args.late clock) (form_of title) begun (Err fault)) old (new x) held written (Err fault))
+            (sym c.stop.ensures.same)
+            (served_any setup can.world title c.args.late unread clock (g.H.Watch.Watch.Fails c.live_on-fault.new.watch)
+            begun old (new (g.H.Tells.calls ports.host)) held written fault c.requires.unread
+            (rw (c.new-ports.ensures.host, c.new-ports.ensures.journal) at
+            (c.live_on-fault.ensures.session can.world can.stands))));
         known = known;
         decided = subst (λ (x : Option (List HostCall)). HasDecided x last known) (sym c.requires.begins)
             (subst (λ (x : Option (List HostCall)). HasDecided g.L.LogKey.calls x known) (sym c.stop.ensures.same)

@@ -1,4 +1,4 @@
-use Rattle.std.proofs.Common.{ℕ, List, Option, None, subst, sym}
+use Rattle.std.proofs.Common.{ℕ, List, Option, Some, [], subst, sym}
 use Rattle.std.specs.Option.{option_map_or}
 use Rattle.mg_journal.specs.aids.Opened.{text_in}
 use Rattle.mg_engine.specs.declared.config.Config.{Config}
@@ -8,7 +8,7 @@ use Rattle.mg_program.proofs.serve.serve_prepared.Goals as goal
 
 pub returns-in-Ok-clause-value : goal.returns-in-Ok-clause-value
 returns-in-Ok-clause-value g c =
-    let text : Option (List ℕ) = option_map_or (λ j. text_in j.opening.file) c.args.prepared.journal None in
+    let text : Option (List ℕ) = option_map_or (λ j. text_in j.opening.file) c.args.prepared.journal (Some []) in
     let (bound, binds, can) = c.in-Ok.ensures.start in
     let grows : Grows (g.H.Tells.calls c.args.host) bound (binds_of c.in-Ok.ready.config c.args.service.now.bind_address) =
     subst (λ (config : Config). Grows (g.H.Tells.calls c.args.host) bound

@@ -1,4 +1,4 @@
--- Each exit shows a packet or a fault, and the clauses follow from that.
+-- Each exit of `read` proves `IsOutcome`, from which the postconditions follow.
 use Rattle.std.proofs.Common.{◌≡◌, get_or, Result, Ok, Err, ap, ◌∙◌, arith, inr}
 use Rattle.std.proofs.lemmas.Result.{err_from_is_err_and}
 use Rattle.mg_rtp.specs.declared.packet.Packet.{Packet}

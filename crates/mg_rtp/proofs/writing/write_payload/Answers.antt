@@ -3,7 +3,7 @@ use Rattle.std.proofs.Math.Seq.{drop-append_seam}
 use Rattle.std.proofs.lemmas.List.{append-nil, drop_all, length-take-le}
 use Rattle.mg_rtp.proofs.writing.write_payload.Goals as goal
 
--- what is written from the twelfth byte on of 172 bytes is all that stands there
+-- After writing 160 bytes from index 12 on, a packet of 172 bytes holds exactly these bytes there.
 written : (xs ys : List ℕ) → length xs ≡ 172 → drop 12 (take 12 xs ++ (ys ++ drop 160 (drop 12 xs))) ≡ ys
 written xs ys long =
     let front : length (take 12 xs) ≡ 12 = length-take-le 12 xs (omega arith) in

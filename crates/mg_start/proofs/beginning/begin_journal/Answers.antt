@@ -10,7 +10,7 @@ returns-in-Ok-clause-started g c =
     rw (c.in-Some.is, c.in-Some-found.is) (starts_from c.in-Some.path (text_in found.opening.file) c.args.config.now
     c.args.core.now.state c.begin.new.core.state found.timeline missed c.args.service.now.fence_from millis c.args.reached
     c.in-Ok.journal (g.T.Tells.calls c.args.host.now) read (g.T.Tells.calls c.begin.new.host)
-    (rw (c.in-Some.is, c.in-Some-found.is) at c.requires.resumed) (rw c.in-Some-found.is at c.requires.times) is grows passes begun written)
+    (rw c.in-Some-found.is at c.requires.resumed) (rw c.in-Some-found.is at c.requires.times) is grows passes begun written)
 
 pub returns-in-Err-clause-fails : goal.returns-in-Err-clause-fails
 returns-in-Err-clause-fails g c =

@@ -3,7 +3,7 @@ use Rattle.mg_topology.specs.Mask.{is_disjoint}
 use Rattle.mg_topology.proofs.MaskLemmas.{has_seat-and, same_mask, has_common_seat, is_disjoint-common}
 use Rattle.mg_topology.proofs.mask.is_disjoint.Goals as goal
 
--- the intersection is `a & b`
+-- Sets are disjoint if and only if the mask `a & b` is 0.
 tested : (c : goal.After-intersection) → nat_eq c.intersection.result 0 ≡ is_disjoint c.args.a c.args.b
 unfolding is_disjoint
 tested c =

@@ -2,7 +2,7 @@ use Rattle.std.proofs.Common.{◌≡◌, ℕ, ◌<◌, ◌≤◌, slice_index, t
 use Rattle.mg_topology.specs.Mask.{has_seat}
 use Rattle.mg_topology.proofs.topology.unmute_seat.Given as goal
 
--- the rows below the index are written, and the others are as they were
+-- The rows below the index are updated, and the others are unchanged.
 abbrev pub invariant-loop-row : goal.invariant-loop-row
 invariant-loop-row l = record {
   done : (s k : ℕ) → k < l.row-index → has_seat (slice_index l.rows k) s ≡

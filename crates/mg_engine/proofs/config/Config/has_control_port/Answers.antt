@@ -2,7 +2,7 @@ use Rattle.mg_rooms.specs.Limits.{slot_at}
 use Rattle.mg_engine.proofs.Common.{◌≡◌, ℕ, ◌<◌, ◌∙◌, Bool, true, false, not, Option, Some, None, refl, sym, arith, is_some, IsTrue, ◌↔◌, Config, HasControlPort, limits_of}
 use Rattle.mg_engine.proofs.config.Config.has_control_port.Goals as goal
 
--- the control port is apart if no slot has it
+-- The control port is valid if and only if it is not 0 and no slot has it.
 decides : (c : Config) (o : Option ℕ) (free : Bool) → o ≡ slot_at (limits_of c) c.control_port → is_some o ≡ not free →
     0 < c.control_port → IsTrue free ↔ HasControlPort c
 decides c None true at is some = (λ _. record { some = some; apart = sym at }, λ h. refl)

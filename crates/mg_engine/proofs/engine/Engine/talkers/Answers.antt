@@ -4,7 +4,7 @@ use Rattle.mg_engine.proofs.FlowLemmas.{flow_places}
 use Rattle.mg_engine.proofs.PlaceLemmas.{on_place}
 use Rattle.mg_engine.proofs.engine.Engine.talkers.Goals as goal
 
--- another member of the context is in the same room
+-- Another member of the context is in the same room.
 beside : (seat other : ℕ) (p : Place) (o : Option Context) →
     option_map (λ x. record { room = x.room; seat = seat }) o ≡ Some p →
     option_map (λ x. let q : Place = record { room = x.room; seat = other } in q) o ≡ Some (sibling_place p other)

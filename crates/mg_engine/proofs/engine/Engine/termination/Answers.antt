@@ -2,7 +2,7 @@ use Rattle.mg_engine.proofs.Common.{◌≡◌, ◌<◌, ◌∙◌, ℕ, length, 
 use Rattle.mg_engine.proofs.SendingLemmas.{nobody}
 use Rattle.mg_engine.proofs.engine.Engine.termination.Goals as goal
 
--- the termination on a place is found by its slot
+-- The termination at an index is found by its slot.
 held : (w u : Registry) (i slot : ℕ) → IsSound w → w ≡ u → i < length u.terminations →
     slot ≡ get_or (map (λ r. r.slot) u.terminations) i 0 → holder_of w slot ≡ slice_get u.terminations i
 held w u i slot sound same lt is =

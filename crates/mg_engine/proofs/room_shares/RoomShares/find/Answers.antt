@@ -1,7 +1,7 @@
 use Rattle.mg_engine.proofs.Common.{◌∙◌, ◌-◌, ℕ, List, drop, length, subst, take, take-append-drop, Contains, Contains-append_left, Contains-append_right, IfSome_then, Share}
 use Rattle.mg_engine.proofs.room_shares.RoomShares.find.Goals as goal
 
--- what is in a part of a list is in the list
+-- An element of a part of a list is an element of the list.
 in_part : (shares : List Share) (m n : ℕ) (share : Share) → Contains (take n (drop m shares)) share →
     Contains shares share
 in_part shares m n share has =

@@ -3,7 +3,7 @@ use Rattle.mg_topology.specs.Mask.{seat_limit, has_seat}
 use Rattle.mg_flow.specs.aids.RoomFlows.{flows_to, is_blocked_for}
 use Rattle.mg_flow.proofs.masks.Masks.of.Given as goal
 
--- the masks of the listeners so far are written
+-- The masks of the listeners so far are written.
 abbrev pub invariant-loop-listener : goal.invariant-loop-listener
 invariant-loop-listener l = record {
   open_length : length l.open ≡ seat_limit;

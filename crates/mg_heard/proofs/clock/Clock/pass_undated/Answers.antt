@@ -10,4 +10,4 @@ returns-in-Some-clause-value c older h =
 pub returns-in-None-clause-value : goal.returns-in-None-clause-value
 returns-in-None-clause-value c older h =
     gap_missed_if older c.args.line.now None c.pass_other.new.self c.pass_other.result c.requires.undated
-    (sym c.in-None.is ∙ c.missed_in.ensures.value) c.pass_other.ensures.none (c.pass_other.ensures.same older h)
+    (sym c.in-None.is ∙ c.missed_in.ensures.value) (c.pass_other.ensures.value older h) (c.pass_other.ensures.same older h)

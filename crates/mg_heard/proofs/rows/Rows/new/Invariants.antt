@@ -1,6 +1,6 @@
 use Rattle.std.proofs.Common.{◌≡◌, length}
 use Rattle.mg_heard.proofs.rows.Rows.new.Given as goal
 
--- so many places are made
+-- The loop has made `counter` places.
 abbrev pub invariant-loop : goal.invariant-loop
 invariant-loop l = length l.places.items ≡ l.counter

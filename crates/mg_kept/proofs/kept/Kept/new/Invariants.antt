@@ -1,6 +1,6 @@
 use Rattle.std.proofs.Common.{◌≡◌, length}
 use Rattle.mg_kept.proofs.kept.Kept.new.Given as goal
 
--- so many places are made
+-- The number of places is the loop's counter.
 abbrev pub invariant-loop : goal.invariant-loop
 invariant-loop l = length l.places.items ≡ l.counter

@@ -3,7 +3,7 @@ use Rattle.mg_rooms.proofs.OrderLemmas.{found_key}
 use Rattle.mg_words.specs.declared.error_number.ErrorNumber.TheVariants.{UnknownTermination}
 use Rattle.mg_rooms.proofs.tables.Tables.named.Goals as goal
 
--- a record that is found is the one at its number
+-- A record that is found is also found by its own number.
 found_there : (w : Registry) (n : ℕ) (e : ErrorNumber) (o : Option Record) → o ≡ record_at w n →
     IfOk (ok_or o e) (λ r. record_at w r.number ≡ Some r)
 found_there w n e None h = tt

@@ -2,7 +2,7 @@ use Rattle.std.proofs.Common.{◌≡◌, [], sym, ◌∙◌}
 use Rattle.mg_topology.proofs.SeatsLemmas.{seats_of-empty}
 use Rattle.mg_topology.proofs.seats.SeatsIterator.next.Goals as goal
 
--- nothing was left
+-- The iterator has no seats left.
 pub returns-in_err-seat-clause-steps : goal.returns-in_err-seat-clause-steps
 returns-in_err-seat-clause-steps c =
     let nothing : c.args.self.now ≡ [] = sym c.self.view_is ∙

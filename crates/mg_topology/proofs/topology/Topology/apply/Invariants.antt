@@ -3,7 +3,7 @@ use Rattle.mg_topology.specs.Edits.{TopologyEdit, apply_all}
 use Rattle.mg_topology.specs.aids.Topology.{StandsFor}
 use Rattle.mg_topology.proofs.topology.Topology.apply.Given as goal
 
--- the topology stands for each list that it stood for, with the triples so far
+-- For each list that the topology represented at the start, it represents that list with the triples so far.
 abbrev pub invariant-loop-triple : goal.invariant-loop-triple
 invariant-loop-triple l = record {
   edits : (es : List TopologyEdit) → StandsFor l.fn.self es →

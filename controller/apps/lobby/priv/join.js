@@ -1,9 +1,10 @@
 "use strict";
-// The link's token comes behind # in the address, which browsers don't send.
+// The link's token is in the address after #, a part that browsers don't send.
 const link = location.hash.slice(1);
 const $ = id => document.getElementById(id);
 const audio = new Audio();
-// The connection, where the controller has it, the microphone, and what runs meanwhile.
+// The connection, its path on the controller, the microphone, timers, ICE servers, a reconnection under way, and the
+// audio context.
 let connection = null, place = null, microphone = null, timers = [], servers = [], again = null, context = null;
 
 const say = text => { if ($("state").textContent !== text) $("state").textContent = text; };
@@ -11,7 +12,7 @@ const pause = time => new Promise(done => setTimeout(done, time));
 const ask = (method, path, body) => fetch(path, { method, body, keepalive: method === "DELETE",
   headers: { Authorization: "Bearer " + link, ...body && { "Content-Type": "application/sdp" } } });
 
-// An answer, or an error with its status: without one, a message isn't final.
+// Returns the response, or throws an error with its status. Only an error with a status can be final.
 async function answered(response) {
   if (response.ok) return response;
   const { error } = await response.json().catch(() => ({ error: response.statusText }));
@@ -33,15 +34,19 @@ async function hear() {
   }, 100));
 }
 
-// Posts an offer. A second one takes the place of the first.
+// Sends an offer in a POST. A second POST replaces the first.
 async function connect() {
   connection?.close();
   const now = connection = new RTCPeerConnection({ iceServers: servers });
   for (const track of microphone.getTracks()) now.addTrack(track, microphone);
   now.ontrack = event => { audio.srcObject = new MediaStream([event.track]); audio.play(); };
   await now.setLocalDescription();
-  // Its candidates aren't awaited: rtpengine sees where the checks come from.
-  const response = await answered(await ask("POST", "/web", now.localDescription.sdp));
+  // Until the response arrives, `look' doesn't ask about the previous connection.
+  const before = place;
+  place = null;
+  // The offer doesn't wait for candidates, because rtpengine learns the address from the browser's checks.
+  const response = await ask("POST", "/web", now.localDescription.sdp).then(answered)
+    .catch(failure => { place = before; throw failure; });
   place = response.headers.get("Location");
   await now.setRemoteDescription({ type: "answer", sdp: await response.text() });
   await new Promise((done, failed) => {
@@ -55,7 +60,7 @@ async function connect() {
   now.onconnectionstatechange = () => { if (now === connection && now.connectionState !== "connected") reconnect(); };
 }
 
-// After a change of the network, or if the relay was lost.
+// Connects again after a change of the network, or after the relay was lost.
 function reconnect() {
   return again ??= (async () => {
     say("The connection was lost. It is made again.");
@@ -69,9 +74,10 @@ function reconnect() {
   })();
 }
 
-// Whether he is still in the room. While the controller can't be asked, he goes on talking.
+// Checks whether the member is still in the room. While the controller doesn't answer, the call continues.
 async function look() {
   const asked = place;
+  if (!asked) return;
   let response;
   try { response = await ask("GET", asked); } catch { return; }
   if (asked !== place || !microphone) return;
@@ -79,7 +85,7 @@ async function look() {
   if (response.status === 409) end("You have joined from another browser.");
   else if (response.status === 404) end("You are no longer in the room.");
   else if (response.status === 401) await answered({ ok: false, status: 401, json: async () => body }).catch(failure => end(failure.message));
-  else if (body.state === "lost" && !again) reconnect();
+  else if (body.state === "lost") reconnect();
   else if (body.state) say(body.state === "waiting" ? "You wait until somebody lets you in." : body.isolated ? "You are isolated: nobody hears you." : "You are in the room.");
 }
 
@@ -129,7 +135,7 @@ addEventListener("hashchange", () => location.reload());
 
 ask("GET", "/web").then(answered).then(async response => {
   const { room, name } = await response.json();
-  // A name's characters are isolated from the rest.
+  // Unicode's isolates keep the name from reordering the rest of the text.
   $("who").textContent = `Room ${room}, as \u2068${name.replace(/\p{C}/gu, "?")}\u2069`;
   say("Your browser will ask for your microphone.");
 }).catch(failure => { $("join").disabled = true; say(failure.message); });

@@ -1,8 +1,8 @@
 "use strict";
-// The token is kept for this tab. It is never in an address.
+// The token is stored for this tab, and never appears in an address.
 let token = sessionStorage.getItem("token") || "";
 let refused = false;
-// The chosen room's name, and the room as it was answered last, with the flows as "talker listener".
+// The name of the chosen room, the room in the last response, and its open flows as "talker listener".
 let chosen = null, room = null, open = new Set();
 const ROLES = ["member", "customer", "agent", "coach", "monitor", "listener"];
 const PRESETS = { plain: "everyone hears everyone", lecture: "nobody hears listeners", coaching: "the customer doesn't hear the coach", monitored: "nobody hears the monitor" };
@@ -16,7 +16,7 @@ async function ask(method, path, body) {
 }
 const path = (kind, name, action) => `/${kind}/${encodeURIComponent(name)}${action ? "/" + action : ""}`;
 
-// An element with properties and children. Texts are never read as HTML.
+// Creates an element with properties and children. Texts are never parsed as HTML.
 function element(name, properties, ...children) {
   const { label, ...others } = properties;
   const made = Object.assign(document.createElement(name), others);
@@ -28,14 +28,16 @@ const button = (text, onclick, properties) => element("button", { type: "button"
 const option = (value, text) => element("option", { value }, text);
 const put = (it, text) => { if (it.textContent !== text) it.textContent = text; };
 
-// Nothing in a name turns or hides text: what has no shape of its own is shown by its number, and the rest is isolated.
+// Keeps a name from reordering or hiding other text. Invisible characters are shown as numbers, and Unicode's isolates
+// enclose the rest.
 function shown(text) {
   const plain = [...text.replace(/[\p{C}\p{Zl}\p{Zp}\p{Default_Ignorable_Code_Point}\u2800]|[^\S ]/gu,
     it => `<${it.codePointAt(0).toString(16).toUpperCase()}>`).replace(/(\p{M}\p{M})\p{M}+/gu, "$1…").trim()];
   const short = (plain.length > 60 ? [...plain.slice(0, 59), "…"] : plain).join("");
   return /^[ -~]*$/.test(short) ? short : "\u2068" + short + "\u2069";
 }
-// The members' names, whom each hears and who hears him, by id: made once for each answer.
+// By id, the members' names, and how many members each of them hears and is heard by. They are computed once for each
+// response.
 let names = new Map(), counts = new Map();
 const named = it => names.get(it.id);
 function count() {
@@ -50,10 +52,10 @@ const byId = id => room.members.find(it => it.id === id);
 
 function say(text) { put($("error"), text); }
 
-// How long a change is marked, in ms.
+// Milliseconds for which a change is highlighted.
 const MARK = 2000;
 
-// What was done, with a button that undoes it.
+// Shows what was done, with a button that undoes it.
 function done(text, undo) {
   const again = undo && button("Undo", () => { $("done").replaceChildren(); attempt(undo); });
   $("done").replaceChildren(text, ...again ? [again] : []);
@@ -62,7 +64,7 @@ async function attempt(action) {
   try { await action(); say(""); } catch (failure) { say(failure.message); }
   soon();
 }
-// Does it, says it, and offers the way back.
+// Carries out an action, reports it, and offers to undo it.
 const act = (text, action, undo) => attempt(async () => { await action(); done(text, undo); });
 function sure(text) {
   const dialog = $("sure");
@@ -73,7 +75,7 @@ function sure(text) {
 }
 
 const post = (id, action, body) => ask("POST", path("members", id, action), body || {});
-// All are tried, even if one fails.
+// Sends a POST for each member, even if one of them fails.
 async function postAll(ids, action) {
   const failed = (await Promise.allSettled(ids.map(id => post(id, action)))).find(it => it.status === "rejected");
   if (failed) throw failed.reason;
@@ -89,7 +91,7 @@ function changeRules(text, rules) {
   act(text, () => setRules(name, rules, door), () => setRules(name, { rules: before }, door));
 }
 
-// What is true of somebody: what the gateway says, and not what was asked for.
+// Returns a member's state according to the gateway, which can differ from the desired state.
 function states(it) {
   const others = room.members.length - 1, { heard, hears } = counts.get(it.id), is = [];
   if (it.termination === undefined) is.push(["bad", "not on a gateway"]);
@@ -102,7 +104,7 @@ function states(it) {
   return is;
 }
 
-// A row is made once, so that nobody loses the focus, and only what has changed is written.
+// A member's row is created once, so that it keeps the focus. Later, only changed parts are written.
 const rows = new Map();
 function newRow(id) {
   const who = element("span", { className: "who" }), role = element("span", {}), is = element("span", { className: "is" });
@@ -154,7 +156,7 @@ function updateRow(row, it) {
   row.roleForm.firstChild.setAttribute("aria-label", `Role of ${name}`);
   row.moveForm.firstChild.setAttribute("aria-label", `Room to which ${name} moves`);
   if (it.waiting && row.was === null) row.more.open = true;
-  // Who hears how many changes with everybody, and is no news of him.
+  // The number of members that this member hears changes with every other member, so it isn't highlighted.
   const own = JSON.stringify([it.role, it.muted, it.isolated, it.waiting, it.direction, it.termination === undefined]);
   if (row.own !== null && row.own !== own) flash(row.li);
   [row.was, row.own] = [now, own];
@@ -180,14 +182,15 @@ function showPeople() {
   put($("nobody"), room.members.length ? "Nobody has this name." : "Nobody is here.");
 }
 
-// The matrix: a row for each listener and a column for each talker. A cell that has changed is marked for a while.
+// The matrix has a row for each listener and a column for each talker. A cell that has changed is highlighted for a
+// while.
 const cursor = { row: 0, column: 0 }, changed = new Map();
 let cell = 8, labels = 0;
 function draw() {
   const canvas = $("matrix"), people = room.members, n = people.length, scale = devicePixelRatio || 1;
   canvas.parentElement.hidden = n < 2;
   if (n < 2) return;
-  // It fits the window.
+  // The matrix fits the window.
   const width = Math.min(canvas.parentElement.clientWidth, Math.max(320, innerHeight - 80));
   labels = Math.min(120, width / 3);
   cell = Math.max(3, Math.min(26, Math.floor((width - labels) / n)));
@@ -254,7 +257,7 @@ matchMedia("(prefers-color-scheme: dark)").onchange = () => room && draw();
 const party = it => it === "everyone" ? "everyone" : it.role !== undefined ? `role ${shown(it.role)}` :
   byId(it.member) ? named(byId(it.member)) : `member ${shown(it.member)}`;
 
-// A part of the page that is made again only if what it shows has changed, so that a list that is open stays open.
+// Recreates a part of the page only if its value has changed, so that an open list stays open.
 const parts = new Map();
 function part(it, value, children) {
   const now = JSON.stringify(value);
@@ -316,7 +319,7 @@ $("new").querySelector("form").onsubmit = event => {
   $("new").open = false;
   choose(name);
 };
-// A link is shown once: nobody keeps it.
+// A link is shown only once, because it isn't stored.
 $("invite").querySelector("form").onsubmit = event => {
   event.preventDefault();
   const { name, role, seconds } = event.target.elements;
@@ -360,7 +363,7 @@ async function refresh() {
   showRoom();
 }
 
-// Whatever happened, the room is asked for again, but not more often than five times a second.
+// Requests the room again after any event, but at most five times a second.
 let wanted = false, asking = false, asked = 0;
 async function soon() {
   wanted = true;
@@ -372,7 +375,7 @@ async function soon() {
   }
   asking = false;
 }
-// Packets make no events.
+// Packets cause no events, so the page also polls.
 setInterval(() => {
   if (token === "" || document.hidden || $("page").hidden) return;
   soon();
@@ -394,7 +397,7 @@ async function showGateways() {
   }
 }
 
-// A button for each gateway.
+// The gateways' buttons, by name.
 const drains = new Map();
 const leaves = state => ["draining", "drained"].includes(state);
 async function drain(name) {
@@ -403,7 +406,7 @@ async function drain(name) {
   act(`${way === "drain" ? "Draining" : "Resumed"} gateway ${shown(name)}`, () => ask("POST", path("gateways", name, way)), () => ask("POST", path("gateways", name, back)));
 }
 
-// Server-sent events. An EventSource can't send the token.
+// Reads server-sent events with fetch, because an EventSource can't send the token.
 async function watch() {
   const response = await fetch("/events", { headers: { Authorization: "Bearer " + token } });
   refused = response.status === 401;

@@ -1,25 +1,26 @@
-%%% @doc Who may send SIP messages or connect, and how much one address gets, so that it shuts out nobody else. Trusted
-%%% proxies speak for many, and get all that there is.
+%%% @doc Decides who may send SIP messages or connect, and limits each address, so that no address can use up the
+%%% capacity. Trusted proxies serve many callers, and have no limits by address.
 -module(lobby_admission).
 
 -export([new/1, message/3, call/4, entered/4, left/2]).
 -export_type([limits/0, admission/0]).
 
-%% How many calls there may be, and how many calls and rooms one address may have. How many messages and new calls it
-%% may send in a second.
+%% The limits: the number of calls, the number of calls and rooms of one address, and the number of messages and new
+%% calls from one address in a second.
 -type limits() :: #{callers := [lobby_auth:network()], proxies := [lobby_auth:network()], max_calls := pos_integer(),
                     max_calls_from := pos_integer(), max_rooms_from := pos_integer(), messages_from := pos_integer(),
                     new_calls_from := pos_integer(), _ => _}.
 -record(admission, {limits :: limits(), buckets = lobby_buckets:new() :: lobby_buckets:buckets(),
                     calls = #{} :: #{pid() => {inet:ip4_address(), lobby_room:name()}},
-                    %% How many calls an address has in each room.
+                    %% The number of calls that an address has in each room.
                     rooms = #{} :: #{inet:ip4_address() => #{lobby_room:name() => pos_integer()}}}).
 -opaque admission() :: #admission{}.
 
+%% @doc Returns an admission without any calls.
 -spec new(limits()) -> admission().
 new(Limits) -> #admission{limits = Limits}.
 
-%% @doc Returns whether a message from this address is read. The time is in milliseconds.
+%% @doc Returns whether to read a message from this address. Times are in milliseconds.
 -spec message(inet:ip4_address(), Now :: integer(), admission()) -> {boolean(), admission()}.
 message(Address, Now, A = #admission{limits = Limits = #{messages_from := Rate}}) ->
     case lobby_auth:sender(Address, Limits) of
@@ -32,8 +33,9 @@ take(Kind, Address, Rate, Now, A = #admission{buckets = Buckets}) ->
     {Taken, Buckets1} = lobby_buckets:take({Kind, Address}, Rate, Now, Buckets),
     {Taken, A#admission{buckets = Buckets1}}.
 
-%% @doc Returns whether a new call is taken. `full': all calls are too many. `too_many': those of this address are, or
-%% it would have too many rooms to itself. `too_fast': they come too fast. Strangers take no place of others.
+%% @doc Returns whether to accept a new call. `full': the maximum number of calls is reached. `too_many': this address
+%% has too many calls, or would have calls in too many rooms. `too_fast': this address makes calls too fast. Calls from
+%% strangers aren't counted.
 -spec call(inet:ip4_address(), {lobby_room:name(), IsNew :: boolean()}, Now :: integer(), admission()) ->
           {ok | stranger | full | too_many | too_fast, admission()}.
 call(Address, {Room, IsNew}, Now, A = #admission{limits = Limits, calls = Calls, rooms = ByAddress}) ->
@@ -51,7 +53,7 @@ call(Address, {Room, IsNew}, Now, A = #admission{limits = Limits, calls = Calls,
             {case Taken of true -> ok; false -> too_fast end, A1}
     end.
 
-%% @doc Counts a call, which is known by its process.
+%% @doc Counts a call, which is identified by its process.
 -spec entered(pid(), inet:ip4_address(), lobby_room:name(), admission()) -> admission().
 entered(Pid, _, _, A = #admission{calls = Calls}) when is_map_key(Pid, Calls) ->
     A;
@@ -60,6 +62,7 @@ entered(Pid, Address, Room, A = #admission{calls = Calls, rooms = ByAddress}) ->
     A#admission{calls = Calls#{Pid => {Address, Room}},
                 rooms = ByAddress#{Address => Rooms#{Room => maps:get(Room, Rooms, 0) + 1}}}.
 
+%% @doc Forgets a call whose process has ended.
 -spec left(pid(), admission()) -> admission().
 left(Pid, A = #admission{calls = Calls, rooms = ByAddress}) ->
     case maps:take(Pid, Calls) of

@@ -1,11 +1,12 @@
-%%% @doc The application.
+%%% @doc The OTP application, and the commands that start it.
 -module(lobby_app).
 -behaviour(application).
 
 -export([run/1, create/1, alone/1, leave/1, start/2, stop/1]).
 
-%% @doc Starts the application on a node of its own, with a file of configuration: `erl -run lobby_app run FILE'. Ends
-%% the node with 2 if the configuration is wrong or the store is another release's, and with 1 if something else is.
+%% @doc Starts the application on its own node, with the configuration in a file: `erl -run lobby_app run FILE'. Ends
+%% the node with status 2 if the configuration is invalid or another release wrote the store, and with status 1 after
+%% any other error.
 -spec run([file:filename()]) -> ok.
 run([File]) ->
     _ = configured(File),
@@ -16,7 +17,8 @@ run([File]) ->
         {error, Reason} -> stop(1, io_lib:format("~0P", [Reason, 30]))
     end.
 
-%% @doc Commands for a pair, each on a node that doesn't run: `erl -run lobby_app create FILE'. See `lobby_pair'.
+%% @doc Runs a command for a pair while the controller is stopped: `erl -run lobby_app create FILE'. `alone' and `leave'
+%% are called in the same way. See `lobby_pair'.
 -spec create([file:filename()]) -> no_return().
 create([File]) -> command(create, File).
 
@@ -36,7 +38,7 @@ command(Command, File) ->
         end
     end.
 
-%% A node of a pair has a name.
+%% Loads the configuration. Returns the pair, after naming this node, or `none'.
 configured(File) ->
     ok = application:load(lobby),
     case lobby_config:load(File) of
@@ -48,7 +50,7 @@ configured(File) ->
         end
     end.
 
-%% Without the application the node is of no use: whoever started it starts another one.
+%% Ends the node when the application ends, so that the service manager starts a new node.
 watch() ->
     Monitor = monitor(process, lobby_sup),
     receive
@@ -73,12 +75,12 @@ start(_, _) ->
         {error, Text} -> {error, {bad_configuration, Text}}
     end.
 
-%% Loads what a call needs, so that the first caller doesn't wait for it.
+%% Loads the modules that a call needs, so that the first caller doesn't wait for them.
 loaded() ->
     {ok, Modules} = application:get_key(lobby, modules),
     code:ensure_modules_loaded([esip, esip_codec, gen_statem, re, sets | Modules]).
 
-%% What strangers may do.
+%% Describes, for the log, the SIP address, the networks of callers, and whether callers need a password.
 allowed(#{sip := {Address, Port}, callers := Callers, users := Users}) ->
     [[inet:ntoa(Address), [[":", integer_to_list(Port)] || Port =/= 5060]],
      case Callers of
@@ -87,7 +89,7 @@ allowed(#{sip := {Address, Port}, callers := Callers, users := Users}) ->
      end,
      case map_size(Users) of 0 -> "without a password"; _ -> "with a password" end].
 
-%% Without a configured token, one is made. Only those who read the log know it.
+%% Creates a token if none is configured. Only the log shows this token.
 with_token(Config = #{tokens := [], http := {Address, Port}}) ->
     Token = string:lowercase(binary:encode_hex(crypto:strong_rand_bytes(16))),
     logger:notice("the page is http://~s:~b/ and asks for the token ~s", [inet:ntoa(Address), Port, Token]),

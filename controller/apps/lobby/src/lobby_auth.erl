@@ -1,9 +1,9 @@
-%%% @doc Who somebody is: by his address, by a digest of his password (RFC 3261, section 22, RFC 8760), or by what a
-%%% trusted proxy says (RFC 3325).
+%%% @doc Identifies callers by address, by a password digest (RFC 3261, section 22, and RFC 8760), or by the identity
+%%% that a trusted proxy asserts (RFC 3325).
 %%%
-%%% A nonce has a signature that also covers the method, the caller's address, and the time. So it is kept only if
-%%% somebody has used it with a right password, and how often. When the process that asks is started again, all nonces
-%%% end.
+%%% A nonce has a signature that also covers the time, the method and the caller's address. So a nonce takes no memory
+%%% until it is used with a correct password; then its last count is kept. When the process that owns the secret
+%%% restarts, all nonces become invalid.
 -module(lobby_auth).
 
 -include_lib("p1_sip/include/esip.hrl").
@@ -12,14 +12,14 @@
 -export_type([network/0, users/0, algorithm/0, auth/0]).
 
 -type network() :: {inet:ip4_address(), Bits :: 0..32}.
-%% Passwords by name. Without users, callers aren't asked.
+%% Passwords by name. If there are no users, callers need no password.
 -type users() :: #{Name :: binary() => Password :: binary()}.
 -type algorithm() :: md5 | sha256.
 -record(auth, {secret :: binary(), algorithms :: [algorithm()],
-               %% The last count of a nonce that was used.
+               %% The last count (nc) of each nonce that was used.
                used = #{} :: #{Nonce :: binary() => Count :: non_neg_integer()}}).
 -opaque auth() :: #auth{}.
-%% Seconds for which a nonce is taken.
+%% Seconds for which a nonce is valid.
 -define(AGE, 300).
 -define(MAX_USED, 1000).
 
@@ -32,14 +32,14 @@ is_in(Address, Networks) ->
 
 number({A, B, C, D}) -> (A bsl 24) bor (B bsl 16) bor (C bsl 8) bor D.
 
-%% @doc Who sends from an address. Without networks of callers, anybody may call.
+%% @doc Classifies the sender at an address. If no networks of callers are configured, every other address is a caller.
 -spec sender(inet:ip4_address(), #{callers := [network()], proxies := [network()], _ => _}) ->
           proxy | caller | stranger.
 sender(Address, #{callers := Callers, proxies := Proxies}) ->
     hd([proxy || is_in(Address, Proxies)] ++ [caller || Callers =:= [] orelse is_in(Address, Callers)] ++ [stranger]).
 
-%% @doc Returns whether media may be sent to the address that a caller offers: it is his own, it lies in one of the
-%% networks, or a trusted proxy sent the offer.
+%% @doc Returns whether media may be sent to the address in an offer: it is the source of the offer, it lies in a
+%% configured network, or a trusted proxy sent the offer. 0.0.0.0, which means hold, is always allowed.
 -spec may_offer(Offered :: inet:ip4_address(), Source :: inet:ip4_address(),
                 #{media := [network()], proxies := [network()], _ => _}) -> boolean().
 may_offer({0, 0, 0, 0}, _, _) -> true;
@@ -47,12 +47,13 @@ may_offer(Source, Source, _) -> true;
 may_offer(Offered, Source, #{media := Media, proxies := Proxies}) ->
     is_in(Offered, Media) orelse is_in(Source, Proxies).
 
-%% @doc Challenges name these algorithms, and no others are taken.
+%% @doc Returns a new state with a random secret. It offers and accepts only these algorithms.
 -spec new([algorithm()]) -> auth().
 new(Algorithms) ->
     #auth{secret = crypto:strong_rand_bytes(32), algorithms = Algorithms}.
 
-%% @doc Whether a request from this address proves a user's password, and whose; if not, the challenges for a 401.
+%% @doc Checks the password digest of a request from this address. Returns the user's name, or the challenges for a 401
+%% response.
 -spec check(lobby_sip_message:message(), inet:ip4_address(), users(), auth()) ->
           {ok, Name :: binary(), auth()} | {challenge, [{atom(), term()}]}.
 check(Request, Address, Users, Auth) ->
@@ -69,7 +70,7 @@ check(Request, Address, Users, Auth) ->
         _ -> challenges(Request, Address, Auth, Now, [])
     end.
 
-%% RFC 7616, section 3.4.1. The digest is for this room.
+%% RFC 7616, section 3.4.1. The URI in the digest must name the same room as the request.
 is_proved(#{<<"username">> := User, <<"realm">> := <<"lobby">>, <<"nonce">> := Nonce, <<"uri">> := Uri,
             <<"qop">> := <<"auth">>, <<"nc">> := Count, <<"cnonce">> := Chosen, <<"response">> := Response} = Digest,
           Request = #sip{method = Method}, Users, #auth{algorithms = Algorithms}) when is_map_key(User, Users) ->
@@ -93,7 +94,7 @@ hash(Algorithm, Text) ->
 is_same(Text, #sip{uri = #uri{user = User, host = Host}}) ->
     case catch lobby_sip_decoder:uri(Text) of #uri{user = User, host = Host} -> true; _ -> false end.
 
-%% A count that isn't above the last one is of a request that was overheard, or came twice.
+%% A count that isn't above the last one belongs to a replayed or duplicate request.
 counted(Nonce, Text, Auth = #auth{used = Used}) ->
     case {catch binary_to_integer(Text, 16), maps:get(Nonce, Used, 0)} of
         {Count, Last} when is_integer(Count), Count > Last, byte_size(Text) =:= 8 ->
@@ -119,7 +120,7 @@ nonce(Time, Random, Method, Address, #auth{secret = Secret}) ->
     <<Signature:16/binary, _/binary>> = crypto:mac(hmac, sha256, Secret, term_to_binary({Signed, Method, Address})),
     binary:encode_hex(<<Signed/binary, Signature/binary>>).
 
-%% The age in seconds of a nonce that was made here for this address and method.
+%% Returns the age of a nonce in seconds, or `unknown' if it wasn't made here for this address and method.
 age(Nonce, Method, Address, Auth, Now) ->
     case catch binary:decode_hex(Nonce) of
         <<Time:64, Random:8/binary, _/binary>> ->
@@ -127,17 +128,17 @@ age(Nonce, Method, Address, Auth, Now) ->
         _ -> unknown
     end.
 
-%% @doc Who sent an INVITE, if that was proved: of a request that was let in, P-Asserted-Identity is always true.
+%% @doc Returns the proved identity of an INVITE's sender. In an admitted request, P-Asserted-Identity can be trusted.
 -spec identity(lobby_sip_message:message()) -> binary() | none.
 identity(Invite) ->
     case lobby_sip_message:headers('p-asserted-identity', Invite) of
-        %% A telephone number has no user.
+        %% In the URI of a telephone number, the user is empty.
         [{_, #uri{user = <<>>, host = Number}, _} | _] -> Number;
         [{_, #uri{user = User}, _} | _] -> User;
         [] -> none
     end.
 
-%% @doc The request with this identity, and with no other.
+%% @doc Returns the request with this asserted identity in place of any other.
 -spec asserted(Name :: binary() | none, lobby_sip_message:message()) -> lobby_sip_message:message().
 asserted(Name, Request = #sip{hdrs = Headers}) ->
     Others = [Header || Header = {Key, _} <- Headers, Key =/= 'p-asserted-identity'],

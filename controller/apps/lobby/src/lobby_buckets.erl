@@ -1,22 +1,22 @@
-%%% @doc Token buckets by address: each lets through so many a second, and twice as many at once.
+%%% @doc Token buckets by key. Each admits a given rate per second, and bursts of twice that number.
 -module(lobby_buckets).
 
 -export([new/0, take/4]).
 -export_type([buckets/0]).
 
-%% Thousandths of tokens that were missing at a time in milliseconds, by key. A full bucket needn't be kept.
+%% By key, the thousandths of tokens that a bucket lacked at a time in milliseconds. Full buckets needn't be kept.
 -opaque buckets() :: {#{term() => {Missing :: pos_integer(), At :: integer()}}, Swept :: integer()}.
-%% All addresses beyond these share one bucket, so that forged ones take no memory.
+%% The maximum number of buckets. All further keys share one bucket, so that forged addresses can't exhaust the memory.
 -define(MAX, 10000).
 
 -spec new() -> buckets().
 new() -> {#{}, 0}.
 
-%% @doc Takes a token, if there is one.
+%% @doc Takes a token. Returns `false' if the bucket is empty.
 -spec take(Key :: term(), Rate :: pos_integer(), Now :: integer(), buckets()) -> {boolean(), buckets()}.
 take(Key, Rate, Now, {Map, Swept}) when map_size(Map) >= ?MAX, Key =/= others, not is_map_key(Key, Map) ->
     case Now - Swept of
-        %% Every bucket gets at least one token a second.
+        %% Every bucket gains at least one token a second.
         Passed when abs(Passed) >= 1000 ->
             take(Key, Rate, Now, {maps:filter(fun(_, {M, At}) -> M > Now - At end, Map), Now});
         _ -> take(others, Rate, Now, {Map, Swept})

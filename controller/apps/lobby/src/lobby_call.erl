@@ -1,10 +1,11 @@
-%%% @doc A call: one caller's dialog, and what is wanted for him in his room (`lobby_person').
+%%% @doc The process of a call: a caller's dialog, and the caller's desired state in a room (`lobby_person').
 %%%
-%%% This process is also the transactions of its dialog. It answers a request that comes again by the same response,
-%%% repeats its 200 until the ACK comes (RFC 3261, section 13.3.1.4), and its own requests until they are answered.
+%%% This process also handles the transactions of its dialog. It answers a retransmitted request with the same response.
+%%% It retransmits its 200 until the ACK arrives (RFC 3261, section 13.3.1.4), and its own requests until they are
+%%% answered.
 %%%
-%%% States: `starting', until his room has him; `confirming', a 200 waits for its ACK; `talking'; `offering', our
-%%% re-INVITE waits for an answer; `ending', our BYE does.
+%%% States: `starting': the room hasn't admitted the caller yet. `confirming': our 200 waits for its ACK. `talking': the
+%%% call is established. `offering': our re-INVITE waits for a response. `ending': our BYE waits for a response.
 -module(lobby_call).
 -behaviour(gen_statem).
 
@@ -13,62 +14,67 @@
 -export([start/3, start_link/3, callers/1, sources/0, find/1, set_aside/1]).
 -export([callback_mode/0, init/1, handle_event/4]).
 
-%% RFC 3261, section 17: T2 is 8 times T1, and after 64 times T1 nobody waits any longer.
+%% RFC 3261, section 17: T2 is 8 times T1, and a transaction times out after 64 times T1.
 -define(T2, 8 * t1()).
 -define(GIVE_UP, 64 * t1()).
-%% Milliseconds: N restored calls are asked within N times as long whether they are still there.
+%% Milliseconds per restored call: N restored calls are re-invited within N times this, to find out which callers are
+%% still connected.
 -define(SPREAD, 2).
-%% Words in which an INVITE is answered without a garbage collection, and milliseconds after which an idle call takes
-%% less memory.
+%% The initial heap in words, which lets an INVITE be answered without garbage collection, and the milliseconds after
+%% which an idle call hibernates.
 -define(HEAP, 4096).
 -define(IDLE, 1000).
-%% Milliseconds in which a new caller is let in, and until it is tried again if no gateway has a seat. Milliseconds
-%% until a row is sent again to a room that hasn't reported it.
+%% In milliseconds: the timeout for admitting a new caller, and the interval between attempts while no gateway has a
+%% free seat. Then, the interval at which a row is sent again to a room that hasn't reported it.
 -define(LET_IN, 5000).
 -define(RETRY, 250).
 -define(AGAIN, 1000).
-%% Milliseconds of a packet of speech. Whoever has acknowledged his 200 is sent speech after that time at the latest,
-%% with all others of that time: a gateway answers a thousand times a second, and newcomers wait for its answers.
+%% Milliseconds of speech in a packet. The gateway sends speech to a caller from the first multiple of this time after
+%% the ACK. This batches callers, because a gateway answers a thousand requests a second, and newcomers wait for its
+%% replies.
 -define(PACKET, 20).
-%% A caller who offers nothing yet: he is added inactive, and the gateway sends nothing to this address.
+%% The media of a caller who hasn't offered any yet. The caller is added as Inactive, and the gateway sends nothing to
+%% this address.
 -define(NOWHERE, {{{0, 0, 0, 0}, 9}, pcmu}).
 
-%% Why calls end.
+%% Reasons why calls end, for the audit log.
 -define(NO_MEDIA, <<"the gateway doesn't take the caller's media">>).
 -define(BAD_MEDIA, <<"the caller doesn't take the gateway's media">>).
 
 -type state() :: starting | confirming | talking | offering | ending.
 -record(call, {id :: binary(), dialog :: lobby_dialog:dialog(),
-               %% Where the last request came from.
+               %% The source of the caller's last request.
                source :: lobby_sip_message:target(),
-               %% What he described last, and where the gateway receives him.
+               %% The caller's last session description, and the media address at which the gateway receives the caller.
                session = none :: lobby_sdp:session() | none, local = ?NOWHERE :: lobby_h248:media(),
-               %% Our last description: its id, its version and the text.
+               %% Our last session description: its id, its version and its text.
                description = {rand:uniform(16#7FFFFFFF), 0, <<>>} :: {pos_integer(), non_neg_integer(), binary()},
-               %% The response to his last INVITE, and whether its description is an offer.
+               %% The response to the caller's last INVITE, and whether it carries an offer.
                response = none :: lobby_sip_message:message() | none, offered = false :: boolean(),
-               %% How long the session lasts without a refresh, and who has to refresh it (RFC 4028).
+               %% The session timer (RFC 4028): the time without a refresh, and the side that has to refresh the
+               %% session.
                session_timer = none :: lobby_session_timer:timer(),
-               %% Our last request, and whether another re-INVITE has to follow.
+               %% Our last request, and whether a re-INVITE has to follow it.
                request = none :: lobby_sip_message:message() | none, again = false :: boolean(),
-               %% Where he was told that the gateway receives him, in the description that waits for his answer or ACK.
+               %% The gateway's media address in our description that the caller hasn't answered or acknowledged yet.
                told = none :: lobby_h248:media() | none,
-               %% Where he has agreed to send.
+               %% The gateway's media address to which the caller has agreed to send.
                agreed = none :: lobby_h248:media() | none,
-               %% His request whose offer the gateway hasn't taken yet.
+               %% The caller's request whose offer the gateway hasn't accepted yet.
                changing = none :: lobby_sip_message:message() | none,
-               %% For the audit log: when his call began, what it has been, and why it ends.
+               %% For the audit log: the call's start, its rooms, roles and codecs, and the reason for its end.
                began = none :: integer() | none, seen = #{} :: lobby_audit_core:seen(), why = <<"error">> :: binary(),
-               %% Whether it was logged that no packets come from him.
+               %% Whether the log already says that no packets arrive from the caller.
                is_silent = false :: boolean(),
-               %% What is wanted for him. The store keeps it apart.
+               %% The caller's desired state, which the store keeps separately.
                person = none :: lobby_person:person() | none,
-               %% The state, and what gen_statem is to do after this event.
+               %% The state, and the actions of gen_statem after this event.
                state = talking :: state(), out = [] :: [gen_statem:action()]}).
-%% What is done when the gateway has what he offers: in his INVITE, in a request after that, or in an answer.
+%% The reason for a change of the media, which decides how the call continues: the first INVITE, a later request, or an
+%% answer to our offer.
 -type purpose() :: invite | {change, lobby_sip_message:message()} | answer | none.
 
-%% @doc Starts a call for a first INVITE.
+%% @doc Starts a call for an initial INVITE.
 -spec start(lobby_room:name(), lobby_sip_message:message(), lobby_sip_message:target()) -> {ok, pid()}.
 start(Room, Invite, Source) ->
     Started = supervisor:start_child(lobby_call_sup, [Room, Invite, Source]),
@@ -80,7 +86,7 @@ start_link(Room, Invite, Source) ->
     Options = [{hibernate_after, ?IDLE}, {spawn_opt, [{min_heap_size, ?HEAP}]}],
     lobby_keeper:running(gen_statem:start_link(Name, ?MODULE, {Room, Invite, Source}, Options)).
 
-%% @doc How members name themselves.
+%% @doc Returns the names that members give themselves, by id.
 -spec callers([lobby_person:row()]) -> #{binary() => binary()}.
 callers(Rows) ->
     maps:from_list([{Id, lobby_dialog:caller(dialog(Kept))}
@@ -88,17 +94,17 @@ callers(Rows) ->
                        {ok, Kept = #{invite := _}} <- [lobby_store:get(lobby_calls, Key)]]
                    ++ [{Id, Name} || #{id := Id, call := {web, _}, name := Name} <- Rows]).
 
-%% A call that isn't answered yet has only its INVITE.
+%% Returns the dialog of a stored call. A call that isn't answered yet has only its INVITE.
 dialog(#{call := #call{dialog = Dialog}}) -> Dialog;
 dialog(#{invite := Invite}) -> lobby_dialog:new(Invite, <<>>).
 
-%% @doc The calls' processes, with where their callers' first requests came from.
+%% @doc Returns the calls' processes, each with the stored source of its caller's requests.
 -spec sources() -> [{pid(), lobby_sip_message:target()}].
 sources() ->
     [{Pid, Source} || {Key, Pid} <- lobby_registry:names(call),
                       {ok, #{source := Source}} <- [lobby_store:get(lobby_calls, Key)]].
 
-%% @doc The process of a call. It is started if the call was kept.
+%% @doc Returns the process of a call. Starts it if only the store has the call.
 -spec find(Key :: {binary(), binary()}) -> {ok, pid()} | error.
 find(Key) ->
     case lobby_registry:whereis_name({call, Key}) of
@@ -113,7 +119,7 @@ restored({ok, #{invite := Invite, room := Room, source := Source}}) ->
 restored(error) ->
     error.
 
-%% @doc Ends a call whose process fails again and again.
+%% @doc Ends a call whose process fails repeatedly.
 -spec set_aside(Key :: {binary(), binary()}) -> ok.
 set_aside(Key) ->
     logger:error("the call ~0p fails again and again. It is ended", [Key]),
@@ -127,7 +133,7 @@ set_aside(Key) ->
     lists:foreach(fun(Row) -> ok = leave(lobby_person:restored(Row)) end, Rows),
     lobby_store:delete(lobby_calls, Key).
 
-%% Leaves the room, and answers nobody who waits for a change.
+%% Removes the caller from the room, without answering changes that are still waiting.
 leave(Person) ->
     {_, Actions} = lobby_person:handle(leave, Person),
     lists:foreach(fun lobby_member:act/1, [Action || Action <- Actions, element(1, Action) =/= answer]).
@@ -154,8 +160,8 @@ init({Room, Invite, Source}) ->
             {ok, starting, new, [{next_event, internal, {start, Id, Room, Invite, Source}}]}
     end.
 
-%% He is asked whether he is still there, and told where the gateway receives him now. Whoever waits for an answer has
-%% it after his change has been made.
+%% Returns the first action of a restored call. If a request of the caller waits for a response, its change is made, and
+%% then it is answered. Otherwise, a re-INVITE checks whether the caller is still connected.
 resumption(#call{changing = none}) ->
     [{{timeout, ask}, rand:uniform(?SPREAD * lobby_store:size(lobby_calls)), invite}, {next_event, internal, again}];
 resumption(#call{changing = Request}) ->
@@ -168,7 +174,7 @@ handle_event(Type, Content, _, Call) ->
         Next = #call{state = State, out = Out} -> {next_state, State, Next#call{out = []}, Out}
     end.
 
-%% Adds what gen_statem is to do after this event. If a timeout is set twice, the later setting counts.
+%% Adds actions of gen_statem after this event. If a timeout is set twice, the later setting counts.
 with(Actions, Call = #call{out = Out}) -> Call#call{out = Out ++ Actions}.
 
 event(internal, {start, Id, Room, Invite, Source}, new) ->
@@ -193,7 +199,7 @@ event(info, {lobby_room, Room, {admitted, Result}}, Call) ->
     person({admitted, Room, Result}, Call);
 event(info, {lobby_room, Room, {report, Report}}, Call) ->
     reported(Report, person({report, Room, Report}, Call));
-%% The gateway takes no packets of his: is he still there?
+%% The gateway accepts no packets from the caller. A re-INVITE checks whether the caller is still connected.
 event(info, {lobby_room, _, silent}, Call = #call{state = talking}) ->
     invite(silent(Call));
 event(info, {answer, From, Answer}, Call) ->
@@ -213,7 +219,7 @@ event({timeout, acknowledged}, true, Call = #call{state = State}) when State =/=
     person({change, {media, none}, #{acknowledged => true}}, Call);
 event({timeout, let_in}, join, Call = #call{state = starting}) ->
     person({join, {joins, invite}}, Call);
-%% No gateway has had a seat for so long, or he doesn't want to wait any longer.
+%% No gateway had a free seat in time, or the INVITE has expired.
 event({timeout, let_in_at_all}, over, Call = #call{state = starting, changing = Invite}) ->
     case lobby_session_timer:invitation(Invite) < ?LET_IN of
         true -> refuse(487, [], Call);
@@ -222,7 +228,7 @@ event({timeout, let_in_at_all}, over, Call = #call{state = starting, changing = 
 event({timeout, repeat}, {Message, Target, Interval}, Call) ->
     ok = lobby_sip:send(Target, Message),
     with([repeat(Message, Target, min(2 * Interval, ?T2))], Call);
-%% Nobody acknowledged our 200, or answered our request.
+%% The phone didn't acknowledge our 200, or didn't answer our request.
 event({timeout, give_up}, give_up, Call = #call{state = ending}) ->
     stop(Call);
 event({timeout, give_up}, give_up, Call) ->
@@ -230,22 +236,20 @@ event({timeout, give_up}, give_up, Call) ->
 event(_, _, Call) ->
     Call.
 
-%%% What is wanted for him.
+%%% The caller's desired state.
 
-%% Handles an event of the person, and carries out the actions. The row is sent again until the room has reported it.
+%% Passes an event to the person, and carries out the actions. A timer sends the row again until the room has reported
+%% it.
 person(Event, Call = #call{person = Person}) ->
     {Changed, Actions} = lobby_person:handle(Event, Person),
     Again = {{timeout, person}, case lobby_person:is_settled(Changed) of true -> infinity; false -> ?AGAIN end, again},
     lists:foldl(fun act/2, with([Again], seen(lobby_person:row(Changed), Call#call{person = Changed})), Actions).
 
-seen(Row, Call = #call{seen = Before}) ->
-    case lobby_audit_core:seen(Row, Before) of
-        Before -> Call;
-        Seen when Call#call.state =:= starting -> Call#call{seen = Seen};
-        Seen -> keep(Call#call{seen = Seen})
-    end.
+seen(Row, Call = #call{seen = Before, state = State}) ->
+    Changed = Call#call{seen = lobby_audit_core:seen(Row, Before)},
+    case Changed =:= Call orelse State =:= starting of true -> Changed; false -> keep(Changed) end.
 
-%% Nothing more happens to a call that has stopped.
+%% A stopped call ignores further actions.
 act(_, stopped) ->
     stopped;
 act({answer, {asked, From}, Answer}, Call) ->
@@ -257,7 +261,7 @@ act(Action, Call) ->
     _ = [self() ! {lobby_room, Room, {admitted, Error}} || {admitted, Room, Error} <- [lobby_member:act(Action)]],
     Call.
 
-%% What the gateway has now, or doesn't take.
+%% Continues after the gateway has accepted or refused the media.
 -spec media(purpose(), {ok, lobby_h248:media()} | {error, term()}, #call{}) -> #call{} | stopped.
 media(invite, {ok, Local}, Call = #call{state = starting, changing = Invite}) ->
     LetIn = [{{timeout, Name}, infinity, none} || Name <- [let_in, let_in_at_all]],
@@ -271,7 +275,7 @@ media({change, Request}, Result, Call = #call{changing = Request, state = State}
         {_, <<"INVITE">>, ending} -> Call;
         {{error, {refused, _}}, _, _} ->
             with([no_trying()], answer(488, {[], <<>>}, Request, Call#call{changing = none}));
-        %% Without a gateway, it is done later.
+        %% If no gateway is available, the room applies the media later.
         {_, <<"INVITE">>, _} -> accept(Request, refreshed(Request, received_at(Result, Call)));
         {_, <<"UPDATE">>, _} -> updated(Request, received_at(Result, Call))
     end;
@@ -283,10 +287,11 @@ media(_, _, Call) ->
 received_at({ok, Local}, Call) -> Call#call{local = Local, changing = none};
 received_at({error, _}, Call) -> Call#call{changing = none}.
 
-%% If the gateway receives him at another address, he is re-invited. If it refuses him, his call ends.
+%% Handles a room's report. If the gateway receives the caller at another address, the caller is re-invited. If the
+%% gateway refuses the caller's media, the call ends.
 reported(_, stopped) ->
     stopped;
-%% His room may not have heard that he agreed.
+%% The room may have missed that the caller agreed, so it is notified again.
 reported({holds, _, Local, false}, Call = #call{local = Local, agreed = Local}) ->
     agreed(Local, Call);
 reported({holds, _, Local, _}, Call = #call{local = Local}) ->
@@ -298,7 +303,7 @@ reported({refused, _, _, none}, Call) ->
 reported(_, Call) ->
     Call.
 
-%% It doesn't say which packets it drops, so this is said once of each call.
+%% Logs, once per call, that the gateway accepts no packets. A gateway doesn't report which packets it drops.
 silent(Call = #call{is_silent = true}) ->
     Call;
 silent(Call = #call{id = Id, dialog = Dialog, session = Session}) ->
@@ -318,7 +323,7 @@ start(Id, Room, Invite, Source) ->
             Call = #call{id = Id, dialog = Dialog, source = Source, changing = Invite, state = starting,
                          session = case Offer of {ok, Session} -> Session; none -> none end},
             Key = lobby_dialog:key(Dialog),
-            %% Before he joins, so that a process that takes over doesn't have him join twice.
+            %% The call is stored before it joins, so that a restarted process doesn't join twice.
             ok = lobby_store:put(lobby_calls, Key, #{invite => Invite, id => Id, room => Room, source => Source}),
             yes = lobby_registry:register_name({member, Id}, self()),
             LetIn = min(?LET_IN, lobby_session_timer:invitation(Invite)),
@@ -326,21 +331,22 @@ start(Id, Room, Invite, Source) ->
             person({join, {joins, invite}}, Waits#call{person = wanted(Key, Room, Invite, Call)})
     end.
 
-%% What is known of him before anybody hears him. One whose process failed before he was in his room is wanted as
-%% before.
+%% Returns the desired state of a new caller. If the process failed before the room had admitted the caller, the stored
+%% state is used again.
 wanted(Key, Room, Invite, Call = #call{id = Id}) ->
     case lobby_member:find(Id) of
         {ok, Row} -> lobby_person:new(Row);
         error ->
             {Media, Direction} = described(Call),
             Known = lobby_identity:known(Invite, Call#call.source),
-            Waits = lobby_rooms:has_door(Room) andalso not is_map_key(role, Known),
+            Waits = lobby_room:has_door(Room) andalso not is_map_key(role, Known),
             Wanted = Known#{room => Room, media => Media, direction => Direction, call => Key, waiting => Waits,
                             acknowledged => false},
             lobby_person:new(lobby_member:new(Id, Wanted))
     end.
 
-%% Section 17.2.1: if nothing else can be answered within 200 ms, a 100 is. It's sent early enough to arrive by then.
+%% Section 17.2.1: a 100 is due if no other response is sent within 200 ms. The timer is shorter, so that the 100
+%% arrives in time.
 trying_later(Invite) -> {{timeout, trying}, 100, Invite}.
 no_trying() -> {{timeout, trying}, infinity, none}.
 
@@ -358,8 +364,8 @@ status(room_locked) -> 403;
 status({refused, 515}) -> 488;
 status(_) -> 503.
 
-%% What a message describes. Nothing is described by a caller who wants an offer. Media go to his own address, or to one
-%% that is configured.
+%% Returns the session description in a message, or `none' if the body is empty because the caller wants an offer. The
+%% media address must be the caller's own, or an allowed one.
 offer(Message, Source) ->
     case lobby_sip_message:body(Message) of
         <<>> -> none;
@@ -379,16 +385,14 @@ allowed(Error, _) ->
 described(#call{session = none}) -> {?NOWHERE, inactive};
 described(#call{session = Session}) -> {lobby_sdp:media(Session), lobby_sdp:direction(Session)}.
 
-%%% The audit log: a line when a call begins, and one with all that is known of it when it ends.
+%%% The audit log: a line when a call begins, and a line with its details when it ends.
 
 began(Call) ->
     Call#call{began = lobby_audit:began(record(Call))}.
 
-%% Once. Whoever was never in a room has no record.
-recorded(Call = #call{began = none}) ->
-    Call;
+%% Writes the line about the call's end, once. Callers whom no room has admitted have no lines.
 recorded(Call = #call{began = Began, why = Why}) ->
-    ok = lobby_audit:ended(record(Call), Began, Why),
+    _ = [lobby_audit:ended(record(Call), Began, Why) || Began =/= none],
     Call#call{began = none}.
 
 record(#call{id = Id, dialog = Dialog, source = Source, person = Person, seen = Seen}) ->
@@ -396,12 +400,12 @@ record(#call{id = Id, dialog = Dialog, source = Source, person = Person, seen = 
     Caller = lobby_json:named(Row, lobby_dialog:caller(Dialog)),
     {Id, [{from, list_to_binary(inet:ntoa(lobby_sip_message:address(Source)))} | maps:to_list(Caller)], Seen}.
 
-%%% His requests.
+%%% The caller's requests.
 
 request(Method, Request, Source, Call = #call{state = starting, changing = Invite}) ->
     case {Method, lobby_dialog:is_same_transaction(Request, Invite)} of
         {<<"INVITE">>, true} -> reply(100, Request, Source, Call);
-        %% It came by another way, too (section 8.2.2.2).
+        %% The same INVITE has also arrived over another path (section 8.2.2.2).
         {<<"INVITE">>, false} -> reply(482, Request, Source, Call);
         {<<"CANCEL">>, false} -> reply(481, Request, Source, Call);
         {_, _} when Method =:= <<"CANCEL">>; Method =:= <<"BYE">> ->
@@ -426,7 +430,7 @@ acknowledged_soon() ->
     {{timeout, acknowledged}, ?PACKET * (erlang:monotonic_time(millisecond) div ?PACKET + 1), true, [{abs, true}]}.
 
 in_dialog(<<"CANCEL">>, Request, Call = #call{response = Last}) ->
-    %% It comes too late: the INVITE has its answer.
+    %% The CANCEL is too late: the INVITE has already been answered.
     IsKnown = Last =/= none andalso lobby_dialog:is_same_transaction(Request, Last),
     answer(case IsKnown of true -> 200; false -> 481 end, {[], <<>>}, Request, Call);
 in_dialog(Method, Request, Call = #call{dialog = Dialog, state = State, changing = Changing}) ->
@@ -453,16 +457,16 @@ answer(Status, Content, Request, Call = #call{source = Source}) ->
     _ = lobby_sip:answer(Status, Content, Request, Source),
     keep(Call).
 
-%% Changes nothing.
+%% Sends a response, and leaves the call unchanged.
 reply(Status, Request, Source, Call) ->
     _ = lobby_sip:answer(Status, {[], <<>>}, Request, Source),
     Call.
 
-%% A repeated INVITE is answered as before. Its response is kept for this.
+%% Answers a retransmitted INVITE with the stored response.
 again(Request, Call = #call{source = Source, response = Last, changing = none}) when Last =/= none ->
     case {lobby_dialog:is_same_transaction(Request, Last), lobby_sip_message:tag(to, Request)} of
         {true, _} -> ok = lobby_sip:send(lobby_sip_message:response_target(Request, Source), Last), Call;
-        %% It came by another way, too (section 8.2.2.2).
+        %% The same INVITE has also arrived over another path (section 8.2.2.2).
         {false, <<>>} -> reply(482, Request, Source, Call);
         {false, _} -> Call
     end;
@@ -471,7 +475,7 @@ again(_, Call = #call{changing = none}) ->
 again(Request, Call = #call{source = Source}) ->
     reply(100, Request, Source, Call).
 
-%% An UPDATE that describes nothing only refreshes the session.
+%% An UPDATE without a session description only refreshes the session.
 changes(Method, Request, Call = #call{source = Source}) ->
     case {session_timer(Request), offer(Request, Source), Method} of
         {{too_short, Headers}, _, _} -> answer(422, {Headers, <<>>}, Request, Call);
@@ -489,10 +493,10 @@ updated(Request, Call) ->
         _ -> our_answer(Call)
     end,
     {_, Updated = #call{local = Local, agreed = Agreed}} = send_ok(Request, Content, refreshed(Request, Described)),
-    %% No ACK confirms this answer, so a new address also goes out in an INVITE.
+    %% No ACK confirms this answer, so a re-INVITE repeats a new media address.
     with([{{timeout, invite}, 0, invite} || Local =/= Agreed], keep(Updated)).
 
-%% A 200 to an INVITE or an UPDATE.
+%% Sends a 200 to an INVITE or an UPDATE, and restarts the session timer.
 send_ok(Request, {Headers, Body}, Call = #call{source = Source}) ->
     Timer = session_timer(Request),
     Content = {[lobby_dialog:contact(own(Call)) | lobby_session_timer:answer(Timer)] ++ Headers, Body},
@@ -509,12 +513,12 @@ session_timeout(#call{session_timer = Timer}) ->
     {Time, What} = lobby_session_timer:timeout(Timer),
     {{timeout, session}, Time, What}.
 
-%% Has the gateway use the media that he describes now.
+%% Asks the room for the media in the caller's new session description.
 change(Session, More, Purpose, Call) ->
     Change = More#{media => lobby_sdp:media(Session), direction => lobby_sdp:direction(Session)},
     person({change, {media, Purpose}, Change}, keep(Call#call{session = Session})).
 
-%% The 200 with our answer, or with our offer if he described nothing.
+%% Sends the 200 with our answer, or with our offer if the caller sent none.
 accept(Request, Call = #call{local = Local, source = Source}) ->
     Offered = lobby_sip_message:body(Request) =:= <<>>,
     {Content, Described} = case Offered of true -> our_offer(Call); false -> our_answer(Call) end,
@@ -529,7 +533,7 @@ our_answer(Call = #call{session = Session, local = Local}) ->
 our_offer(Call = #call{session = Session, local = Local}) ->
     described(fun(Id, Version) -> lobby_sdp:offer(Session, Local, {Id, Version}) end, Call).
 
-%% Our description, with another version if it changed (RFC 3264, section 8).
+%% Returns our session description, with a new version if the text has changed (RFC 3264, section 8).
 described(Describe, Call = #call{description = {Id, Version, Before}}) ->
     Description = case Describe(Id, Version) of
         Before -> {Id, Version, Before};
@@ -541,7 +545,7 @@ described(Describe, Call = #call{description = {Id, Version, Before}}) ->
 own(#call{source = Source}) ->
     lobby_sip:own(Source).
 
-%% The answer to our offer, in an ACK or in a 200. Whoever has acknowledged an answer is sent speech.
+%% Handles the answer to our offer, in an ACK or a 200. From now on, the gateway may send speech to the caller.
 answered(Session, Call) ->
     change(Session, #{acknowledged => true}, answer, talk(Call)).
 
@@ -562,17 +566,17 @@ bye(_, Call = #call{state = ending}) -> Call;
 bye(_, Call = #call{state = starting}) -> refuse(480, [], Call);
 bye(Why, Call) -> send(<<"BYE">>, {[], <<>>}, ending, recorded(left(Call#call{why = Why}))).
 
-%% His room lets him go before his call ends, and no room hears of him after that.
+%% Makes the caller leave the room before the call ends. After that, no room is sent the caller's row.
 left(Call = #call{person = none}) -> Call;
 left(Call) -> with([{{timeout, person}, infinity, none}], person(leave, Call)).
 
-%% The number of the request is kept before it goes out.
+%% Sends a request, after storing its sequence number.
 send(Method, Content, Next, Call = #call{dialog = Dialog, source = Source}) ->
     {Request, Dialog1} = lobby_dialog:request(Method, Content, own(Call), Dialog),
     Call1 = keep(Call#call{dialog = Dialog1, request = Request, state = Next}),
     Target = lobby_dialog:target(Dialog1, Source),
     ok = lobby_sip:send(Target, Request),
-    %% Over TCP, a request isn't repeated (section 17.1.1.2).
+    %% Over TCP, requests aren't retransmitted (section 17.1.1.2).
     Interval = case Target of {tcp, _, _} -> infinity; _ -> t1() end,
     with([repeat(Request, Target, Interval), give_up()], Call1).
 
@@ -582,7 +586,7 @@ response(Response = #sip{status = Status, method = Method}, Call = #call{request
         {true, <<"INVITE">>, offering} when Status < 200 -> with([{{timeout, repeat}, infinity, none}], Call);
         {true, <<"INVITE">>, offering} when Status < 300 -> accepted(Response, Call);
         {true, <<"INVITE">>, offering} -> refused(Status, Response, Call);
-        %% He didn't get our ACK, or this answers an INVITE that was sent before a node took over.
+        %% Our ACK was lost, or the response belongs to an INVITE from before a take-over.
         {_, <<"INVITE">>, _} when Status >= 200, Status < 300 -> ok = acknowledge(Response, Call), Call;
         {true, <<"BYE">>, ending} when Status >= 200 -> stop(Call);
         {_, _, _} -> Call
@@ -599,10 +603,10 @@ accepted(Response, Call = #call{source = Source}) ->
 agreed(Call = #call{told = Told}) ->
     agreed(Told, Call).
 
-%% From now on, he sends there.
+%% Notes that the caller now sends to this address, and notifies the room.
 agreed(Local, Call = #call{id = Id, person = Person}) ->
     #{room := Room} = lobby_person:row(Person),
-    _ = lobby_rooms:tell(Room, {confirmed, Id, Local}),
+    _ = lobby_room:tell(Room, {confirmed, Id, Local}),
     Call#call{agreed = Local}.
 
 acknowledge(Response, Call = #call{dialog = Dialog}) ->
@@ -611,8 +615,8 @@ acknowledge(Response, Call = #call{dialog = Dialog}) ->
 to_caller(Message, #call{dialog = Dialog, source = Source}) ->
     lobby_sip:send(lobby_dialog:target(Dialog, Source), Message).
 
-%% The ACK to a refusal is of the same transaction (section 17.1.1.3). If both sides invited each other, the one who
-%% doesn't own the Call-ID waits for up to 2 s (section 14.1).
+%% Acknowledges a failure response, in the same transaction (section 17.1.1.3). If both sides sent an INVITE, the side
+%% that doesn't own the Call-ID retries within 2 s (section 14.1).
 refused(Status, Response, Call = #call{request = Invite = #sip{hdrs = Headers}}) ->
     Keys = [via, 'max-forwards', from, 'call-id', cseq, route],
     Kept = [Header || Header = {Key, _} <- Headers, lists:member(Key, Keys)],
@@ -621,7 +625,7 @@ refused(Status, Response, Call = #call{request = Invite = #sip{hdrs = Headers}})
     case lobby_dialog:after_refusal(Status) of
         ended -> stop(Call#call{why = <<"the caller's phone has ended it">>});
         again -> with(quiet() ++ [{{timeout, invite}, 10 * rand:uniform(200), invite}], Call#call{state = talking});
-        %% He still sends to where the gateway doesn't receive him any more.
+        %% The caller still sends to an address at which the gateway no longer receives the caller.
         goes_on when Call#call.told =/= Call#call.agreed -> bye(?BAD_MEDIA, Call#call{state = talking});
         goes_on -> talk(Call)
     end.
@@ -631,9 +635,9 @@ give_up() -> {{timeout, give_up}, ?GIVE_UP, give_up}.
 t1() -> application:get_env(lobby, t1, 500).
 quiet() -> [{{timeout, repeat}, infinity, none}, {{timeout, give_up}, infinity, none}].
 
-%%% What outlives this process.
+%%% The state that outlives this process.
 
-%% A process that is started again takes him to be talking.
+%% Stores the call. A restarted process continues in the state `talking'.
 keep(Call = #call{dialog = Dialog, source = Source}) ->
     {ok, Kept} = lobby_store:get(lobby_calls, lobby_dialog:key(Dialog)),
     Known = Call#call{person = none, state = talking, out = []},

@@ -1,18 +1,19 @@
-%%% @doc A conference as a value: what a room wants, what the gateway has, and the next request that brings the two
-%%% together.
+%%% @doc A conference as a value: the room's desired state, the gateway's known state, and the next request that
+%%% reconciles them.
 %%%
-%%% What is wanted is the rows of the members (`lobby_person') and the room's rules. The room sends the action of
+%%% The desired state consists of the members' rows (`lobby_person') and the room's rules. The room sends the action of
 %%% `next/1', and passes the reply to `done/3', until `next/1' returns `settled'. So a change, a failure and a new
 %%% gateway are all handled in the same way.
 %%%
-%%% A flow is open only if the rules open it and neither end is isolated; a muted talker's mode is SendOnly. A member is
-%%% never audible before that holds. Members leave first, and whoever is to say or hear less is silenced. Then flows are
-%%% closed, and others opened. A single newcomer is added together with his Topology; several are added before it.
-%%% Whoever has a flow to be closed is added inactive and let in once it is closed. Who comes from another room isn't
-%%% added before that room has let him go, and it doesn't before he is inactive.
+%%% A flow is open only if the rules open it and neither end is isolated; a muted talker's mode is SendOnly. No member
+%%% is audible before the gateway has applied this. First, terminations of former members are subtracted, and members
+%%% who may no longer talk or hear are silenced. Then flows are closed and opened. A single newcomer is added together
+%%% with the Topology, several newcomers before it. A newcomer with a flow to be closed is added as Inactive, and
+%%% activated once the flow is closed. A member from another room isn't added before that room has released the member,
+%%% and a room releases only inactive members.
 %%%
-%%% What the gateway has is known from its answers. After an answer that isn't as expected, or if nobody knows whether a
-%%% request was run, nothing is assumed: `doubt/1' has the terminations, modes and flows audited first.
+%%% The gateway's state is known from its replies. After an unexpected reply, or a request that may or may not have been
+%%% run, this state counts as unknown: `doubt/1' schedules audits of the terminations, modes and flows.
 -module(lobby_conference).
 
 -export([new/0, want/2, leave/2, expel/2, cleared/4, set_rules/2, forget/1, resume/3, check/1, unblock/1]).
@@ -22,61 +23,67 @@
 -export_type([conference/0, step/0, event/0, held/0, place/0, holding/0, owner/0]).
 
 -define(NO_FLOWS, sets:new([{version, 2}])).
-%% Commands in a request: an Add has about 150 bytes of the gateway's 8,192, and its reply as many of 16,000.
+%% The maximum number of commands in a request. An Add takes about 150 of a request's 8,192 bytes, and its result as
+%% many of a reply's 16,000.
 -define(MAX_ADDS, 24).
 -define(MAX_COMMANDS, 60).
-%% The largest conference whose topology or modes fit into a reply, with ten-digit numbers.
+%% The size of the largest conference whose topology fits in a reply, and whose modes do, even if all numbers have ten
+%% digits.
 -define(MAX_AUDITED, 29).
 
-%% Errors by which the gateway says that something is no longer there.
+%% Error codes for a context or termination that doesn't exist.
 -define(IS_GONE(Code), (Code =:= 411 orelse Code =:= 430 orelse Code =:= 431 orelse Code =:= 435)).
 
 -type id() :: lobby_rules:id().
 -type row() :: lobby_person:row().
-%% What the gateway has for a member. `unknown' may be anything.
+%% A member's termination on the gateway. `unknown' stands for any value.
 -record(held, {termination :: lobby_h248:termination(), local :: lobby_h248:media(),
                remote :: lobby_h248:media() | unknown, mode :: lobby_h248:mode() | unknown}).
 -opaque held() :: #held{}.
-%% A termination that is to be ended, or all of a context.
+%% A termination to be subtracted, or all terminations of a context.
 -type place() :: {lobby_h248:context(), lobby_h248:termination() | all}.
-%% A termination that the gateway's process knows of as this room's. `given': another room let it go for this one, in
-%% whose context it still is.
+%% A termination that the gateway's process has noted for this room. `given': another room has released it to this room,
+%% and it is still in that room's context.
 -type holding() :: #{termination := lobby_h248:termination(), context := lobby_h248:context(), member := id(),
                      local := lobby_h248:media(), given := boolean()}.
-%% Whose a termination is, as far as the gateway's process knows.
+%% Whether a termination belongs to this room or another one, according to the gateway's process.
 -type owner() :: #{lobby_h248:termination() => own | other}.
-%% A member who comes from another room: that is asked to let him go, or has done so, with what it gave.
+%% A member from another room: that room is asked to release the member, has done so without a termination, or has
+%% handed over a termination.
 -type arrival() :: {asked | cleared, Moved :: pos_integer()} | {given, holding()}.
 
 -record(conference, {members = [] :: [row()], rules = [] :: [lobby_rules:rule()],
                      context = new :: lobby_h248:context() | new, held = #{} :: #{id() => #held{}},
                      open = ?NO_FLOWS :: lobby_rules:flows(), leaving = [] :: [place()],
-                     %% Whether the open flows are those that are wanted. To find out takes a while in a large room.
+                     %% Whether the open flows are the desired flows. Comparing them takes a while in a large room.
                      agreed = true :: boolean(),
                      arriving = #{} :: #{id() => arrival()},
-                     %% Those who are now wanted in other rooms, but whom the gateway still has here.
+                     %% Members who have moved to other rooms, but whose terminations are still in this context.
                      departing = #{} :: #{id() => row()},
-                     %% Members whom the gateway doesn't take now, and media that it doesn't take.
+                     %% Members for whom the gateway has no capacity at the moment, and the media that the gateway
+                     %% refused, by member.
                      blocked = [] :: [id()], refused = #{} :: #{id() => lobby_h248:media()},
-                     %% What is to be audited before anything else.
+                     %% The audits that precede all other requests.
                      doubts = [] :: [inventory | topology]}).
 -opaque conference() :: #conference{}.
-%% What a request is for.
+%% The purpose of a request.
 -type step() :: {subtract, [place()]} | {modify, [{id(), lobby_h248:mode()}]}
                 | {connect, lobby_rules:flows()} | {add, [{row(), lobby_h248:mode()}], lobby_rules:flows()}
                 | {move, {id(), lobby_h248:mode()}, lobby_rules:flows()} | {settle, [row()]} | inventory | topology.
-%% `refused': the gateway doesn't take these media, and has the others, if any. `full': it doesn't take him now.
-%% `failed': an answer wasn't as expected. `counts': the packets that each termination received.
+%% `refused': the gateway refused the member's media, and still uses these media, if any. `full': the gateway has no
+%% capacity for the member at the moment. `failed': a reply was unexpected. `counts': the number of packets that each
+%% termination has received.
 -type event() :: {refused, id(), Code :: pos_integer(), lobby_h248:media() | none} | {full, id()} | repaired | strays
                | failed | {counts, #{lobby_h248:termination() => non_neg_integer()}}.
 
+%% @doc Returns a conference without members, which is on no gateway.
 -spec new() -> conference().
 new() ->
     #conference{}.
 
-%%% What is wanted.
+%%% The desired state.
 
-%% @doc A member's row: new, or changed. Somebody who comes from another room isn't added before `cleared/4'.
+%% @doc Adds or replaces a member's row. A member from another room gets a termination only after `cleared/4'.
 -spec want(row(), conference()) -> conference().
 want(Row = #{id := Id, from := From, moved := Moved}, C = #conference{held = Held, arriving = Arriving}) ->
     Came = case Arriving of
@@ -86,7 +93,7 @@ want(Row = #{id := Id, from := From, moved := Moved}, C = #conference{held = Hel
     end,
     With = (unblock(Id, C))#conference{members = replaced(Row, C#conference.members), arriving = Came},
     case maps:take(Id, C#conference.departing) of
-        %% He comes back before he left. His flows here were no longer looked at.
+        %% The member returns before the old termination was released. The member's flows were no longer tracked.
         {_, Departing} -> doubt(With#conference{departing = Departing});
         error -> agree(is_map_key(Id, Held) andalso layers(row(Id, C)) =/= layers(Row), With)
     end.
@@ -100,8 +107,8 @@ replaced(Row = #{id := Id}, Rows) ->
         false -> Rows ++ [Row]
     end.
 
-%% @doc Somebody who is wanted in another room, or, with an id alone, in none: his call has ended. In the first case the
-%% rules that name him stay, because he may come back.
+%% @doc Removes a member who has moved to another room, or whose call has ended. Rules that name a member who has moved
+%% stay, because the member may come back.
 -spec leave(row() | {ended, id()}, conference()) -> conference().
 leave({ended, Id}, C = #conference{rules = Rules}) ->
     expel(Id, C#conference{rules = lobby_rules:forget(Id, Rules)});
@@ -112,18 +119,18 @@ leave(Row = #{id := Id}, C = #conference{held = Held, departing = Departing}) ->
         false -> expel(Id, Left)
     end.
 
-%% Once he is no longer a member, it doesn't matter what is open between him and others.
+%% Removes a member's row and flows. A former member's flows no longer matter.
 without(Id, C = #conference{members = Members, open = Open, agreed = Agreed}) ->
     Without = (unblock(Id, C))#conference{members = [Row || Row = #{id := Other} <- Members, Other =/= Id],
                                           open = flows_without(Id, Open),
                                           refused = maps:remove(Id, C#conference.refused)},
-    %% Without him, there may be nothing left to change.
+    %% Without this member, the open flows may be the desired ones.
     agree(not Agreed, Without).
 
 flows_without(Id, Flows) ->
     sets:filter(fun({A, B}) -> A =/= Id andalso B =/= Id end, Flows).
 
-%% @doc Has whatever the gateway has for somebody ended.
+%% @doc Removes a member, and schedules the subtraction of the member's terminations.
 -spec expel(id(), conference()) -> conference().
 expel(Id, C0) ->
     C = #conference{held = Held, arriving = Arriving, departing = Departing} = without(Id, C0),
@@ -136,7 +143,7 @@ places(Id, #conference{context = Context, held = Held, arriving = Arriving}) ->
     [{Context, T} || #{Id := #held{termination = T}} <- [Held]] ++
         [{From, T} || #{Id := {given, #{context := From, termination := T}}} <- [Arriving]].
 
-%% @doc The room that a member comes from has let him go: with a termination on the same gateway, or with nothing.
+%% @doc Notes that a member's old room has released the member, with a termination on the same gateway or without one.
 -spec cleared(id(), Moved :: pos_integer(), holding() | none, conference()) -> conference().
 cleared(Id, Moved, Given, C = #conference{arriving = Arriving}) ->
     case Arriving of
@@ -145,11 +152,13 @@ cleared(Id, Moved, Given, C = #conference{arriving = Arriving}) ->
         #{} -> C
     end.
 
+%% @doc Replaces the rules.
 -spec set_rules([lobby_rules:rule()], conference()) -> conference().
 set_rules(Rules, C) ->
     agree(true, C#conference{rules = Rules}).
 
-%% @doc Forgets what the gateway has: it was lost, or another one is to have the conference. Who was leaving has left.
+%% @doc Forgets the gateway's state, because the gateway was lost or the conference moves to another one. Members who
+%% were leaving have left.
 -spec forget(conference()) -> conference().
 forget(C = #conference{arriving = Arriving}) ->
     Still = maps:filtermap(fun(Id, Arrival) -> still_arriving(Arrival, row(Id, C)) end, Arriving),
@@ -160,8 +169,9 @@ still_arriving({given, _}, #{moved := Moved}) -> {true, {cleared, Moved}};
 still_arriving({given, _}, none) -> false;
 still_arriving(_, _) -> true.
 
-%% @doc Takes up what the gateway's process knows of this room, of which only rows are left. `Others' are the rows of
-%% those who aren't members here: they are silenced and let go, or ended if there is none.
+%% @doc Restores the state of a restarted room from the terminations that the gateway's process has noted for it.
+%% `Others' has the rows of people in other rooms: their terminations are silenced, and handed over to those rooms. A
+%% termination without a row is subtracted.
 -spec resume([holding()], Others :: #{id() => row()}, conference()) -> conference().
 resume(Holdings, Others, C) ->
     Context = lists:last([new | lists:sort([In || #{context := In, given := false} <- Holdings])]),
@@ -186,16 +196,16 @@ resumed(Holding = #{termination := T, context := In, member := Id, given := Give
 held(#{termination := T, local := Local}, Mode) ->
     #held{termination = T, local = Local, remote = unknown, mode = Mode}.
 
-%% Has everything audited before the next change.
+%% Schedules audits of everything before the next change.
 doubt(C) ->
     C#conference{doubts = [inventory, topology]}.
 
-%% @doc Has the gateway's state compared with what is known, if there is any.
+%% @doc Schedules audits that compare the gateway's state with the known state, if the conference has a context.
 -spec check(conference()) -> conference().
 check(C = #conference{context = new}) -> C;
 check(C) -> doubt(C).
 
-%% @doc Tries again to add those whom the gateway didn't take.
+%% @doc Allows another attempt to add the members for whom the gateway had no capacity.
 -spec unblock(conference()) -> conference().
 unblock(C) ->
     C#conference{blocked = []}.
@@ -206,36 +216,41 @@ unblock(Id, C = #conference{blocked = Blocked}) ->
 block(Id, C = #conference{blocked = Blocked}) ->
     C#conference{blocked = [Id | lists:delete(Id, Blocked)]}.
 
-%%% What is known.
+%%% The known state.
 
+%% @doc Returns the members' ids.
 -spec ids(conference()) -> [id()].
 ids(#conference{members = Members}) -> [Id || #{id := Id} <- Members].
 
+%% @doc Returns the members' rows.
 -spec persons(conference()) -> [row()].
 persons(#conference{members = Members}) -> Members.
 
+%% @doc Returns the rules about who hears whom.
 -spec rules(conference()) -> [lobby_rules:rule()].
 rules(#conference{rules = Rules}) -> Rules.
 
+%% @doc Returns the conference's context on the gateway, or `new' if it has none.
 -spec context(conference()) -> lobby_h248:context() | new.
 context(#conference{context = Context}) -> Context.
 
-%% @doc The rows of the members whom other rooms haven't let go yet.
+%% @doc Returns the rows of the members whom their old rooms haven't released yet.
 -spec asked(conference()) -> [row()].
 asked(C = #conference{arriving = Arriving}) ->
     [row(Id, C) || {Id, {asked, _}} <- maps:to_list(Arriving)].
 
-%% @doc Whether the gateway may still have something here for somebody.
+%% @doc Returns whether the gateway may still have a termination for this person in this conference.
 -spec has(id(), conference()) -> boolean().
 has(Id, #conference{held = Held, departing = Departing, leaving = Leaving}) ->
     is_map_key(Id, Held) orelse is_map_key(Id, Departing) orelse Leaving =/= [].
 
-%% @doc Whether there are no members, and the gateway has nothing.
+%% @doc Returns whether the conference has neither members nor terminations.
 -spec is_empty(conference()) -> boolean().
 is_empty(#conference{members = Members, held = Held, leaving = Leaving}) ->
     Members =:= [] andalso map_size(Held) =:= 0 andalso Leaving =:= [].
 
-%% @doc Members whom the gateway is to have, and hasn't.
+%% @doc Returns the ids of members who need a termination and have none. Members whom another room hasn't released don't
+%% count.
 -spec missing(conference()) -> [id()].
 missing(#conference{members = Members, held = Held, arriving = Arriving}) ->
     [Id || #{id := Id} <- Members, not is_map_key(Id, Held), not is_asked(Id, Arriving)].
@@ -243,7 +258,7 @@ missing(#conference{members = Members, held = Held, arriving = Arriving}) ->
 is_asked(Id, Arriving) ->
     case Arriving of #{Id := {asked, _}} -> true; #{} -> false end.
 
-%% @doc A member, and the termination that the gateway has for him.
+%% @doc Returns a member's row, and the member's termination or `none'.
 -spec find(id(), conference()) -> {row(), lobby_h248:termination() | none} | none.
 find(Id, C = #conference{held = Held}) ->
     case {row(Id, C), Held} of
@@ -258,7 +273,7 @@ row(Id, #conference{members = Members}) ->
         [] -> none
     end.
 
-%% @doc Where the gateway receives a member, and in which format.
+%% @doc Returns the address and format in which the gateway receives a member.
 -spec local(id(), conference()) -> {ok, lobby_h248:media()} | none.
 local(Id, #conference{held = Held}) ->
     case Held of
@@ -266,18 +281,18 @@ local(Id, #conference{held = Held}) ->
         #{} -> none
     end.
 
-%% @doc All that can be seen of it, to be compared.
+%% @doc Returns everything that clients can see, for comparison.
 -spec visible(conference()) -> term().
 visible(#conference{members = Members, rules = Rules, context = Context, held = Held, open = Open}) ->
     {Members, Rules, Context, Held, Open}.
 
-%% @doc What the gateway has for somebody here, for the room that he goes to.
+%% @doc Returns a departing member's termination, for the member's new room.
 -spec holding(id(), conference()) -> holding().
 holding(Id, #conference{context = Context, held = Held}) ->
     #{Id := #held{termination = T, local = Local}} = Held,
     #{termination => T, context => Context, member => Id, local => Local, given => true}.
 
-%% @doc The flows that are open on the gateway, as far as its answers say: the topology and the modes allow them.
+%% @doc Returns the flows that are open on the gateway according to its replies: both topology and modes allow them.
 -spec flows(conference()) -> lobby_rules:flows().
 flows(#conference{open = Open, held = Held}) ->
     sets:filter(fun({Talker, Listener}) -> case Held of
@@ -289,8 +304,8 @@ flows(#conference{open = Open, held = Held}) ->
 
 %%% The next request.
 
-%% @doc The next request, or that a termination is to be let go to the room where its member is wanted now, or `settled'
-%% if the gateway has what the room wants, as far as it takes it.
+%% @doc Returns the next step: a request; `release' if a termination can go to its member's new room; or `settled' if
+%% the gateway has the desired state, except for what it refuses.
 -spec next(conference()) ->
           {{request, lobby_h248:action(), step()} | {release, row(), lobby_h248:termination()} | settled, conference()}.
 next(C0) ->
@@ -299,8 +314,8 @@ next(C0) ->
              fun settle/1, fun release/1],
     {next(Parts, C), C}.
 
-%% A single member has no topology, and that of a large conference doesn't fit into a reply: what is to be closed there
-%% is closed again.
+%% A single member has no topology. That of a large conference doesn't fit into a reply, so all its flows count as open,
+%% and the forbidden flows are closed again.
 suspected(C = #conference{doubts = [inventory | Doubts], context = new}) ->
     suspected(C#conference{doubts = Doubts});
 suspected(C = #conference{doubts = [topology], held = Held}) when map_size(Held) < 2; map_size(Held) > ?MAX_AUDITED ->
@@ -322,7 +337,7 @@ audit(#conference{doubts = []}) ->
 audit(#conference{doubts = [inventory | _], held = Held}) ->
     Words = [statistics | [media || map_size(Held) =< ?MAX_AUDITED]],
     {request, #{commands => [{audit, all, Words}]}, inventory};
-%% With an audit of a termination, as for `connect'.
+%% The action also has an empty audit, as in `connect'.
 audit(#conference{doubts = [topology], held = Held}) ->
     {_, #held{termination = T}, _} = maps:next(maps:iterator(Held)),
     {request, #{audit_topology => true, commands => [{audit, T, []}]}, topology}.
@@ -333,7 +348,7 @@ subtract(#conference{leaving = Leaving = [{Context, _} | _]}) ->
     Some = lists:sublist([Place || Place = {From, _} <- Leaving, From =:= Context], ?MAX_COMMANDS),
     {request, #{context => Context, commands => [{subtract_optional, T} || {_, T} <- Some]}, {subtract, Some}}.
 
-%% Takes away what people may no longer say or hear. Who departs may do neither.
+%% Restricts the modes of members who may no longer talk or hear. Departing members may do neither.
 silence(C = #conference{held = Held, departing = Departing}) ->
     People = [{Id, mode(Row)} || Row = #{id := Id} <- held_members(C)]
         ++ [{Id, inactive} || Id <- maps:keys(Departing)],
@@ -346,7 +361,7 @@ silence(C = #conference{held = Held, departing = Departing}) ->
                  {modify, [{Id, Mode} || {_, Id, Mode} <- Some]}}
     end.
 
-%% The gateway answers an action that has only a Topology in a way that isn't Megaco's, so an empty audit goes with it.
+%% The gateway's reply to an action with only a Topology isn't valid Megaco, so the action also has an empty audit.
 connect(#conference{agreed = true}) ->
     none;
 connect(C = #conference{open = Open}) ->
@@ -361,7 +376,7 @@ release(#conference{departing = Departing, held = Held}) ->
     #{Id := #held{termination = T, mode = inactive}} = Held,
     {release, Row, T}.
 
-%% A member that enters a context is connected both ways with everyone there, so his Topology is in the same action.
+%% A termination that enters a context is connected both ways with all others, so the same action has its Topology.
 move(C = #conference{arriving = Arriving, blocked = Blocked, held = Held}) ->
     case [Holding || {Id, {given, Holding}} <- maps:to_list(Arriving), not lists:member(Id, Blocked)] of
         [] -> none;
@@ -388,8 +403,8 @@ add_one(Row = #{id := Id}, C) ->
     {request, #{topology => [{Names(A), Names(B), How} || {A, B, How} <- Triples],
                 commands => [{add_optional, settings(Row, First)}]}, {add, [{Row, First}], Flows}}.
 
-%% The gateway runs commands before triples. If it refuses a triple, for example because somebody else has ended the
-%% other termination, the newcomer is there all the same, connected both ways with everyone.
+%% The gateway runs commands before triples. If it refuses a triple, for example because the other termination was
+%% subtracted, the newcomer is in the context all the same, connected both ways with all others.
 first_mode([], Mode) -> Mode;
 first_mode(_, _) -> inactive.
 
@@ -401,13 +416,13 @@ add_some(Rows, C) ->
     {request, #{commands => [{add_optional, settings(Row, First(Row))} || Row <- Rows]},
      {add, [{Row, First(Row)} || Row <- Rows], Flows}}.
 
-%% The triples between a newcomer and the others, and the open flows with him.
+%% Returns the triples between a newcomer and the others, and the newcomer's open flows.
 entering(Row = #{id := Id}, C) ->
     Others = held_members(C),
     Flows = wanted([Row], Others, C),
     {lobby_topology:entry(Id, [Other || #{id := Other} <- Others], Flows), Flows}.
 
-%% Everything else that differs: modes, addresses and formats.
+%% Changes modes, addresses and formats that still differ.
 settle(C = #conference{held = Held}) ->
     Differing = [{T, Row} || Row = #{id := Id} <- held_members(C), #{Id := Has = #held{termination = T}} <- [Held],
                              differs(Row, Has, C)],
@@ -424,7 +439,8 @@ differs(Row = #{id := Id, media := Media}, #held{remote = Remote, mode = Mode}, 
 settings(#{media := Media = {_, Format}}, Mode) ->
     #{mode => Mode, local => Format, remote => Media}.
 
-%% Somebody on hold neither talks nor hears: a conference doesn't want his music.
+%% Returns the desired mode of a member. A member who put the call on hold neither talks nor hears, so that the
+%% conference doesn't hear music on hold.
 mode(#{waiting := true}) -> inactive;
 mode(Row = #{acknowledged := false}) -> common(mode(Row#{acknowledged := true}), recvOnly);
 mode(#{direction := sendrecv, muted := false}) -> sendRecv;
@@ -433,7 +449,8 @@ mode(#{direction := recvonly}) -> sendOnly;
 mode(#{direction := sendonly}) -> inactive;
 mode(#{direction := inactive}) -> inactive.
 
-%% The mode that allows what both allow. One that isn't known stays so if everything is allowed.
+%% Returns the mode that allows what both modes allow. An unknown mode stays unknown if the other mode allows
+%% everything.
 common(unknown, sendRecv) -> unknown;
 common(unknown, Mode) -> Mode;
 common(sendRecv, Mode) -> Mode;
@@ -447,7 +464,7 @@ held_members(#conference{members = Members, held = Held}) ->
 wanted(Rows, #conference{rules = Rules}) ->
     lobby_rules:flows(heard(Rows), Rules).
 
-%% Between some and others.
+%% Returns the desired flows between some members and others.
 wanted(Some, Others, #conference{rules = Rules}) ->
     {As, Bs} = {heard(Some), heard(Others)},
     sets:union(lobby_rules:flows(As, Bs, Rules), lobby_rules:flows(Bs, As, Rules)).
@@ -455,7 +472,7 @@ wanted(Some, Others, #conference{rules = Rules}) ->
 heard(Rows) ->
     [{Id, Role} || #{id := Id, role := Role, isolated := false, waiting := false} <- Rows].
 
-%% Finds out whether the open flows are the wanted ones, if that may have changed.
+%% Checks again whether the open flows are the desired ones, if that may have changed.
 agree(false, C) -> C;
 agree(true, C = #conference{open = Open}) -> C#conference{agreed = Open =:= wanted(held_members(C), C)}.
 
@@ -465,14 +482,14 @@ by_termination(Triples, C) ->
 termination(all, _) -> all;
 termination(Id, #conference{held = Held}) -> (maps:get(Id, Held))#held.termination.
 
-%%% Its answer.
+%%% The gateway's reply.
 
-%% @doc A termination was let go: another room has it now.
+%% @doc Notes the result of a step. Here, a termination was released: another room has it now.
 -spec done(step() | {released, id()}, {ok, lobby_h248:reply(), owner()} | {error, pos_integer() | busy | lost} | done,
            conference()) -> {[event()], conference()}.
 done({released, Id}, done, C = #conference{held = Held, departing = Departing}) ->
     {[], ended(C#conference{held = maps:remove(Id, Held), departing = maps:remove(Id, Departing)})};
-%% What the gateway answered to the action of a step.
+%% Here, the gateway replied to the action of a step, or the request failed.
 done(_, {error, _}, C) ->
     failed(C);
 done(Step, {ok, Reply = #{results := Results}, Owners}, C) ->
@@ -492,11 +509,11 @@ done(Step, {ok, Reply = #{results := Results}, Owners}, C) ->
         {_, _} -> failed(C)
     end.
 
-%% Nothing that relies on this request goes on: what the gateway has is found out first.
+%% No later request relies on the failed one: audits of the gateway's state come first.
 failed(C) ->
     {[failed], doubt(C)}.
 
-%% The gateway ends a context with its last member.
+%% The gateway deletes a context with its last termination.
 ended(C = #conference{context = Context, held = Held, leaving = Leaving}) when map_size(Held) =:= 0 ->
     case lists:keymember(Context, 1, Leaving) of
         true -> C;
@@ -524,7 +541,8 @@ set_mode({Id, Mode}, C = #conference{held = Held}) ->
         #{} -> C
     end.
 
-%% A refused newcomer's triples are refused, too, because they name what his Add would have created.
+%% If the gateway refuses an Add, it also refuses the triples, because they name the termination that the Add would have
+%% created.
 refused(New, Flows, Reply = #{results := [{add, _, {error, _}}]}, C) -> added(New, Flows, Reply, C);
 refused(_, _, _, C) -> failed(C).
 
@@ -537,19 +555,19 @@ added(New, Flows, #{context := Context, results := Results}, C) ->
         _ -> failed(C)
     end.
 
-%% Opens the flows with newcomers. Between the others, nothing has changed.
+%% Notes the open flows of newcomers. The flows between the others are unchanged.
 entered(New, Flows, C = #conference{open = Open, agreed = Agreed}) ->
     Here = held_members(C),
     Wanted = wanted([Row || Row = #{id := Id} <- Here, lists:member(Id, New)], Here, C),
     Opened = case Flows of Wanted -> Wanted; _ -> flows_between(Here, Flows) end,
     C#conference{open = sets:union(Open, Opened), agreed = Agreed andalso Opened =:= Wanted}.
 
-%% One of them may have left while the request was under way.
+%% Drops flows of members who left while the request was under way.
 flows_between(Rows, Flows) ->
     Ids = maps:from_keys([Id || #{id := Id} <- Rows], in),
     sets:filter(fun({A, B}) -> is_map_key(A, Ids) andalso is_map_key(B, Ids) end, Flows).
 
-%% Ends the termination of somebody who left while the request was under way.
+%% Notes the result of an Add. If the member left while the request was under way, the termination is subtracted.
 added({{#{id := Id, media := Media}, Mode}, {add, T, #{local := Local}}}, C = #conference{held = Held}) ->
     Has = #held{termination = T, local = Local, remote = Media, mode = Mode},
     Added = C#conference{held = Held#{Id => Has}, arriving = maps:remove(Id, C#conference.arriving)},
@@ -565,9 +583,9 @@ moved({Id, Mode}, Flows, #{context := Context, results := [{move, _, Properties}
         {#{}, #{Id := {given, Holding}}} ->
             {[], entered([Id], Flows, C#conference{context = Context, arriving = maps:remove(Id, Arriving),
                                                    held = Held#{Id => held(Holding, Mode)}})};
-        %% 434: the context is full, 412: there is no context left. He waits where he is.
+        %% 434: the context is full. 412: the gateway has no free context. The member waits in the old context.
         {{error, Code}, _} when Code =:= 434; Code =:= 412 -> {[{full, Id}], block(Id, C)};
-        %% If he can't be moved, he is removed and added.
+        %% A member who can't be moved is subtracted and added again.
         {_, #{Id := {given, #{context := From, termination := T}}}} ->
             #{moved := Moved} = row(Id, C),
             {[], ending([{From, T}], C#conference{arriving = Arriving#{Id := {cleared, Moved}}})};
@@ -585,7 +603,7 @@ changed(Rows, Results, C) ->
         _ -> failed(C)
     end.
 
-%% Media that the gateway refuses aren't tried again.
+%% Notes the result of a Modify. Media that the gateway refuses aren't tried again.
 changed({Row = #{id := Id, media := Media}, {modify, _, Properties}}, C) ->
     #conference{held = Held, refused = Refused} = C,
     case {Held, Properties} of
@@ -600,7 +618,7 @@ changed({Row = #{id := Id, media := Media}, {modify, _, Properties}}, C) ->
 
 %%% Audits.
 
-%% Terminations that nobody has are ended. Those that other rooms have are let be.
+%% Notes the result of an inventory. Orphaned terminations are subtracted. Terminations of other rooms are left alone.
 found(Results, Owners, C = #conference{context = Context, held = Held, leaving = Leaving, doubts = Doubts}) ->
     There = maps:from_list([{T, Properties} || {audit, T, Properties = #{}} <- Results, is_integer(T)]),
     case {Results, lists:all(fun({_, _, Properties}) -> is_map(Properties) end, Results)} of
@@ -624,12 +642,12 @@ audited(Has, Properties = #{mode := Mode}) -> Has#held{mode = Mode, remote = map
 audited(Has = #held{remote = unknown}, _) -> Has#held{mode = unknown};
 audited(Has, _) -> Has.
 
-%% The context is no longer there.
+%% The context no longer exists.
 gone(C = #conference{held = Held, context = Context, leaving = Leaving}) ->
     Others = [Place || Place = {In, _} <- Leaving, In =/= Context],
     lost_from(Held, C#conference{context = new, held = #{}, leaving = Others, open = ?NO_FLOWS, doubts = []}).
 
-%% Forgets those whose terminations have gone.
+%% Forgets the flows and departures of members whose terminations no longer exist.
 lost_from(Before, C = #conference{held = Held, open = Open, departing = Departing}) ->
     Lost = maps:keys(maps:without(maps:keys(Held), Before)),
     agree(true, C#conference{open = lists:foldl(fun flows_without/2, Open, Lost),

@@ -1,13 +1,13 @@
-%%% @doc The application's environment, checked before anything starts.
+%%% @doc Checks the application's environment before anything starts.
 -module(lobby_config).
 
 -export([check/1, load/1]).
 -export_type([config/0]).
 
-%% All keys of ?TOP, which has their kinds.
+%% The configuration has all keys of ?TOP, which lists the kinds of their values.
 -type config() :: #{gateways := [lobby_gateway:config()], pair := lobby_pair:config() | none, _ => _}.
 
-%% The kinds of values, with the default, by name.
+%% The kind and the default of each value, by key.
 -define(TOP, #{gateways => {{list, "a gateway", ?GATEWAY}, required},
                sip => {address, {{127, 0, 0, 1}, 5060}}, t1 => {{10, 5000}, 500}, min_se => {{1, 3600}, 90},
                callers => {networks, []}, proxies => {networks, []}, media => {networks, []},
@@ -32,7 +32,7 @@
 -define(PAIR, #{self => {node, required}, peer => {node, required}, cookie => {secret, required},
                 lease => {lease, address}, ready => {file, none}, gap => {{100, 250}, 250}}).
 
-%% @doc The configuration with defaults, or what is wrong with it.
+%% @doc Returns the configuration with defaults, or a text that describes an error in it.
 -spec check([{atom(), term()}]) -> {ok, config()} | {error, string()}.
 check(Env) ->
     caught(fun() -> checked(Env) end).
@@ -49,8 +49,8 @@ checked(Env) ->
     _ = [wrong("two gateways have the name ~0p", [Name]) || Name <- Names -- lists:usort(Names)],
     shares(Config).
 
-%% @doc Sets the applications' environment to what a file says, if the application's is right: a list as in
-%% `sys.config', such as `[{lobby, [{gateways, [..]}]}].'
+%% @doc Loads the environment of all applications from a file, if this application's part is valid. The file contains a
+%% list as in `sys.config', such as `[{lobby, [{gateways, [..]}]}].'
 -spec load(file:filename()) -> {ok, config()} | {error, string()}.
 load(File) ->
     caught(fun() ->
@@ -75,7 +75,7 @@ environment(File, Applications) ->
 
 is_application({Name, Env}) -> is_atom(Name) andalso lists:all(fun({Key, _}) -> is_atom(Key) end, Env).
 
-%% By default, one address gets a quarter of what the gateways have.
+%% Fills in the limits for one address: by default, a quarter of the gateways' capacity.
 shares(Config = #{gateways := Gateways, max_calls_from := Calls, max_rooms_from := Rooms}) ->
     Share = fun(quarter, Key) -> max(1, lists:sum([maps:get(Key, Gateway) || Gateway <- Gateways]) div 4);
                (Number, _) -> Number
@@ -104,11 +104,11 @@ wrong(Format, Values) ->
 
 is(Kind, Value) -> holds(element(2, kind(Kind)), Value).
 
-%% What isn't as it should be may have no matching clause.
+%% Returns whether a test holds. A malformed value may match no clause of the test.
 holds(Is, Value) ->
     try Is(Value) catch error:_ -> false end.
 
-%% What a value must be if it isn't the default, in words and as a test.
+%% Returns a description and a test for the values of a kind, except for the default.
 kind({list, _, _}) -> {"a list of at least one gateway", fun(_) -> false end};
 kind({part, _, _}) -> {"a map or none", fun is_map/1};
 kind(tokens) ->

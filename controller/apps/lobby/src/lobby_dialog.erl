@@ -1,4 +1,4 @@
-%%% @doc A SIP dialog as a value (RFC 3261, section 12), of a call that came in.
+%%% @doc The SIP dialog of an incoming call, as a value (RFC 3261, section 12).
 -module(lobby_dialog).
 
 -include_lib("p1_sip/include/esip.hrl").
@@ -7,7 +7,7 @@
          key/1, caller/1]).
 -export_type([dialog/0, own/0]).
 
-%% The transport and the own address.
+%% The transport, and the controller's own address.
 -type own() :: {Transport :: binary(), lobby_sip_message:peer()}.
 -type party() :: {binary(), #uri{}, [{binary(), binary()}]}.
 -record(dialog, {call_id :: binary(), local :: party(), remote :: party(), remote_tag :: binary(),
@@ -15,7 +15,8 @@
                  sequence :: non_neg_integer()}).
 -opaque dialog() :: #dialog{}.
 
-%% @doc The dialog that our 200 to an INVITE makes, with our tag. Without a contact, an INVITE was refused.
+%% @doc Returns the dialog that our 200 to an INVITE creates, with our tag. An INVITE without a Contact has already been
+%% rejected.
 -spec new(lobby_sip_message:message(), Tag :: binary()) -> dialog().
 new(Invite, Tag) ->
     [{_, Target = #uri{}, _} | _] = lobby_sip_message:headers(contact, Invite),
@@ -26,7 +27,8 @@ new(Invite, Tag) ->
             target = Target, routes = lobby_sip_message:headers('record-route', Invite),
             sequence = lobby_sip_message:sequence(Invite)}.
 
-%% @doc A request in the dialog: new, one that came before, or older than the last one (section 12.2.2).
+%% @doc Compares the sequence number of a request in the dialog with the last one: higher, equal or lower (section
+%% 12.2.2).
 -spec received(lobby_sip_message:message(), dialog()) -> {new, dialog()} | repeated | old.
 received(Request, D = #dialog{sequence = Last}) ->
     case lobby_sip_message:sequence(Request) of
@@ -35,14 +37,15 @@ received(Request, D = #dialog{sequence = Last}) ->
         _ -> old
     end.
 
-%% @doc Whether a request is of the transaction of this INVITE, or of the INVITE with this response (section 17.2.3): a
-%% copy of it, a CANCEL, or the ACK to a refusal. An INVITE with the same number and no tag in To that isn't came by
-%% another way: 482 (section 8.2.2.2). A CANCEL that isn't cancels nothing: 481 (section 9.2).
+%% @doc Returns whether a request belongs to the transaction of this INVITE, or of the INVITE with this response
+%% (section 17.2.3): a retransmission, a CANCEL, or the ACK to a failure. If not, an INVITE with the same number and no
+%% To tag arrived over another path, and gets a 482 (section 8.2.2.2). A CANCEL without a transaction gets a 481
+%% (section 9.2).
 -spec is_same_transaction(lobby_sip_message:message(), lobby_sip_message:message()) -> boolean().
 is_same_transaction(Request, Invite) ->
     transaction(Request) =:= transaction(Invite).
 
-%% Branches without this beginning, which RFC 2543 didn't know, aren't unique.
+%% Branches without this prefix come from clients of RFC 2543, and aren't unique.
 transaction(Message) ->
     #via{host = Host, port = Port, params = Params} = hd(lobby_sip_message:header(via, Message)),
     case proplists:get_value(<<"branch">>, Params) of
@@ -50,14 +53,14 @@ transaction(Message) ->
         Branch -> {Branch, Host, Port, key(Message), lobby_sip_message:sequence(Message)}
     end.
 
-%% @doc What a refusal of our re-INVITE means for the call (sections 12.2.1.2 and 14.1): it ended; we try again soon,
-%% since both sides have invited each other; or it goes on as before.
+%% @doc Returns what a failure response to our re-INVITE means for the call (sections 12.2.1.2 and 14.1): the call has
+%% ended; we retry soon, because both sides sent an INVITE; or the call continues unchanged.
 -spec after_refusal(Status :: 300..699) -> ended | again | goes_on.
 after_refusal(Status) when Status =:= 408; Status =:= 481 -> ended;
 after_refusal(491) -> again;
 after_refusal(_) -> goes_on.
 
-%% @doc A re-INVITE, an UPDATE or the answer to ours may have another Contact (section 12.2).
+%% @doc Updates the caller's Contact from a re-INVITE, an UPDATE or a response to ours (section 12.2).
 -spec refreshed(lobby_sip_message:message(), dialog()) -> dialog().
 refreshed(Message, D) ->
     case lobby_sip_message:headers(contact, Message) of
@@ -65,13 +68,13 @@ refreshed(Message, D) ->
         _ -> D
     end.
 
-%% @doc An own request in the dialog, from the own address.
+%% @doc Returns our next request in the dialog, sent from this address.
 -spec request(Method :: binary(), {Headers :: [{term(), term()}], Body :: binary()}, own(), dialog()) ->
           {lobby_sip_message:message(), dialog()}.
 request(Method, Content, Own, D = #dialog{own_sequence = Sequence}) ->
     {message(Method, Sequence + 1, Content, Own, D), D#dialog{own_sequence = Sequence + 1}}.
 
-%% @doc The ACK to this 2xx response to an INVITE of ours (section 13.2.2.4).
+%% @doc Returns the ACK to a 2xx response to our INVITE (section 13.2.2.4).
 -spec ack(lobby_sip_message:message(), own(), dialog()) -> lobby_sip_message:message().
 ack(Response, Own, D) ->
     message(<<"ACK">>, lobby_sip_message:sequence(Response), {[], <<>>}, Own, D).
@@ -85,14 +88,14 @@ message(Method, Sequence, {Headers, Body}, Own = {Transport, {Address, Port}}, D
          hdrs = [{via, [Via]}, {'max-forwards', 70}, {from, Local}, {to, Remote}, {'call-id', CallId}, {cseq, Sequence},
                  contact(Own)] ++ [{route, Routes} || Routes =/= []] ++ Headers}.
 
-%% @doc Where the caller reaches us.
+%% @doc Returns our Contact header, at which the caller reaches us.
 -spec contact(own()) -> {contact, [party()]}.
 contact({Transport, {Address, Port}}) ->
     Params = [{<<"transport">>, string:lowercase(Transport)} || Transport =/= <<"UDP">>],
     Uri = #uri{user = <<"lobby">>, host = list_to_binary(inet:ntoa(Address)), port = Port, params = Params},
     {contact, [{<<>>, Uri, []}]}.
 
-%% Section 12.2.1.1: a first route without lr wants to be the request's URI.
+%% Returns the request's URI and routes. A first route without lr becomes the URI (section 12.2.1.1).
 route(#dialog{target = Target, routes = []}) ->
     {Target, []};
 route(#dialog{target = Target, routes = Routes = [{_, First, _} | Rest]}) ->
@@ -101,8 +104,8 @@ route(#dialog{target = Target, routes = Routes = [{_, First, _} | Rest]}) ->
         false -> {First, Rest ++ [{<<>>, Target, []}]}
     end.
 
-%% @doc Where an own request goes: to the first route or the caller's Contact if that is an IPv4 address, and otherwise
-%% to the address that his last request came from. Over TCP, it goes back over his connection.
+%% @doc Returns the target of our requests: the first route or, without routes, the caller's Contact. If its host isn't
+%% an IPv4 address, the target is the source of the caller's last request. Over TCP, it is the caller's connection.
 -spec target(dialog(), Source :: lobby_sip_message:target()) -> lobby_sip_message:target().
 target(_, Connection = {tcp, _, _}) ->
     Connection;
@@ -114,12 +117,12 @@ target(#dialog{routes = Routes, target = Target}, Source) ->
         {error, _} -> Source
     end.
 
-%% @doc What requests of the caller in this dialog have in common: Call-ID and his tag.
+%% @doc Returns the key that the caller's requests in a dialog share: the Call-ID and the caller's tag.
 -spec key(dialog() | lobby_sip_message:message()) -> {CallId :: binary(), Tag :: binary()}.
 key(#dialog{call_id = CallId, remote_tag = Tag}) -> {CallId, Tag};
 key(Request) -> {lobby_sip_message:header('call-id', Request), lobby_sip_message:tag(from, Request)}.
 
-%% @doc How the caller names himself.
+%% @doc Returns the caller's display name or, without one, the caller's URI.
 -spec caller(dialog()) -> binary().
 caller(#dialog{remote = {<<>>, Uri, _}}) -> iolist_to_binary(esip_codec:encode_uri(Uri));
 caller(#dialog{remote = {Name, _, _}}) -> binary:replace(Name, <<"\"">>, <<>>, [global]).

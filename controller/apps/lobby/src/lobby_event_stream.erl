@@ -1,17 +1,17 @@
-%%% @doc Server-sent events over a connection of httpd, whose process waits here until the browser or the server ends
-%%% it.
+%%% @doc Server-sent events over a connection of httpd. The connection's process stays here until the browser or the
+%%% server closes the connection.
 -module(lobby_event_stream).
 
 -export([run/2]).
 
-%% Milliseconds without an event until a comment is sent, so that a browser that is gone is noticed.
+%% Milliseconds without an event after which a comment is sent, to notice that a browser has gone.
 -define(QUIET, 10000).
 
-%% @doc Sends events to somebody who has subscribed. At the end, the process is left with the message by which httpd
-%% ends the connection.
+%% @doc Sends events to a subscribed client. At the end, sends the calling process the message that makes httpd close
+%% the connection.
 -spec run(lobby_socket:socket(), lobby_events:watcher()) -> ok.
 run(Socket, Watcher) ->
-    %% A browser that doesn't read is disconnected: what waits for it stays small.
+    %% A browser that doesn't read is disconnected, so that its queue stays small.
     _ = lobby_socket:setopts(Socket, [{active, once}, {sndbuf, 65536}, {send_timeout, 2000},
                                       {send_timeout_close, true}]),
     End = loop(Socket, lobby_socket:send(Socket, ["HTTP/1.1 200 OK\r\nContent-Type: text/event-stream\r\n"
@@ -20,7 +20,7 @@ run(Socket, Watcher) ->
     self() ! End,
     ok.
 
-%% As it comes from the socket.
+%% Returns the message that a closed socket sends.
 closed(Socket) when is_port(Socket) -> {tcp_closed, Socket};
 closed(Socket) -> {ssl_closed, Socket}.
 
@@ -28,14 +28,14 @@ loop(Socket, ok) ->
     receive
         {lobby_event, Event} -> loop(Socket, lobby_socket:send(Socket, [text(E) || E <- waiting([Event])]));
         Exit = {'EXIT', _, _} -> Exit;
-        %% Somebody else watches with the token, or the browser has ended the connection. It has nothing more to say.
+        %% A newer client uses the token, or the browser has closed the connection or sent data, which it shouldn't.
         Message when Message =:= lobby_events_end; element(2, Message) =:= Socket -> closed(Socket)
     after ?QUIET -> loop(Socket, lobby_socket:send(Socket, ":\n\n"))
     end;
 loop(Socket, {error, _}) ->
     closed(Socket).
 
-%% What happened meanwhile, each once, in the order in which it happened last.
+%% Collects the events that are waiting, each once, in the order of their last occurrence.
 waiting(Events) ->
     receive
         {lobby_event, Event} -> waiting([Event | Events])

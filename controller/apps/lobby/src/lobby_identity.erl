@@ -1,4 +1,4 @@
-%%% @doc What is known of a caller before anybody hears him: who he is, his role, and whether he is to stay isolated.
+%%% @doc Determines the identity, role and isolation of a new caller, before any member hears the caller.
 -module(lobby_identity).
 
 -include_lib("p1_sip/include/esip.hrl").
@@ -6,11 +6,11 @@
 -export([known/2, keep_isolated/2]).
 -export_type([rule/0]).
 
-%% Which callers have which role. A header counts only if it comes from a proxy in these networks.
+%% A rule that gives callers a role. A header counts only if it comes from a proxy in these networks.
 -type rule() :: {{user, binary()}, lobby_rules:role()} | {{network, lobby_auth:network()}, lobby_rules:role()}
               | {header, Name :: binary(), [lobby_auth:network()]}.
 
-%% @doc His identity, his role if one is configured for him, and his isolation if it is kept.
+%% @doc Returns a caller's identity, the role if one is configured, and whether the caller stays isolated.
 -spec known(lobby_sip_message:message(), lobby_sip_message:target()) ->
           #{identity := binary(), isolated := boolean(), name => binary(), role => lobby_rules:role()}.
 known(Invite, Source) ->
@@ -20,7 +20,7 @@ known(Invite, Source) ->
     Roles = [Role || Rule <- application:get_env(lobby, roles, []), Role <- role(Rule, Invite, Address)],
     maps:merge(Known, maps:from_list([{role, Role} || [Role | _] <- [Roles]])).
 
-%% The name that he has proved or that a trusted proxy asserts, and otherwise the address that he gives.
+%% Returns the name that the caller proved or that a trusted proxy asserts, or else the address in From.
 named(none, Invite) ->
     {_, #uri{user = User, host = Host}, _} = lobby_sip_message:header(from, Invite),
     #{identity => <<"sip:", User/binary, "@", Host/binary>>};
@@ -33,7 +33,7 @@ role({header, Name, Proxies}, #sip{hdrs = Headers}, Address) ->
     [Role || lobby_auth:is_in(Address, Proxies), {role, {Of, Role}} <- Headers, Of =:= Name,
              byte_size(Role) >= 1, byte_size(Role) =< 32].
 
-%% @doc Whether somebody is isolated when he calls again.
+%% @doc Sets whether a caller with this identity is isolated in later calls.
 -spec keep_isolated(Identity :: binary(), boolean()) -> ok.
 keep_isolated(Identity, true) -> lobby_store:put(lobby_isolated, Identity, true);
 keep_isolated(Identity, false) -> lobby_store:delete(lobby_isolated, Identity).

@@ -1,4 +1,4 @@
-%%% @doc What the HTTP interface reads and writes, as JSON terms (maps, as jiffy has them).
+%%% @doc The JSON of the HTTP interface, as jiffy's terms (with maps).
 -module(lobby_json).
 
 -export([decode/1, encode/1, rules/1, text/2, number/3, flag/2, room/3, named/2]).
@@ -9,7 +9,8 @@
 
 -type json() :: #{binary() | atom() => term()}.
 
-%% @doc An object, and nothing else. This and what follows throws what is wrong with a body.
+%% @doc Decodes a JSON object. Like all functions here that read a body, it throws `{invalid, Text}' if the body is
+%% malformed.
 -spec decode(binary()) -> #{binary() => term()}.
 decode(Text) ->
     try jiffy:decode(Text) of
@@ -19,10 +20,10 @@ decode(Text) ->
             jiffy:decode(Text, [return_maps]);
         _ -> invalid(<<"the body is not a JSON object">>)
     catch
-        %% jiffy's error has the position and a name.
+        %% jiffy's error is a position and a name.
         error:{At, Reason} when is_integer(At), is_atom(Reason) ->
             invalid(iolist_to_binary(io_lib:format("the body is not JSON: ~s at byte ~b", [Reason, At])));
-        %% A number that is too large has another one.
+        %% A number that is too large raises another error.
         error:_ -> invalid(<<"the body is not JSON">>)
     end.
 
@@ -30,12 +31,12 @@ decode(Text) ->
 invalid(Text) ->
     throw({invalid, Text}).
 
-%% @doc Names that callers sent needn't be UTF-8.
+%% @doc Encodes JSON. Invalid UTF-8, as in callers' names, is replaced.
 -spec encode(json()) -> iodata().
 encode(Json) ->
     jiffy:encode(Json, [force_utf8]).
 
-%% @doc The rules of {"rules": [..]} or {"preset": ".."}.
+%% @doc Returns the rules in {"rules": [..]} or {"preset": ".."}.
 -spec rules(#{binary() => term()}) -> [lobby_rules:rule()].
 rules(#{<<"preset">> := Preset}) ->
     case [Known || Known <- [plain, lecture, coaching, monitored], atom_to_binary(Known) =:= Preset] of
@@ -57,7 +58,7 @@ party(Party = #{<<"role">> := Role}) when map_size(Party) =:= 1, is_binary(Role)
 party(Party = #{<<"member">> := Id}) when map_size(Party) =:= 1, is_binary(Id), byte_size(Id) =< 32 -> {member, Id};
 party(_) -> invalid(?NO_RULE).
 
-%% @doc A text of 1 to 32 bytes under this key.
+%% @doc Returns the text of 1 to 32 bytes under this key.
 -spec text(binary(), #{binary() => term()}) -> binary().
 text(Key, Object) ->
     case Object of
@@ -65,7 +66,7 @@ text(Key, Object) ->
         #{} -> invalid(<<"\"", Key/binary, "\" must be a string of 1 to 32 bytes">>)
     end.
 
-%% @doc A whole number in a range under this key.
+%% @doc Returns the whole number in this range under this key.
 -spec number(binary(), {integer(), integer()}, #{binary() => term()}) -> integer().
 number(Key, {Min, Max}, Object) ->
     case Object of
@@ -73,7 +74,7 @@ number(Key, {Min, Max}, Object) ->
         #{} -> invalid(iolist_to_binary(io_lib:format("\"~s\" must be a whole number from ~b to ~b", [Key, Min, Max])))
     end.
 
-%% @doc Whether something is wanted; without the key it isn't.
+%% @doc Returns the boolean under this key, or `false' if the key is missing.
 -spec flag(binary(), #{binary() => term()}) -> boolean().
 flag(Key, Object) ->
     case maps:get(Key, Object, false) of
@@ -81,7 +82,7 @@ flag(Key, Object) ->
         _ -> invalid(<<"\"", Key/binary, "\" must be true or false">>)
     end.
 
-%% @doc A room, with what the gateway says of its topology and with callers' names by id.
+%% @doc Returns a room's description as JSON. `Callers' has the callers' names by id.
 -spec room(lobby_room:name(), lobby_room_core:description(), #{lobby_rules:id() => binary()}) -> json().
 room(Name, Description, Callers) ->
     #{members := Members, rules := Rules, flows := Flows, gateway := Gateway, context := Context,
@@ -94,14 +95,13 @@ room(Name, Description, Callers) ->
       flows => [#{talker => Talker, listener => Listener} || {Talker, Listener} <- Flows]}.
 
 member(Row = #{id := Id}, Termination, Callers) ->
-    Shown = (maps:with([id, role, muted, isolated, waiting, direction], Row))#{link => is_by_link(Row)},
+    IsByLink = case Row of #{call := {web, _}} -> true; _ -> false end,
+    Shown = (maps:with([id, role, muted, isolated, waiting, direction], Row))#{link => IsByLink},
     With = case Termination of none -> Shown; _ -> Shown#{termination => Termination} end,
     maps:merge(With, named(Row, maps:get(Id, Callers, <<>>))).
 
-is_by_link(#{call := {web, _}}) -> true;
-is_by_link(_) -> false.
-
-%% @doc Anybody can call himself anything. A name that was proved or that a trusted proxy asserts comes first.
+%% @doc Returns a caller's names. A proved or asserted name comes first, because callers can choose any name for
+%% themselves.
 -spec named(lobby_person:row() | #{}, Says :: binary()) -> #{caller := binary(), says := binary(), proved := boolean()}.
 named(#{name := Name}, Says) -> #{caller => Name, says => Says, proved => true};
 named(_, Says) -> #{caller => Says, says => Says, proved => false}.

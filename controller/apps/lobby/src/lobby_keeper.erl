@@ -1,5 +1,5 @@
-%%% @doc Starts rooms and calls again: those that the store has, when this process starts, and those whose processes
-%%% fail. One that fails again and again is set aside, so that the others go on.
+%%% @doc Starts the stored rooms or calls when this process starts, and restarts those whose processes fail. A room or
+%%% call that fails repeatedly is set aside, so that the others continue.
 -module(lobby_keeper).
 -behaviour(gen_server).
 
@@ -7,8 +7,9 @@
 -export([init/1, handle_continue/2, handle_call/3, handle_cast/2, handle_info/2]).
 -export_type([kind/0]).
 
-%% So many failures within so many milliseconds are too many. After one, it starts again at once; after another one only
-%% after a while. If it fails because one of our supervisors is being started again, this process ends before.
+%% A room or call is set aside after this number of failures within this period in milliseconds. It restarts at once
+%% after the first failure, and after a pause after the second. If it fails because one of our supervisors restarts,
+%% this process ends first, and doesn't count the failure.
 -define(FAILURES, 3).
 -define(PERIOD, 60000).
 -define(PAUSE, 500).
@@ -23,12 +24,12 @@ start_link(Kind) ->
 name(room) -> lobby_room_keeper;
 name(call) -> lobby_call_keeper.
 
-%% @doc The process that runs, if somebody had the supervisor start it before it saw that it had to do so itself.
+%% @doc Returns the running process if the supervisor has already started it for another process.
 -spec running(Started | {error, {already_started, pid()}}) -> Started | {ok, pid()}.
 running({error, {already_started, Pid}}) -> {ok, Pid};
 running(Started) -> Started.
 
-%% @doc Has a process that was just started watched.
+%% @doc Registers a process that was just started, so that the keeper monitors it.
 -spec started(kind(), Name :: term(), supervisor:startchild_ret()) -> {ok, pid()}.
 started(Kind, Name, {ok, Pid}) ->
     ok = gen_server:cast(name(Kind), {started, Name, Pid}),
@@ -38,7 +39,7 @@ started(Kind, Name, {ok, Pid}) ->
 init(Kind) ->
     {ok, #state{kind = Kind}, {continue, restore}}.
 
-%% In the background: those that are needed before are started then.
+%% Starts the stored rooms or calls in the background. Those that are needed earlier are started on demand.
 -spec handle_continue(restore, #state{}) -> {noreply, #state{}}.
 handle_continue(restore, State = #state{kind = Kind}) ->
     _ = spawn_link(fun() -> lists:foreach(fun(Name) -> _ = start(Kind, Name) end, kept(Kind)) end),
@@ -47,11 +48,11 @@ handle_continue(restore, State = #state{kind = Kind}) ->
 kept(room) -> lists:usort(lobby_store:keys(lobby_rooms) ++ lobby_store:groups(lobby_members));
 kept(call) -> lobby_store:keys(lobby_calls).
 
-is_kept(room, Name) -> lobby_rooms:exists(Name);
+is_kept(room, Name) -> lobby_room:exists(Name);
 is_kept(call, Key) -> lobby_store:has(lobby_calls, Key).
 
 start(room, Name) ->
-    lobby_registry:whereis_name({room, Name}) =/= undefined orelse lobby_rooms:start(Name);
+    lobby_registry:whereis_name({room, Name}) =/= undefined orelse lobby_room:start(Name);
 start(call, Key = {web, _}) ->
     lobby_web:find(Key);
 start(call, Key) ->
@@ -83,13 +84,13 @@ handle_info(_, State) ->
 
 ended(Name, Reason, State = #state{failures = Failures}) when Reason =:= normal; Reason =:= shutdown ->
     State#state{failures = maps:remove(Name, Failures)};
-%% It ended before it was watched. What is still kept has failed.
+%% The process ended before it was monitored. If the room or call is still stored, the process failed.
 ended(Name, noproc, State = #state{kind = Kind}) ->
     case is_kept(Kind, Name) of
         true -> ended(Name, failed, State);
         false -> State
     end;
-%% Somebody ended it, so it isn't its own fault.
+%% Another process killed it, so this isn't its own failure.
 ended(Name, killed, State) ->
     start_after(0, Name, State);
 ended(Name, _, State = #state{kind = Kind, failures = Failures}) ->
@@ -108,5 +109,5 @@ start_after(Time, Name, State) ->
     _ = erlang:send_after(Time, self(), {start, Name}),
     State.
 
-set_aside(room, Name) -> lobby_rooms:set_aside(Name);
+set_aside(room, Name) -> lobby_room:set_aside(Name);
 set_aside(call, Key) -> lobby_call:set_aside(Key).

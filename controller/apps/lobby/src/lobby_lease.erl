@@ -1,15 +1,16 @@
-%%% @doc Which node of a pair serves: the one whose host has the lease. That is the SIP port's address, which keepalived
-%%% (VRRP) gives to one host at a time, or a file, for another cluster manager. `lobby_lease_core' decides; this process
-%%% looks at the lease, hears the other node, and acts.
+%%% @doc Determines which node of a pair serves: the node whose host has the lease. The lease is the SIP port's address,
+%%% which keepalived (VRRP) gives to one host at a time, or a file, for another cluster manager. `lobby_lease_core'
+%%% makes the decisions; this process checks the lease, listens to the other node, and acts.
 %%%
-%%% A node that serves ends itself if it loses the lease, if its own timer shows a gap in which it may have lost it (so
-%%% nothing is sent after such a gap), or if the other node serves that began later. A standby ends itself if it can't
-%%% know any more what the other node changes. It is started again, and copies what the other node has. So no two nodes
-%%% change the same conferences, and none serves with less than what was answered.
+%%% A serving node ends itself if it loses the lease, or if the other node began to serve later. It also ends itself if
+%%% its own timer shows a gap in which it may have lost the lease, so that it sends nothing after such a gap. A standby
+%%% ends itself if it may miss changes of the other node. After its restart, it copies the other node's data. So no two
+%%% nodes change the same conferences, and no node serves without changes that were answered.
 %%%
-%%% Each node says to keepalived what it is good for, through a program that notices also if the node hangs or ends: one
-%%% that serves, and reaches a gateway, is to go on, and if two were apart and both do, the one that began later; one
-%%% that has reached none for a while is worse than a standby.
+%%% Each node reports its priority to keepalived, through a program that also notices if the node hangs or ends. A
+%%% serving node that reaches a gateway has a higher priority than a standby. If both nodes serve because they were cut
+%%% off from each other, the node that began later has the higher priority. A serving node that hasn't reached a gateway
+%%% for a while has a lower priority than a standby.
 -module(lobby_lease).
 -behaviour(gen_server).
 
@@ -19,17 +20,18 @@
 -export([init/1, handle_call/3, handle_cast/2, handle_info/2]).
 -export_type([lease/0]).
 
-%% The address that only one host has.
+%% The lease: an address that only one host has, or a file.
 -type lease() :: {address, inet:ip4_address()} | {file, file:filename()}.
-%% Milliseconds: between looks at the lease, and between looks at the gateways.
+%% Milliseconds between checks of the lease, and between checks of the gateways.
 -define(TICK, 20).
 -define(GATEWAYS, 100).
-%% Milliseconds after which keepalived has taken the lease from one of two nodes that were apart.
+%% Milliseconds after which keepalived has taken the lease from one of two nodes that were cut off from each other.
 -define(SETTLED, 1000).
-%% Milliseconds for mnesia to notice that the other node isn't connected, and for the other node's port to answer.
+%% The timeouts, in milliseconds, for mnesia to notice that the other node is disconnected, and for the other node's
+%% port to answer.
 -define(DISCONNECT, 100).
 -define(ANSWER, 200).
-%% In the array of times: when the lease was last looked at, and until when what is written isn't durable.
+%% Indexes in the array of times: the last check of the lease, and the time until which writes aren't durable.
 -define(SEEN, 1).
 -define(LIMIT, 2).
 -define(NEVER, -(1 bsl 62)).
@@ -38,12 +40,12 @@
                 times :: atomics:atomics_ref(), ready :: port() | none}).
 -type config() :: #{pair := lobby_pair:config(), sip := lobby_sip_message:peer()}.
 
-%% @doc With the supervisor that is to be started while this node serves.
+%% @doc Starts the process. The supervisor `Serving' is started when this node begins to serve.
 -spec start_link(config(), supervisor:child_spec()) -> gen_server:start_ret().
 start_link(Config, Serving) ->
     gen_server:start_link({local, ?MODULE}, ?MODULE, {Config, Serving}, []).
 
-%% @doc Ends the node if it may have lost the lease. Called before anything is sent.
+%% @doc Ends the node if it may have lost the lease. Call this before each message is sent.
 -spec hold() -> ok.
 hold() ->
     case persistent_term:get(?MODULE, none) of
@@ -54,8 +56,9 @@ hold() ->
 within(Passed, Gap) when Passed =< Gap -> ok;
 within(Passed, _) -> stop(io_lib:format("the lease wasn't checked for ~b ms", [Passed])).
 
-%% @doc Whether a node that takes over has whatever was written before this call. If not, the change that was written
-%% can't be answered yet: ask again after so many milliseconds. To be called after the write has returned.
+%% @doc Returns whether a node that takes over would have everything that was written before this call. If not, the
+%% change that was written can't be answered yet; call this again after the returned time. Call it only after the write
+%% has returned.
 -spec durable() -> ok | {wait, Milliseconds :: pos_integer()}.
 durable() ->
     case persistent_term:get({?MODULE, durable}, none) of
@@ -63,16 +66,17 @@ durable() ->
         {Times, Peer} -> durable(is_copied(Peer), atomics:get(Times, ?LIMIT) - now_ms())
     end.
 
-%% If the other node ends meanwhile, the wait does, too.
+%% The wait is short, so that it ends early if the other node ends.
 durable(false, Left) when Left > 0 -> {wait, min(Left, ?TICK)};
 durable(_, _) -> ok.
 
-%% What is written is on the other node before the write returns, unless that node was dropped meanwhile. Mnesia has
-%% forgotten a node that was dropped before such a write returns, and counts it again only after it has started again.
+%% A write is on the other node before it returns, unless that node was dropped in the meantime. In that case, mnesia
+%% removes the node from the running nodes before the write returns, and adds it again only after its restart.
 is_copied(Peer) ->
     lists:member(Peer, mnesia:system_info(running_db_nodes)).
 
-%% @doc Milliseconds after which nodes that were apart agree about who serves: 0 without another node.
+%% @doc Returns the milliseconds after which nodes that were cut off from each other agree on which node serves; 0
+%% without a pair.
 -spec settled_after() -> non_neg_integer().
 settled_after() ->
     case persistent_term:get(?MODULE, none) of none -> 0; _ -> ?SETTLED end.
@@ -80,7 +84,7 @@ settled_after() ->
 -spec init({config(), supervisor:child_spec()}) -> {ok, #state{}}.
 init({#{pair := #{gap := Gap, lease := Lease, ready := Ready, peer := Peer}, sip := {Address, _}}, Serving}) ->
     _ = process_flag(priority, high),
-    %% An earlier process may have looked at the lease too long ago.
+    %% An earlier process may have checked the lease too long ago.
     ok = hold(),
     {ok, _} = mnesia:subscribe(system),
     ok = net_kernel:monitor_nodes(true),
@@ -109,7 +113,8 @@ handle_cast(_, State) ->
 handle_info(tick, State = #state{times = Times}) ->
     ok = hold(),
     Before = now_ms(),
-    %% What is seen was so before the time of the event. So who hangs in between doesn't take it for newer than it is.
+    %% The event's time is later than its observations. The lease counts as checked at the earlier time, so that a node
+    %% that hangs in between doesn't take the check for newer than it is.
     Seen = seen(State),
     Next = event({tick, Seen, now_ms()}, State),
     ok = atomics:put(Times, ?SEEN, Before),
@@ -142,7 +147,7 @@ seen(#state{peer = Peer, lease = Lease}) ->
 has({address, Address}) ->
     {ok, Interfaces} = inet:getifaddrs(),
     lists:any(fun({_, Options}) -> lists:member({addr, Address}, Options) end, Interfaces);
-%% Without the process that others read files by: they may keep it busy.
+%% Bypasses the file server's process, which other processes may keep busy.
 has({file, File}) ->
     case file:read_file_info(File, [raw]) of {ok, #file_info{type = regular}} -> true; _ -> false end.
 
@@ -168,7 +173,7 @@ act(follow, #state{peer = Peer}) ->
 act(drop, #state{peer = Peer}) ->
     _ = erlang:disconnect_node(Peer),
     ok;
-%% That may take longer than nobody looks at the lease.
+%% A separate process starts to serve, because that may take longer than the permitted gap between checks of the lease.
 act({serve, Term}, #state{peer = Peer, serving = Serving}) ->
     logger:notice("this node serves"),
     _ = spawn_link(fun() -> serve(Term, Peer, Serving) end),
@@ -182,7 +187,7 @@ serve(Term, Peer, Serving) ->
     ok = lobby_store:follow(none),
     started(supervisor:start_child(lobby_sup, Serving)).
 
-%% Mnesia hears a little later of a node that was dropped.
+%% Waits until mnesia has noticed that a node was dropped, which takes a moment.
 noticed(Peer, Left) ->
     case is_copied(Peer) andalso not lists:member(Peer, nodes()) of
         true when Left > 0 -> timer:sleep(1), noticed(Peer, Left - 1);
@@ -190,7 +195,7 @@ noticed(Peer, Left) ->
     end.
 
 started({ok, _}) -> ok;
-%% The supervisor has started it again, after this process failed.
+%% This process failed, and the supervisor has already restarted the serving processes.
 started({error, {already_started, _}}) -> ok;
 started({error, {Reason, _}}) -> stop(io_lib:format("it can't start to serve: ~0P", [Reason, 20])).
 

@@ -1,73 +1,59 @@
-%%% @doc Links by which people join from a browser. A link is signed and not stored. What is stored is which ones were
-%%% revoked, and what a moderator had made of somebody who has left, so that he can't undo it by joining again.
+%%% @doc Links with which people join from a browser. A link is signed, not stored. The store has the revoked links, and
+%%% the role, mute and isolation of members who have left, so that they can't undo these by joining again.
 -module(lobby_link).
 
--export([new/1, read/1, revoke/1, keep/2, kept/1, signed/2, checked/3]).
+-export([new/1, read/1, revoke/1, keep/2, kept/1]).
 -export_type([link/0, error/0]).
 
-%% `until': seconds since 1970.
+%% `until': Unix time in seconds.
 -type link() :: #{number := binary(), room := lobby_room:name(), role := lobby_rules:role(), name := binary(),
                   until := integer()}.
 -type error() :: no_link | link_expired | link_revoked.
-%% What outlives a call.
+%% The part of a member's row that outlives the call.
 -type kept() :: #{isolated := boolean(), muted := boolean(), waiting := boolean(), role := lobby_rules:role()}.
-%% Seconds for which a link lasts at most.
+%% The maximum lifetime of a link, in seconds.
 -define(MAX_SECONDS, 2678400).
 
-%% @doc A new link from a request. Throws what is wrong with that.
--spec new(#{binary() => term()}) -> {Number :: binary(), Token :: binary()}.
+%% @doc Returns a new link for a request. Throws `{invalid, Text}' if the request is malformed.
+-spec new(#{binary() => term()}) -> #{number := binary(), link := binary()}.
 new(Object) ->
     _ = [throw({invalid, <<"the body has the unknown key \"", Key/binary, "\"">>})
          || Key <- maps:keys(Object) -- [<<"room">>, <<"role">>, <<"name">>, <<"seconds">>]],
     [Room, Role, Name] = [lobby_json:text(Key, Object) || Key <- [<<"room">>, <<"role">>, <<"name">>]],
-    ok = lobby_rooms:check_name(Room),
+    Room = lobby_room:checked(Room),
     Seconds = lobby_json:number(<<"seconds">>, {1, ?MAX_SECONDS}, Object),
-    ok = forget(now_s()),
+    _ = forget(),
     Number = hex(crypto:strong_rand_bytes(8)),
-    {Number, signed(secret(), #{number => Number, room => Room, role => Role, name => Name,
-                                until => now_s() + Seconds})}.
+    Link = #{number => Number, room => Room, role => Role, name => Name, until => now_s() + Seconds},
+    Text = iolist_to_binary(jiffy:encode(Link)),
+    #{number => Number, link => iolist_to_binary([hex(Text), $., hex(signature(Text))])}.
 
-%% @doc The link that a token is for, if it can be used.
--spec read(binary()) -> {ok, link()} | {error, error()}.
+%% @doc Returns the link in a token. Throws an `error()' if the link isn't valid.
+-spec read(binary()) -> link().
 read(Token) ->
-    case checked(secret(), now_s(), Token) of
-        {ok, Link = #{number := Number}} -> case lobby_store:has(lobby_settings, {revoked, Number}) of
-            true -> {error, link_revoked};
-            false -> {ok, Link}
-        end;
-        Error -> Error
-    end.
+    Link = #{number := Number} = checked(Token),
+    _ = [throw(link_revoked) || lobby_store:has(lobby_settings, {revoked, Number})],
+    Link.
 
--spec signed(Secret :: binary(), link()) -> Token :: binary().
-signed(Secret, Link) ->
-    Text = jiffy:encode(Link),
-    iolist_to_binary([hex(iolist_to_binary(Text)), $., hex(signature(Secret, Text))]).
-
--spec checked(Secret :: binary(), Now :: integer(), Token :: binary()) ->
-          {ok, link()} | {error, no_link | link_expired}.
-checked(Secret, Now, Token) ->
+checked(Token) ->
     try
         [Text, Signature] = [binary:decode_hex(Part) || Part <- binary:split(Token, <<".">>)],
-        %% Hashes are compared, so that the time says nothing of the signature.
-        true = crypto:hash(sha256, Signature) =:= crypto:hash(sha256, signature(Secret, Text)),
+        %% The comparison takes constant time, so it doesn't reveal the signature.
+        true = crypto:hash_equals(Signature, signature(Text)),
         Link = #{<<"until">> := Until} = jiffy:decode(Text, [return_maps]),
-        case Now < Until of
-            true -> {ok, maps:from_list([{binary_to_existing_atom(Key), Is} || {Key, Is} <- maps:to_list(Link)])};
-            false -> {error, link_expired}
-        end
-    catch error:_ -> {error, no_link}
+        _ = [throw(link_expired) || now_s() >= Until],
+        maps:from_list([{binary_to_existing_atom(Key), Is} || {Key, Is} <- maps:to_list(Link)])
+    catch error:_ -> throw(no_link)
     end.
 
-signature(Secret, Text) -> crypto:mac(hmac, sha256, Secret, ["link ", Text]).
-
-%% Links are signed with the secret of tags, which is in the pair's store, behind another prefix.
-secret() -> lobby_sip:secret().
+%% Signs with the secret of the SIP tags, which both nodes of a pair have. The prefix separates the two uses.
+signature(Text) -> crypto:mac(hmac, sha256, lobby_sip:secret(), ["link ", Text]).
 
 hex(Bytes) -> string:lowercase(binary:encode_hex(Bytes)).
 
 now_s() -> erlang:system_time(second).
 
-%% @doc Nobody joins by this link any more.
+%% @doc Revokes a link, so that it no longer lets anyone join.
 -spec revoke(Number :: binary()) -> ok.
 revoke(Number) ->
     remember({revoked, Number}, true).
@@ -80,12 +66,10 @@ keep(Number, Kept) ->
 kept(Number) ->
     element(2, lobby_store:get(lobby_settings, {link, Number}, {0, #{}})).
 
-%% As long as any link can last.
+%% Stores a value for the maximum lifetime of a link.
 remember(Key, Value) ->
     lobby_store:put(lobby_settings, Key, {now_s() + ?MAX_SECONDS, Value}).
 
-forget(Now) ->
+forget() ->
     Known = [{Key, lobby_store:get(lobby_settings, Key, none)} || Key = {_, _} <- lobby_store:keys(lobby_settings)],
-    lists:foreach(fun({Key, {Until, _}}) when Until < Now -> ok = lobby_store:delete(lobby_settings, Key);
-                     (_) -> ok
-                  end, Known).
+    [lobby_store:delete(lobby_settings, Key) || {Key, {Until, _}} <- Known, Until < now_s()].

@@ -1,12 +1,12 @@
-%%% @doc The process that accepts TCP connections at one port.
+%%% @doc The process that accepts TCP connections on one port.
 -module(lobby_listener).
 
 -export([start_link/3, listen/3]).
 
-%% The most connections at one port, the most from one address, and the most new ones from it in a second. They are
-%% counted as calls.
+%% The maximum number of connections on one port, of connections from one address, and of new connections from one
+%% address in a second. `lobby_admission' counts connections like calls.
 -define(LIMITS, #{max_calls => 1024, max_calls_from => 64, new_calls_from => 64}).
-%% Milliseconds.
+%% Milliseconds to wait for a connection before checking for connections that have ended.
 -define(ACCEPT, 1000).
 
 -spec start_link(lobby_socket:address(), lobby_socket:tls() | none, lobby_admission:limits()) ->
@@ -29,7 +29,7 @@ accept(Listener, Tls, Admission) ->
     case gen_tcp:accept(Listener, ?ACCEPT) of
         {ok, Socket} -> accept(Listener, Tls, connected(Socket, Tls, ended(Admission)));
         {error, timeout} -> accept(Listener, Tls, ended(Admission));
-        %% No descriptors are left, or the phone gave up.
+        %% The process has no free file descriptors, or the phone gave up.
         {error, Reason} when Reason =/= closed -> timer:sleep(100), accept(Listener, Tls, ended(Admission))
     end.
 

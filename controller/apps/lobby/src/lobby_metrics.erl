@@ -3,6 +3,7 @@
 
 -export([text/0]).
 
+%% @doc Returns all metrics in Prometheus' text format.
 -spec text() -> binary().
 text() ->
     Serving = lobby_gateway:serving(),

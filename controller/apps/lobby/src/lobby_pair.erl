@@ -1,20 +1,21 @@
-%%% @doc Two nodes, of which one serves: how they find each other, and the commands for whoever runs them.
+%%% @doc A pair of nodes, one of which serves: how the nodes connect, and the operator's commands.
 -module(lobby_pair).
 
 -export([distribute/1, command/2, has_ended/2, open_ready/1, say_ready/2]).
 -export_type([config/0, command/0]).
 
-%% `lease': who serves, see `lobby_lease'. `ready': the file that keepalived tracks. `gap': after so many milliseconds
-%% without a look at the lease, a node ends itself, and after so many without a message, the other node counts as gone.
+%% `lease': which node serves, see `lobby_lease'. `ready': the file that keepalived tracks. `gap': milliseconds without
+%% a check of the lease after which a node ends itself, and without a message after which the other node counts as lost.
 -type config() :: #{self := node(), peer := node(), cookie := binary(), lease := address | {file, file:filename()},
                     ready := file:filename() | none, gap := pos_integer()}.
-%% `create': the first start, on one of the nodes. `alone': the next start doesn't wait for the other node, although
-%% that may have newer data. `leave': the other node forgets this one, and this one's folder is emptied.
+%% `create': creates the store, before the first start, on one of the nodes. `alone': lets the next start go ahead
+%% without the other node, which may have newer data. `leave': makes the other node forget this node, and empties this
+%% node's folder.
 -type command() :: create | alone | leave.
 
-%% @doc Gives this node its name, and connects it with the other one, before mnesia starts. The other node is reached
-%% without epmd, if both run with `-erl_epmd_port'. Nobody connects it by sending something, because to connect with a
-%% node that hangs takes seconds.
+%% @doc Gives this node its name, and connects it with the other node, before mnesia starts. This works without epmd if
+%% both nodes run with `-erl_epmd_port'. Sending a message doesn't connect the nodes, because connecting to a node that
+%% hangs takes seconds.
 -spec distribute(config()) -> ok | {error, term()}.
 distribute(#{self := Self, peer := Peer, cookie := Cookie}) ->
     ok = application:set_env(kernel, dist_auto_connect, never),
@@ -29,7 +30,7 @@ distribute(#{self := Self, peer := Peer, cookie := Cookie}) ->
         {error, Reason} -> {error, Reason}
     end.
 
-%% @doc Does what a command says, while mnesia doesn't run.
+%% @doc Runs a command, while mnesia isn't running.
 -spec command(command(), config()) -> ok | {error, term()}.
 command(create, _) ->
     mnesia:create_schema([node()]);
@@ -43,8 +44,8 @@ command(leave, #{peer := Peer}) ->
         error:{erpc, Reason} -> {error, Reason}
     end.
 
-%% @doc Whether the other node's port refuses connections, because the node has ended. One that hangs still accepts
-%% them, and one that was cut off doesn't answer.
+%% @doc Returns whether the other node has ended, so that its port refuses connections. A node that hangs still accepts
+%% connections, and a node that was cut off doesn't answer.
 -spec has_ended(node(), Milliseconds :: pos_integer()) -> boolean().
 has_ended(Node, Timeout) ->
     [Name, Host] = string:split(atom_to_list(Node), "@"),
@@ -53,7 +54,7 @@ has_ended(Node, Timeout) ->
         _ -> false
     end.
 
-%% @doc Starts the program that says in the file what this node is good for.
+%% @doc Starts the program that writes this node's priority to the file.
 -spec open_ready(file:filename() | none) -> port() | none.
 open_ready(none) ->
     none;

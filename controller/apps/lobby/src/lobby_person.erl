@@ -1,12 +1,13 @@
-%%% @doc A person in a conference as a value: what is wanted for him, as a row that the store keeps, and who waits until
-%%% it holds.
+%%% @doc A person in a conference as a value: the desired state, as a row in the store, and the requests that wait until
+%%% the gateway has it.
 %%%
-%%% Only his call's process changes the row. It stores a change before a room hears of it, so that the change outlives
-%%% that process, and it goes with him to whichever room he is in. A room only brings the gateway to what the rows say,
-%%% and reports the version that the gateway has. Then whoever asked for the change is answered.
+%%% Only the process of the person's call changes the row. It stores a change before it sends the row to a room, so that
+%%% the change outlives the process, and follows the person from room to room. A room only makes the gateway match the
+%%% rows, and reports the version that the gateway has. Then the request for the change is answered.
 %%%
-%%% A move has the next room admit him, and changes his row's `room'. Until the old room has silenced him and let him
-%%% go, the row says where he comes `from', and the next one doesn't add him. Moves follow one another.
+%%% In a move, the new room admits the person, and then the row's `room' changes. The row's `from' names the old room
+%%% until that has silenced and released the person. Until then, the new room doesn't add the person. Only one move is
+%%% under way at a time.
 -module(lobby_person).
 
 -export([new/1, restored/1, handle/2, row/1, is_joining/1, is_settled/1]).
@@ -14,20 +15,20 @@
 
 -type id() :: lobby_rules:id().
 -type version() :: pos_integer().
-%% `moved': the version of the last move. `waiting': he is in front of the room's door. `acknowledged': he has asked for
-%% speech, and not somebody else for him. `call': where the store has his call.
+%% `moved': the version of the last move. `waiting': the person waits at the room's door. `acknowledged': the person's
+%% phone has acknowledged our 200, so it may be sent speech. `call': the key of the call in the store.
 -type row() :: #{id := id(), room := lobby_room:name(), from := lobby_room:name() | none, moved := version(),
                  version := version(), role := lobby_rules:role(), isolated := boolean(), muted := boolean(),
                  waiting := boolean(), acknowledged := boolean(), media := lobby_h248:media(),
                  direction := lobby_sdp:direction(), identity := binary(), name => binary(), call => term()}.
 -type change() :: #{role => lobby_rules:role(), isolated => boolean(), muted => boolean(), waiting => boolean(),
                     acknowledged => boolean(), media => lobby_h248:media(), direction => lobby_sdp:direction()}.
-%% Whom an answer is for. Somebody who asked through the interface is answered only when no phone still sends to a
-%% gateway that is lost; `media' belongs to the caller's own offer, which can't wait for others. Who `joins' isn't told
-%% that it takes longer.
+%% Which request an answer is for. `asked': a request over HTTP, which is answered only when no phone still sends to a
+%% lost gateway. `media': the caller's own offer, which can't wait for other phones. `joins': a new caller's request,
+%% which doesn't get `not_yet' while the room waits.
 -type tag() :: {asked, From :: term()} | {media, term()} | {joins, term()}.
-%% What a room says of a version. `later': it has no gateway that takes it yet. `refused': the gateway doesn't take his
-%% media, and has those that are given.
+%% A room's report about a version. `later': no gateway has accepted the version yet. `refused': the gateway refused the
+%% person's media, and still uses these media, if any.
 -type report() :: {holds, version(), Local :: lobby_h248:media(), Everywhere :: boolean()} | {later, version()}
                 | {refused, version(), Code :: pos_integer(), lobby_h248:media() | none}.
 -type event() :: {join, tag()} | {admitted, lobby_room:name(), ok | {error, term()}} | {change, tag(), change()}
@@ -37,36 +38,38 @@
                 | {answer, tag(), {ok, lobby_h248:media()} | {error, term()}}.
 
 -record(person, {row :: row(), phase = in :: joining | in | {moving, lobby_room:name()},
-                 %% Those who wait for the room's admission, for a version, or for an earlier move.
+                 %% The requests that wait for the room's admission, for a version, or for an earlier move.
                  asking = none :: tag() | none, pending = [] :: [{version(), tag()}],
                  moves = [] :: [{tag(), lobby_room:name()}],
-                 %% The last version that the gateway has, as far as the room said.
+                 %% The last version that the gateway has, according to the room.
                  held = 0 :: non_neg_integer()}).
 -opaque person() :: #person{}.
 
-%% @doc Somebody who isn't in a room yet.
+%% @doc Returns a person who isn't in a room yet.
 -spec new(row()) -> person().
 new(Row) ->
     #person{row = Row, phase = joining}.
 
-%% @doc Somebody whose row was kept. `again' tells his room of him.
+%% @doc Returns a person with a stored row. The event `again' sends it to the room.
 -spec restored(row()) -> person().
 restored(Row) ->
     #person{row = Row}.
 
+%% @doc Returns a person's row.
 -spec row(person()) -> row().
 row(#person{row = Row}) -> Row.
 
-%% @doc Whether his room hasn't admitted him yet.
+%% @doc Returns whether the room hasn't admitted the person yet.
 -spec is_joining(person()) -> boolean().
 is_joining(#person{phase = Phase}) -> Phase =:= joining.
 
-%% @doc Whether nobody waits, and the room has reported all. Otherwise, `again' is to be handled now and then: whoever
-%% was told may have failed.
+%% @doc Returns whether no request waits, and the room has reported the latest version. Otherwise, handle `again' from
+%% time to time, because a room may have failed before it read a message.
 -spec is_settled(person()) -> boolean().
 is_settled(#person{row = #{version := Version, from := none}, phase = in, held = Version, pending = []}) -> true;
 is_settled(#person{}) -> false.
 
+%% @doc Handles an event. Returns the actions for the call's process, in order.
 -spec handle(event(), person()) -> {person(), [action()]}.
 handle({join, Tag}, P = #person{phase = joining}) ->
     {P#person{asking = Tag}, [admit(P)]};
@@ -103,22 +106,22 @@ handle(_, P) ->
 admit(#person{phase = joining, row = #{id := Id, room := Room}}) -> {admit, Room, Id, none};
 admit(#person{phase = {moving, To}, row = #{id := Id, room := Room}}) -> {admit, To, Id, Room}.
 
-%% If nothing changes, the room only reports again.
+%% Changes the row. If the row stays the same, the room only reports again.
 changed(Tag, Row, P = #person{row = Row = #{room := Room, version := Version}, pending = Pending}) ->
     {P#person{pending = Pending ++ [{Version, Tag}]}, [{want, Room, Row}]};
 changed(Tag, Row = #{version := Version}, P = #person{pending = Pending}) ->
     stored(Row, P#person{pending = Pending ++ [{Version + 1, Tag}]}).
 
-%% The row is stored before anybody hears of it.
+%% Stores a new version of the row before it is sent to the room.
 stored(Row = #{room := Room, version := Version}, P) ->
     New = Row#{version := Version + 1},
     {P#person{row = New}, [{store, New}, {want, Room, New}]}.
 
 moved(To, Tag, P = #person{row = Row = #{room := Room, version := Version}}) ->
-    %% An operator who moves somebody lets him in.
+    %% A move by an operator also lets the person in.
     changed(Tag, Row#{room := To, from := Room, moved := Version + 1, waiting := false}, P).
 
-%% A move begins when the one before has ended.
+%% Begins the next move, if no move is under way.
 next_move(P = #person{phase = in, moves = [{Tag, To} | Moves], row = #{room := Room, from := none}}, Actions) ->
     case To of
         Room -> next_move(P#person{moves = Moves}, Actions ++ [{answer, Tag, {error, same_room}}]);
@@ -129,7 +132,7 @@ next_move(P = #person{phase = in, moves = [{Tag, To} | Moves], row = #{room := R
 next_move(P, Actions) ->
     {P, Actions}.
 
-%% He is in his room now, so whoever moves him next needn't wait for the one before.
+%% Handles a room's report. Once the new room has the person's version, the move has ended, and the next one can begin.
 reported({holds, Version, Local, Everywhere}, P0 = #person{row = Row = #{moved := Moved, from := From}, held = Held}) ->
     {P, Answers} = answered(fun({V, Tag}) -> V =< Version andalso may_answer(Tag, Everywhere) end, {ok, Local},
                             P0#person{held = max(Version, Held)}),
@@ -142,7 +145,7 @@ reported({holds, Version, Local, Everywhere}, P0 = #person{row = Row = #{moved :
     end;
 reported({later, Version}, P) ->
     answered(fun({V, Tag}) -> V =< Version andalso element(1, Tag) =/= joins end, {error, not_yet}, P);
-%% His media are those that the gateway still has.
+%% The row goes back to the media that the gateway still uses.
 reported({refused, Version, Code, Media}, P0) ->
     {P = #person{row = Row}, Answers} = answered(fun({V, _}) -> V =< Version end, {error, {refused, Code}}, P0),
     case Media of

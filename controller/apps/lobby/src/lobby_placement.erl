@@ -1,5 +1,5 @@
-%%% @doc On which gateway a conference is made. One process chooses for all rooms, one after the other: if many looked
-%%% at the same time, all would choose the same gateway, and have no room there to grow.
+%%% @doc Chooses the gateway of each conference. One process chooses for all rooms, one after the other. If many rooms
+%%% chose at the same time, all would choose the same gateway, and couldn't grow there.
 -module(lobby_placement).
 -behaviour(gen_server).
 
@@ -8,8 +8,8 @@
 -export_type([load/0]).
 
 -type handle() :: lobby_gateway:handle().
-%% How many terminations and contexts a gateway has or has promised, how many it may have, and whether it takes no new
-%% room.
+%% A gateway's load: the terminations and contexts that are in use or reserved, the gateway's limits, and whether it is
+%% being drained.
 -type load() :: #{terminations := non_neg_integer(), contexts := non_neg_integer(),
                   max_terminations := pos_integer(), max_contexts := pos_integer(), draining := boolean()}.
 
@@ -17,8 +17,8 @@
 start_link() ->
     gen_server:start_link({local, ?MODULE}, ?MODULE, [], []).
 
-%% @doc Reserves seats for all of a room's members on the preferred gateway, or on the one with the most free seats. One
-%% gateway may be left out.
+%% @doc Reserves seats for all members of a room on the preferred gateway or, if that fails, on the one with the most
+%% free seats. Never chooses the gateway `Except'.
 -spec place(lobby_room:name(), [lobby_rules:id()], Prefer :: handle() | none, Except :: handle() | none) ->
           handle() | none.
 place(Room, Ids, Prefer, Except) ->
@@ -32,7 +32,7 @@ place(Room, Ids, Prefer, Except) ->
 init([]) ->
     {ok, none}.
 
-%% A gateway has the last word on its seats.
+%% The gateway itself decides whether it has the seats.
 -spec handle_call({place, lobby_room:name(), [lobby_rules:id()], handle() | none, handle() | none},
                   gen_server:from(), none) -> {reply, handle() | none, none}.
 handle_call({place, Room, Ids, Prefer, Except}, _, State) ->
@@ -47,8 +47,9 @@ handle_call({place, Room, Ids, Prefer, Except}, _, State) ->
 handle_cast(_, State) ->
     {noreply, State}.
 
-%% @doc The gateways that may have seats for so many and a context, the best first. Who moves there may have his
-%% already. One that is being drained takes no room.
+%% @doc Returns the gateways that may have this many seats and a context, the best first. The preferred gateway comes
+%% first, whatever its load, because a member who moves there may already have a seat. A gateway that is being drained
+%% isn't chosen.
 -spec ranked(Members :: non_neg_integer(), Prefer :: handle() | none, [{handle(), load()}]) -> [handle()].
 ranked(Members, Prefer, All) ->
     Gateways = [{Handle, Load} || {Handle, Load = #{draining := false}} <- All],

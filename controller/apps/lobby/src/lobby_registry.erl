@@ -1,12 +1,13 @@
-%%% @doc Names of processes, for `{via, lobby_registry, Name}'. A name can be any term, so that rooms and calls can be
-%%% named by what others send.
+%%% @doc Names of processes, for `{via, lobby_registry, Name}'. A name can be any term, so names of rooms and calls can
+%%% come from the network.
 -module(lobby_registry).
 -behaviour(gen_server).
 
 -export([start_link/0, register_name/2, unregister_name/1, whereis_name/1, send/2, processes/1, names/1]).
 -export([init/1, handle_call/3, handle_cast/2, handle_info/2]).
 
-%% The table has processes by name. Whoever registers a process writes there, so that nobody waits for this process.
+%% The table has the processes by name. Callers of `register_name/2' write to the table themselves, so that they don't
+%% wait for this process.
 -type state() :: none.
 
 -spec start_link() -> gen_server:start_ret().
@@ -15,7 +16,7 @@ start_link() ->
 
 -spec register_name(term(), pid()) -> yes | no.
 register_name(Name, Pid) ->
-    %% First, so that the name is removed however soon the process ends.
+    %% This comes first, so that the name is removed even if the process ends at once.
     ok = gen_server:cast(?MODULE, {watch, Name, Pid}),
     registered(Name, Pid).
 
@@ -27,7 +28,7 @@ registered(Name, Pid) ->
         [] -> registered(Name, Pid)
     end.
 
-%% Another process may have got the name before the end of its last one is reported.
+%% Replaces a process that has ended, although its end hasn't been reported yet.
 replaced(Other = {Name, Owner}, Pid) ->
     case is_process_alive(Owner) of
         true -> no;
@@ -41,7 +42,7 @@ unregister_name(Name) ->
     true = ets:delete(?MODULE, Name),
     ok.
 
-%% A process that ended may still be in the table.
+%% Finds a process by name. The table may still contain a process that has ended.
 -spec whereis_name(term()) -> pid() | undefined.
 whereis_name(Name) ->
     case ets:lookup(?MODULE, Name) of
@@ -56,12 +57,12 @@ send(Name, Message) ->
         Pid -> Pid ! Message, Pid
     end.
 
-%% @doc The processes whose names are pairs that begin with this.
+%% @doc Returns the processes whose names are pairs that begin with this atom.
 -spec processes(atom()) -> [pid()].
 processes(Kind) ->
     lists:append(ets:match(?MODULE, {{Kind, '_'}, '$1'})).
 
-%% @doc The same, with the second parts of their names.
+%% @doc Returns the same processes, each with the second part of its name.
 -spec names(atom()) -> [{term(), pid()}].
 names(Kind) ->
     [{Name, Pid} || [Name, Pid] <- ets:match(?MODULE, {{Kind, '$1'}, '$2'})].

@@ -1,18 +1,18 @@
-%%% @doc A room as a value: whom it admits, which gateway has its conference, and whom it reports to. `handle/3' takes
-%%% what happens and returns what is to be done, so that every order of events can be tried without processes.
+%%% @doc A room as a value: which callers it admits, which gateway has its conference, and what it reports to members.
+%%% `handle/3' takes an event and returns actions, so tests can try every order of events without processes.
 %%%
-%%% A message to a room may come again, late, or never: rows are read again when the room starts, a member's row is
-%%% reported until he has it, and the room asks the gateway's process for an answer that hasn't come. It never sends
-%%% that process a request again: if the answer is under way, the request would be run twice.
+%%% A message to a room may be duplicated, late or lost. So the room reads the rows again when it starts, reports a row
+%%% as often as the member's process asks, and asks the gateway's process for a missing answer. The room never sends
+%%% that process a request twice: if the answer is under way, the gateway would run the request twice.
 -module(lobby_room_core).
 
 -export([new/1, handle/3, describe/2, agrees/1, named/1, seats/1, received/2]).
 -export_type([room/0, event/0, action/0, error/0, description/0, kept/0, settings/0]).
 
-%% Requests that fail one after the other until the room waits for a while.
+%% The number of successive failed requests after which the room pauses.
 -define(PATIENCE, 3).
 -define(MAX_MEMBERS, 64).
-%% Milliseconds without packets until somebody isn't shown to send any.
+%% Milliseconds without packets after which a member is shown as not sending.
 -define(LATELY, 1500).
 
 -type name() :: lobby_room:name().
@@ -21,13 +21,13 @@
 -type handle() :: lobby_gateway:handle().
 -type reference_() :: {Run :: term(), pos_integer()}.
 -type error() :: no_room | no_member | room_full | room_locked | too_many_rules | not_yet.
-%% Whether the room stays when its last member leaves, lets in nobody new, and has newcomers wait at its door.
+%% Whether the room stays when its last member leaves, keeps new callers out, and makes newcomers wait at its door.
 -type settings() :: #{kept => boolean(), locked => boolean(), door => boolean()}.
-%% Whose phones may still send to a gateway that was lost, and where.
+%% The members whose phones may still send to a lost gateway, and the addresses there.
 -type stale() :: #{id() => lobby_h248:media() | unknown}.
-%% What is handed over to another room: his termination, and where he may still send to.
+%% What a room hands over with a member: the termination, and the address to which the phone may still send.
 -type given() :: {{handle(), lobby_conference:holding()} | none, Sends :: lobby_h248:media() | unknown | none}.
-%% What the store has.
+%% The room's row in the store.
 -type kept() :: #{rules := [lobby_rules:rule()], settings := settings(), gateway := handle() | none, stale := stale()}.
 -type event() :: {start, kept() | none, [row()]} | {holdings, [lobby_conference:holding()] | lost, #{id() => row()}}
                | {admit, id(), From :: name() | none, handle() | none} | {placed, handle() | none}
@@ -56,40 +56,40 @@
 
 -record(room, {name :: name(), run :: term(), conference = lobby_conference:new() :: lobby_conference:conference(),
                gateway = none :: handle() | none, settings = #{} :: settings(), stale = #{} :: stale(),
-               %% Who was admitted, and isn't wanted yet, with the time. Who waits for that.
+               %% Callers who were admitted, but whose rows haven't arrived yet, with the time. Callers who wait for
+               %% admission.
                admitted = #{} :: #{id() => integer()}, admits = [] :: [{id(), handle() | none}],
-               %% What is awaited: the gateway's process, a seat, or an answer.
+               %% What the room waits for: its holdings, a seat, a gateway, or an answer.
                busy = none :: none | holdings | {seat, id()} | place
                             | {reference_(), lobby_conference:step()},
                next = 1 :: pos_integer(), failures = 0 :: non_neg_integer(), waits = false :: boolean(),
-               %% Whether there was nothing left to do.
+               %% Whether the gateway already has the desired state.
                rests = false :: boolean(),
-               %% Whether the gateway refused a member for whom it should have a seat.
+               %% Whether the gateway rejected a member for whom it should have a seat.
                full = false :: boolean(),
-               %% The rooms where members of this one are wanted now.
+               %% The rooms to which members of this room have moved.
                asks = #{} :: #{id() => {To :: name(), Moved :: pos_integer(), handle() | none}},
                reported = #{} :: #{id() => lobby_person:report()},
-               %% Who is answered when the gateway has what the rules say, and when it was audited.
+               %% The requests to answer once the gateway has the desired state, and once it was audited.
                asked = [] :: [term()], audits = [] :: [term()], compared = unknown :: unknown | same | repaired,
-               %% The packets that each termination received, and since when there are no more.
+               %% The number of packets that each termination has received, and the time of the last change.
                packets = #{} :: #{lobby_h248:termination() => {non_neg_integer(), Since :: integer()}},
                silent_after = 30000 :: pos_integer(),
                saved = none :: kept() | none, shown = none :: term(), seats = none :: [id()] | none,
                out = [] :: [action()]}).
 -opaque room() :: #room{}.
 
-%% @doc A room of which nothing is known yet. `Run' is new for each process, so that answers for an earlier one are
-%% known.
+%% @doc Returns an empty room. `Run' differs for each process, so that answers to an earlier process are recognized.
 -spec new(#{name := name(), run := term(), silent_after => pos_integer()}) -> room().
 new(Options = #{name := Name, run := Run}) ->
     #room{name = Name, run = Run, silent_after = maps:get(silent_after, Options, 30000)}.
 
-%% @doc Who is a member or is named by a rule.
+%% @doc Returns the ids of the members, and of the members whom rules name.
 -spec named(room()) -> [id()].
 named(#room{conference = C}) ->
     lists:usort(lobby_conference:ids(C) ++ lobby_rules:named(lobby_conference:rules(C))).
 
-%% @doc What happens at a time, in milliseconds, and what is to be done.
+%% @doc Handles an event at a time in milliseconds. Returns the actions, in order.
 -spec handle(event(), Now :: integer(), room()) -> {room(), [action()]}.
 handle(Event, Now, Room) ->
     Rests = Room#room.rests andalso is_about_seats(Event),
@@ -97,7 +97,7 @@ handle(Event, Now, Room) ->
     Done = #room{out = Out} = published(saved(seated(ended(Event, Worked)))),
     {Done#room{out = []}, lists:reverse(Out)}.
 
-%% What the gateway is to have doesn't change by these.
+%% Returns whether an event only concerns seats. Such an event doesn't change the desired state.
 is_about_seats({admit, _, _, _}) -> true;
 is_about_seats({reserved, _}) -> true;
 is_about_seats(_) -> false.
@@ -105,15 +105,14 @@ is_about_seats(_) -> false.
 act(Action, Room = #room{out = Out}) -> Room#room{out = [Action | Out]}.
 acts(Actions, Room) -> lists:foldl(fun act/2, Room, Actions).
 
-%%% What happens.
+%%% Events.
 
 event({start, none, Rows}, _, Room) ->
     lists:foldl(fun wanted/2, Room, Rows);
 event({start, Kept, Rows}, _, Room) ->
     #{rules := Rules, settings := Settings, gateway := Gateway, stale := Stale} = Kept,
     C = lobby_conference:set_rules(Rules, lobby_conference:new()),
-    %% The room that somebody comes from may have said where his phone still sends, and said it to the process before
-    %% this.
+    %% An earlier process may have learned from a member's old room where the phone still sends, so that is unknown now.
     Arriving = maps:from_list([{Id, unknown} || #{id := Id, from := From} <- Rows, From =/= none]),
     Known = Room#room{conference = C, settings = Settings, stale = maps:merge(Arriving, Stale), saved = Kept},
     Started = lists:foldl(fun wanted/2, Known, Rows),
@@ -156,7 +155,7 @@ event({gone, Id}, _, Room = #room{conference = C}) ->
 event({ask, Row = #{id := Id, room := To, moved := Moved}, Handle}, _, Room) ->
     #room{conference = C, asks = Asks, stale = Stale} = Room,
     case last_moved(Id, Room) of
-        %% This was asked before he came back, or before he moved on.
+        %% The request dates from before the member came back or moved on.
         Later when Later > Moved -> act({left, To, Id, Moved, {none, none}}, Room);
         _ ->
             Asked = Room#room{conference = lobby_conference:leave(Row, C), asks = Asks#{Id => {To, Moved, Handle}}},
@@ -197,19 +196,19 @@ event({lost, Gateway}, _, Room = #room{gateway = Gateway}) ->
     lost(Room);
 event({returned, Gateway}, _, Room = #room{gateway = Gateway, conference = C}) ->
     act({count, lobby_conferences_kept_total}, Room#room{conference = lobby_conference:check(C), packets = #{}});
-%% As if it were full.
+%% The room leaves the gateway as if it were full.
 event({leave, Gateway}, _, Room = #room{gateway = Gateway}) ->
     Room#room{full = true};
 event(retry, _, Room = #room{conference = C}) ->
     sent(Room#room{failures = 0, conference = lobby_conference:unblock(C)});
 event(watch, Now, Room = #room{conference = C, admitted = Admitted}) ->
-    %% Whoever was admitted and never came was a call whose process failed.
+    %% If an admitted caller's row never arrived, the process of the call has failed.
     Still = maps:filter(fun(_, Since) -> Now - Since < 30000 end, Admitted),
     Room#room{admitted = Still, conference = lobby_conference:check(C)};
 event(_, _, Room) ->
     Room.
 
-%% The version of the last move that is known of somebody.
+%% Returns the version of a person's last known move.
 last_moved(Id, #room{conference = C, asks = Asks}) ->
     lists:max([0] ++ [Moved || {#{moved := Moved}, _} <- [lobby_conference:find(Id, C)]] ++
               [Moved || #{Id := {_, Moved, _}} <- [Asks]]).
@@ -223,7 +222,7 @@ admitted(Id, Now, Room = #room{admitted = Admitted, conference = C}) ->
 number(#room{conference = C, admitted = Admitted, admits = Admits}) ->
     length(lobby_conference:ids(C)) + map_size(Admitted) + length(Admits).
 
-%% Each row that the room is told of is reported, even if it was reported before: that report may have been lost.
+%% Handles a row. Each row that arrives is reported again, because an earlier report may have been lost.
 wanted(Row = #{id := Id, room := Name}, Room = #room{name = Name, conference = C, reported = Reported, asks = Asks}) ->
     Room#room{conference = lobby_conference:want(Row, C), admitted = maps:remove(Id, Room#room.admitted),
               reported = without_version(Id, Reported), asks = maps:remove(Id, Asks)};
@@ -240,7 +239,8 @@ forgotten(Id, Room = #room{reported = Reported, stale = Stale, admitted = Admitt
     Room#room{reported = maps:remove(Id, Reported), stale = maps:remove(Id, Stale),
               admitted = maps:remove(Id, Admitted), admits = lists:keydelete(Id, 1, Admits)}.
 
-%% If it is only out of reach, it may still mix for whoever still sends to it.
+%% Handles the loss of the gateway. A gateway that is only unreachable may still mix the media of phones that send to
+%% it.
 lost(Room = #room{conference = C, stale = Stale, busy = Busy, asks = Asks}) ->
     Sent = [{Id, lobby_conference:local(Id, C)} || Id <- lists:usort(lobby_conference:ids(C) ++ maps:keys(Asks))],
     Left = maps:from_list([{Id, unknown} || {Id, none} <- Sent, Busy =:= holdings] ++
@@ -248,7 +248,7 @@ lost(Room = #room{conference = C, stale = Stale, busy = Busy, asks = Asks}) ->
     Room#room{gateway = none, busy = none, conference = lobby_conference:forget(C), stale = maps:merge(Stale, Left),
               failures = 0, full = false, packets = #{}, seats = none}.
 
-%% Asks for what is awaited, perhaps again: whoever is asked may be starting, and miss it.
+%% Asks again for what the room waits for: the process that was asked may have been starting, and missed the message.
 sent(Room = #room{busy = {Reference = {_, _}, _}, gateway = Gateway}) ->
     acts([{unanswered, Gateway, Reference}, {retry, later}], Room);
 sent(Room = #room{busy = holdings, gateway = Gateway}) ->
@@ -256,13 +256,13 @@ sent(Room = #room{busy = holdings, gateway = Gateway}) ->
 sent(Room) ->
     ask(Room).
 
-%% Asks other rooms to let go those who are wanted here.
+%% Asks other rooms to release members who have moved here.
 ask(Room = #room{conference = C, gateway = Gateway}) ->
     acts([{ask, From, Row, Gateway} || Row = #{from := From} <- lobby_conference:asked(C)], Room).
 
-%%% What the gateway's answers mean.
+%%% The gateway's answers.
 
-%% An audit that succeeds is no progress.
+%% Counts successive failures. A successful audit doesn't reset the count.
 progress(Step, Events, Room = #room{failures = Failures}) ->
     case {lists:member(failed, Events), Step} of
         {true, _} -> Room#room{failures = Failures + 1};
@@ -283,14 +283,14 @@ answered(strays, _, Room) -> act({count, lobby_strays_total}, Room);
 answered({full, _}, _, Room) -> Room#room{full = true};
 answered(failed, _, Room) -> Room.
 
-%% Tells members who should be sending, but whose packet counts no longer rise, that they are silent.
+%% Notifies members who should be sending, but whose packet counts no longer rise.
 watched(Counts, Now, Room = #room{conference = C, packets = Before, silent_after = SilentAfter}) ->
     Still = maps:map(fun(T, Count) -> still(Count, maps:get(T, Before, none), Now) end, Counts),
     Silent = [{Id, T} || {#{id := Id, direction := sendrecv}, T} <- found(C), #{T := {_, Since}} <- [Still],
                          Now - Since >= SilentAfter],
-    %% A gateway that came back so soon that nobody missed it counts from 0 again.
+    %% A gateway that restarted before the controller noticed the loss counts from 0 again.
     Again = [T || {T, Count} <- maps:to_list(Counts), #{T := {More, _}} <- [Before], Count < More],
-    %% They aren't told again until as much time has passed.
+    %% Silent members are notified again only after the same time.
     acts([{count, lobby_conferences_kept_total} || Again =/= []] ++ [{silent, Id} || {Id, _} <- Silent],
          Room#room{packets = maps:without([T || {_, T} <- Silent], Still)}).
 
@@ -300,7 +300,7 @@ still(Count, _, Now) -> {Count, Now}.
 found(C) ->
     [Found || Id <- lobby_conference:ids(C), Found <- [lobby_conference:find(Id, C)]].
 
-%%% What is to be done next.
+%%% The next action.
 
 work(Room = #room{busy = Busy, waits = Waits}) when Busy =/= none; Waits ->
     Room;
@@ -325,11 +325,11 @@ work(Room = #room{conference = C0}) ->
     {Next, C} = lobby_conference:next(C0),
     next(Next, Room#room{conference = C}).
 
-%% Those who have a seat or are to have one.
+%% Returns the ids of people who have a seat or wait for one.
 ids(Room = #room{admits = Admits}) ->
     lists:usort([Id || {Id, _} <- Admits] ++ seated_ids(Room)).
 
-%% Those who have a seat, or for whom one is being reserved.
+%% Returns the ids of people who have a seat, or for whom a seat is being reserved.
 seated_ids(#room{conference = C, admitted = Admitted, busy = Busy}) ->
     lists:usort([Id || {seat, Id} <- [Busy]] ++ lobby_conference:ids(C) ++ maps:keys(Admitted)).
 
@@ -350,7 +350,7 @@ next({release, #{id := Id}, T}, Room = #room{asks = Asks, gateway = Gateway, con
 next(settled, Room) ->
     settled(Room).
 
-%% Those for whom a request makes terminations.
+%% Returns the ids of the members for whom a request creates terminations.
 added({add, New, _}) -> [Id || {#{id := Id}, _} <- New];
 added(_) -> [].
 
@@ -363,11 +363,11 @@ settled(Room0 = #room{conference = C}) ->
         {_, _} -> act({retry, soon}, ask(Reported))
     end.
 
-%% A phone that is received where it was before has nothing to learn.
+%% Forgets phones that still send to the right address, because the gateway receives them where it did before.
 settled_phones(Room = #room{conference = C, stale = Stale}) ->
     Room#room{stale = maps:filter(fun(Id, Before) -> lobby_conference:local(Id, C) =/= {ok, Before} end, Stale)}.
 
-%% A member is told of the version that the gateway has, and where it receives him.
+%% Reports to each member the version that the gateway has, and the address at which it receives the member.
 report(Room = #room{conference = C, reported = Reported, stale = Stale}) ->
     Reports = [{Id, {holds, Version, Local, map_size(Stale) =:= 0}}
                || #{id := Id, version := Version} <- lobby_conference:persons(C),
@@ -381,11 +381,11 @@ answer_asked(Room = #room{asked = Asked, stale = Stale}) when map_size(Stale) =:
 answer_asked(Room) ->
     Room.
 
-%% There is nothing to audit without members, and the topology of a large conference doesn't fit into a reply.
+%% Answers requests for an audit. The result is `unknown' without members, or if the topology doesn't fit into a reply.
 audited(Room = #room{audits = Audits, compared = Result}) ->
     acts([{reply, From, Result} || From <- Audits], Room#room{audits = []}).
 
-%% Whoever was asked for, and whom the gateway has nothing for here, has left.
+%% Notifies other rooms of members who have no termination here any more.
 left(Room = #room{asks = Asks, conference = C}) ->
     Gone = maps:filter(fun(Id, _) -> not lobby_conference:has(Id, C) end, Asks),
     maps:fold(fun(Id, {To, Moved, _}, R) -> left(Id, To, Moved, none, R) end, Room, Gone).
@@ -394,7 +394,7 @@ left(Id, To, Moved, Given, Room = #room{asks = Asks, stale = Stale}) ->
     act({left, To, Id, Moved, {Given, maps:get(Id, Stale, none)}},
         Room#room{asks = maps:remove(Id, Asks), stale = maps:remove(Id, Stale)}).
 
-%% Whoever still sends to a lost gateway is awaited in his new room.
+%% Notes that a member from another room may still send to a lost gateway, so this room waits for the phone.
 may_send(_, _, none, Room) ->
     Room;
 may_send(Id, Moved, Sends, Room = #room{conference = C, stale = Stale}) ->
@@ -403,7 +403,7 @@ may_send(Id, Moved, Sends, Room = #room{conference = C, stale = Stale}) ->
         _ -> Room
     end.
 
-%% Waits until something changes, or for a while.
+%% Pauses until an event or a timer, and reports that pending changes take longer.
 waits(Room = #room{conference = C, asked = Asked}) ->
     Late = [{report, Id, {later, Version}} || Row = #{id := Id, version := Version} <- lobby_conference:persons(C),
                                               is_late(Row, Room)],
@@ -416,9 +416,10 @@ is_late(#{id := Id, version := Version}, #room{reported = Reported}) ->
         #{} -> true
     end.
 
-%%% What outlives the process.
+%%% The state that outlives the process.
 
-%% An empty room ends, unless it is to be kept. One that was started for somebody isn't told of him yet.
+%% Ends an empty room, unless it is to be kept. A room that has just been started for a caller doesn't end, because the
+%% caller's event hasn't arrived yet.
 ended({start, _, _}, Room) ->
     Room;
 ended(_, Room = #room{busy = none, admitted = Admitted, admits = [], asks = Asks, settings = Settings, conference = C})
@@ -434,7 +435,7 @@ ended(_, Room) ->
 
 seated(Room = #room{gateway = none}) ->
     Room#room{seats = none};
-%% What the gateway has promised to an earlier process isn't known before that.
+%% Until the holdings arrive, this process doesn't know the seats that an earlier one reserved.
 seated(Room = #room{busy = holdings}) ->
     Room;
 seated(Room = #room{gateway = Gateway, seats = Before}) ->
@@ -443,14 +444,14 @@ seated(Room = #room{gateway = Gateway, seats = Before}) ->
         Ids -> act({seats, Gateway, Ids}, Room#room{seats = Ids})
     end.
 
-%% What is done after it was saved isn't forgotten.
+%% Saves the room's row before all other actions, so that a restarted room knows of them.
 saved(Room = #room{saved = Before, settings = Settings, gateway = Gateway, stale = Stale, conference = C, out = Out}) ->
     case #{rules => lobby_conference:rules(C), settings => Settings, gateway => Gateway, stale => Stale} of
         Before -> Room;
         Kept -> Room#room{saved = Kept, out = Out ++ [{save, Kept}]}
     end.
 
-%% Publishes that the room has changed, if that can be seen.
+%% Publishes an event if the room's visible state has changed.
 published(Room = #room{busy = none, shown = Before, conference = C, gateway = Gateway, settings = Settings}) ->
     case {lobby_conference:visible(C), Gateway, Settings} of
         Before -> Room;
@@ -459,31 +460,31 @@ published(Room = #room{busy = none, shown = Before, conference = C, gateway = Ga
 published(Room) ->
     Room.
 
-%%% What it shows.
+%%% Queries.
 
-%% @doc Whether a gateway has what the room wants. A lost gateway doesn't count: if it is only out of reach, it may
-%% still mix as before.
+%% @doc Returns whether a gateway has the desired state. If phones may still send to a lost gateway, it doesn't: an
+%% unreachable gateway may still mix as before.
 -spec agrees(room()) -> boolean().
 agrees(#room{busy = none, stale = Stale, gateway = Gateway, conference = C}) when map_size(Stale) =:= 0 ->
     (Gateway =/= none orelse lobby_conference:is_empty(C)) andalso lobby_conference:missing(C) =:= []
         andalso element(1, lobby_conference:next(C)) =:= settled;
 agrees(_) -> false.
 
-%% @doc Who has which termination.
--spec seats(room()) -> lobby_audit_core:seats().
-seats(#room{gateway = none}) ->
-    #{};
+%% @doc Returns each member's gateway, context and termination.
+-spec seats(room()) -> #{id() => {Gateway :: binary(), Context :: term(), lobby_h248:termination()}}.
+seats(#room{gateway = none}) -> #{};
 seats(#room{gateway = Gateway, conference = C}) ->
     maps:from_list([{Id, {lobby_gateway:name(Gateway), lobby_conference:context(C), T}}
                     || {#{id := Id}, T} <- found(C), T =/= none]).
 
-%% @doc The packets that the gateway has received of each member, if it has said so since.
+%% @doc Returns how many packets the gateway has received from each member, if there are new counts.
 -spec received(Before :: room(), Now :: room()) -> [{id(), non_neg_integer()}].
 received(#room{packets = Packets}, #room{packets = Packets}) -> [];
 received(_, #room{packets = Packets, conference = C}) ->
     [{Id, Count} || {#{id := Id}, T} <- found(C), #{T := {Count, _}} <- [Packets]].
 
-%% @doc What there is at a time. `sends': whether packets of a member were counted lately, if any were ever counted.
+%% @doc Describes the room at a time. `sends': whether a member's packet count has risen lately, for members with a
+%% count.
 -spec describe(Now :: integer(), room()) -> description().
 describe(Now, #room{conference = C, gateway = Gateway, settings = Settings, packets = Packets}) ->
     #{sends => maps:from_list([{Id, Count > 0 andalso Now - Since < ?LATELY}

@@ -1,90 +1,54 @@
-%%% @doc Requests to rtpengine, which relays between browsers and gateways, and whether it is there. Its ng protocol is
-%%% a cookie and JSON over UDP. It answers a repeated cookie as before.
+%%% @doc Sends requests to rtpengine, which relays between browsers and gateways, and watches whether it answers. A
+%%% message of its ng protocol is a cookie and JSON over UDP. rtpengine repeats its answer to a cookie that it has
+%%% already answered.
 -module(lobby_rtpengine).
--behaviour(gen_server).
 
 -export([start_link/1, ask/2, state/0]).
--export([init/1, handle_call/3, handle_cast/2, handle_info/2]).
 
-%% Milliseconds until a request is sent again, and between two looks at rtpengine.
+%% Milliseconds until each retransmission of a request, and between checks of rtpengine.
 -define(TRIES, [200, 400, 800]).
 -define(LOOK, 1000).
 
--record(state, {address :: lobby_socket:address() | none, socket = none :: gen_udp:socket() | none,
-                %% Requests by cookie: for whom, and the intervals that are left.
-                waiting = #{} :: #{binary() => {{pid(), term()}, iodata(), [pos_integer()]}},
-                %% For how many seconds it ran at the last look: after a restart, for fewer.
-                ran = lost :: non_neg_integer() | lost}).
+%% @doc Starts a process that checks rtpengine regularly, if one is configured.
+-spec start_link(lobby_socket:address() | none) -> {ok, pid()} | ignore.
+start_link(none) ->
+    ok = persistent_term:put(?MODULE, none),
+    ignore;
+start_link(_) ->
+    ok = persistent_term:put(?MODULE, lost),
+    {ok, proc_lib:spawn_link(fun() -> true = register(?MODULE, self()), look(lost) end)}.
 
--spec start_link(lobby_socket:address() | none) -> gen_server:start_ret().
-start_link(Address) ->
-    gen_server:start_link({local, ?MODULE}, ?MODULE, Address, []).
-
-%% @doc This process is sent `{rtpengine, Tag, Result}' after at most a second and a half.
--spec ask(Tag :: term(), map()) -> ok.
-ask(Tag, Request) ->
-    gen_server:cast(?MODULE, {ask, {self(), Tag}, Request}).
-
+%% @doc Returns whether rtpengine answers, or `none' if none is configured.
 -spec state() -> none | lost | serving.
 state() ->
     persistent_term:get(?MODULE, none).
 
--spec init(lobby_socket:address() | none) -> {ok, #state{}}.
-init(none) ->
-    ok = persistent_term:put(?MODULE, none),
-    {ok, #state{address = none}};
-init(Address) ->
-    ok = persistent_term:put(?MODULE, lost),
-    {ok, Socket} = gen_udp:open(0, [binary, {active, true}, {recbuf, 1048576}]),
-    self() ! look,
-    {ok, #state{address = Address, socket = Socket}}.
+%% @doc Sends a request. Within one and a half seconds, the calling process is sent `{rtpengine, Tag, Result}'.
+-spec ask(Tag :: term(), map()) -> ok.
+ask(Tag, Request) ->
+    Self = self(),
+    _ = spawn(fun() -> Self ! {rtpengine, Tag, answer(Request)} end),
+    ok.
 
--spec handle_call(term(), gen_server:from(), #state{}) -> {reply, {error, unknown_call}, #state{}}.
-handle_call(_, _, State) ->
-    {reply, {error, unknown_call}, State}.
+answer(Request) ->
+    case {application:get_env(lobby, rtpengine, none), gen_udp:open(0, [binary, {active, false}, {recbuf, 65536}])} of
+        {Address = {_, _}, {ok, Socket}} ->
+            Cookie = string:lowercase(binary:encode_hex(crypto:strong_rand_bytes(8))),
+            Answer = tried(?TRIES, [Cookie, " ", jiffy:encode(Request)], Cookie, Address, Socket),
+            ok = gen_udp:close(Socket),
+            Answer;
+        {_, _} -> {error, no_relay}
+    end.
 
--spec handle_cast({ask, {pid(), term()}, map()}, #state{}) -> {noreply, #state{}}.
-handle_cast({ask, For, _}, State = #state{address = none}) ->
-    ok = answer(For, {error, no_relay}),
-    {noreply, State};
-handle_cast({ask, For, Request}, State) ->
-    {noreply, ask(For, Request, State)}.
-
-ask(For, Request, State = #state{waiting = Waiting}) ->
-    Cookie = string:lowercase(binary:encode_hex(crypto:strong_rand_bytes(8))),
-    sent(Cookie, State#state{waiting = Waiting#{Cookie => {For, jiffy:encode(Request), ?TRIES}}}).
-
-sent(Cookie, State = #state{address = {Address, Port}, socket = Socket, waiting = Waiting}) ->
-    #{Cookie := {For, Text, [Wait | More]}} = Waiting,
-    %% What can't be sent now is sent again.
-    _ = gen_udp:send(Socket, Address, Port, [Cookie, " ", Text]),
-    _ = erlang:send_after(Wait, self(), {again, Cookie}),
-    State#state{waiting = Waiting#{Cookie := {For, Text, More}}}.
-
--spec handle_info(term(), #state{}) -> {noreply, #state{}}.
-handle_info({again, Cookie}, State = #state{waiting = Waiting}) ->
-    case Waiting of
-        #{Cookie := {For, _, []}} ->
-            ok = answer(For, {error, no_relay}),
-            {noreply, State#state{waiting = maps:remove(Cookie, Waiting)}};
-        #{Cookie := _} -> {noreply, sent(Cookie, State)};
-        #{} -> {noreply, State}
-    end;
-handle_info({udp, _, Address, Port, Datagram}, State = #state{address = {Address, Port}, waiting = Waiting}) ->
-    case binary:split(Datagram, <<" ">>) of
-        [Cookie, Text] when is_map_key(Cookie, Waiting) ->
-            {{For, _, _}, Left} = maps:take(Cookie, Waiting),
-            ok = answer(For, result(Text)),
-            {noreply, State#state{waiting = Left}};
-        _ -> {noreply, State}
-    end;
-handle_info(look, State) ->
-    _ = erlang:send_after(?LOOK, self(), look),
-    {noreply, ask({self(), look}, #{command => statistics}, State)};
-handle_info({rtpengine, look, Result}, State) ->
-    {noreply, seen(Result, State)};
-handle_info(_, State) ->
-    {noreply, State}.
+tried([], _, _, _, _) -> {error, no_relay};
+tried([Wait | Waits], Text, Cookie, Address = {Ip, Port}, Socket) ->
+    %% A request that can't be sent now, because the network is down, is sent again.
+    _ = gen_udp:send(Socket, Address, Text),
+    case gen_udp:recv(Socket, 0, Wait) of
+        {ok, {Ip, Port, <<Cookie:16/binary, " ", Result/binary>>}} -> result(Result);
+        {error, timeout} -> tried(Waits, Text, Cookie, Address, Socket);
+        _ -> timer:sleep(Wait), tried(Waits, Text, Cookie, Address, Socket)
+    end.
 
 result(Text) ->
     try jiffy:decode(Text, [return_maps]) of
@@ -93,23 +57,23 @@ result(Text) ->
     catch error:_ -> {error, {relay, Text}}
     end.
 
-answer({Pid, Tag}, Result) ->
-    Pid ! {rtpengine, Tag, Result},
-    ok.
+%% Checks rtpengine in a loop. `Before' is rtpengine's uptime in seconds at the last check, which is lower after a
+%% restart.
+look(Before) ->
+    Ran = seen(answer(#{command => statistics}), Before),
+    timer:sleep(?LOOK),
+    look(Ran).
 
-%% What was relayed is lost with it.
-seen({ok, Answer}, State = #state{ran = Before}) ->
-    #{<<"statistics">> := #{<<"totalstatistics">> := #{<<"uptime">> := Uptime}}} = Answer,
+%% Notes the result of a check. When rtpengine is lost, so are all relayed calls.
+seen({ok, #{<<"statistics">> := #{<<"totalstatistics">> := #{<<"uptime">> := Uptime}}}}, Before) ->
     Ran = binary_to_integer(Uptime),
     _ = [begin logger:notice("rtpengine is in service"), persistent_term:put(?MODULE, serving) end || Before =:= lost],
     _ = [lost("rtpengine has been restarted") || Before =/= lost, Ran < Before],
-    State#state{ran = Ran};
-seen({error, _}, State = #state{ran = lost}) ->
-    State;
-seen({error, _}, State) ->
+    Ran;
+seen(_, Before) ->
     ok = persistent_term:put(?MODULE, lost),
-    ok = lost("rtpengine is lost"),
-    State#state{ran = lost}.
+    _ = [lost("rtpengine is lost") || Before =/= lost],
+    lost.
 
 lost(Text) ->
     logger:warning(Text),

@@ -1,7 +1,7 @@
-%%% @doc Who hears whom in a room, as rules about members and roles.
+%%% @doc Rules about members and roles, which decide who hears whom in a room.
 %%%
-%%% Rules are a list that is read like a firewall's: the last rule that matches a talker and a listener decides, and
-%%% without one the listener hears the talker. Rules name members, never terminations, so they hold on any gateway.
+%%% A list of rules works like a firewall's: the last rule that matches a talker and a listener decides. If no rule
+%%% matches, the listener hears the talker. Rules name members, never terminations, so they hold on any gateway.
 -module(lobby_rules).
 
 -export([hears/3, flows/2, flows/3, add/2, forget/2, named/1, preset/1, oneway/2]).
@@ -12,14 +12,14 @@
 -type id() :: term().
 -type role() :: binary().
 -type party() :: everyone | {role, role()} | {member, id()}.
-%% Whether the second party hears the first one.
+%% A rule says whether the listener hears the talker.
 -type rule() :: {allow | deny, Talker :: party(), Listener :: party()}.
 -type member() :: {id(), role()}.
 -type flow() :: {Talker :: id(), Listener :: id()}.
-%% The open flows.
+%% A set of open flows.
 -type flows() :: sets:set(flow()).
 
-%% @doc Whether the rules let a listener hear a talker. Nobody hears himself.
+%% @doc Returns whether the rules let a listener hear a talker. Members never hear themselves.
 -spec hears(Listener :: member(), Talker :: member(), [rule()]) -> boolean().
 hears({Id, _}, {Id, _}, _) ->
     false;
@@ -31,12 +31,12 @@ is_party(_, everyone) -> true;
 is_party({_, Role}, {role, Wanted}) -> Role =:= Wanted;
 is_party({Id, _}, {member, Wanted}) -> Id =:= Wanted.
 
-%% @doc The flows that the rules leave open between these members.
+%% @doc Returns the flows that the rules leave open between these members.
 -spec flows([member()], [rule()]) -> flows().
 flows(Members, Rules) ->
     flows(Members, Members, Rules).
 
-%% @doc The flows that they leave open from these talkers to these listeners.
+%% @doc Returns the flows that the rules leave open from these talkers to these listeners.
 -spec flows(Talkers :: [member()], Listeners :: [member()], [rule()]) -> flows().
 flows(Talkers, Listeners, Rules) ->
     sets:from_list([{From, To} || Talker = {From, _} <- Talkers, Listener = {To, _} <- Listeners,
@@ -56,18 +56,18 @@ add(New, Rules) ->
 forget(Id, Rules) ->
     [Rule || Rule = {_, From, To} <- Rules, From =/= {member, Id}, To =/= {member, Id}].
 
-%% @doc The members whom rules name.
+%% @doc Returns the members whom the rules name.
 -spec named([rule()]) -> [id()].
 named(Rules) ->
     lists:usort([Id || {_, From, To} <- Rules, {member, Id} <- [From, To]]).
 
-%% @doc Rules for the usual kinds of rooms, by roles.
+%% @doc Returns the rules of a preset, which refer to roles.
 -spec preset(plain | lecture | coaching | monitored) -> [rule()].
 preset(plain) -> [];
 preset(lecture) -> [{deny, {role, <<"listener">>}, everyone}];
 preset(coaching) -> [{deny, {role, <<"coach">>}, {role, <<"customer">>}}];
 preset(monitored) -> [{deny, {role, <<"monitor">>}, everyone}].
 
-%% @doc The listener hears the talker, but not the other way round.
+%% @doc Returns rules by which the listener hears the talker, but not vice versa.
 -spec oneway(Talker :: party(), Listener :: party()) -> [rule()].
 oneway(Talker, Listener) -> [{allow, Talker, Listener}, {deny, Listener, Talker}].

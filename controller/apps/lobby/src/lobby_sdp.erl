@@ -1,11 +1,11 @@
-%%% @doc Session descriptions (RFC 4566) of callers: offers, answers and own offers (RFC 3264) of one audio stream with
-%%% G.711. Other streams are declined. The gateway never sees a caller's description.
+%%% @doc Session descriptions (RFC 4566): the callers' offers and answers, and our own (RFC 3264), of one audio stream
+%%% with G.711. Other streams are declined. The gateway never sees a caller's description.
 -module(lobby_sdp).
 
 -export([parse/1, media/1, direction/1, warning/1, answer/4, offer/3]).
 -export_type([session/0, direction/0, reason/0]).
 
-%% `sendonly': the one who describes only sends.
+%% The direction from the caller's point of view. `sendonly': the caller only sends.
 -type direction() :: sendrecv | sendonly | recvonly | inactive.
 -type stream() :: taken | {declined, Kind :: binary(), Transport :: binary(), Formats :: [binary()]}.
 -record(session, {media :: lobby_h248:media(), direction :: direction(), streams :: [stream()]}).
@@ -15,7 +15,7 @@
 -define(MAX_STREAMS, 16).
 -define(MAX_LINES, 500).
 
-%% @doc A caller's description.
+%% @doc Parses a caller's session description.
 -spec parse(binary()) -> {ok, session()} | {error, reason()}.
 parse(Text) ->
     case binary:split(Text, <<"\n">>, [global]) of
@@ -32,14 +32,14 @@ session({Head, Blocks}) when length(Blocks) =< ?MAX_STREAMS ->
 session(_) ->
     {error, bad_syntax}.
 
-%% Bytes, because a description needn't be UTF-8 as a whole.
+%% Splits bytes at spaces, because a description needn't be valid UTF-8.
 words(Text) ->
     binary:split(Text, <<" ">>, [global, trim_all]).
 
 trim(Line) ->
     re:replace(Line, "[\r ]+$", "", [{return, binary}]).
 
-%% The lines before the first m= line, and a list of lines for each m= line.
+%% Returns the lines before the first m= line, and a list of lines for each m= line.
 blocks(Lines) ->
     lists:foldr(fun(First = <<"m=", _/binary>>, {Rest, Blocks}) -> {[], [[First | Rest] | Blocks]};
                    (Line, {Rest, Blocks}) -> {[Line | Rest], Blocks}
@@ -51,14 +51,14 @@ stream([<<"m=", Value/binary>> | _]) ->
         _ -> bad
     end.
 
-%% A port range (`4000/2') isn't taken.
+%% Port ranges such as `4000/2' aren't supported.
 port(Text) ->
     case string:to_integer(Text) of
         {Port, <<>>} when Port > 0, Port < 65536 -> Port;
         _ -> none
     end.
 
-%% The first stream that can be served is taken, and the others are declined.
+%% Takes the first stream that the gateway can serve, and declines the others.
 take(Tried) ->
     case lists:splitwith(fun({_, Found}) -> element(1, Found) =:= error end, Tried) of
         {Before, [{_, {ok, Media, Direction}} | After]} ->
@@ -83,7 +83,8 @@ audio({<<"audio">>, Port, <<"RTP/AVP">>, Formats}, Lines, Head) when Port =/= no
 audio(_, _, _) ->
     {error, no_audio}.
 
-%% The gateway sends packets of 20 ms, and drops all others. A phone that wants others would send such.
+%% The gateway sends packets of 20 ms, and drops received packets of any other length. A phone that asks for another
+%% length would also send it.
 takes_20_ms(<<"a=ptime:", Ms/binary>>) -> string:to_integer(Ms) =:= {20, <<>>};
 takes_20_ms(<<"a=maxptime:", Ms/binary>>) -> {Max, _} = string:to_integer(Ms), is_integer(Max) andalso Max >= 20;
 takes_20_ms(_) -> true.
@@ -92,7 +93,7 @@ format(<<"0">>) -> [pcmu];
 format(<<"8">>) -> [pcma];
 format(_) -> [].
 
-%% Only IPv4 addresses of a host: the gateway sends to nothing else.
+%% Returns the address, if it is a unicast IPv4 address: the gateway sends to no others.
 address(Lines) ->
     case [Host || <<"c=", Value/binary>> <- Lines, [<<"IN">>, <<"IP4">>, Host] <- [words(Value)]] of
         [Host | _] -> case inet:parse_ipv4strict_address(binary_to_list(Host)) of
@@ -106,15 +107,15 @@ direction_of(Lines) ->
     hd([Direction || <<"a=", Value/binary>> <- Lines, Direction <- [sendrecv, sendonly, recvonly, inactive],
                      Value =:= atom_to_binary(Direction)] ++ [sendrecv]).
 
-%% @doc Where the caller receives, and in which format.
+%% @doc Returns the address and format in which the caller receives media.
 -spec media(session()) -> lobby_h248:media().
 media(#session{media = Media}) -> Media.
 
-%% @doc The caller's direction; `inactive' if he holds with the address 0.0.0.0.
+%% @doc Returns the caller's direction, which is `inactive' if the caller holds with the address 0.0.0.0.
 -spec direction(session()) -> direction().
 direction(#session{direction = Direction}) -> Direction.
 
-%% @doc The headers that say why an offer is refused by 488 (RFC 3261, section 20.43).
+%% @doc Returns the headers that explain why an offer is rejected with 488 (RFC 3261, section 20.43).
 -spec warning(reason() | foreign_address) -> [{warning, [{300..399, binary(), binary()}]}].
 warning(Reason) ->
     {Code, Text} = case Reason of
@@ -127,13 +128,13 @@ warning(Reason) ->
     end,
     [{warning, [{Code, <<"lobby">>, iolist_to_binary([$", Text, $"])}]}].
 
-%% @doc The answer to an offer. Id and version are those of the own description (its o= line).
+%% @doc Returns the answer to an offer. The id and the version are those in its o= line.
 -spec answer(session(), Local :: lobby_h248:media(), Id :: non_neg_integer(), Version :: non_neg_integer()) -> binary().
 answer(#session{direction = Direction, streams = Streams}, Local, Id, Version) ->
     description(Streams, Local, reversed(Direction), Id, Version).
 
-%% @doc An own offer of one stream, to a caller who has described nothing yet, or what he described: the streams keep
-%% their places (RFC 3264, section 8).
+%% @doc Returns our offer. It has one stream if the caller hasn't sent a description yet. Otherwise, the streams keep
+%% their positions in the caller's description (RFC 3264, section 8).
 -spec offer(session() | none, Local :: lobby_h248:media(), {Id :: non_neg_integer(), Version :: non_neg_integer()}) ->
           binary().
 offer(none, Local, {Id, Version}) -> description([taken], Local, sendrecv, Id, Version);

@@ -1,37 +1,39 @@
-%%% @doc What a gateway has for whom, and which seats are taken: a person's termination, or the place that a room
-%%% reserved for one.
+%%% @doc The terminations on a gateway, with their members, and the seats in use. A seat is a person's termination, or a
+%%% room's reservation for one.
 %%%
-%%% A room reserves seats for all of its members before it adds any. A person who goes from one room to another on the
-%%% same gateway keeps his. What the gateway has is known from its answers, for rooms that start again, and because
-%%% whatever belongs to no member is to be ended.
+%%% A room reserves seats for all of its members before it adds any. A person who moves to another room on the same
+%%% gateway keeps the seat. The terminations are known from the gateway's replies. Restarted rooms need them, and
+%%% orphaned ones must be subtracted.
 -module(lobby_seats).
 
 -export([new/2, kept/2, reserve/3, keep/3, noted/4, let_go/3, ended/2, forget/1]).
--export([holdings/2, owners/3, rooms/1, entries/1, load/1]).
+-export([holdings/2, owners/3, rooms/1, latest/1, entries/1, load/1]).
 -export_type([seats/0, entry/0, change/0]).
 
 -type id() :: lobby_rules:id().
 -type room() :: lobby_room:name().
 -type termination() :: lobby_h248:termination().
-%% `given': the room that had it let it go for `room', which hasn't moved it yet.
+%% The entry of a termination. `given': its old room has released it to `room', which hasn't moved it yet.
 -type entry() :: #{context := lobby_h248:context(), room := room(), member := id(), local := lobby_h248:media(),
                    given := boolean()}.
-%% What has changed for the store.
+%% A change that the store has to make.
 -type change() :: {put, termination(), entry()} | {delete, termination()}.
 -record(seats, {max_terminations :: pos_integer(), max_contexts :: pos_integer(),
                 entries = #{} :: #{termination() => entry()}, reserved = #{} :: #{room() => [id()]}}).
 -opaque seats() :: #seats{}.
 
+%% @doc Returns the seats of a gateway without terminations.
 -spec new(MaxTerminations :: pos_integer(), MaxContexts :: pos_integer()) -> seats().
 new(MaxTerminations, MaxContexts) ->
     #seats{max_terminations = MaxTerminations, max_contexts = MaxContexts}.
 
-%% @doc With what was kept.
+%% @doc Sets the terminations to the stored ones.
 -spec kept([{termination(), entry()}], seats()) -> seats().
 kept(Entries, S) ->
     S#seats{entries = maps:from_list(Entries)}.
 
-%% @doc Reserves seats for all who are in a room or are to be, or changes nothing.
+%% @doc Reserves seats for all members of a room, including future ones. If there are too few seats, changes nothing and
+%% returns `false'.
 -spec reserve(room(), [id()], seats()) -> {boolean(), seats()}.
 reserve(Room, Ids, S) ->
     With = keep(Room, Ids, S),
@@ -41,12 +43,12 @@ reserve(Room, Ids, S) ->
         _ -> {false, S}
     end.
 
-%% @doc Those who have left a room no longer need their seats.
+%% @doc Sets a room's reservation to these members. Members who have left no longer need seats.
 -spec keep(room(), [id()], seats()) -> seats().
 keep(Room, [], S = #seats{reserved = Reserved}) -> S#seats{reserved = maps:remove(Room, Reserved)};
 keep(Room, Ids, S = #seats{reserved = Reserved}) -> S#seats{reserved = Reserved#{Room => Ids}}.
 
-%% @doc What an answer to a room's request says. The ids are those whom it was to add, in their order.
+%% @doc Notes the reply to a room's request. The ids are those of the members that the request was to add, in order.
 -spec noted(room(), [id()], lobby_h248:reply(), seats()) -> {[change()], seats()}.
 noted(Room, Ids, #{context := Context, results := Results}, S) ->
     Note = fun(Result, Acc) -> note(Result, {Room, Context}, Acc) end,
@@ -69,7 +71,7 @@ changed(New, S = #seats{entries = Old}) ->
     {[{put, T, Entry} || {T, Entry} <- maps:to_list(New), maps:get(T, Old, none) =/= Entry] ++
          [{delete, T} || T <- maps:keys(Old), not is_map_key(T, New)], S#seats{entries = New}}.
 
-%% @doc A room lets a termination go to another one.
+%% @doc Releases a termination to another room.
 -spec let_go(termination(), room(), seats()) -> {[change()], seats()}.
 let_go(T, To, S = #seats{entries = Entries}) ->
     case Entries of
@@ -77,47 +79,55 @@ let_go(T, To, S = #seats{entries = Entries}) ->
         #{} -> {[], S}
     end.
 
-%% @doc A termination, or all of a context, is no longer there.
+%% @doc Notes that a termination, or all terminations of a context, no longer exist.
 -spec ended(termination() | {all, lobby_h248:context()}, seats()) -> {[change()], seats()}.
 ended({all, Context}, S = #seats{entries = Entries}) ->
     changed(maps:filter(fun(_, #{context := In}) -> In =/= Context end, Entries), S);
 ended(T, S = #seats{entries = Entries}) ->
     changed(maps:remove(T, Entries), S).
 
-%% @doc The gateway was lost. Returns the contexts that it may still have.
+%% @doc Forgets all terminations and reservations, because the gateway was lost. Returns the contexts that it may still
+%% have.
 -spec forget(seats()) -> {[lobby_h248:context()], [change()], seats()}.
 forget(S = #seats{entries = Entries}) ->
     {Changes, Forgotten} = changed(#{}, S),
     {lists:usort([Context || #{context := Context} <- maps:values(Entries)]), Changes, Forgotten#seats{reserved = #{}}}.
 
-%% @doc What a room has.
+%% @doc Returns a room's terminations.
 -spec holdings(room(), seats()) -> [lobby_conference:holding()].
 holdings(Room, #seats{entries = Entries}) ->
     [(maps:with([context, member, local, given], Entry))#{termination => T}
      || {T, Entry = #{room := Of}} <- lists:sort(maps:to_list(Entries)), Of =:= Room].
 
-%% @doc Which terminations are a room's, and which ones in this context are those of others. One that is said to be in
-%% another context was moved by a node of which this one has heard nothing more, so no other room knows that it is here.
+%% @doc Returns which terminations belong to a room, and which ones in its context belong to other rooms. If an entry
+%% names another context, another node has moved the termination, and this node didn't learn of it. So no other room
+%% knows that the termination is here.
 -spec owners(room(), lobby_h248:context(), seats()) -> lobby_conference:owner().
 owners(Room, Context, #seats{entries = Entries}) ->
     maps:map(fun(_, #{room := Of, context := In}) when Of =/= Room, In =:= Context -> other;
                 (_, _) -> own
              end, Entries).
 
-%% @doc The rooms that use the gateway.
+%% @doc Returns the rooms that use the gateway.
 -spec rooms(seats()) -> [room()].
 rooms(#seats{entries = Entries, reserved = Reserved}) ->
     lists:usort(maps:keys(Reserved) ++ [Room || #{room := Room} <- maps:values(Entries)]).
 
+%% @doc Returns each room's latest context.
+-spec latest(seats()) -> #{room() => lobby_h248:context()}.
+latest(#seats{entries = Entries}) ->
+    maps:from_list(lists:sort([{Room, Context} || #{room := Room, context := Context, given := false} <- maps:values(Entries)])).
+
+%% @doc Returns all terminations with their entries.
 -spec entries(seats()) -> [{termination(), entry()}].
 entries(#seats{entries = Entries}) ->
     maps:to_list(Entries).
 
-%% @doc How much is taken. The controller's own termination and its context count.
+%% @doc Returns the gateway's load. The sentinel and its context count.
 -spec load(seats()) -> #{atom() => non_neg_integer()}.
 load(S = #seats{entries = Entries, reserved = Reserved, max_terminations = Max, max_contexts = MaxContexts}) ->
     With = lists:usort([Id || #{member := Id} <- maps:values(Entries)]),
     People = lists:usort(With ++ lists:append(maps:values(Reserved))),
-    %% A person has two terminations for as long as one of them is being ended.
+    %% A person has two terminations while one of them is being subtracted.
     Used = length(People) + map_size(Entries) - length(With) + 1,
     #{terminations => Used, contexts => length(rooms(S)) + 1, max_terminations => Max, max_contexts => MaxContexts}.

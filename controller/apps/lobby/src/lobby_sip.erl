@@ -1,4 +1,4 @@
-%%% @doc The SIP port. It lets messages in, which lobby_sip_reader reads, and begins calls.
+%%% @doc The process of the SIP port. It admits messages, which `lobby_sip_reader' reads, and begins calls.
 -module(lobby_sip).
 -behaviour(gen_server).
 
@@ -11,7 +11,7 @@
 -type config() :: #{sip := lobby_sip_message:peer(), users := lobby_auth:users(), digest := [lobby_auth:algorithm()],
                     callers := [lobby_auth:network()], proxies := [lobby_auth:network()],
                     tls := lobby_socket:tls() | none, _ => _}.
-%% Bytes. What is longer goes over TCP (RFC 3261, section 18.1.1).
+%% The maximum size of a datagram, in bytes. Longer messages need TCP (RFC 3261, section 18.1.1).
 -define(MAX_DATAGRAM, 8192).
 -record(state, {config :: config(), socket :: gen_udp:socket(), readers :: lobby_sip_reader:readers(),
                 admission :: lobby_admission:admission(), auth :: lobby_auth:auth()}).
@@ -20,8 +20,8 @@
 start_link(Config) ->
     gen_server:start_link({local, ?MODULE}, ?MODULE, Config, []).
 
-%% @doc Handles a message that came over a connection. The connection's process does so, so that nobody can send faster
-%% than he is served.
+%% @doc Handles a message that arrived over a connection. The connection's process reads the message itself, so that a
+%% phone can't send faster than it is served.
 -spec received(binary(), lobby_sip_message:target()) -> ok.
 received(Message, Source) ->
     case gen_server:call(?MODULE, {lets_in, Source}, infinity) of
@@ -29,13 +29,13 @@ received(Message, Source) ->
         false -> ok
     end.
 
-%% @doc Begins the call of a first INVITE, or returns the answer to it.
+%% @doc Begins a call for an initial INVITE, or returns the status and headers with which to reject it.
 -spec invite(lobby_sip_message:message(), lobby_sip_message:target()) ->
           ok | {Status :: 300..699, Headers :: [{atom(), term()}]}.
 invite(Request, Source) ->
     gen_server:call(?MODULE, {invite, Request, Source}, infinity).
 
-%% @doc Sends a message. If it is lost, as it is while the port isn't open, it is repeated by whoever wants an answer.
+%% @doc Sends a message. A message can be lost, for example while the port isn't open, so its sender retransmits it.
 -spec send(lobby_sip_message:target(), lobby_sip_message:message()) -> ok.
 send(Target, Message) ->
     ok = lobby_lease:hold(),
@@ -55,18 +55,18 @@ answer(Status, Content, Request, Source) ->
     ok = send(lobby_sip_message:response_target(Request, Source), Response),
     Response.
 
-%% @doc The transport, and the own address, where somebody reaches us who sends from there.
+%% @doc Returns the transport of a source, and the controller's own address for this transport.
 -spec own(lobby_sip_message:target()) -> lobby_dialog:own().
 own(Source) ->
     Transport = lobby_sip_message:transport(Source),
     {Transport, map_get(Transport, element(2, persistent_term:get(?MODULE)))}.
 
-%% @doc Our tag in the dialog with a caller: always the same for his INVITE, however often it comes.
+%% @doc Returns our tag in the dialog of a caller's request. A retransmitted INVITE gets the same tag.
 -spec own_tag(lobby_sip_message:message()) -> binary().
 own_tag(Request) ->
     tag(lobby_dialog:key(Request)).
 
-%% @doc Our tag in the dialog with this Call-ID and caller's tag.
+%% @doc Returns our tag in the dialog with this Call-ID and caller's tag.
 -spec tag({CallId :: binary(), Tag :: binary()}) -> binary().
 tag(Key) ->
     Secret = element(3, persistent_term:get(?MODULE)),
@@ -90,7 +90,7 @@ init(Config = #{sip := Own, digest := Algorithms, tls := Tls}) ->
 open({Address, Port}) ->
     gen_udp:open(Port, [binary, {ip, Address}, {active, 100}, {recbuf, 4194304}, {buffer, 65536}]).
 
-%% @doc It is kept, so that tags stay as they are when this process is started again, or a node takes over.
+%% @doc Returns the secret for tags. It is stored, so that tags stay the same after a restart or a take-over.
 -spec secret() -> binary().
 secret() ->
     case lobby_store:get(lobby_settings, secret) of
@@ -131,13 +131,13 @@ handle_info({'DOWN', _, process, Pid, _}, State = #state{admission = Admission})
 handle_info(_, State) ->
     {noreply, State}.
 
-%% Nothing is read of what isn't let in.
+%% Returns whether to read a message from this source. All other messages are dropped unread.
 lets_in(Source, State = #state{admission = Before}) ->
     Now = erlang:monotonic_time(millisecond),
     {IsIn, Admission} = lobby_admission:message(lobby_sip_message:address(Source), Now, Before),
     {IsIn, State#state{admission = Admission}}.
 
-%% What a trusted proxy asserts needs no password.
+%% Identifies an INVITE's sender. An identity that a trusted proxy asserts needs no password.
 identified(Request, Address, State = #state{config = #{users := Users, proxies := Proxies}, auth = Auth}) ->
     case {lobby_auth:is_in(Address, Proxies) andalso lobby_auth:identity(Request), map_size(Users)} of
         {Name, _} when is_binary(Name) -> {ok, Name, State};
@@ -150,7 +150,7 @@ identified(Request, Address, State = #state{config = #{users := Users, proxies :
 
 admitted(Request = #sip{uri = #uri{user = Room}}, Source, State = #state{admission = Before}) ->
     Address = lobby_sip_message:address(Source),
-    IsNew = not lobby_rooms:exists(Room),
+    IsNew = not lobby_room:exists(Room),
     {Verdict, Admission} = lobby_admission:call(Address, {Room, IsNew}, erlang:monotonic_time(millisecond), Before),
     State1 = State#state{admission = Admission},
     case Verdict of

@@ -1,17 +1,19 @@
-%%% @doc Reads SIP messages (RFC 3261, section 25) in linear time, into esip's records.
+%%% @doc Decodes SIP messages (RFC 3261, section 25) in linear time, into esip's records.
 %%%
-%%% esip 1.0.49 reads a list of addresses in quadratic time (58 KB of Contact take half a minute), and no IPv6 addresses
-%%% in URIs. So it only writes messages. Here, headers that the controller doesn't use are skipped.
+%%% esip 1.0.49 reads a list of addresses in quadratic time (58 KB of Contact take half a minute), and can't read IPv6
+%%% addresses in URIs. So the controller uses esip only to write messages. This module skips headers that the controller
+%%% doesn't use.
 -module(lobby_sip_decoder).
 
 -include_lib("p1_sip/include/esip.hrl").
 
 -export([decode/1, uri/1]).
 
-%% Bytes of a head, and its lines, values and parameters: so many take less than a millisecond.
+%% The maximum size of a head in bytes, and its maximum number of lines, values and parameters. Such a head takes less
+%% than a millisecond.
 -define(MAX_HEAD, 8192).
 -define(MAX_PARTS, 160).
-%% What is read, by name. The short names are those of section 7.3.3, and of RFC 4028.
+%% The headers that are read, by name. The short names come from section 7.3.3 and RFC 4028.
 -define(KEYS, #{<<"via">> => via, <<"v">> => via, <<"from">> => from, <<"f">> => from, <<"to">> => to, <<"t">> => to,
                 <<"call-id">> => 'call-id', <<"i">> => 'call-id', <<"cseq">> => cseq, <<"contact">> => contact,
                 <<"m">> => contact, <<"record-route">> => 'record-route', <<"max-forwards">> => 'max-forwards',
@@ -23,8 +25,8 @@
                 <<"p-asserted-identity">> => 'p-asserted-identity'}).
 -define(HOST, "(\\[[0-9A-Fa-f:.]+\\]|[A-Za-z0-9_.-]+)").
 
-%% @doc A message. With a status: a request that can be answered by it, but not served. A header that can't be read is
-%% in it as a text, and of a header that comes twice, the first one.
+%% @doc Decodes a message. If a request can be answered, but not served, returns the status of the answer. A malformed
+%% header stays as text. If a header occurs twice, the first one counts.
 -spec decode(binary()) -> {ok | 400 | 505, #sip{}} | {error, not_sip}.
 decode(Datagram) ->
     case binary:split(Datagram, <<"\r\n\r\n">>) of
@@ -35,7 +37,7 @@ decode(Datagram) ->
     end.
 
 head(Head, Parts, Body) when Parts =< ?MAX_PARTS ->
-    %% A line that begins with white space continues the one before (section 7.3.1).
+    %% A line that begins with white space continues the previous line (section 7.3.1).
     Unfolded = binary:replace(Head, [<<"\r\n ">>, <<"\r\n\t">>], <<" ">>, [global]),
     [First | Lines] = binary:split(Unfolded, <<"\r\n">>, [global]),
     case start_line(binary:split(First, <<" ">>, [global])) of
@@ -74,12 +76,12 @@ with_headers(Lines, Status, Message = #sip{type = Type, method = Method}) ->
         {request, _} -> {400, Message#sip{hdrs = Headers}}
     end.
 
-%% What a message has at most once. Only headers with lists may come more often.
+%% Returns a key that identifies duplicate headers. Only headers with lists may occur more than once.
 once({role, {Name, _}}) -> Name;
 once({_, Values}) when is_list(Values) -> make_ref();
 once({Name, _}) -> Name.
 
-%% A request has its method in CSeq, too.
+%% Reads a header line. The method in CSeq must be the request's method.
 header(Line, Method) ->
     case {binary:split(Line, <<":">>), binary:match(Line, [<<"\r">>, <<"\n">>])} of
         {[Name, Value], nomatch} -> case maps:get(lower(trim(Name)), ?KEYS, unused) of
@@ -95,15 +97,15 @@ header(Line, Method) ->
         {_, _} -> [bad]
     end.
 
-%% What isn't as it should be has no matching clause.
+%% Applies a reader to a text. A malformed text matches no clause of the reader.
 read(Reader, Text) ->
     try {ok, Reader(Text)} catch error:_ -> error end.
 
-%% A Via that can be read is needed for the answer, even if it has too many separators.
+%% Reads a header's value. A Via may have superfluous separators, because the response needs it.
 value(via, Text) -> [via(Item) || Item <- values(Text), re:run(Item, "[^;]") =/= nomatch];
 value(contact, <<"*">>) -> <<"*">>;
 value(Key, Text) when Key =:= from; Key =:= to -> [Address] = values(Text), address(Address);
-%% Of more than two contacts, it's enough to know that it isn't one.
+%% Two contacts suffice to find out that there is more than one.
 value(contact, Text) -> [address(Item) || Item <- lists:sublist(values(Text), 2)];
 value('record-route', Text) -> [address(Item) || Item <- values(Text)];
 value('p-asserted-identity', Text) -> [address(hd(values(Text)))];
@@ -122,7 +124,7 @@ value(authorization, Text) ->
     [{lower(Scheme), [param(Item) || Item <- values(Rest)]}];
 value(_, Text) -> [lower(Item) || Item <- values(Text)].
 
-%% At most a day, so that it fits into a timer.
+%% Reads seconds. More than a day counts as a day, so that the time fits into a timer.
 seconds(Text) -> min(number(Text, infinity), 86400).
 
 number(Text = <<Digit, _/binary>>, Max) when Digit >= $0, Digit =< $9, byte_size(Text) =< 80 ->
@@ -136,7 +138,7 @@ match(Text, Name) ->
     {match, Found} = re:run(Text, compiled(Name), [{capture, all_but_first, binary}]),
     Found.
 
-%% Keeps compiled patterns: to compile one takes longer than to match it.
+%% Returns a compiled pattern from a cache, because compiling takes longer than matching.
 compiled(Name) ->
     case persistent_term:get({?MODULE, Name}, none) of
         none ->
@@ -148,7 +150,7 @@ compiled(Name) ->
 
 pattern(token) -> "^[A-Za-z0-9.!%*_+`'~-]+$";
 pattern(sent) -> "^([A-Za-z]+)\\s*/\\s*([0-9])\\.([0-9])\\s*/\\s*([^\\s/]+)\\s+" ?HOST "(?:\\s*:\\s*([0-9]{1,5}))?$";
-%% A name with a URI in angle brackets, or a URI without parameters of its own (section 20).
+%% An address: a name with a URI in angle brackets, or a URI without parameters of its own (section 20).
 pattern(address) -> "^(?|(\"(?:[^\"\\\\]++|\\\\.)*+\"\\s*|[^\"<>,]*)<([^<>\\s]+)>()|()()([^\\s<>?,\"]+))$";
 pattern(uri) -> "^([A-Za-z][A-Za-z0-9+.-]*):([^\\s<>]+)$";
 pattern(sip) ->
@@ -178,7 +180,7 @@ address(Text) ->
     [Name, Inner, Bare] = match(First, address),
     {trim(Name), uri(<<Inner/binary, Bare/binary>>), [param(Param) || Param <- Params]}.
 
-%% @doc A URI. Of another scheme than SIP's, nothing but the scheme is read.
+%% @doc Reads a URI. If its scheme isn't sip or sips, reads only the scheme.
 -spec uri(binary()) -> #uri{}.
 uri(Text) ->
     case re:run(Text, compiled(sip), [{capture, all_but_first, binary}]) of
@@ -195,7 +197,7 @@ uri(Text) ->
             #uri{scheme = lower(Scheme), host = Rest}
     end.
 
-%% Changes only ASCII, because what others send needn't be UTF-8.
+%% Converts only ASCII letters, because messages needn't be valid UTF-8.
 lower(Text) -> list_to_binary(string:to_lower(binary_to_list(Text))).
 upper(Text) -> list_to_binary(string:to_upper(binary_to_list(Text))).
 
@@ -208,7 +210,7 @@ trim_end(Text) ->
         false -> Text
     end.
 
-%% Splits where a character is neither in quotes nor in angle brackets.
+%% Splits a text at a character, except within quotes and angle brackets.
 split(Text, At) -> [trim(binary:part(Text, From, To - From)) || {From, To} <- parts(Text, At, 0, 0, plain)].
 
 parts(<<At, Rest/binary>>, At, From, To, plain) -> [{From, To} | parts(Rest, At, To + 1, To + 1, plain)];

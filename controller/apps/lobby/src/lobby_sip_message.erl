@@ -1,4 +1,5 @@
-%%% @doc SIP messages (RFC 3261), in esip's records, with checks that what the controller relies on is there.
+%%% @doc SIP messages (RFC 3261), in esip's records. Decoding checks that the headers on which the controller relies are
+%%% present.
 -module(lobby_sip_message).
 
 -include_lib("p1_sip/include/esip.hrl").
@@ -9,13 +10,13 @@
 
 -type message() :: #sip{}.
 -type peer() :: {inet:ip4_address(), inet:port_number()}.
-%% Over UDP, or over this connection, perhaps with TLS.
+%% An address over UDP, or a connection over TCP or TLS with its address.
 -type target() :: peer() | {tcp, Connection :: pid() | {tls, pid()}, peer()}.
-%% Methods of RFCs that aren't served.
+%% Standard methods that the controller doesn't support.
 -define(OTHER_METHODS, [<<"REGISTER">>, <<"SUBSCRIBE">>, <<"NOTIFY">>, <<"PUBLISH">>, <<"REFER">>, <<"MESSAGE">>,
                         <<"INFO">>, <<"PRACK">>]).
 
-%% @doc A message from this address. `refused': a request that isn't as it should be, but can be answered.
+%% @doc Decodes a message from this address. `refused': the request is malformed, but can be answered with this status.
 -spec decode(binary(), Source :: target()) ->
           {ok, message()} | {refused, Status :: 400 | 505, message()} | {error, not_sip}.
 decode(Text, Source) ->
@@ -26,7 +27,7 @@ decode(Text, Source) ->
 
 checked(Status, Message = #sip{type = Type, body = Body}) ->
     Missing = [Key || Key <- [via, from, to, 'call-id', cseq], lists:member(header(Key, Message), [undefined, []])],
-    %% Section 18.3: a body that is shorter than its Content-Length was cut off.
+    %% Section 18.3: a body that is shorter than its Content-Length was truncated.
     IsWhole = header('content-length', Message, 0) =< byte_size(Body),
     case {Type, Status, Missing} of
         {response, ok, []} -> {ok, Message};
@@ -37,8 +38,8 @@ checked(Status, Message = #sip{type = Type, body = Body}) ->
         {response, _, _} -> {error, not_sip}
     end.
 
-%% @doc The answer to a request that asks for what nobody here has (section 8.2), whatever call it is of. An ACK isn't
-%% answered, and a CANCEL isn't refused for its contents.
+%% @doc Returns the response to a request that the controller doesn't support (section 8.2), in any call. An ACK is
+%% never answered, and a CANCEL isn't rejected for its contents.
 -spec refusal(message()) -> none | {Status :: 400..699, Headers :: [{atom(), term()}]}.
 refusal(#sip{method = Method}) when Method =:= <<"ACK">>; Method =:= <<"CANCEL">> ->
     none;
@@ -60,7 +61,8 @@ refusal(Request = #sip{method = Method, uri = #uri{scheme = Scheme, hdrs = UriHe
         false -> none
     end.
 
-%% Section 8.1.1.8: the one address at which the caller is reached in the call. Within it, he needn't say it again.
+%% Section 8.1.1.8: an INVITE has one Contact, at which the caller can be reached in the call. A re-INVITE needn't
+%% repeat it.
 has_contact(Request) ->
     case headers(contact, Request) of
         [{_, #uri{scheme = Scheme}, _}] -> lists:member(Scheme, [<<"sip">>, <<"sips">>]);
@@ -76,15 +78,17 @@ accepts_sdp(Request) ->
                        lists:member(Type, [<<"application/sdp">>, <<"application/*">>, <<"*/*">>])],
     Fitting =/= [] orelse not lists:keymember(accept, 1, Request#sip.hdrs).
 
+%% @doc Returns the Allow header of our responses.
 -spec allow() -> {allow, [binary()]}.
 allow() ->
     {allow, [<<"INVITE">>, <<"ACK">>, <<"BYE">>, <<"CANCEL">>, <<"OPTIONS">>, <<"UPDATE">>]}.
 
+%% @doc Returns the Accept header of our responses.
 -spec accept() -> {accept, [{binary(), []}]}.
 accept() ->
     {accept, [{<<"application/sdp">>, []}]}.
 
-%% RFC 3261, section 18.2.1, and RFC 3581: where the message came from.
+%% Adds the source of a request to its Via (RFC 3261, section 18.2.1, and RFC 3581).
 received(Message = #sip{type = Type, hdrs = Headers}, {Address, Port}) ->
     case {Type, header(via, Message)} of
         {request, [Top = #via{params = Params} | Rest]} ->
@@ -96,14 +100,16 @@ received(Message = #sip{type = Type, hdrs = Headers}, {Address, Port}) ->
         {_, _} -> Message
     end.
 
+%% @doc Encodes a message.
 -spec encode(message()) -> binary().
 encode(Message) ->
     iolist_to_binary(esip_codec:encode(Message)).
 
-%% @doc A response with this tag in To, if it has none. 2xx responses have the way back to the caller (section 12.1.1).
+%% @doc Returns a response to a request. If the request's To has no tag, all responses except 100 get this one.
+%% Provisional and 2xx responses have the Record-Route (section 12.1.1).
 -spec response(100..699, message(), Tag :: binary(), {Headers :: [{term(), term()}], Body :: binary()}) -> message().
 response(Status, Request = #sip{hdrs = Headers, method = Method}, Tag, {More, Body}) ->
-    %% Names that aren't atoms are of headers that couldn't be read.
+    %% The names of malformed headers aren't atoms.
     Keys = [via, from, 'call-id', cseq, <<"via">>, <<"from">>, <<"to">>, <<"call-id">>, <<"cseq">>],
     Copied = [Header || Header = {Key, _} <- Headers,
                         lists:member(Key, Keys) orelse (Key =:= 'record-route' andalso Status < 300)],
@@ -115,7 +121,7 @@ response(Status, Request = #sip{hdrs = Headers, method = Method}, Tag, {More, Bo
     #sip{type = response, status = Status, reason = esip:reason(Status), method = Method, body = Body,
          hdrs = Copied ++ To ++ More ++ [{server, <<"lobby">>}]}.
 
-%% @doc Where a response to a request from this address goes (section 18.2.2, and RFC 3581, section 4).
+%% @doc Returns the target of a response to a request from this address (section 18.2.2, and RFC 3581, section 4).
 -spec response_target(message(), Source :: target()) -> target().
 response_target(_, Connection = {tcp, _, _}) ->
     Connection;
@@ -127,26 +133,29 @@ response_target(Request, {Address, Port}) ->
         false -> {Address, 5060}
     end.
 
+%% @doc Returns the address and port of a message's source or target.
 -spec peer(target()) -> peer().
 peer({tcp, _, Peer}) -> Peer;
 peer(Peer) -> Peer.
 
+%% @doc Returns the address of a message's source or target.
 -spec address(target()) -> inet:ip4_address().
 address(Target) ->
     element(1, peer(Target)).
 
+%% @doc Returns the connection's process, or `none' over UDP.
 -spec connection(target()) -> pid() | none.
 connection({tcp, {tls, Pid}, _}) -> Pid;
 connection({tcp, Pid, _}) -> Pid;
 connection(_) -> none.
 
-%% @doc The transport, as it is written in a Via.
+%% @doc Returns the transport's name in a Via.
 -spec transport(target()) -> binary().
 transport({tcp, {tls, _}, _}) -> <<"TLS">>;
 transport({tcp, _, _}) -> <<"TCP">>;
 transport(_) -> <<"UDP">>.
 
-%% @doc The first header of this name, if it could be decoded.
+%% @doc Returns the value of the first header with this name, or `undefined' if there is none that could be decoded.
 -spec header(atom(), message()) -> term().
 header(Key, Message) ->
     header(Key, Message, undefined).
@@ -155,28 +164,29 @@ header(Key, Message) ->
 header(Key, #sip{hdrs = Headers}, Default) ->
     proplists:get_value(Key, Headers, Default).
 
-%% @doc The values of all headers of this name that have lists.
+%% @doc Returns the values of all headers with this name that contain lists.
 -spec headers(atom(), message()) -> [term()].
 headers(Key, #sip{hdrs = Headers}) ->
     lists:append([Value || {Name, Value} <- Headers, Name =:= Key, is_list(Value)]).
 
-%% @doc The tag of From or To, or nothing.
+%% @doc Returns the tag of From or To, or an empty binary.
 -spec tag(from | to, message()) -> binary().
 tag(Key, Message) ->
     {_, _, Params} = header(Key, Message, {none, none, []}),
     proplists:get_value(<<"tag">>, Params, <<>>).
 
+%% @doc Returns the number in CSeq.
 -spec sequence(message()) -> non_neg_integer().
 sequence(Message) ->
     header(cseq, Message).
 
-%% @doc The body, without what comes after its Content-Length.
+%% @doc Returns the body, up to its Content-Length.
 -spec body(message()) -> binary().
 body(Message = #sip{body = Body}) ->
     Size = byte_size(Body),
     binary:part(Body, 0, min(Size, header('content-length', Message, Size))).
 
-%% @doc A branch for a Via (section 8.1.1.7).
+%% @doc Returns a new branch for a Via (section 8.1.1.7).
 -spec branch() -> binary().
 branch() ->
     <<"z9hG4bK", (binary:encode_hex(crypto:strong_rand_bytes(8)))/binary>>.

@@ -1,4 +1,4 @@
-%%% @doc Connections over TCP, or over TLS with the operator's certificate.
+%%% @doc Sockets for TCP, or for TLS with the operator's certificate.
 -module(lobby_socket).
 
 -export([opened/1, secured/2, options/1, send/2, setopts/2]).
@@ -6,12 +6,12 @@
 
 -type socket() :: gen_tcp:socket() | ssl:sslsocket().
 -type address() :: {inet:ip4_address(), inet:port_number()}.
-%% Files in PEM. When they change, new connections have the new certificate within two minutes (ssl's cache).
+%% Files in PEM. If they change, new connections use the new certificate within two minutes (ssl's cache).
 -type tls() :: #{certificate := file:filename(), key := file:filename(), _ => _}.
-%% Milliseconds.
+%% The timeout for TLS's handshake, in milliseconds.
 -define(HANDSHAKE, 5000).
 
-%% @doc Opens a port. The socket of a process that was killed is closed a little later.
+%% @doc Opens a port. Retries for a second, because the socket of a killed process takes a moment to close.
 -spec opened(fun(() -> {ok, Opened} | {error, term()})) -> {ok, Opened} | {error, term()}.
 opened(Open) ->
     opened(Open, 50).
@@ -22,20 +22,22 @@ opened(Open, Tries) ->
         Opened -> Opened
     end.
 
-%% @doc A connection that was accepted and given to this process, after TLS's handshake.
+%% @doc Performs TLS's handshake, if any, on an accepted connection, which this process must own. Returns its socket.
 -spec secured(gen_tcp:socket(), tls() | none) -> {ok, socket()} | {error, term()}.
 secured(Socket, none) -> {ok, Socket};
 secured(Socket, Tls) -> ssl:handshake(Socket, options(Tls), ?HANDSHAKE).
 
-%% @doc What ssl has to know. What strangers do isn't logged.
+%% @doc Returns the options for ssl. Failed handshakes aren't logged, because strangers could flood the log.
 -spec options(tls()) -> [ssl:tls_server_option()].
 options(#{certificate := Certificate, key := Key}) ->
     [{certfile, Certificate}, {keyfile, Key}, {log_level, emergency}].
 
+%% @doc Sends over TCP or TLS.
 -spec send(socket(), iodata()) -> ok | {error, term()}.
 send(Socket, Bytes) when is_port(Socket) -> gen_tcp:send(Socket, Bytes);
 send(Socket, Bytes) -> ssl:send(Socket, Bytes).
 
+%% @doc Sets options of a TCP or TLS socket.
 -spec setopts(socket(), [gen_tcp:option()]) -> ok | {error, term()}.
 setopts(Socket, Options) when is_port(Socket) -> inet:setopts(Socket, Options);
 setopts(Socket, Options) -> ssl:setopts(Socket, Options).

@@ -1,9 +1,9 @@
-%%% @doc What has to outlive the process that knows it: rooms, calls, and what gateways have for us. With a folder for
-%%% mnesia, it also outlives the node. Of a pair of nodes, each has a copy, and what one writes is on the other before
+%%% @doc Keeps the state that outlives its processes: rooms, calls, and our terminations on gateways. With a folder for
+%%% mnesia, the state also outlives the node. In a pair, each node has a copy, and a write is on both nodes before
 %%% `put/3' returns.
 %%%
-%%% A node of a pair that has nothing in its folder waits for the other one, and copies what that has. One that ended as
-%%% the standby waits for the node that served, because only that one knows what has changed since.
+%%% A node of a pair with an empty folder waits for the other node, and copies its tables. A node that ended as the
+%%% standby waits for the node that served, because only that node has the latest changes.
 -module(lobby_store).
 -behaviour(gen_server).
 
@@ -12,11 +12,11 @@
 -export([init/1, handle_continue/2, handle_call/3, handle_cast/2, handle_info/2]).
 -export_type([table/0, config/0]).
 
-%% Members are grouped by room, and what a gateway has and was sent by its name.
+%% Members are grouped by room, and terminations and requests by gateway.
 -type table() :: lobby_rooms | lobby_gateways | lobby_calls | lobby_counters | lobby_settings | lobby_isolated
                | grouped().
 -type grouped() :: lobby_members | lobby_terminations | lobby_requests.
-%% `disc': mnesia's folder (its `dir') has the tables, too.
+%% `disc': the tables are also in mnesia's folder (its `dir').
 -type config() :: #{store := memory | disc, pair := lobby_pair:config() | none}.
 -define(GROUPED, [lobby_members, lobby_terminations, lobby_requests]).
 -define(TABLES, [lobby_rooms, lobby_gateways, lobby_calls, lobby_counters, lobby_settings, lobby_isolated | ?GROUPED]).
@@ -24,22 +24,24 @@
 %% Milliseconds until a node asks the other one again.
 -define(AGAIN, 500).
 
-%% A node of a pair has the pair's configuration.
+%% The state of a pair's node is the pair's configuration.
 -type state() :: lobby_pair:config() | none.
 
 -spec start_link(config()) -> gen_server:start_ret().
 start_link(Config) ->
     gen_server:start_link({local, ?MODULE}, ?MODULE, Config, []).
 
+%% @doc Writes a row. In a pair, both nodes have the row when this returns, unless the other node is away.
 -spec put(table(), Key :: term(), Value :: term()) -> ok.
 put(Table, Key, Value) ->
-    write(fun() -> mnesia:write({Table, Key, lobby_stored:pack(Value)}) end).
+    write(fun() -> mnesia:write({Table, Key, lobby_store_format:pack(Value)}) end).
 
-%% @doc Writes to a table with groups.
+%% @doc Writes a row to a table with groups.
 -spec put(grouped(), Key :: term(), Group :: term(), Value :: term()) -> ok.
 put(Table, Key, Group, Value) ->
-    write(fun() -> mnesia:write({Table, Key, lobby_stored:pack(Value), Group}) end).
+    write(fun() -> mnesia:write({Table, Key, lobby_store_format:pack(Value), Group}) end).
 
+%% @doc Returns the value of a row, or `error' if there is no such row.
 -spec get(table(), Key :: term()) -> {ok, Value :: term()} | error.
 get(Table, Key) ->
     case mnesia:dirty_read(Table, Key) of
@@ -54,61 +56,67 @@ get(Table, Key, Default) ->
         error -> Default
     end.
 
+%% @doc Returns whether a table has a row with this key.
 -spec has(table(), Key :: term()) -> boolean().
 has(Table, Key) ->
     ets:member(Table, Key).
 
+%% @doc Deletes a row, if it exists. In a pair, deletes it on both nodes.
 -spec delete(table(), Key :: term()) -> ok.
 delete(Table, Key) ->
     write(fun() -> mnesia:delete({Table, Key}) end).
 
-%% Returns once it is on both nodes.
+%% Makes a change, and returns once both nodes of a pair have it.
 write(Change) ->
     mnesia:sync_dirty(Change).
 
+%% @doc Returns all rows of a table.
 -spec all(table()) -> [{Key :: term(), Value :: term()}].
 all(Table) ->
     [{Key, unpack(Table, Stored)} || {_, Key, Stored} <- mnesia:dirty_match_object({Table, '_', '_'})].
 
-%% @doc What a group has. No other rows are looked at.
+%% @doc Returns the rows of a group, without reading any others.
 -spec group(grouped(), Group :: term()) -> [{Key :: term(), Value :: term()}].
 group(Table, Group) ->
     [{Key, unpack(Table, Stored)} || {_, Key, Stored, _} <- mnesia:dirty_index_read(Table, Group, group)].
 
 unpack(Table, Stored) ->
-    {ok, Value} = lobby_stored:unpack(Table, Stored),
+    {ok, Value} = lobby_store_format:unpack(Table, Stored),
     Value.
 
+%% @doc Returns the groups in a table that have rows.
 -spec groups(grouped()) -> [Group :: term()].
 groups(Table) ->
     lists:usort(mnesia:dirty_select(Table, [{{Table, '_', '_', '$1'}, [], ['$1']}])).
 
+%% @doc Returns all keys of a table.
 -spec keys(table()) -> [Key :: term()].
 keys(Table) ->
     mnesia:dirty_all_keys(Table).
 
+%% @doc Returns the number of rows in a table.
 -spec size(table()) -> non_neg_integer().
 size(Table) ->
     mnesia:table_info(Table, size).
 
-%% @doc Adds one to a counter.
+%% @doc Increments a counter.
 -spec count(Key :: term()) -> ok.
 count(Key) ->
     _ = mnesia:dirty_update_counter(lobby_counters, Key, 1),
     ok.
 
-%% @doc Whether this node has all that was kept.
+%% @doc Returns whether this node has loaded its tables.
 -spec is_open() -> boolean().
 is_open() ->
     persistent_term:get({?MODULE, open}, false).
 
-%% @doc Whose tables are to be loaded when this node starts the next time: those of a node that serves, or, with `none',
-%% those that were written last.
+%% @doc Sets which tables this node loads at its next start: those of a serving node or, with `none', those that were
+%% written last.
 -spec follow(node() | none) -> ok.
 follow(none) -> mnesia:set_master_nodes([]);
 follow(Node) -> mnesia:set_master_nodes([Node]).
 
-%% @doc Lets a node with an empty folder make copies, even if it had some before. Called by that node.
+%% @doc Lets a node with an empty folder copy the tables, even if it had copies before. That node calls this function.
 -spec admit(node()) -> ok | {error, not_open}.
 admit(Node) ->
     Open = is_open(),
@@ -118,8 +126,8 @@ admit(Node) ->
         false -> {error, not_open}
     end.
 
-%% Leaves existing tables as they are, so a restarted process finds what it had.
--spec init(config()) -> {ok, state()} | {ok, state(), {continue, open}} | {stop, lobby_stored:error()}.
+%% Opens the tables. Existing tables stay unchanged, so a restarted process finds its data.
+-spec init(config()) -> {ok, state()} | {ok, state(), {continue, open}} | {stop, lobby_store_format:error()}.
 init(#{store := Store, pair := none}) ->
     Store =:= disc andalso on_disc(),
     ok = create(case Store of memory -> ram_copies; disc -> disc_copies end),
@@ -149,18 +157,18 @@ create(Copies) ->
 columns(true) -> [{attributes, [key, value, group]}, {index, [group]}];
 columns(false) -> [{attributes, [key, value]}].
 
-%% What another release wrote isn't touched.
+%% Returns an error for each row in an unknown format. Such rows, from another release, stay unchanged.
 unreadable() ->
     [Reason || Table <- ?TABLES, Row <- mnesia:dirty_match_object(mnesia:table_info(Table, wild_pattern)),
-               {error, Reason} <- [lobby_stored:unpack(Table, element(3, Row))]].
+               {error, Reason} <- [lobby_store_format:unpack(Table, element(3, Row))]].
 
-%%% A node of a pair.
+%%% Opens the store of a pair's node: loads its tables, or copies the other node's.
 
--spec handle_continue(open, state()) -> {noreply, state()} | {stop, lobby_stored:error(), state()}.
+-spec handle_continue(open, state()) -> {noreply, state()} | {stop, lobby_store_format:error(), state()}.
 handle_continue(open, Pair = #{peer := Peer}) ->
     _ = net_kernel:connect_node(Peer),
     Has = case mnesia:system_info(use_dir) of
-        true -> loaded();
+        true -> ok = met(Peer), loaded();
         false -> copied(Peer)
     end,
     case {Has, Has andalso unreadable()} of
@@ -171,7 +179,14 @@ handle_continue(open, Pair = #{peer := Peer}) ->
         {false, _} -> _ = erlang:send_after(?AGAIN, self(), open), {noreply, Pair}
     end.
 
-%% What is in the folder, or what the other node has, if mnesia says that it is newer.
+%% Connects mnesia with the other node. Mnesia does so itself only if the nodes are already connected when it starts.
+met(Peer) ->
+    case lists:member(Peer, nodes()) andalso not lists:member(Peer, mnesia:system_info(running_db_nodes)) of
+        true -> _ = mnesia:change_config(extra_db_nodes, [Peer]), ok;
+        false -> ok
+    end.
+
+%% Loads the tables from the folder or, if mnesia considers these newer, from the other node.
 loaded() ->
     %% An earlier release had fewer tables.
     case ?TABLES -- mnesia:system_info(tables) of
@@ -179,7 +194,8 @@ loaded() ->
         _ -> create(disc_copies) =:= ok andalso mnesia:wait_for_tables(?TABLES, 0) =:= ok
     end.
 
-%% Nothing is in the folder. Where the other node isn't open yet, it is asked again.
+%% Copies the tables from the other node, because the folder is empty. If the other node's store isn't open yet, the
+%% caller retries.
 copied(Peer) ->
     try erpc:call(Peer, ?MODULE, admit, [node()], ?WAIT) of
         ok -> joined(mnesia:change_config(extra_db_nodes, [Peer]));

@@ -1,11 +1,11 @@
-%%% @doc The supervisors. At the top, each child needs those before it: if one fails, those after it are started again,
-%%% and go on with what the store kept.
+%%% @doc The supervisors. At the top, each child depends on the children before it. If a child fails, the children after
+%%% it are restarted, and continue with the stored state.
 -module(lobby_sup).
 -behaviour(supervisor).
 
 -export([start_link/1, start_link/2, init/1]).
 
-%% Names of what lobby_serving starts. `lobby' is pg's.
+%% The registered names of the processes below lobby_serving. `lobby' is pg's scope.
 -define(SERVING, [lobby, lobby_aside_sup, lobby_registry, lobby_gateway_sup, lobby_room_sup, lobby_room_keeper,
                   lobby_call_sup, lobby_web_sup, lobby_call_keeper, lobby_sip, lobby_tcp_sup, lobby_connections]).
 
@@ -16,13 +16,13 @@
 start_link(Config) ->
     supervisor:start_link({local, ?MODULE}, ?MODULE, {top, Config}).
 
-%% @doc A supervisor below the top, which is registered by this name.
+%% @doc Starts a supervisor below the top, which is registered with this name.
 -spec start_link(Name :: atom(), children()) -> supervisor:startlink_ret().
 start_link(Name, Children) ->
     lists:foreach(fun await_end/1, [Name | left_over(Children)]),
     supervisor:start_link({local, Name}, ?MODULE, Children).
 
-%% If a supervisor was killed, what it started ends a little later than it does.
+%% Returns processes of a supervisor's predecessor. If that was killed, these processes end a moment later.
 left_over({serving, _}) -> ?SERVING;
 left_over({gateways, _}) -> lobby_registry:processes(gateway);
 left_over({many, lobby_room}) -> lobby_registry:processes(room);
@@ -34,9 +34,9 @@ await_end(Name) ->
     Monitor = monitor(process, Name),
     receive {'DOWN', Monitor, process, _, _} -> ok end.
 
-%% A process that is started again takes up what its predecessor knew.
+%% A restarted process continues with its predecessor's state.
 -spec init({top, lobby_config:config()} | children()) -> {ok, {supervisor:sup_flags(), [supervisor:child_spec()]}}.
-%% Of a pair, the node that has the lease starts what serves.
+%% In a pair, the node that has the lease starts lobby_serving.
 init({top, Config = #{pair := Pair}}) ->
     Serving = sup(lobby_serving, {serving, Config}),
     in_order([child(lobby_store, [maps:with([store, pair], Config)]),
@@ -69,7 +69,7 @@ init({tcp, Config = #{sip := Own, tls := Tls}}) ->
     in_order([sup(lobby_connections, {many, lobby_tcp})
               | [(child(lobby_listener, [Port, Secured, Config]))#{id := Id, shutdown => brutal_kill}
                  || {Id, Port, Secured} <- Ports]]);
-%% lobby_keeper starts those again that fail.
+%% `lobby_keeper' restarts children that fail.
 init({many, Module}) ->
     {ok, {#{strategy => simple_one_for_one}, [(child(Module, []))#{restart => temporary}]}}.
 

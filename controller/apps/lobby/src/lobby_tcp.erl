@@ -1,4 +1,5 @@
-%%% @doc A TCP connection of a phone (RFC 3261, section 18.3), perhaps with TLS. Requests of his calls go back over it.
+%%% @doc The process of a phone's TCP connection (RFC 3261, section 18.3), with or without TLS. Our requests in the
+%%% phone's calls use the same connection.
 -module(lobby_tcp).
 -behaviour(gen_server).
 
@@ -7,31 +8,33 @@
 
 -define(MAX_MESSAGE, 65535).
 -define(MAX_HEAD, 8192).
-%% Milliseconds: until the first message has come, or the rest of one that has begun; until a connection of no call over
-%% which nothing comes is closed, and one of a call. Phones that want to keep one send blank lines.
+%% Timeouts in milliseconds: for the first message or the rest of a message, for an idle connection without a call, and
+%% for an idle connection with a call. Phones keep a connection open with blank lines.
 -define(MESSAGE, application:get_env(lobby, tcp_message, 10000)).
 -define(IDLE, 300000).
 -define(IN_CALL, 7200000).
 
 -record(state, {socket :: lobby_socket:socket(), peer :: lobby_socket:address(), buffer = <<>> :: binary(),
-                %% A timer that runs while a message is due.
+                %% The timer that runs while a message is due.
                 due :: reference() | none, calls = #{} :: #{pid() => uses}}).
 
-%% @doc The socket has to be given to this process, and it has to be told so by `{ready, Tls}'.
+%% @doc Starts the process of a connection. The caller must make it the socket's owner, and then send it `{ready, Tls}'.
 -spec start_link(gen_tcp:socket(), lobby_socket:address()) -> gen_server:start_ret().
 start_link(Socket, Peer) ->
     gen_server:start_link(?MODULE, {Socket, Peer}, []).
 
+%% @doc Sends a message over a connection.
 -spec send(pid(), binary()) -> ok.
 send(Connection, Message) ->
     gen_server:cast(Connection, {send, Message}).
 
-%% @doc A call uses the connection, if there is one, which is kept for as long as it lasts.
+%% @doc Notes that a call uses a connection, if any. Such a connection has a longer idle timeout.
 -spec in_call(pid() | none, Call :: pid()) -> ok.
 in_call(none, _) -> ok;
 in_call(Connection, Call) -> gen_server:cast(Connection, {call, Call}).
 
-%% @doc Splits off the first message in these bytes. Skips blank lines before it, which phones send as keep-alives.
+%% @doc Splits off the first message in these bytes. Skips blank lines before the message, which phones send as
+%% keep-alives.
 -spec frame(binary()) -> {ok, Message :: binary(), Rest :: binary()} | more | {error, too_long}.
 frame(Bytes) ->
     Buffer = begun(Bytes),
@@ -92,7 +95,7 @@ handle_info({ready, Tls}, State = #state{socket = Socket}) ->
     end;
 handle_info({Kind, Socket, Bytes}, State = #state{socket = Socket, buffer = Buffer}) when Kind =:= tcp; Kind =:= ssl ->
     frames(State#state{buffer = <<Buffer/binary, Bytes/binary>>});
-%% The connection has ended, or nothing came in time.
+%% The connection was closed, or timed out.
 handle_info(Message, State = #state{socket = Socket, due = Due})
   when element(2, Message) =:= Socket; element(2, Message) =:= Due; Message =:= timeout ->
     {stop, normal, State};
@@ -116,7 +119,7 @@ frames(State = #state{buffer = Bytes}) ->
 target(#state{socket = Socket, peer = Peer}) when is_port(Socket) -> {tcp, self(), Peer};
 target(#state{peer = Peer}) -> {tcp, {tls, self()}, Peer}.
 
-%% A message has come.
+%% Stops the timer, because a message has arrived.
 due(State = #state{due = none}) -> State;
 due(State = #state{due = Due}) ->
     _ = erlang:cancel_timer(Due),

@@ -1,80 +1,70 @@
-%%% @doc Somebody in a browser, by a link: what is wanted for him in his room (`lobby_person'), and what rtpengine does.
+%%% @doc The process of a link: the desired state of its member, who is in a browser (`lobby_person'), and the member's
+%%% calls in rtpengine.
 %%%
-%%% A link has one member. The browser posts an offer and gets the answer (WHIP, RFC 9725). Whoever posts again, from
-%%% whichever browser, takes the place of the one before, and stays what the moderator made of him. rtpengine has a call
-%%% for each post. If the gateway receives him elsewhere, only rtpengine learns it. This process never waits for
-%%% rtpengine, because changes come by it.
+%%% A link has one member. The browser sends an offer in a POST, and gets the answer (WHIP, RFC 9725). Another POST,
+%%% from any browser, replaces the previous one, and the member keeps role, mute and isolation. rtpengine has a call for
+%%% each POST. If the gateway receives the member at another address, only rtpengine is notified. This process never
+%%% waits for rtpengine, because it also handles changes.
 -module(lobby_web).
 -behaviour(gen_server).
 
--export([start_link/1, join/3, ask/2, find/1, hang_up/1, offer/1, id/1]).
+-export([start_link/1, join/3, ask/2, find/1, offer/1]).
 -export([init/1, handle_call/3, handle_cast/2, handle_info/2]).
 
 %% Milliseconds until a row is sent again to a room that hasn't reported it.
 -define(AGAIN, 1000).
-%% Milliseconds in which a browser is let in, and until it is tried again.
+%% Milliseconds for admitting a browser, and between attempts.
 -define(LET_IN, 8000).
 -define(SOON, 50).
 
 -record(leg, {link :: lobby_link:link(), person = none :: lobby_person:person() | none,
-              %% The post that is being answered: its id, for whom, the offer, and how it was described to us.
+              %% The POST that is being answered: its id, the waiting request, the offer, and rtpengine's description of
+              %% the offer.
               post = none :: {binary(), gen_server:from(), binary(), lobby_sdp:session() | none} | none,
-              %% The post that has been answered, and where rtpengine sends to for it.
+              %% The POST that was answered last, the address to which rtpengine sends its media, and the address at
+              %% which the gateway receives them.
               current = none :: {binary(), Offer :: binary(), lobby_sdp:session()} | none,
               local = none :: lobby_h248:media() | none, wanted = none :: lobby_h248:media() | none,
               version = 1 :: pos_integer(), is_telling = false :: boolean(), from = <<>> :: binary(),
               began = none :: integer() | none, seen = #{} :: lobby_audit_core:seen()}).
 -type error() :: lobby_link:error() | lobby_member:error() | no_relay | replaced | not_here | {invalid, binary()}.
 
-%% @doc Joins by a link, from an address.
--spec join(lobby_link:link(), Offer :: binary(), From :: binary()) ->
-          {ok, Id :: binary(), Answer :: binary()} | {error, error()}.
+%% @doc Joins with a link, from an address. Returns the id of the POST, and the answer to the offer.
+-spec join(lobby_link:link(), Offer :: binary(), From :: binary()) -> {ok, Id :: binary(), binary()} | {error, error()}.
 join(Link = #{number := Number}, Offer, From) ->
-    call(fun() -> started(Number, Link) end, {join, offer(Offer), From}).
+    Request = {join, offer(Offer), From},
+    call(case find({web, Number}) of error -> started(Link); Found -> Found end, Request).
 
-%% @doc Asks for somebody's state, or lets him leave, if nobody has taken his place.
--spec ask(Number :: binary(), {state | leave, Id :: binary()}) -> {ok, in | waiting | lost} | ok | {error, error()}.
+%% @doc Returns the member's state, or ends the member's call, unless another POST has replaced the one with this id.
+%% `hang_up' ends the call in any case.
+-spec ask(Number :: binary(), {state | leave, Id :: binary()} | hang_up) -> ok | {ok, map()} | {error, error()}.
 ask(Number, Request) ->
-    call(fun() -> find({web, Number}) end, Request).
+    call(find({web, Number}), Request).
 
-%% @doc Hangs up whoever has joined by a link.
--spec hang_up(Number :: binary()) -> ok.
-hang_up(Number) ->
-    _ = call(fun() -> find({web, Number}) end, hang_up),
-    ok.
-
-call(Find, Request) ->
-    case Find() of
-        {ok, Pid} ->
-            try gen_server:call(Pid, Request, ?LET_IN + 2000)
-            catch exit:{Reason, _} when Reason =:= normal; Reason =:= noproc -> {error, not_here}
-            end;
-        error -> {error, not_here}
+call(error, _) -> {error, not_here};
+call({ok, Pid}, Request) ->
+    try gen_server:call(Pid, Request, ?LET_IN + 2000)
+    catch exit:{Reason, _} when Reason =:= normal; Reason =:= noproc -> {error, not_here}
     end.
 
-started(Number, Link) ->
-    case find({web, Number}) of
-        error -> lobby_keeper:started(call, {web, Number}, supervisor:start_child(lobby_web_sup, [Link]));
-        Found -> Found
-    end.
+started(Link = #{number := Number}) ->
+    lobby_keeper:started(call, {web, Number}, supervisor:start_child(lobby_web_sup, [Link])).
 
-%% @doc The process of a link. It is started if it was kept.
+%% @doc Returns the process of a link. Starts it if only the store has its call.
 -spec find({web, Number :: binary()}) -> {ok, pid()} | error.
-find(Key = {web, Number}) ->
+find(Key) ->
     case {lobby_registry:whereis_name({call, Key}), lobby_store:get(lobby_calls, Key)} of
-        {undefined, {ok, #{leg := #leg{link = Link}}}} ->
-            lobby_keeper:started(call, {web, Number}, supervisor:start_child(lobby_web_sup, [Link]));
+        {undefined, {ok, #{leg := #leg{link = Link}}}} -> started(Link);
         {undefined, error} -> error;
         {Pid, _} -> {ok, Pid}
     end.
 
-%% @doc An offer that can be relayed: encrypted, and without addresses. rtpengine sees where the browser's checks come
-%% from, and sends nothing to where an offer says.
+%% @doc Returns an offer without addresses. rtpengine learns the address from the browser's checks, and sends nothing to
+%% the addresses in an offer. Throws `{invalid, Text}' if the offer isn't encrypted.
 -spec offer(binary()) -> binary().
 offer(Text) ->
     _ = [throw({invalid, <<"the offer isn't UTF-8">>}) || unicode:characters_to_binary(Text) =/= Text],
-    Lines = [re:replace(Line, "\r$", "", [{return, binary}])
-             || Line <- binary:split(Text, <<"\n">>, [global, trim_all])],
+    Lines = binary:split(Text, [<<"\r\n">>, <<"\n">>], [global, trim_all]),
     Is = fun(Pattern) -> [Line || Line <- Lines, re:run(Line, Pattern) =/= nomatch] end,
     Media = Is("^m="),
     _ = [throw({invalid, <<"the offer must be encrypted (UDP/TLS/RTP/SAVPF, with a fingerprint)">>})
@@ -92,104 +82,95 @@ init(Link = #{number := Number}) ->
     yes = lobby_registry:register_name({member, id(Link)}, self()),
     _ = erlang:send_after(?AGAIN, self(), again),
     case {lobby_store:get(lobby_calls, {web, Number}), lobby_member:find(id(Link))} of
-        {{ok, #{leg := Leg}}, {ok, Row}} ->
-            {ok, Leg#leg{person = lobby_person:restored(Row)}};
+        {{ok, #{leg := Leg}}, {ok, Row}} -> {ok, Leg#leg{person = lobby_person:restored(Row)}};
         _ ->
             ok = lobby_store:delete(lobby_calls, {web, Number}),
             {ok, #leg{link = Link}}
     end.
 
--spec id(lobby_link:link()) -> lobby_rules:id().
 id(#{number := <<Id:8/binary, _/binary>>}) -> Id.
 
 -spec handle_call(term(), gen_server:from(), #leg{}) ->
-          {reply, term(), #leg{}} | {noreply, #leg{}} | {stop, normal, term(), #leg{}} | {stop, normal, none}.
+          {reply, term(), #leg{}} | {noreply, #leg{}} | {stop, normal, term(), #leg{}}.
 handle_call({join, Offer, Address}, From, Leg0) ->
     Leg = refused({error, replaced}, Leg0),
     Id = string:lowercase(binary:encode_hex(crypto:strong_rand_bytes(8))),
     _ = erlang:send_after(?LET_IN, self(), {too_late, Id}),
     ok = relay({offer, Id}, Id, (to_room(Offer))#{command => offer, 'from-tag' => web}),
     {noreply, Leg#leg{post = {Id, From, Offer, none}, from = Address}};
+%% The browser doesn't show that its member is isolated, unless `show_isolation' is set.
 handle_call({state, Id}, _, Leg = #leg{current = {Id, _, _}, person = Person}) when Person =/= none ->
-    #{waiting := IsWaiting} = lobby_person:row(Person),
-    State = case lobby_rtpengine:state() of
-        serving when IsWaiting -> waiting;
-        serving -> in;
-        _ -> lost
-    end,
-    {reply, {ok, State}, Leg};
-%% rtpengine has lost him: he is to post again.
+    Row = #{waiting := IsWaiting} = lobby_person:row(Person),
+    Shown = maps:with([isolated || application:get_env(lobby, show_isolation, false)], Row),
+    State = case lobby_rtpengine:state() of serving when IsWaiting -> waiting; serving -> in; _ -> lost end,
+    {reply, {ok, Shown#{state => State}}, Leg};
+%% rtpengine has lost the member, so the browser has to send another POST.
 handle_call({state, _}, _, Leg = #leg{current = none, person = Person}) when Person =/= none ->
-    {reply, {ok, lost}, Leg};
+    {reply, {ok, #{state => lost}}, Leg};
 handle_call({leave, Id}, _, Leg = #leg{current = {Id, _, _}}) ->
     {stop, normal, ok, left(<<"the caller hung up">>, Leg)};
 handle_call({What, _}, _, Leg) when What =:= state; What =:= leave ->
     {reply, {error, case Leg#leg.current of none -> not_here; _ -> replaced end}, Leg};
 handle_call(hang_up, _, Leg) ->
     {stop, normal, ok, left(<<"an operator hung up">>, Leg)};
-handle_call(_, _, Leg = #leg{person = none}) ->
-    {reply, {error, no_member}, Leg};
+handle_call(_, _, Leg = #leg{person = none}) -> {reply, {error, no_member}, Leg};
 handle_call({What, Wanted}, From, Leg) when What =:= change; What =:= move ->
-    next(person({What, {asked, From}, Wanted}, Leg)).
+    {noreply, person({What, {asked, From}, Wanted}, Leg)}.
 
 -spec handle_cast(term(), #leg{}) -> {noreply, #leg{}}.
-handle_cast(_, Leg) ->
-    {noreply, Leg}.
+handle_cast(_, Leg) -> {noreply, Leg}.
 
--spec handle_info(term(), #leg{}) -> {noreply, #leg{}} | {stop, normal, none}.
+-spec handle_info(term(), #leg{}) -> {noreply, #leg{}} | {stop, normal, #leg{}}.
 handle_info({rtpengine, {offer, Id}, Result}, Leg = #leg{post = {Id, From, Offer, none}}) ->
     IsJoining = Leg#leg.person =/= none andalso lobby_person:is_joining(Leg#leg.person),
     case described(Result) of
-        %% The post before this one is joining.
+        %% The previous POST is still joining.
         {ok, _} when IsJoining ->
             _ = erlang:send_after(?SOON, self(), {rtpengine, {offer, Id}, Result}),
             {noreply, Leg};
-        {ok, Session} -> next(wanted(Id, Session, Leg#leg{post = {Id, From, Offer, Session}}));
-        Error -> next(refused(Error, Leg))
+        {ok, Session} ->
+            Media = #{media => lobby_sdp:media(Session), direction => sendrecv},
+            {noreply, wanted(Id, Media, Leg#leg{post = {Id, From, Offer, Session}})};
+        Error -> {noreply, refused(Error, Leg)}
     end;
 handle_info({rtpengine, {answer, Id}, {ok, #{<<"sdp">> := Answer}}}, Leg = #leg{post = {Id, From, Offer, Session}}) ->
     _ = [relay(ended, Old, #{command => delete}) || {Old, _, _} <- [Leg#leg.current]],
     gen_server:reply(From, {ok, Id, Answer}),
-    next(agreed(keep(began(Leg#leg{post = none, current = {Id, Offer, Session}, is_telling = false}))));
+    {noreply, agreed(keep(began(Leg#leg{post = none, current = {Id, Offer, Session}, is_telling = false})))};
 handle_info({rtpengine, {answer, Id}, Error}, Leg = #leg{post = {Id, _, _, _}}) ->
-    next(refused(Error, Leg));
+    {noreply, refused(Error, Leg)};
 handle_info({too_late, Id}, Leg = #leg{post = {Id, _, _, _}}) ->
-    next(refused({error, not_yet}, Leg));
+    {noreply, refused({error, not_yet}, Leg)};
 handle_info({rtpengine, {moved, Local}, {ok, _}}, Leg = #leg{current = {Id, Offer, _}}) ->
     ok = relay({told, Local}, Id, (to_room(Offer))#{command => answer, 'from-tag' => room, 'to-tag' => web}),
     {noreply, Leg};
 handle_info({rtpengine, {told, Local}, {ok, _}}, Leg) ->
-    next(agreed(keep(Leg#leg{local = Local, is_telling = false})));
-%% rtpengine is gone or no longer has this call. The browser's next query says so, and it joins again.
+    {noreply, agreed(keep(Leg#leg{local = Local, is_telling = false}))};
+%% rtpengine is lost, or no longer has this call. The browser learns that from its next query, and joins again.
 handle_info({rtpengine, {What, _}, {error, _}}, Leg) when What =:= moved; What =:= told ->
     {noreply, Leg#leg{is_telling = false}};
 handle_info({rtpengine, lost, now}, Leg = #leg{current = {Id, _, _}}) ->
     ok = relay(ended, Id, #{command => delete}),
     {noreply, keep(Leg#leg{current = none})};
 handle_info({lobby_room, Room, {admitted, Result}}, Leg) ->
-    next(person({admitted, Room, Result}, Leg));
+    {noreply, person({admitted, Room, Result}, Leg)};
 handle_info({lobby_room, Room, {report, Report}}, Leg) ->
-    next(reported(Report, person({report, Room, Report}, Leg)));
-%% A browser sends packets even if its microphone is off.
+    {noreply, reported(Report, person({report, Room, Report}, Leg))};
+%% The browser is gone, because it would send packets even with its microphone off.
 handle_info({lobby_room, _, silent}, Leg = #leg{post = none}) ->
-    next(ended(<<"the gateway has received no packets">>, Leg));
+    ended(<<"the gateway has received no packets">>, Leg);
 handle_info({answer, From, Answer}, Leg) ->
     ok = lobby_member:answer(From, Answer),
     {noreply, Leg};
-%% Nobody has posted.
-handle_info(again, #leg{person = none, post = none}) ->
-    next(stopped);
+%% No POST is open, and the member isn't in a room.
+handle_info(again, Leg = #leg{person = none, post = none}) ->
+    {stop, normal, Leg};
 handle_info(again, Leg = #leg{person = Person}) ->
     _ = erlang:send_after(?AGAIN, self(), again),
-    case Person =:= none orelse lobby_person:is_settled(Person) of
-        true -> next(moved(Leg));
-        false -> next(moved(person(again, Leg)))
-    end;
+    IsSettled = Person =:= none orelse lobby_person:is_settled(Person),
+    {noreply, moved(case IsSettled of true -> Leg; false -> person(again, Leg) end)};
 handle_info(_, Leg) ->
     {noreply, Leg}.
-
-next(stopped) -> {stop, normal, none};
-next(Leg) -> {noreply, Leg}.
 
 described({ok, #{<<"sdp">> := Text}}) ->
     case lobby_sdp:parse(Text) of
@@ -201,18 +182,17 @@ described(Other) ->
     logger:warning("rtpengine answered an offer by ~0P", [Other, 30]),
     {error, {invalid, <<"the offer can't be relayed">>}}.
 
-%% Whoever isn't in a room joins the link's; what a moderator had made of him stays.
-wanted(Id, Session, Leg = #leg{person = none, link = Link}) ->
-    #{number := Number, room := Room, role := Role, name := Name} = Link,
-    Known = maps:merge(#{role => Role, waiting => lobby_rooms:has_door(Room)}, lobby_link:kept(Number)),
-    Row = lobby_member:new(id(Link), Known#{room => Room, media => lobby_sdp:media(Session), direction => sendrecv,
-                                            identity => <<"link:", Number/binary>>, name => Name,
-                                            call => {web, Number}}),
+%% Joins the link's room, unless the member is in a room already. Role, mute and isolation from earlier calls still
+%% apply.
+wanted(Id, Media, Leg = #leg{person = none, link = Link = #{number := Number, room := Room}}) ->
+    New = (maps:with([room, role, name], Link))#{waiting => lobby_room:has_door(Room), call => {web, Number},
+                                                 identity => <<"link:", Number/binary>>},
+    Row = lobby_member:new(id(Link), maps:merge(maps:merge(New, Media), lobby_link:kept(Number))),
     person({join, {joins, Id}}, keep(Leg#leg{person = lobby_person:new(Row)}));
-wanted(Id, Session, Leg) ->
-    person({change, {media, Id}, #{media => lobby_sdp:media(Session), direction => sendrecv}}, Leg).
+wanted(Id, Media, Leg) ->
+    person({change, {media, Id}, Media}, Leg).
 
-%% What a moderator makes of him is kept first, so that it outlives him here, however he leaves.
+%% Passes an event to the person. Role, mute and isolation are stored first, so that they outlive the call.
 person(Event, Leg = #leg{person = Person, link = #{number := Number}}) ->
     {Changed, Actions} = lobby_person:handle(Event, Person),
     [Before, Now] = [maps:with([isolated, muted, waiting, role], lobby_person:row(P)) || P <- [Person, Changed]],
@@ -220,8 +200,6 @@ person(Event, Leg = #leg{person = Person, link = #{number := Number}}) ->
     Seen = lobby_audit_core:seen(lobby_person:row(Changed), Leg#leg.seen),
     lists:foldl(fun act/2, Leg#leg{person = Changed, seen = Seen}, Actions).
 
-act(_, stopped) ->
-    stopped;
 act({answer, {asked, From}, Answer}, Leg) ->
     ok = lobby_member:answer(From, case Answer of {ok, _} -> ok; _ -> Answer end),
     Leg;
@@ -231,31 +209,25 @@ act({answer, {_, Id}, {ok, Local}}, Leg = #leg{post = {Id, _, _, Session}}) ->
     Leg#leg{local = Local, wanted = Local};
 act({answer, {How, Id}, Error = {error, _}}, Leg = #leg{post = {Post, _, _, _}}) when How =:= joins; Id =:= Post ->
     refused(Error, Leg);
-act({answer, _, _}, Leg) ->
-    Leg;
+act({answer, _, _}, Leg) -> Leg;
 act(Action, Leg) ->
     _ = [self() ! {lobby_room, Room, {admitted, Error}} || {admitted, Room, Error} <- [lobby_member:act(Action)]],
     Leg.
 
-%% A post that fails. Whoever isn't relayed then isn't in the room.
-refused(_, stopped) ->
-    stopped;
-refused(_, Leg = #leg{post = none}) ->
-    Leg;
-refused(Error, Leg = #leg{post = {Id, From, _, _}, current = Current}) ->
+%% Answers a POST that failed. A member who was never relayed leaves the room. Otherwise, the browser sends another
+%% POST.
+refused(_, Leg = #leg{post = none}) -> Leg;
+refused(Error, Leg = #leg{post = {Id, From, _, _}, began = Began}) ->
     ok = relay(ended, Id, #{command => delete}),
     gen_server:reply(From, case Error of {error, {relay, _}} -> {error, no_relay}; _ -> Error end),
-    case Current =:= none andalso Error =/= {error, replaced} of
-        true -> ended(<<"error">>, Leg#leg{post = none});
-        false -> Leg#leg{post = none}
-    end.
+    _ = [ended(<<"error">>, Leg#leg{post = none}) || Began =:= none, Error =/= {error, replaced}],
+    Leg#leg{post = none}.
 
-reported(_, stopped) -> stopped;
 reported({holds, _, Local, _}, Leg) -> moved(Leg#leg{wanted = Local});
 reported({refused, _, _, none}, Leg = #leg{post = none}) -> ended(<<"the gateway doesn't take the media">>, Leg);
 reported(_, Leg) -> Leg.
 
-%% rtpengine learns by an offer where the gateway is now, and the browser's own description is the answer.
+%% Sends rtpengine the gateway's new address in an offer. The browser's own description serves as the answer.
 moved(Leg = #leg{post = none, current = {Id, _, Session}, local = Local, wanted = Wanted, is_telling = false})
   when Wanted =/= Local, Wanted =/= none ->
     Version = Leg#leg.version,
@@ -265,26 +237,22 @@ moved(Leg = #leg{post = none, current = {Id, _, Session}, local = Local, wanted 
 moved(Leg = #leg{current = {_, _, _}, local = Local, wanted = Local}) -> agreed(Leg);
 moved(Leg) -> Leg.
 
-%% rtpengine sends there from now on.
-agreed(Leg = #leg{person = none}) -> Leg;
+%% Notifies the room that rtpengine now sends to the new address.
 agreed(Leg = #leg{link = Link, local = Local, person = Person}) ->
     #{room := Room} = lobby_person:row(Person),
-    _ = lobby_rooms:tell(Room, {confirmed, id(Link), Local}),
+    _ = lobby_room:tell(Room, {confirmed, id(Link), Local}),
     Leg.
 
+%% Throws the callback's result, which gen_server allows.
+-spec ended(binary(), #leg{}) -> no_return().
 ended(Why, Leg) ->
-    _ = left(Why, Leg),
-    stopped.
+    throw({stop, normal, left(Why, Leg)}).
 
 left(Why, Leg0) ->
-    Leg = #leg{link = #{number := Number}, person = Person} = refused({error, replaced}, Leg0),
+    Leg = #leg{link = #{number := Number}, person = Person, began = Began} = refused({error, replaced}, Leg0),
     _ = [relay(ended, Id, #{command => delete}) || {Id, _, _} <- [Leg#leg.current]],
-    case Person of
-        none -> ok;
-        _ ->
-            _ = person(leave, Leg#leg{post = none}),
-            Leg#leg.began =:= none orelse lobby_audit:ended(record(Leg), Leg#leg.began, Why)
-    end,
+    _ = [person(leave, Leg) || Person =/= none],
+    _ = [lobby_audit:ended(record(Leg), Began, Why) || Began =/= none],
     ok = lobby_store:delete(lobby_calls, {web, Number}),
     Leg.
 
@@ -293,15 +261,13 @@ keep(Leg = #leg{link = Link = #{number := Number, room := Room}}) ->
     ok = lobby_store:put(lobby_calls, {web, Number}, #{id => id(Link), room => Room, leg => Kept}),
     Leg.
 
-began(Leg = #leg{began = none}) ->
-    Leg#leg{began = lobby_audit:began(record(Leg))};
-began(Leg) ->
-    Leg.
+began(Leg = #leg{began = none}) -> Leg#leg{began = lobby_audit:began(record(Leg))};
+began(Leg) -> Leg.
 
 record(#leg{link = Link = #{number := Number, name := Name}, from = From, seen = Seen}) ->
     {id(Link), [{from, From}, {link, Number}, {caller, Name}, {says, Name}, {proved, true}], Seen}.
 
-%%% What rtpengine is asked.
+%%% Requests to rtpengine.
 
 relay(Tag, Id, Request) ->
     lobby_rtpengine:ask(Tag, Request#{'call-id' => <<"web-", Id/binary>>}).

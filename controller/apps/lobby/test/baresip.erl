@@ -1,9 +1,10 @@
-%% Baresips for tests: each says a tone, and records what it hears.
+%% Runs baresips for tests. Each baresip plays a tone, and records the sound that it receives.
 -module(baresip).
 
 -export([start/4, heard/3]).
 
-%% In a folder of its own, a caller with this tone (in Hz) that calls a URI and hangs up after so many seconds.
+%% Starts a caller that plays a tone of this frequency (in Hz), calls a URI, and hangs up after this many seconds. The
+%% caller has its own folder.
 start(Folder, Tone, Uri, Seconds) ->
     Recorded = filename:join(Folder, "recorded"),
     ok = filelib:ensure_dir(filename:join(Recorded, "x")),
@@ -21,14 +22,14 @@ start(Folder, Tone, Uri, Seconds) ->
     Command = io_lib:format("baresip -f ~s -n 127.0.0.1 -e '/dial ~s' -t ~b < /dev/null > ~s/log 2>&1", [Folder, Uri, Seconds, Folder]),
     open_port({spawn, lists:flatten(Command)}, [exit_status]).
 
-%% 16 bits, 8,000 samples a second.
+%% Returns a WAV file of a tone, with 16 bits a sample and 8,000 samples a second.
 wav(Tone, Seconds) ->
     Samples = << <<(round(8000 * math:sin(2 * math:pi() * Tone * N / 8000))):16/little-signed>> || N <- lists:seq(1, 8000) >>,
     Data = binary:copy(Samples, Seconds),
     <<"RIFF", (36 + byte_size(Data)):32/little, "WAVEfmt ", 16:32/little, 1:16/little, 1:16/little, 8000:32/little, 16000:32/little,
       2:16/little, 16:16/little, "data", (byte_size(Data)):32/little, Data/binary>>.
 
-%% Which of these tones were heard between two times of the recording, in seconds.
+%% Returns the tones that the recording contains between two times, in seconds.
 heard(Folder, Tones, {From, To}) ->
     [File] = filelib:wildcard(filename:join([Folder, "recorded", "*dec.wav"])),
     {ok, <<_:44/binary, Data/binary>>} = file:read_file(File),
@@ -36,7 +37,7 @@ heard(Folder, Tones, {From, To}) ->
     Samples = [Sample || <<Sample:16/little-signed>> <= Part],
     [Tone || Tone <- Tones, amplitude(Tone, Samples) > 1000].
 
-%% Goertzel's algorithm.
+%% Returns the amplitude at one frequency, by Goertzel's algorithm.
 amplitude(Tone, Samples) ->
     W = 2 * math:pi() * Tone / 8000,
     C = 2 * math:cos(W),

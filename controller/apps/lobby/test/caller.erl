@@ -1,15 +1,18 @@
-%% A caller's media for tests: sends loud packets without a pause, and counts the packets that aren't silent.
+%% A caller's media for tests: sends loud packets continuously, and counts the received packets that aren't silent.
 -module(caller).
 
--export([start/0, media/1, talk/2, received/1, heard/1, first_heard/1, reset/1]).
+-export([start/0, start/2, media/1, talk/2, received/1, heard/1, first_heard/1, reset/1]).
 
-start() ->
+start() -> start(binary:copy(<<16#90>>, 160), fun(_) -> ok end).
+
+%% Starts a caller that sends `Said' continuously, and calls `Pass' with each payload that it receives.
+start(Said, Pass) ->
     Parent = self(),
     Pid = spawn_link(fun() ->
         {ok, Socket} = gen_udp:open(0, [binary, {ip, {127, 0, 0, 1}}, {active, true}]),
         {ok, Port} = inet:port(Socket),
         Parent ! {self(), Port},
-        loop(Socket, none, 0, {0, 0, none})
+        loop(Socket, none, {Said, Pass}, 0, {0, 0, none})
     end),
     receive {Pid, Port} -> {Pid, Port} end.
 
@@ -19,7 +22,7 @@ talk({Pid, _}, To) -> Pid ! {talk, To}, ok.
 
 received(Caller) -> element(1, counts(Caller)).
 heard(Caller) -> element(2, counts(Caller)).
-%% When the first packet that isn't silent came since `reset/1', in monotonic milliseconds.
+%% Returns the arrival time of the first packet since `reset/1' that isn't silent, in monotonic milliseconds.
 first_heard(Caller) -> element(3, counts(Caller)).
 
 reset({Pid, _}) -> Pid ! reset, ok.
@@ -28,28 +31,28 @@ counts({Pid, _}) ->
     Pid ! {counts, self()},
     receive {Pid, Counts} -> Counts end.
 
-loop(Socket, To, Sequence, Counts = {Received, Heard, First}) ->
+loop(Socket, To, Speech = {Said, Pass}, Sequence, Counts = {Received, Heard, First}) ->
     receive
         {udp, Socket, _, _, <<_:12/binary, Payload/binary>>} ->
-            %% Silence is 0xFF, or 0x7F for minus zero.
+            Pass(Payload),
+            %% In PCMU, a sample of silence is 0xFF, or 0x7F for minus zero.
             Silent = lists:all(fun(Byte) -> Byte bor 16#80 =:= 16#FF end, binary_to_list(Payload)),
-            loop(Socket, To, Sequence, case {Silent, First} of
+            loop(Socket, To, Speech, Sequence, case {Silent, First} of
                 {true, _} -> {Received + 1, Heard, First};
                 {false, none} -> {Received + 1, Heard + 1, erlang:monotonic_time(millisecond)};
                 {false, _} -> {Received + 1, Heard + 1, First}
             end);
         reset ->
-            loop(Socket, To, Sequence, {0, 0, none});
+            loop(Socket, To, Speech, Sequence, {0, 0, none});
         {talk, New} ->
             case To of none -> self() ! tick; _ -> ok end,
-            loop(Socket, New, Sequence, Counts);
+            loop(Socket, New, Speech, Sequence, Counts);
         tick ->
             erlang:send_after(20, self(), tick),
             {Address, Port} = To,
-            ok = gen_udp:send(Socket, Address, Port, <<2:2, 0:6, 0, Sequence:16, (160 * Sequence):32, 7:32,
-                                                       (binary:copy(<<16#90>>, 160))/binary>>),
-            loop(Socket, To, Sequence + 1, Counts);
+            ok = gen_udp:send(Socket, Address, Port, <<2:2, 0:6, 0, Sequence:16, (160 * Sequence):32, 7:32, Said/binary>>),
+            loop(Socket, To, Speech, Sequence + 1, Counts);
         {counts, From} ->
             From ! {self(), Counts},
-            loop(Socket, To, Sequence, Counts)
+            loop(Socket, To, Speech, Sequence, Counts)
     end.

@@ -1,10 +1,10 @@
-%% Values that stand for all states that differ only in names or in how many numbers were used up, for a search.
+%% Canonical values for a search: states that differ only in names, or in the numbers used so far, have the same value.
 -module(canonical).
 
 -export([least/2, ranked/2, new/0, alike/3]).
 
-%% @doc The least term of those in which the names of each group are exchanged with each other. A name can be any term,
-%% and is exchanged wherever it occurs, except in binaries.
+%% @doc Returns the least term that results from permuting the names of each group. A name can be any term, and is
+%% replaced wherever it occurs, except in binaries.
 -spec least(term(), Groups :: [[Name :: term()]]) -> term().
 least(Term, Groups) ->
     lists:min([renamed(Term, Names) || Names <- exchanges(Groups)]).
@@ -17,8 +17,8 @@ exchanges([Group | Groups]) ->
 permutations([]) -> [[]];
 permutations(List) -> [[One | Rest] || One <- List, Rest <- permutations(List -- [One])].
 
-%% @doc The term in which numbers from Base on are replaced, in order. The least ones from Base to 2 Base become Base,
-%% Base + 1 and so on, those from 2 Base to 3 Base become 2 Base, 2 Base + 1, and so on for each multiple.
+%% @doc Renumbers the numbers from Base on, in order. Numbers from Base to 2 Base become Base, Base + 1 and so on.
+%% Numbers from 2 Base to 3 Base become 2 Base, 2 Base + 1 and so on, and likewise for each multiple.
 -spec ranked(term(), Base :: pos_integer()) -> term().
 ranked(Term, Base) ->
     renamed(Term, ranks(lists:usort(numbers(Term, Base, [])), Base)).
@@ -27,19 +27,19 @@ ranks(Numbers, Base) ->
     Kinds = maps:groups_from_list(fun(Number) -> Number div Base end, Numbers),
     maps:from_list([{Number, Rank} || {Kind, Of} <- maps:to_list(Kinds), {Rank, Number} <- lists:enumerate(Kind * Base, Of)]).
 
-%% @doc What `alike/3' remembers of parts of terms.
+%% @doc Creates a table in which `alike/3' caches its results for parts.
 -spec new() -> ets:tid().
 new() -> ets:new(?MODULE, [public, {read_concurrency, true}, {write_concurrency, true}]).
 
-%% @doc Equal values for lists whose `ranked' forms are equal, and others for others. Of a state, most parts are those of
-%% the state before, so what was found out of a part is remembered.
+%% @doc Returns equal values for lists whose `ranked' forms are equal, and different values for other lists. Most parts
+%% of a state are the same as in the previous state, so the results for parts are cached.
 -spec alike([term()], Base :: pos_integer(), Known :: ets:tid()) -> [{Shape :: binary(), Ranks :: [pos_integer()]}].
 alike(Parts, Base, Known) ->
     Shapes = [shape(term_to_binary(Part), Base, Known) || Part <- Parts],
     Ranks = ranks(lists:usort(lists:append([Numbers || {_, Numbers} <- Shapes])), Base),
     [{Shape, [map_get(Number, Ranks) || Number <- Numbers]} || {Shape, Numbers} <- Shapes].
 
-%% A part's ranked form, and its numbers in order.
+%% Returns a part's ranked form, and its numbers in order.
 shape(Packed, Base, Known) ->
     Key = erlang:md5(Packed),
     case ets:lookup(Known, Key) of

@@ -1,9 +1,9 @@
-%% Terms whose equals are known.
+%% Tests canonical values with terms whose equivalent terms are known.
 -module(canonical_tests).
 
 -include_lib("eunit/include/eunit.hrl").
 
-%% Alice and Bob, each in one of two rooms.
+%% In this state, Alice and Bob are each in one of two rooms.
 names_are_exchanged_test() ->
     Least = fun(Term) -> canonical:least(Term, [[alice, bob], [<<"1">>, <<"2">>]]) end,
     Together = [#{alice => <<"1">>, bob => <<"1">>}, #{alice => <<"2">>, bob => <<"2">>}],
@@ -11,10 +11,11 @@ names_are_exchanged_test() ->
     ?assertMatch([_], lists:usort([Least(Term) || Term <- Together])),
     ?assertMatch([_], lists:usort([Least(Term) || Term <- Apart])),
     ?assertNotEqual(Least(hd(Together)), Least(hd(Apart))),
-    %% It is one of them.
+    %% The least term is one of the equivalent terms.
     ?assert(lists:member(Least(hd(Apart)), Apart)).
 
-%% Of all ways in which three may stand in a queue, one is left, and of who is first and who is last, two.
+%% All orders of three exchangeable names in a queue have the same canonical form. If the first and last names matter,
+%% there are two forms.
 all_orders_are_tried_test() ->
     Least = fun(Term) -> canonical:least(Term, [[a, b, c]]) end,
     Names = [a, b, c],
@@ -35,7 +36,7 @@ numbers_keep_their_order_test() ->
     ?assertNotEqual(Ranked([1001, 1005]), Ranked([1005, 1001])),
     ?assertNotEqual(Ranked([1001, 2001]), Ranked([1001, 1001])).
 
-%% What is remembered of a part doesn't depend on what it came with.
+%% The cached result for a part doesn't depend on the parts next to it.
 lists_are_alike_test() ->
     Known = canonical:new(),
     Alike = fun(Parts) -> canonical:alike(Parts, 1000, Known) end,

@@ -1,15 +1,15 @@
-%% Real gateways for tests, and what they answer, read as text and not by the controller's own codec.
+%% Runs real gateways for tests, and reads their replies as text, without the controller's codec.
 -module(gateway).
 
 -export([start/0, start/1, free_address/0, kill_all/0, address/1, config/2, kill/1, restart/2, restart_elsewhere/2, stop/1, continue/1]).
--export([topology/2, modes/2, terminations/2, contexts/2, ask/2]).
+-export([topology/2, modes/2, terminations/2, contexts/2, ask/2, ask_as/3]).
 
 -record(gateway, {port, os_pid, control, base, socket, options}).
 
 start() ->
     start([]).
 
-%% An address with a port that is free for both.
+%% Returns an address with a port that is free for both TCP and UDP.
 free_address() ->
     {ok, Listener} = gen_tcp:listen(0, [{ip, {127, 0, 0, 1}}]),
     {ok, Port} = inet:port(Listener),
@@ -19,30 +19,41 @@ free_address() ->
         {error, eaddrinuse} -> free_address()
     end.
 
-%% On free ports.
+%% Starts a gateway on free ports.
 start(Options) ->
     {_, Control} = free_address(),
-    start(Control, 20000 + 2 * rand:uniform(15000), Options, 20).
+    case started(Control, base(), Options) of
+        in_use -> start(Options);
+        G -> G
+    end.
 
-start(Control, Base, Options, Tries) when Tries > 0 ->
+%% Media ports below those that the kernel gives to phones, so no phone takes one while the gateway is down.
+base() -> 20000 + 2 * rand:uniform(6300).
+
+started(Control, Base, Options) ->
     Args = ["live", "--control-port", integer_to_list(Control), "--base-port", integer_to_list(Base), "--slots", "80" | Options],
     Port = open_port({spawn_executable, os:getenv("BRIDGE")}, [{args, Args}, exit_status, {line, 1000}, stderr_to_stdout]),
     {os_pid, Pid} = erlang:port_info(Port, os_pid),
     persistent_term:put(?MODULE, [Pid | persistent_term:get(?MODULE, [])]),
     receive
         {Port, {data, {eol, "ready"}}} -> #gateway{port = Port, os_pid = Pid, control = Control, base = Base, options = Options};
-        {Port, {exit_status, 5}} -> start(Control, 20000 + 2 * rand:uniform(15000), Options, Tries - 1)
-    after 5000 -> error(not_ready)
+        {Port, {exit_status, 5}} -> in_use;
+        {Port, {exit_status, Status}} -> error({ended, Status, said(Port)})
+    after 60000 -> error({not_ready, said(Port)})
     end.
 
-%% Those that tests left behind.
+%% Returns the lines that a gateway has printed.
+said(Port) ->
+    receive {Port, {data, {_, Line}}} -> [Line | said(Port)] after 0 -> [] end.
+
+%% Kills the gateways that tests left behind.
 kill_all() ->
     _ = os:cmd(["kill -9", [[" ", integer_to_list(Pid)] || Pid <- persistent_term:get(?MODULE, [])]]),
     persistent_term:put(?MODULE, []).
 
 address(#gateway{control = Control}) -> {{127, 0, 0, 1}, Control}.
 
-%% Patient, so that a busy machine is not taken for a lost gateway.
+%% Returns a configuration with many tries, so that a gateway on a busy machine doesn't count as lost.
 config(Name, Gateway) -> #{name => Name, address => address(Gateway), tries => 10}.
 
 kill(G) -> signal("KILL", G).
@@ -53,31 +64,45 @@ signal(Signal, #gateway{os_pid = Pid}) ->
     "" = os:cmd("kill -" ++ Signal ++ " " ++ integer_to_list(Pid)),
     ok.
 
-%% On the same ports, as soon as they are free.
+%% Restarts a gateway on the same ports, as soon as they are free.
 restart(G = #gateway{control = Control, base = Base}, Options) ->
     ended(G),
-    start(Control, Base, Options, 20).
+    restarted(Control, Base, Options).
 
-%% With other ports for media.
-restart_elsewhere(G = #gateway{control = Control, base = Base}, Options) ->
+%% Restarts a gateway with other media ports.
+restart_elsewhere(G = #gateway{control = Control}, Options) ->
     ended(G),
-    start(Control, Base + 160, Options, 20).
+    elsewhere(Control, Options).
+
+elsewhere(Control, Options) ->
+    case started(Control, base(), Options) of
+        in_use -> elsewhere(Control, Options);
+        G -> G
+    end.
+
+restarted(Control, Base, Options) ->
+    case started(Control, Base, Options) of
+        in_use -> timer:sleep(100), restarted(Control, Base, Options);
+        G -> G
+    end.
 
 ended(#gateway{port = Port, os_pid = Pid}) ->
     _ = os:cmd("kill -9 " ++ integer_to_list(Pid)),
-    receive {Port, {exit_status, _}} -> ok after 5000 -> error(not_ended) end.
+    receive {Port, {exit_status, _}} -> ok after 15000 -> error(not_ended) end.
 
-%% Sends the part behind the context to a gateway, and returns the answer's text.
-ask(Request, #gateway{control = Control}) ->
+%% Sends an action to a gateway, and returns the reply's text.
+ask(Request, G) -> ask_as("test", Request, G).
+
+%% Sends an action with this sender's name.
+ask_as(Name, Request, #gateway{control = Control}) ->
     {ok, Socket} = gen_udp:open(0, [binary, {active, false}, {ip, {127, 0, 0, 1}}, {buffer, 65536}]),
-    {ok, Own} = inet:port(Socket),
     ok = gen_udp:send(Socket, {127, 0, 0, 1}, Control,
-                      io_lib:format("MEGACO/1 [127.0.0.1]:~b\nTransaction=~b{~s}", [Own, rand:uniform(1000000000), Request])),
+                      io_lib:format("MEGACO/1 <~s>\nTransaction=~b{~s}", [Name, rand:uniform(1000000000), Request])),
     {ok, {_, _, Answer}} = gen_udp:recv(Socket, 0, 2000),
     ok = gen_udp:close(Socket),
     binary_to_list(Answer).
 
-%% The open flows in a context, by terminations: {Talker, Listener}.
+%% Returns the open flows in a context, as pairs of terminations: {Talker, Listener}.
 topology(Context, G) ->
     Answer = ask(io_lib:format("Context=~b{ContextAudit{Topology}}", [Context]), G),
     Triples = case re:run(Answer, "RTP/(\\d+),RTP/(\\d+),(\\w+)", [global, {capture, all_but_first, list}]) of
@@ -90,7 +115,7 @@ topology(Context, G) ->
         "Isolate" -> []
     end || [A, B, How] <- Triples])).
 
-%% The mode of each termination in a context.
+%% Returns the mode of each termination in a context.
 modes(Context, G) ->
     Answer = ask(io_lib:format("Context=~b{AuditValue=*{Audit{Media}}}", [Context]), G),
     case re:run(Answer, "AuditValue=RTP/(\\d+)\\{Media\\{Stream=1\\{LocalControl\\{Mode=(\\w+)", [global, {capture, all_but_first, list}]) of
@@ -100,6 +125,6 @@ modes(Context, G) ->
 
 terminations(Context, G) -> lists:sort(maps:keys(modes(Context, G))).
 
-%% Which of these contexts the gateway has.
+%% Returns those of the given contexts that exist on the gateway.
 contexts(Contexts, G) ->
     [Context || Context <- Contexts, terminations(Context, G) =/= []].

@@ -1,5 +1,5 @@
-%% Searches large worlds for as long as there is time, for `trials/door/search.sh': breadth first, and in random walks
-%% whose seeds are printed.
+%% Searches large worlds for a given time, for `trials/door/search.sh': breadth first, and in random walks. Prints the
+%% seeds of the walks.
 -module(large_search).
 
 -export([run/1]).
@@ -12,7 +12,7 @@
 -define(FAULTS, [kill_room, kill_person, kill_gateway, lose, double, late, lose_gateway, begin_anew]).
 -define(PAIR, [take_over, cut]).
 
-%% With seconds for each search, and the first seed.
+%% Runs all searches. The arguments are the seconds for each search, and the first seed.
 run([Seconds, Seed]) ->
     Time = 1000 * list_to_integer(Seconds),
     Limits = #{time => Time, workers => erlang:system_info(schedulers_online)},

@@ -10,7 +10,7 @@ new(Limits) ->
     lobby_admission:new(maps:merge(#{callers => [], proxies => [{?PROXY, 32}], max_calls => 100, max_calls_from => 3, max_rooms_from => 2,
                                      messages_from => 10, new_calls_from => 5}, Limits)).
 
-%% How many of so many messages are read at a time.
+%% Sends `Count' messages at the same time. Returns how many of them are read.
 read(Count, Address, Now, Admission) ->
     lists:foldl(fun(_, {N, A}) ->
         {Is, A1} = lobby_admission:message(Address, Now, A),
@@ -25,14 +25,14 @@ messages_test() ->
     {1, A5} = read(50, ?A, 100, A4),
     {10, A6} = read(50, ?A, 1100, A5),
     {20, _} = read(50, ?A, 100000, A6),
-    %% Monotonic time is negative.
+    %% Erlang's monotonic time is negative, so rates must not depend on its sign.
     {20, _} = read(50, ?A, -576460750000, new(#{})).
 
 strangers_test() ->
     Admission = new(#{callers => [{?A, 32}]}),
     [?assertMatch({Address, {Is, _}}, {Address, lobby_admission:message(Address, 0, Admission)}) || {Address, Is} <- [{?A, true}, {?B, false}, {?PROXY, true}]].
 
-%% Forged addresses take no memory, and a known one keeps its bucket.
+%% Forged addresses don't exhaust the memory, and a known address keeps its bucket.
 many_addresses_test() ->
     {_, Known} = lobby_buckets:take(known, 10, 0, lobby_buckets:new()),
     Full = lists:foldl(fun(N, B) -> element(2, lobby_buckets:take(N, 10, 0, B)) end, Known, lists:seq(1, 30000)),
@@ -52,13 +52,13 @@ entered(Calls, Admission) ->
         {[Pid | Pids], lobby_admission:entered(Pid, Address, Room, A)}
     end, {[], Admission}, Calls).
 
-%% What one address has shuts out only itself.
+%% Too many calls from one address shut out only that address.
 calls_test() ->
     {[Pid | _], A} = entered([{?A, <<"1">>}, {?A, <<"1">>}, {?A, <<"1">>}], new(#{})),
     ?assertMatch({too_many, _}, call(?A, <<"1">>, false, A)),
     ?assertMatch({ok, _}, call(?B, <<"1">>, false, A)),
     ?assertMatch({ok, _}, call(?A, <<"1">>, false, lobby_admission:left(Pid, A))),
-    %% It is counted and forgotten once.
+    %% A call is counted once, and forgotten once.
     Same = lobby_admission:left(Pid, lobby_admission:left(Pid, lobby_admission:entered(Pid, ?A, <<"1">>, A))),
     ?assertEqual(lobby_admission:left(Pid, A), Same),
     {Pids, Many} = entered([{?PROXY, <<"1">>} || _ <- lists:seq(1, 100)], new(#{})),

@@ -2,7 +2,7 @@
 
 -include_lib("eunit/include/eunit.hrl").
 
-%% A log of its own, with files of about three lines.
+%% Runs a test with its own log, whose files have about three lines.
 audited(Test) ->
     File = filename:join([os:getenv("TMPDIR", "/tmp"), "audit" ++ os:getpid() ++ "-" ++ integer_to_list(erlang:unique_integer([positive])), "log"]),
     ok = filelib:ensure_dir(File),
@@ -27,15 +27,15 @@ write(What) ->
     lobby_audit:write([{event, test}, {rooms, [<<"1">>]}, {what, What}]).
 
 whats(Query) ->
-    {ok, Lines, _} = lobby_audit:read(Query),
+    {ok, #{lines := Lines}} = lobby_audit:read(Query),
     [What || #{<<"what">> := What} <- Lines].
 
 numbers() ->
-    {ok, Lines, _} = lobby_audit:read(#{}),
+    {ok, #{lines := Lines}} = lobby_audit:read(#{}),
     [N || #{<<"n">> := N} <- Lines].
 
-%% However a file ends, each line that was whole is read, and so is the next one.
-a_kill_in_a_line_test_() -> {timeout, 60, fun() -> audited(fun(Config = #{file := File}) ->
+%% If a file is cut off anywhere, all its complete lines can be read, and so can the next line that is written.
+a_kill_in_a_line_test_() -> {timeout, 600, fun() -> audited(fun(Config = #{file := File}) ->
     Pid = start(Config#{bytes := 100000}),
     [write(What) || What <- [1, 2, 3]],
     ok = stop(Pid),
@@ -45,7 +45,7 @@ a_kill_in_a_line_test_() -> {timeout, 60, fun() -> audited(fun(Config = #{file :
          Lines = length(binary:matches(binary:part(Whole, 0, Size), <<"\n">>)),
          Again = start(Config#{bytes := 100000}),
          Kept = whats(#{}),
-         %% A last line may have all but its end.
+         %% The last line may lack only its line feed.
          ?assert(lists:member(Kept, [lists:seq(1, Lines), lists:seq(1, Lines + 1)])),
          ok = write(next),
          ?assertEqual(Kept ++ [<<"next">>], whats(#{})),
@@ -54,7 +54,7 @@ a_kill_in_a_line_test_() -> {timeout, 60, fun() -> audited(fun(Config = #{file :
      end || Size <- lists:seq(0, byte_size(Whole))]
 end) end}.
 
-%% The oldest file is the only one that goes.
+%% Only the oldest files are deleted.
 files_are_renamed_test() -> audited(fun(Config) ->
     Pid = start(Config),
     [write(What) || What <- lists:seq(1, 40)],
@@ -65,36 +65,29 @@ files_are_renamed_test() -> audited(fun(Config) ->
     ok = stop(Pid)
 end).
 
-%% If the controller ends after any of the renames, no line is lost, and the next one goes on.
+%% If the controller ends after the file was renamed, no line is lost, and the numbers continue.
 a_kill_while_files_are_renamed_test() -> [audited(fun(Config = #{file := File}) ->
     Pid = start(Config),
     [write(What) || What <- lists:seq(1, 6)],
     ok = stop(Pid),
     Before = whats(#{}),
-    Named = fun(0) -> File; (N) -> File ++ "." ++ integer_to_list(N) end,
-    Older = [N || N <- [1, 2, 3], filelib:is_regular(Named(N))],
-    [ok = file:rename(Named(A), Named(B)) || {A, B} <- lists:sublist(lobby_audit_core:renames(Older, 3), Done)],
+    _ = [ok = file:rename(File, File ++ ".6") || IsRenamed],
     ?assertEqual(Before, whats(#{})),
     Again = start(Config),
     [write(What) || What <- [7, 8]],
     ?assertEqual(Before ++ [7, 8], whats(#{})),
     ?assertEqual(Before ++ [7, 8], numbers()),
     ok = stop(Again)
-end) || Done <- [0, 1, 2, 3]].
+end) || IsRenamed <- [true, false]].
 
-renames_test() ->
-    ?assertEqual([{0, 1}], lobby_audit_core:renames([], 3)),
-    ?assertEqual([{1, 2}, {0, 1}], lobby_audit_core:renames([1, 3], 3)),
-    ?assertEqual([{2, 3}, {1, 2}, {0, 1}], lobby_audit_core:renames([1, 2, 3], 3)).
-
-%% Whoever wants to be isolated is, and the gap in the numbers stays. /dev/full is a full disk.
-a_full_disk_test() -> audited(fun(Config = #{file := File}) ->
+%% Isolating works on a full disk (/dev/full), and leaves a gap in the numbers.
+a_full_disk_test_() -> {timeout, 60, fun() -> audited(fun(Config = #{file := File}) ->
     with_counters(fun() ->
         Pid = start(Config#{bytes := 100000}),
         ok = write(1),
         ok = file:rename(File, File ++ ".1"),
         ok = file:make_symlink("/dev/full", File),
-        %% It has the file open that was renamed.
+        %% The process still has the renamed file open, so it is restarted.
         ok = stop(Pid),
         Full = start(Config#{bytes := 100000}),
         ?assertEqual([ok, ok], [write(What) || What <- [2, 3]]),
@@ -105,7 +98,7 @@ a_full_disk_test() -> audited(fun(Config = #{file := File}) ->
         ?assertEqual([{{lobby_audit_lost_total, none}, 2}], lobby_events:counts()),
         ok = stop(Full)
     end)
-end).
+end) end}.
 
 with_counters(Test) ->
     _ = application:stop(mnesia),
@@ -116,7 +109,7 @@ with_counters(Test) ->
         _ = application:stop(mnesia)
     end.
 
-%% The order is that of the numbers, and times are as the clock had them.
+%% Lines are in the order of their numbers, and have the times that the clock showed.
 a_clock_is_set_back_test() ->
     Lines = [jiffy:decode(lobby_audit_core:line(N, Time, [{event, test}]), [return_maps])
              || {N, Time} <- [{1, 5000}, {2, 1000}, {3, 1500}]],
@@ -146,7 +139,7 @@ queries_test() ->
 seat(T, Id, Caller, Proved) ->
     #{<<"event">> => <<"seat">>, <<"termination">> => T, <<"member">> => Id, <<"caller">> => Caller, <<"proved">> => Proved}.
 
-%% Only a proved name is without an id, and none turns or hides text.
+%% Only a proved name has no id. No name can reverse or hide text.
 names_test() ->
     Turned = <<"a", 16#202E/utf8, "b\n\"\\,", 16#200B/utf8, "c">>,
     Long = binary:copy(<<16#1F600/utf8>>, 40),
@@ -155,7 +148,7 @@ names_test() ->
                                                      seat(4, <<"0123abcd">>, Long, false), seat(5, <<"z">>, <<>>, false)])),
     ?assertMatch([<<"RTP/1,\"ann\"">>, <<"RTP/2,\"ann (x)\"">>, <<"RTP/3,\"a?b???,?c (y)\"">>, <<"RTP/4,", _/binary>>,
                   <<"RTP/5,\" (z)\"">>, <<>>], binary:split(Names, <<"\n">>, [global])),
-    %% The program takes them.
+    %% The gateway's program accepts these names.
     File = filename:join(os:getenv("TMPDIR", "/tmp"), "names" ++ os:getpid()),
     ok = file:write_file(File, Names),
     Said = os:cmd(os:getenv("BRIDGE") ++ " heard --names " ++ File ++ " < /dev/null"),
@@ -164,7 +157,7 @@ names_test() ->
     ?assertThrow({two_names, 1}, lobby_audit_core:names([seat(1, <<"w">>, <<"ann">>, true), seat(1, <<"x">>, <<"bob">>, true)])),
     ?assertThrow(too_many_names, lobby_audit_core:names([seat(T, <<"w">>, <<"ann">>, true) || T <- lists:seq(1, 1025)])).
 
-%% What is no line of ours isn't read.
+%% Lines that the log didn't write are left out.
 other_lines_test() ->
     ?assertEqual([], lobby_audit_core:entries(<<"{}\n1\n[]\n{\"n\": \"1\"}\nx\n\n{\"n\": 1">>)).
 

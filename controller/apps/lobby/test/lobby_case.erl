@@ -1,10 +1,10 @@
-%% What the suites share: the end of a case, and waiting.
+%% Functions that the suites share: one ends a case, and the others wait for conditions.
 -module(lobby_case).
 
--export([stop/0, until/1, until/2]).
+-export([stop/0, until/1, until/2, stays/1]).
 
-%% Longer than anything takes, even on a busy machine.
--define(LIMIT, 15000).
+%% Milliseconds after which a wait fails, even on a busy machine.
+-define(LIMIT, 60000).
 
 %% Stops the controller and all gateways.
 stop() ->
@@ -14,7 +14,7 @@ stop() ->
     _ = gateway:kill_all(),
     ok.
 
-%% Waits until something holds, and returns how many milliseconds that took.
+%% Waits until a condition holds. Returns the milliseconds that this took.
 until(Holds) -> until(Holds, ?LIMIT).
 
 %% Waits for at most this many milliseconds.
@@ -27,3 +27,8 @@ until(Holds, Start, Limit) ->
         false when Passed < Limit -> timer:sleep(5), until(Holds, Start, Limit);
         false -> error({not_within_ms, Limit})
     end.
+
+%% Checks repeatedly, for half a second, that a condition still holds.
+stays(Holds) ->
+    _ = [Holds() orelse error(no_longer) || _ <- lists:seq(1, 100), timer:sleep(5) =:= ok],
+    ok.

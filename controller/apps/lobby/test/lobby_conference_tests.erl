@@ -5,7 +5,7 @@
 row(Id) ->
     lobby_member:new(Id, #{room => <<"1">>, media => {{{127, 0, 0, 1}, 40000}, pcmu}, direction => sendrecv, identity => <<"test">>}).
 
-%% Wants a newcomer, and returns the answer to the request that adds him.
+%% Adds a newcomer. Returns the step of the request, the gateway's reply, and the conference.
 wanted(Id, Termination, C) ->
     {{request, #{commands := [{add_optional, _}]}, Step}, With} = lobby_conference:next(lobby_conference:want(row(Id), C)),
     Result = {add, Termination, #{local => {{{127, 0, 0, 1}, 30000}, pcmu}}},
@@ -25,7 +25,7 @@ a_newcomer_has_the_wanted_flows_test() ->
     ?assertEqual([{a, b}, {b, a}], flows(two())),
     ?assertEqual(6, length(flows(added(c, 3, two())))).
 
-%% What is to be closed since the request was sent is closed next.
+%% A flow that became forbidden after the request was sent is closed next.
 what_changes_while_he_is_added_is_closed_test() ->
     {Step, Answer, C} = wanted(c, 3, two()),
     Closed = fun(Changed) ->
@@ -37,7 +37,7 @@ what_changes_while_he_is_added_is_closed_test() ->
     ?assertEqual([{1, 2, isolate}, {1, 3, isolate}], Closed(lobby_conference:want((row(a))#{isolated := true, version := 2}, C))),
     ?assertEqual([{3, 1, oneway}], Closed(lobby_conference:set_rules([{deny, {member, a}, {member, c}}], C))).
 
-%% Whoever has left meanwhile has no flows any more.
+%% Members who have left in the meantime have no flows.
 who_leaves_meanwhile_has_no_flows_test() ->
     {Step, Answer, C} = wanted(c, 3, two()),
     Left = fun(Id) -> element(2, lobby_conference:done(Step, Answer, lobby_conference:leave({ended, Id}, C))) end,

@@ -38,7 +38,7 @@ top_test_() ->
         ?_assertMatch({ok, #{tokens := [{_, operator, <<"Ann">>}], audit_log := #{bytes := 16777216, files := 9}}},
                       lobby_config:check([Gateways, {tokens, [{<<"0123456789abcdef">>, operator, <<"Ann">>}]}, {audit_log, #{file => "/tmp/log"}}]))].
 
-%% A quarter of what the gateways have, or what is said.
+%% By default, one address gets a quarter of the gateways' capacity.
 shares_test() ->
     Gateways = {gateways, [#{name => <<"a">>, address => ?ADDRESS}, #{name => <<"b">>, address => ?ADDRESS, terminations => 16, contexts => 8}]},
     ?assertMatch({ok, #{max_calls_from := 68, max_rooms_from := 18}}, lobby_config:check([Gateways])),
@@ -90,7 +90,7 @@ refused_test_() ->
              {"retry must be a whole number from 10 to 5000, not 9", [#{name => <<"a">>, address => ?ADDRESS, retry => 9}]},
              {"two gateways have the name <<\"a\">>", [#{name => <<"a">>, address => ?ADDRESS}, #{name => <<"a">>, address => ?ADDRESS}]}]].
 
-%% A file is taken whole or not at all, and what is wrong with it is said.
+%% A file is used completely or not at all, and the text describes the error.
 files_test_() ->
     Gateways = "{gateways, [#{name => <<\"a\">>, address => {{127,0,0,1},2944}}]}",
     {setup, fun() -> string:trim(os:cmd("mktemp")) end, fun file:delete/1, fun(File) ->

@@ -45,7 +45,7 @@ a_strict_route_is_the_uri() ->
     ?assert(lists:member(<<"Route: <sip:10.0.0.2;lr>, <sip:alice@10.0.0.5:5070>">>, lines(Request))).
 
 the_ack_has_the_number_of_its_invite() ->
-    %% Even if another request was sent after it.
+    %% The ACK has the INVITE's number, even if another request was sent after the INVITE.
     {_, Dialog} = lobby_dialog:request(<<"INVITE">>, {[], <<>>}, ?OWN, dialog([])),
     {_, Later} = lobby_dialog:request(<<"BYE">>, {[], <<>>}, ?OWN, Dialog),
     Response = (invite([]))#sip{type = response, hdrs = [{cseq, 1}]},
@@ -74,7 +74,7 @@ without_a_contact_there_is_no_dialog() ->
 the_caller_has_a_name() ->
     ?assertEqual(<<"Alice A">>, lobby_dialog:caller(dialog([]))).
 
-%% Section 17.2.3, and 8.2.2.2 and 9.2 for what follows.
+%% Requests match transactions as in section 17.2.3, and are answered as in sections 8.2.2.2 and 9.2.
 transactions_are_told_apart() ->
     Message = fun(Method, Via) ->
         {ok, M} = lobby_sip_message:decode(iolist_to_binary([Method, " sip:100@192.0.2.1 SIP/2.0\r\nVia: SIP/2.0/UDP ", Via, "\r\nFrom: <sip:a@b>;tag=1\r\n"
@@ -86,12 +86,12 @@ transactions_are_told_apart() ->
     [?assertEqual({Method, Via, Is}, {Method, Via, lobby_dialog:is_same_transaction(Message(Method, Via), To)})
      || To <- [Invite, Answer], {Method, Via, Is} <- [{"INVITE", "h;branch=z9hG4bK1", true}, {"CANCEL", "h;rport;branch=z9hG4bK1", true}, {"CANCEL", "h;branch=z9hG4bK2", false},
                                                       {"INVITE", "other;branch=z9hG4bK1", false}, {"INVITE", "h:5070;branch=z9hG4bK1", false}, {"INVITE", "h", false}]],
-    %% Of RFC 2543.
+    %% Clients of RFC 2543 have branches without the magic cookie.
     [?assertEqual({Via, Is}, {Via, lobby_dialog:is_same_transaction(Message("CANCEL", Via), Message("INVITE", "h;branch=1"))})
      || {Via, Is} <- [{"h;branch=1", true}, {"h;branch=2", false}, {"h", false}]],
     ?assertNot(lobby_dialog:is_same_transaction((Message("CANCEL", "h"))#sip{hdrs = [{via, [#via{host = <<"h">>}]}, {'call-id', <<"c">>}, {cseq, 8}]}, Message("INVITE", "h"))).
 
-%% Section 14.1.
+%% Section 14.1 defines the effect of a rejected re-INVITE on its call.
 a_refused_invite_ends_no_call() ->
     ?assertEqual([{401, goes_on}, {408, ended}, {481, ended}, {488, goes_on}, {491, again}, {500, goes_on}, {503, goes_on}, {603, goes_on}],
                  [{Status, lobby_dialog:after_refusal(Status)} || Status <- [401, 408, 481, 488, 491, 500, 503, 603]]).

@@ -1,4 +1,5 @@
-%% What a call answers in its dialog (RFC 3261, RFC 3264, RFC 4028), and to whom the gateway sends.
+%% Tests the responses of a call in its dialog (RFC 3261, RFC 3264, RFC 4028), and the addresses to which the gateway
+%% sends.
 -module(lobby_dialogs_SUITE).
 
 -include_lib("stdlib/include/assert.hrl").
@@ -27,7 +28,7 @@ end_per_testcase(_, Config) ->
     ok = lobby_case:stop(),
     Config.
 
-%% An INVITE of one call, by its branch.
+%% Sends a request of the same call with this branch.
 send(Method, Branch, Phone) ->
     Body = case Method of "INVITE" -> phone:sdp(Phone); _ -> "" end,
     Port = integer_to_list(phone:port(Phone)),
@@ -35,7 +36,7 @@ send(Method, Branch, Phone) ->
                        [{"Via", "SIP/2.0/UDP 127.0.0.1:" ++ Port ++ ";rport;branch=z9hG4bK" ++ Branch}, {"Call-ID", "merged"}, {"From", "<sip:a@127.0.0.1>;tag=1"},
                         {"CSeq", "7 " ++ Method}, {"Contact", "<sip:a@127.0.0.1:" ++ Port ++ ">"}, {"Content-Type", "application/sdp"}], Body), Phone).
 
-%% Section 8.2.2.2.
+%% See section 8.2.2.2.
 a_merged_request(Config) ->
     Phone = phone:start(sip(Config)),
     send("INVITE", "one", Phone),
@@ -50,7 +51,7 @@ until_not(Status, Phone) ->
     Text = phone:recv(Phone),
     case phone:status(Text) of Status -> until_not(Status, Phone); _ -> Text end.
 
-%% Section 9.2.
+%% See section 9.2.
 a_cancel_of_another_branch(Config) ->
     Phone = phone:start(sip(Config)),
     send("INVITE", "one", Phone),
@@ -59,7 +60,7 @@ a_cancel_of_another_branch(Config) ->
     ?assertEqual(481, phone:status(until_not(200, Phone))),
     ?assertEqual(1, length(lobby_store:all(lobby_calls))).
 
-%% Section 12.2.2.
+%% See section 12.2.2.
 an_old_bye(Config) ->
     Phone = phone:number(5, call(Config)),
     P1 = phone:request("OPTIONS", "", Phone),
@@ -68,7 +69,7 @@ an_old_bye(Config) ->
     ?assertEqual(1, length(lobby_store:all(lobby_calls))),
     ?assertEqual(200, status(phone:request("BYE", "", P1))).
 
-%% Section 14.1. He is silent, so he is invited.
+%% See section 14.1. The phone is re-invited because it is silent.
 a_refused_invite_ends_no_call(Config) ->
     Phone = call(Config),
     [begin
@@ -79,7 +80,7 @@ a_refused_invite_ends_no_call(Config) ->
      end || Status <- [488, 500, 401, 503]],
     ?assertEqual(1, length(lobby_store:all(lobby_calls))).
 
-%% Section 20.43.
+%% See section 20.43.
 a_refusal_has_a_reason(Config) ->
     [?assertEqual({Line, 488, Warning}, begin
          Phone = phone:start(sip(Config)),
@@ -88,7 +89,7 @@ a_refusal_has_a_reason(Config) ->
          {Line, phone:status(Answer), phone:header("Warning", Answer)}
      end) || {Line, Warning} <- [{"a=ptime:30\r\n", "306 lobby \"packets must be of 20 ms\""}, {"a=maxptime:10\r\n", "306 lobby \"packets must be of 20 ms\""}]].
 
-%% Nobody has somebody else sent speech.
+%% A caller can't make the gateway send speech to a foreign address.
 a_foreign_address(Config) ->
     Phone = phone:start(sip(Config)),
     Foreign = fun(P) -> re:replace(phone:sdp(P), "c=IN IP4 127.0.0.1", "c=IN IP4 127.0.0.9", [{return, list}]) end,
@@ -109,7 +110,7 @@ nothing_is_sent_before_the_ack(Config) ->
     phone:ack(phone:learn(Response, Calling)),
     lobby_case:until(fun() -> caller:received(phone:media(Phone)) > 5 end).
 
-%% Section 17.2.1. His room doesn't answer.
+%% The room doesn't answer, so the caller gets a 100 (section 17.2.1).
 an_answer_at_once(Config) ->
     _ = call(Config),
     ok = sys:suspend(lobby_registry:whereis_name({room, <<"100">>})),
@@ -121,7 +122,7 @@ an_answer_at_once(Config) ->
     ok = sys:resume(lobby_registry:whereis_name({room, <<"100">>})),
     ?assertEqual(200, phone:status(phone:recv(Phone))).
 
-%% Section 9.2. His room doesn't answer, and has nobody more once it does.
+%% The caller cancels while the room doesn't answer (section 9.2). When the room continues, it has no additional member.
 a_cancel_while_he_waits(Config) ->
     _ = call(Config),
     Room = lobby_registry:whereis_name({room, <<"100">>}),
@@ -135,7 +136,7 @@ a_cancel_while_he_waits(Config) ->
     ?assertEqual(1, length(lobby_store:all(lobby_calls))),
     lobby_case:until(fun() -> #{members := Members} = people:describe(<<"100">>), map_size(Members) =:= 1 end).
 
-%% Section 14.2. Nor does a BYE wait for the room.
+%% While a re-INVITE waits for the room, another re-INVITE is answered without it (section 14.2), and so is a BYE.
 an_invite_while_one_waits(Config) ->
     Phone = call(Config),
     Room = lobby_registry:whereis_name({room, <<"100">>}),
@@ -148,9 +149,9 @@ an_invite_while_one_waits(Config) ->
     _ = phone:request("BYE", "", P2),
     ?assertEqual(200, phone:status(phone:received(P2, 1000))),
     ok = sys:resume(Room),
-    lobby_case:until(fun() -> lobby_rooms:names() =:= [] end).
+    lobby_case:until(fun() -> lobby_room:names() =:= [] end).
 
-%% RFC 4028, section 9: a proxy asked for it.
+%% A proxy has asked for the timer (RFC 4028, section 9).
 timers_for_who_does_not_know_them(Config) ->
     Phone = phone:start(sip(Config)),
     P1 = phone:invite(phone:sdp(Phone), ["Session-Expires: 1800"], Phone),

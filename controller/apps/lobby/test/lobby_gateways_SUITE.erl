@@ -1,4 +1,4 @@
-%% Rooms on real gateways.
+%% Tests rooms on real gateways.
 -module(lobby_gateways_SUITE).
 
 -include_lib("common_test/include/ct.hrl").
@@ -16,6 +16,8 @@ all() ->
      a_room_waits_for_a_gateway, one_with_a_journal_comes_back, one_that_comes_back_soon_is_not_missed, one_that_comes_back_soon_is_seen,
      requests_wait_for_one_with_a_journal, one_that_does_not_come_back_is_replaced, one_that_lost_its_journal_is_noticed,
      one_that_comes_back_with_less_is_corrected, another_run_takes_over,
+     an_old_request_is_stale, an_old_request_is_run_without_a_fence, a_held_up_add_is_stale, a_held_up_add_is_run_without_a_fence,
+     another_run_goes_on_behind_a_fence, one_that_is_fenced_off_says_so, numbers_only_rise,
      rooms_that_are_gone_end_when_a_gateway_returns,
      one_that_began_anew_between_two_runs, processes_fail, a_room_fails_in_the_middle_of_a_request,
      somebody_else_changes_the_topology, lost_and_doubled_datagrams, one_is_drained, one_that_is_drained_fails,
@@ -47,11 +49,11 @@ join(Room, Id, Role) ->
     {ok, Local} = people:join(Room, Id, Role, media(40000), sendrecv),
     Local.
 
-%% Members by termination, in a room's description.
+%% Returns the members of a room by their terminations.
 ids(#{members := Members}) ->
     maps:from_list([{T, Id} || {Id, #{termination := T}} <- maps:to_list(Members)]).
 
-%% Who is heard by whom, as the gateway itself says.
+%% Returns the open flows of a room, as the gateway reports them.
 heard(Room, Gateways) ->
     About = #{gateway := Name, context := Context} = people:describe(Room),
     G = maps:get(Name, Gateways),
@@ -78,8 +80,8 @@ the_rules_hold_on_the_gateway(_) ->
     [people:leave(Id) || Id <- [alice, bob]],
     ?assertEqual([], gateway:contexts([Context], G)).
 
-%% Heard with ears: a talker who never pauses, and a newcomer who must not hear him. Datagrams take so long that the gateway
-%% sends packets between any two requests.
+%% A newcomer never hears, even for one packet, a talker whom the rules keep from him. The talker never pauses, and
+%% datagrams are so slow that the gateway sends packets between any two requests, so a leak is heard.
 a_newcomer_enters_with_his_rules(_) ->
     G = gateway:start(),
     Relay = relay:start(gateway:address(G), #{lose => 0.0, double => 0.0, delay => 60}),
@@ -126,10 +128,10 @@ members_move(_) ->
     {ok, _} = people:move(carol, <<"break">>),
     ok = people:set_rules(<<"break">>, []),
     ?assertEqual(6, length(heard(<<"break">>, Gs))),
-    ?assertEqual([<<"break">>], lobby_rooms:names()),
+    ?assertEqual([<<"break">>], lobby_room:names()),
     ?assertEqual({error, no_member}, people:move(dave, <<"main">>)).
 
-%% He is in his room as before: isolated, and in the second room alone.
+%% After a failed move, Alice and Carol are still isolated, each in the old room.
 a_move_that_fails_changes_nothing(_) ->
     G = gateway:start(),
     run([{<<"a">>, G}]),
@@ -139,20 +141,20 @@ a_move_that_fails_changes_nothing(_) ->
     [?assertEqual({error, room_full}, people:move(Id, <<"full">>)) || Id <- [alice, carol]],
     join(<<"solo">>, dave, <<"guest">>),
     [?assertEqual([], heard(Room, #{<<"a">> => G})) || Room <- [<<"desk">>, <<"solo">>]],
-    ?assertEqual([<<"desk">>, <<"full">>, <<"solo">>], lobby_rooms:names()).
+    ?assertEqual([<<"desk">>, <<"full">>, <<"solo">>], lobby_room:names()).
 
-%% A Remote with the address 0.0.0.0 is taken, and one with port 0 isn't.
+%% The gateway accepts a Remote with the address 0.0.0.0, but not with port 0.
 refused_media(_) ->
     G = gateway:start(),
     run([{<<"a">>, G}]),
     Bad = {{{127, 0, 0, 1}, 0}, pcmu},
     ?assertEqual({error, {refused, 515}}, people:join(<<"100">>, x, <<"member">>, Bad, sendrecv)),
-    lobby_case:until(fun() -> lobby_rooms:names() =:= [] end),
+    lobby_case:until(fun() -> lobby_room:names() =:= [] end),
     Local = join(<<"100">>, alice, <<"member">>),
     ?assertEqual({error, {refused, 515}}, people:update(alice, #{media => Bad})),
     ?assertEqual({ok, Local}, people:update(alice, #{muted => false})).
 
-%% The gateway refuses his Add, and also the triples with him.
+%% The gateway rejects the newcomer's Add, and also the triples that name the newcomer.
 a_refused_newcomer_disturbs_nobody(_) ->
     G = gateway:start(),
     run([{<<"a">>, G}]),
@@ -164,7 +166,7 @@ a_refused_newcomer_disturbs_nobody(_) ->
     ?assertEqual(Before, people:describe(<<"100">>)),
     ?assertEqual([{alice, bob}, {bob, alice}], heard(<<"100">>, #{<<"a">> => G})).
 
-%% So many that the topology takes several requests and can't be audited.
+%% With sixty members, the topology takes several requests, and can't be audited.
 a_lecture_of_sixty(_) ->
     G = gateway:start(["--first-termination", "4000000000"]),
     run([{<<"a">>, G}]),
@@ -180,18 +182,17 @@ a_killed_gateway_is_replaced(_) ->
     A = gateway:start(),
     B = gateway:start(),
     Gs = #{<<"a">> => A, <<"b">> => B},
-    %% With so many tries, only its host's refusals tell in time.
-    run(maps:to_list(Gs), #{tries => 20}),
+    %% All tries take 20 s, so only ICMP from the gateway's host reveals the loss in time.
+    run(maps:to_list(Gs), #{retry => 1000, tries => 20}),
     ok = people:create(<<"100">>, [{deny, everyone, {member, 3}}]),
     [join(<<"100">>, N, <<"member">>) || N <- lists:seq(1, 30)],
     #{gateway := First} = people:describe(<<"100">>),
     gateway:kill(maps:get(First, Gs)),
     Start = erlang:monotonic_time(millisecond),
-    [receive {moved, N, _} -> ok after 3000 -> error(not_moved) end || N <- lists:seq(1, 30)],
+    [receive {moved, N, _} -> ok after 15000 -> error(not_moved) end || N <- lists:seq(1, 30)],
     Took = erlang:monotonic_time(millisecond) - Start,
     ct:pal("made again ~b ms after the kill", [Took]),
-    %% On an idle machine it is half of that.
-    ?assert(Took < 1200),
+    ?assert(Took < 15000),
     #{gateway := Second} = people:describe(<<"100">>),
     ?assertNotEqual(First, Second),
     [ok = people:leave(N) || N <- lists:seq(11, 30)],
@@ -200,7 +201,7 @@ a_killed_gateway_is_replaced(_) ->
 one_that_begins_anew_is_noticed(_) ->
     begun_anew(["--first-termination", "1000", "--first-context", "1000"], ["--first-termination", "2000", "--first-context", "2000"]).
 
-%% The restarted gateway has a context and terminations with the same names, which somebody else made.
+%% The restarted gateway has a context and terminations with the same names, which another controller created.
 one_that_begins_with_the_same_numbers_is_noticed(_) ->
     begun_anew([], []).
 
@@ -218,7 +219,7 @@ begun_anew(First, Second) ->
     ?assertNot(lobby_gateway:reserve(Before, <<"200">>, [dave])),
     ?assertEqual([{alice, carol}, {carol, alice}], heard(<<"100">>, #{<<"a">> => G1})).
 
-%% The members are in a context that has the three of them and nobody else.
+%% Returns whether the members are in one context with no other terminations.
 made_again(Locals, G) ->
     #{context := Context, members := Members} = people:describe(<<"100">>),
     Context =/= new andalso length(gateway:terminations(Context, G)) =:= length(Locals)
@@ -233,7 +234,7 @@ one_that_was_out_of_reach_is_cleaned(_) ->
     [join(<<"100">>, Id, <<"member">>) || Id <- [alice, bob]],
     #{gateway := First, context := Context} = people:describe(<<"100">>),
     Stopped = maps:get(First, Gs),
-    %% The other one has no room, so that a new room's Add is under way to the one that stops.
+    %% The other gateway has fewer free seats, so that a new room's Add is under way to the gateway that stops.
     Others = [H || {H, _} <- lobby_gateway:serving(), lobby_gateway:name(H) =/= First],
     [true = lobby_gateway:reserve(H, <<"other">>, [x, y, z]) || H <- Others],
     ?assertEqual([Context], gateway:contexts([Context], Stopped)),
@@ -245,7 +246,7 @@ one_that_was_out_of_reach_is_cleaned(_) ->
     ?assertEqual([sentinel(Stopped)], gateway:contexts(lists:seq(1, 60) ++ lists:seq(500, 560), Stopped)),
     ?assertEqual([{alice, bob}, {bob, alice}], heard(<<"100">>, Gs)).
 
-%% This node of a pair may have been cut off: until it would have heard of that, nothing is ended.
+%% This node of a pair may have been cut off. It subtracts nothing until it would have learned that.
 of_a_pair_it_is_cleaned_later(_) ->
     Gs = maps:from_list([{Name, gateway:start()} || Name <- [<<"a">>, <<"b">>]]),
     ok = persistent_term:put(lobby_lease, {atomics:new(1, []), 1 bsl 60}),
@@ -269,24 +270,25 @@ a_room_waits_for_a_gateway(_) ->
     gateway:stop(G),
     lobby_case:until(fun() -> maps:get(gateway, people:describe(<<"100">>)) =:= none end),
     ?assertEqual({error, no_room}, people:join(<<"100">>, x, <<"member">>, media(40000), sendrecv)),
-    %% The gateway may still mix, so a change isn't said to be made.
+    %% The gateway may still mix, so the change isn't answered yet.
     ?assertNot(people:agrees(<<"100">>)),
     gateway:continue(G),
     lobby_case:until(fun() -> maps:get(gateway, people:describe(<<"100">>)) =:= <<"a">> end),
     lobby_case:until(fun() -> people:agrees(<<"100">>) end),
     ?assertEqual([{alice, bob}, {bob, alice}], heard(<<"100">>, #{<<"a">> => G})).
 
-%% His call ends, and nobody is told.
+%% Ends a member's call without notifying any process.
 ended(Id) ->
     exit(lobby_registry:whereis_name({member, Id}), kill),
     ok = lobby_store:delete(lobby_members, Id).
 
-%%% With a journal.
+%%% Gateways with a journal.
 
 journal(Config) ->
     filename:join(?config(priv_dir, Config), "journal" ++ integer_to_list(erlang:unique_integer([positive])) ++ ".txt").
 
-%% A room with three members, who are this process, on a gateway with a journal. One is isolated.
+%% Creates a room with three members on a gateway with a journal, and isolates one of them. This process acts for all
+%% three.
 journaled(Returns, Others, Config) ->
     Journal = ["--journal", journal(Config)],
     G = gateway:start(Journal),
@@ -298,7 +300,7 @@ journaled(Returns, Others, Config) ->
     ok = lobby_events:subscribe({<<"token">>, viewer}),
     {G, Journal}.
 
-%% Later, so that the room is on the first one.
+%% Adds a second gateway later, so that the room is on the first gateway.
 supervisor_starts(Config = #{name := Name}) ->
     {ok, #{gateways := [Whole]}} = lobby_config:check([{gateways, [Config]}]),
     {ok, _} = supervisor:start_child(lobby_gateway_sup, #{id => Name, start => {lobby_gateway, start_link, [Whole]}}),
@@ -314,7 +316,7 @@ counts() ->
     [count(C) || C <- [lobby_gateway_losses_total, lobby_gateway_returns_total, lobby_conferences_kept_total,
                        lobby_conferences_made_again_total, lobby_topologies_repaired_total]].
 
-%% Nothing is to be done, and that is seen. Nobody is told to call again.
+%% The controller has to change nothing, and no phone gets a re-INVITE.
 one_with_a_journal_comes_back(Config) ->
     {G, Journal} = journaled(5000, [], Config),
     Gs = #{<<"a">> => G},
@@ -338,7 +340,7 @@ one_with_a_journal_comes_back(Config) ->
     end, G, [1, 2]),
     receive {moved, Id, Local} -> error({moved, Id, Local}) after 0 -> ok end.
 
-%% Sooner than anybody asks: the calls go on, whether or not it was noticed.
+%% The gateway is back before the controller misses it. Calls continue, whether or not the controller has noticed.
 one_that_comes_back_soon_is_not_missed(Config) ->
     {G, Journal} = journaled(5000, [], Config),
     Before = people:describe(<<"100">>),
@@ -353,7 +355,8 @@ one_that_comes_back_soon_is_not_missed(Config) ->
     ?assertEqual([{alice, carol}, {carol, alice}], heard(<<"100">>, #{<<"a">> => G})),
     ?assertEqual(0, count(lobby_gateway_losses_total)).
 
-%% By its counts, which begin at 0 again: once for the conference, whether or not the gateway was missed.
+%% The gateway's packet counts begin at 0 again, which reveals the restart. The controller counts it once for the
+%% conference, whether or not it missed the gateway.
 one_that_comes_back_soon_is_seen(Config) ->
     ok = application:set_env(lobby, room_audit, 500),
     {G, Journal} = journaled(5000, [], Config),
@@ -371,7 +374,8 @@ one_that_comes_back_soon_is_seen(Config) ->
     ?assertEqual(3, count(lobby_conferences_kept_total)),
     ?assertEqual(0, count(lobby_gateway_losses_total)).
 
-%% Those that were sent before the gateway ended, and those that come while it is awaited: each is run once.
+%% Each request is run once, both requests that were sent before the gateway ended and requests that arrive while the
+%% controller waits for it.
 requests_wait_for_one_with_a_journal(Config) ->
     {G, Journal} = journaled(5000, [], Config),
     Self = self(),
@@ -391,7 +395,7 @@ requests_wait_for_one_with_a_journal(Config) ->
     [{_, Load}] = lobby_gateway:serving(),
     ?assertMatch(#{terminations := 5, contexts := 2}, Load).
 
-%% When it comes back after all, what it has is ended.
+%% If the gateway comes back later, all its terminations are subtracted.
 one_that_does_not_come_back_is_replaced(Config) ->
     B = gateway:start(["--first-context", "500"]),
     {G, Journal} = journaled(300, [{<<"b">>, B}], Config),
@@ -400,7 +404,7 @@ one_that_does_not_come_back_is_replaced(Config) ->
     Start = erlang:monotonic_time(millisecond),
     event({gateway, <<"a">>, away}),
     event({gateway, <<"a">>, lost}),
-    [receive {moved, Id, _} -> ok after 3000 -> error(not_moved) end || Id <- [alice, bob, carol]],
+    [receive {moved, Id, _} -> ok after 15000 -> error(not_moved) end || Id <- [alice, bob, carol]],
     ct:pal("made again ~b ms after the kill", [erlang:monotonic_time(millisecond) - Start]),
     ?assertEqual([{alice, carol}, {carol, alice}], heard(<<"100">>, Gs)),
     ?assertEqual([1, 0, 0, 1, 0], counts()),
@@ -409,8 +413,8 @@ one_that_does_not_come_back_is_replaced(Config) ->
     ?assertEqual([sentinel(G)], gateway:contexts(lists:seq(1, 60), G)),
     ?assertEqual([{alice, carol}, {carol, alice}], heard(<<"100">>, Gs)).
 
-%% It has the same numbers, by somebody else's requests, which ours must not change: one that had no answer when the
-%% gateway ended is sent again only when it is known to be the same.
+%% Another controller has created terminations with the same numbers, which our requests must not change. A request that
+%% was unanswered when the gateway ended is repeated only once the gateway is known to be the same.
 one_that_lost_its_journal_is_noticed(Config) ->
     {G, _} = journaled(5000, [], Config),
     #{context := Context} = people:describe(<<"100">>),
@@ -430,7 +434,7 @@ one_that_lost_its_journal_is_noticed(Config) ->
     ?assertEqual([1, 0, 0, 1, 0], counts()),
     ?assertEqual({2, 6}, {Context, length(gateway:topology(Context, G1))}).
 
-%% As from a standby's copy of the journal, whose end may be missing: it has all but the last requests.
+%% A standby's copy of a journal may lack its end, so the gateway has forgotten the last requests.
 one_that_comes_back_with_less_is_corrected(Config) ->
     {G, Journal = [_, File]} = journaled(5000, [], Config),
     {ok, Copy} = file:read_file(File),
@@ -446,11 +450,15 @@ one_that_comes_back_with_less_is_corrected(Config) ->
     ?assertEqual([0, 1, 1, 0, 1], counts()),
     ?assertEqual(2, length(gateway:contexts(lists:seq(1, 60), G))).
 
-%% Each process of ours is killed in turn. The rooms stay, nothing is left over on the gateway, and the rules hold.
-%% The controller ends while a request that makes a context is under way, and one room is lost. The next run goes on with
-%% the other conference, and ends the rest.
+%% The controller ends while a request that creates a context is under way, and one room is lost. The next run continues
+%% the other conference, and subtracts everything else.
 another_run_takes_over(_) ->
-    G = gateway:start(),
+    another_run(gateway:start()).
+
+another_run_goes_on_behind_a_fence(_) ->
+    another_run(gateway:start(fence())).
+
+another_run(G) ->
     run([{<<"a">>, G}]),
     ok = people:create(<<"100">>, people:isolation(bob)),
     Before = [join(<<"100">>, Id, <<"member">>) || Id <- [alice, bob, carol]],
@@ -465,7 +473,7 @@ another_run_takes_over(_) ->
     [ok = lobby_store:delete(lobby_rooms, Room) || Room <- [<<"200">>, <<"300">>]],
     gateway:continue(G),
     timer:sleep(500),
-    %% Not more: the gateway keeps 32 replies.
+    %% Retransmissions have created no other contexts, because the gateway keeps 32 replies.
     ?assertEqual([2, 3, 4], gateway:contexts([2, 3, 4], G)),
     run([{<<"a">>, G}]),
     lobby_case:until(fun() -> lists:sort([Context, sentinel(G)]) =:= gateway:contexts(lists:seq(1, 60), G) end),
@@ -474,6 +482,110 @@ another_run_takes_over(_) ->
     [people:start_again(Id) || Id <- [alice, bob, carol]],
     ?assertEqual(Before, [begin {ok, Local} = people:update(Id, #{}), Local end || Id <- [alice, bob, carol]]),
     ?assertMatch([{_, #{terminations := 4, contexts := 2}}], lobby_gateway:serving()).
+
+fence() -> ["--fence", "--controller", "127.0.0.1"].
+
+%% Alice was unmuted and muted again, and another run has taken over. A copy of the first request was under way all the
+%% time.
+an_old_request_is_stale(_) ->
+    Modes = after_an_old_request(fence()),
+    lobby_case:stays(fun() -> Modes() =:= ['SendOnly', 'SendReceive'] end).
+
+an_old_request_is_run_without_a_fence(_) ->
+    Modes = after_an_old_request([]),
+    lobby_case:until(fun() -> Modes() =:= ['SendReceive', 'SendReceive'] end).
+
+relayed(Options) ->
+    G = gateway:start(Options),
+    %% No room's audit corrects a request that is run late.
+    ok = application:set_env(lobby, room_audit, 600000),
+    {G, relay:start(gateway:address(G), #{lose => 0.0, double => 0.0, delay => 1})}.
+
+%% Returns a function that returns the modes on the gateway.
+after_an_old_request(Options) ->
+    {G, Relay} = relayed(Options),
+    run([{<<"a">>, G}], #{address => relay:address(Relay), quiet => 100}),
+    _ = [join(<<"100">>, Id, <<"member">>) || Id <- [alice, bob]],
+    #{context := Context} = people:describe(<<"100">>),
+    {ok, _} = people:update(alice, #{muted => true}),
+    relay:copy(Relay, <<"MO=SR">>),
+    {ok, _} = people:update(alice, #{muted => false}),
+    relay:pass(Relay),
+    {ok, _} = people:update(alice, #{muted => true}),
+    relay:wait_for_acknowledgements(100, Relay),
+    ok = application:stop(lobby),
+    run([{<<"a">>, G}], #{address => relay:address(Relay), quiet => 100}),
+    Modes = fun() -> lists:sort(maps:values(gateway:modes(Context, G))) end,
+    ?assertEqual(['SendOnly', 'SendReceive'], Modes()),
+    relay:release(Relay),
+    Modes.
+
+%% Bob's Add was held up in the network, and another run, which doesn't know of it, has taken over.
+a_held_up_add_is_stale(_) ->
+    Terminations = after_a_held_up_add(fence()),
+    lobby_case:stays(fun() -> length(Terminations()) =:= 1 end).
+
+a_held_up_add_is_run_without_a_fence(_) ->
+    Terminations = after_a_held_up_add([]),
+    lobby_case:until(fun() -> length(Terminations()) =:= 2 end).
+
+after_a_held_up_add(Options) ->
+    {G, Relay} = relayed(Options),
+    run([{<<"a">>, G}], #{address => relay:address(Relay)}),
+    _ = join(<<"100">>, alice, <<"member">>),
+    #{context := Context} = people:describe(<<"100">>),
+    relay:copy(Relay, <<"O-A=">>),
+    relay:drop(Relay, <<"O-A=">>),
+    Joining = spawn(fun() -> people:join(<<"100">>, bob, <<"member">>, media(40000), sendrecv) end),
+    lobby_case:until(fun() -> lobby_store:size(lobby_requests) =:= 1 end),
+    exit(Joining, kill),
+    ok = application:stop(lobby),
+    ok = application:stop(mnesia),
+    %% Without the store, the run's number is the Unix time.
+    timer:sleep(2100),
+    relay:pass(Relay),
+    run([{<<"a">>, G}], #{address => relay:address(Relay)}),
+    relay:release(Relay),
+    fun() -> gateway:terminations(Context, G) end.
+
+%% Another controller has a higher number. The gateway still answers senders without a number.
+one_that_is_fenced_off_says_so(_) ->
+    G = gateway:start(fence()),
+    run([{<<"a">>, G}], #{tries => 4}),
+    ok = lobby_events:subscribe({<<"test">>, operator}),
+    _ = gateway:ask_as("4294967295.other", "Context=-{AuditValue=ROOT}", G),
+    receive {lobby_event, {gateway, <<"a">>, fenced}} -> ok after 40000 -> error(not_fenced) end,
+    ?assertEqual([], lobby_gateway:serving()).
+
+%% Numbers rise even if the process fails repeatedly, the clock is set back, or the store is lost.
+numbers_only_rise(_) ->
+    {ok, Socket} = gen_udp:open(0, [binary, {ip, {127, 0, 0, 1}}, {active, false}]),
+    {ok, Port} = inet:port(Socket),
+    ok = application:set_env(lobby, gateways, [#{name => <<"a">>, address => {{127, 0, 0, 1}, Port}}]),
+    {ok, _} = application:ensure_all_started(lobby),
+    Start = erlang:system_time(second),
+    ?assert(next_number(Socket, Start - 60) < Start + 60),
+    ok = lobby_store:put(lobby_settings, {number, <<"a">>}, Start + 100000),
+    _ = lists:foldl(fun(_, Number) ->
+        exit(lobby_registry:whereis_name({gateway, <<"a">>}), kill),
+        next_number(Socket, Number)
+    end, Start + 100000, lists:seq(1, 3)),
+    ok = application:stop(lobby),
+    ok = application:stop(mnesia),
+    {ok, _} = application:ensure_all_started(lobby),
+    lobby_case:until(fun() -> N = number(Socket), N > Start - 60 andalso N < Start + 1000 end).
+
+%% Returns the first number above this one.
+next_number(Socket, Before) ->
+    case number(Socket) of N when N > Before -> N; _ -> next_number(Socket, Before) end.
+
+%% Returns the number of the next message to a gateway.
+number(Socket) ->
+    {ok, {_, _, Message}} = gen_udp:recv(Socket, 0, 15000),
+    case re:run(Message, "^!/1 <(\\d+)\\.lobby>", [{capture, all_but_first, binary}]) of
+        {match, [Number]} -> binary_to_integer(Number);
+        nomatch -> number(Socket)
+    end.
 
 %% The rooms are restored while a gateway with a journal is away.
 rooms_that_are_gone_end_when_a_gateway_returns(Config) ->
@@ -498,9 +610,11 @@ one_that_began_anew_between_two_runs(_) ->
     ok = application:stop(lobby),
     New = gateway:restart(G, ["--first-context", "500"]),
     run([{<<"a">>, New}]),
-    %% They are added inactive before the topology holds.
+    %% The members are added as Inactive before the topology is in effect.
     lobby_case:until(fun() -> all_held(<<"100">>) andalso heard(<<"100">>, #{<<"a">> => New}) =:= [{alice, carol}, {carol, alice}] end).
 
+%% Each process of the controller is killed in turn. The rooms stay, the gateway has no orphaned terminations, and the
+%% rules hold.
 processes_fail(_) ->
     G = gateway:start(),
     run([{<<"a">>, G}]),
@@ -516,7 +630,7 @@ processes_fail(_) ->
          ?assertEqual(1, length(gateway:contexts(lists:seq(1, 60), G) -- [sentinel(G)]))
      end || Name <- [{room, <<"100">>}, {gateway, <<"a">>}, lobby_registry, lobby_gateway_sup, lobby_room_sup, {room, <<"100">>}]].
 
-%% The context of the gateway's own process: the one whose only member is inactive.
+%% Returns the context of the sentinel: the context whose only termination is inactive.
 sentinel(G) ->
     hd([Context || Context <- gateway:contexts(lists:seq(1, 60) ++ lists:seq(500, 560), G), maps:values(gateway:modes(Context, G)) =:= ['Inactive']]).
 
@@ -536,7 +650,7 @@ all_held(Room) ->
     #{members := Members} = people:describe(Room),
     lists:all(fun(Member) -> is_map_key(termination, Member) end, maps:values(Members)).
 
-%% The room's process ends after its Add went out: nobody knows the termination, and it has to go.
+%% The room's process ends after it has sent an Add. No room knows the termination, so it has to be subtracted.
 a_room_fails_in_the_middle_of_a_request(_) ->
     G = gateway:start(),
     run([{<<"a">>, G}]),
@@ -566,12 +680,12 @@ somebody_else_changes_the_topology(_) ->
     ?assertEqual(6, length(gateway:topology(Context, G))),
     ?assertEqual(repaired, people:audit(<<"100">>)),
     ?assertEqual([{alice, carol}, {carol, alice}], heard(<<"100">>, #{<<"a">> => G})),
-    %% Without being asked, too.
+    %% The room also audits the gateway without a request.
     gateway:ask(io_lib:format("Context=~b{Topology{*,*,Isolate}}", [Context]), G),
     lobby_case:until(fun() -> heard(<<"100">>, #{<<"a">> => G}) =:= [{alice, carol}, {carol, alice}] end, 8000).
 
-%% A relay loses and doubles datagrams in both directions.
-%% Two gateways, with rooms of three on both: who is isolated talks, and the others listen. Returns their ears.
+%% Creates rooms of three members on both gateways. In each room, the isolated member talks, and the others listen.
+%% Returns the rooms and the listeners.
 rooms_of_three(Gs) ->
     run(maps:to_list(Gs)),
     Rooms = [integer_to_binary(N) || N <- lists:seq(1, 6)],
@@ -589,14 +703,14 @@ rooms_of_three(Gs) ->
 
 gateway_of(Room) -> maps:get(gateway, people:describe(Room)).
 
-%% What a gateway has of ours.
+%% Checks that in each room, only the two listeners hear each other.
 has(Rooms, Gs) ->
     [?assertEqual([{{Room, 2}, {Room, 3}}, {{Room, 3}, {Room, 2}}], heard(Room, Gs)) || Room <- Rooms].
 
 all_of(G) -> gateway:contexts(lists:seq(1, 100), G).
 
-%% Its rooms go, one after the other, with who joins them meanwhile, and who is isolated stays so. New rooms are made
-%% elsewhere. In the end, it has nothing of ours, until it is to serve again.
+%% The gateway's rooms leave it one after the other, together with members who join meanwhile. Isolated members stay
+%% isolated. New rooms are created elsewhere. In the end, the gateway has no terminations of ours until it is resumed.
 one_is_drained(_) ->
     Gs = #{<<"a">> := A} = maps:from_list([{Name, gateway:start()} || Name <- [<<"a">>, <<"b">>]]),
     {Rooms, _} = rooms_of_three(Gs),
@@ -610,7 +724,7 @@ one_is_drained(_) ->
     ?assertMatch([{{<<"a">>, _}, #{draining := true, terminations := 0}}, {{<<"b">>, _}, #{draining := false}}], lobby_gateway:serving()),
     ok = people:leave(late),
     has(Rooms, Gs),
-    %% And after a failure of its process.
+    %% The gateway stays drained after a failure of its process.
     exit(lobby_registry:whereis_name({gateway, <<"a">>}), kill),
     lobby_case:until(fun() -> lobby_registry:whereis_name({gateway, <<"a">>}) =/= undefined end),
     timer:sleep(500),
@@ -621,7 +735,8 @@ one_is_drained(_) ->
     ?assertEqual(<<"a">>, gateway_of(<<"another">>)),
     ?assertEqual({error, no_gateway}, lobby_gateway:drain(<<"c">>, true)).
 
-%% The gateway is killed while its rooms leave, and starts again. It ends whatever it still has, and no room returns to it.
+%% The gateway is killed while its rooms leave, and restarts. Its terminations are subtracted, and no room returns to
+%% it.
 one_that_is_drained_fails(_) ->
     Gs = #{<<"a">> := A} = maps:from_list([{Name, gateway:start()} || Name <- [<<"a">>, <<"b">>]]),
     {Rooms, _} = rooms_of_three(Gs),
@@ -634,7 +749,7 @@ one_that_is_drained_fails(_) ->
     ?assertEqual([], all_of(Again)),
     has(Rooms, Gs#{<<"a">> := Again}).
 
-%% People stay where they are until there are seats elsewhere.
+%% Members stay on a gateway that is being drained until another gateway has seats.
 what_has_no_room_elsewhere_stays(_) ->
     Gs = #{<<"a">> := A} = maps:from_list([{Name, gateway:start()} || Name <- [<<"a">>, <<"b">>]]),
     run([{<<"a">>, A}]),
@@ -663,13 +778,13 @@ lost_and_doubled_datagrams(_) ->
      end || N <- lists:seq(1, 12)],
     Others = lists:seq(1, 11),
     ?assertEqual(lists:sort([{A, B} || A <- Others, B <- Others, A =/= B]), heard(<<"100">>, #{<<"a">> => G})),
-    %% Copies that are still under way, and the acknowledgements.
+    %% Copies and acknowledgements may still be under way.
     timer:sleep(1000),
     ?assertEqual(lists:sort([{A, B} || A <- Others, B <- Others, A =/= B]), heard(<<"100">>, #{<<"a">> => G})),
     ?assertEqual(2, length(gateway:contexts(lists:seq(1, 60), G))).
 
-%% Random changes and failures on two gateways; whenever a change is done, the gateway's own answer equals the rules, which
-%% the test knows from what it asked for.
+%% Makes random changes and failures on two gateways. After each change, the gateway's flows must equal the flows that
+%% the rules allow. The test derives the rules from its own requests.
 anything_for_some_seconds() -> [{timetrap, {hours, 3}}].
 
 anything_for_some_seconds(_) ->
@@ -677,7 +792,8 @@ anything_for_some_seconds(_) ->
     B = gateway:start(["--first-context", "5000", "--first-termination", "5000"]),
     run([{<<"a">>, A}, {<<"b">>, B}]),
     [ok = people:create(Room, []) || Room <- [<<"1">>, <<"2">>]],
-    %% For as long as one likes, and the same changes again: ANYTHING_SECONDS=3600 ANYTHING_SEED=1.
+    %% Environment variables set the duration, and repeat the changes of an earlier run: ANYTHING_SECONDS=3600
+    %% ANYTHING_SEED=1.
     Seconds = list_to_integer(os:getenv("ANYTHING_SECONDS", "8")),
     Seed = list_to_integer(os:getenv("ANYTHING_SEED", integer_to_list(erlang:monotonic_time()))),
     _ = rand:seed(exsss, Seed),
@@ -705,7 +821,7 @@ anything_once(2, W) ->
     exit(lobby_registry:whereis_name({room, <<"1">>}), kill),
     lobby_case:until(fun() -> lobby_registry:whereis_name({room, <<"1">>}) =/= undefined end),
     W;
-%% People come and go, each with another id when he comes again.
+%% Members join, move and leave. A person who joins again gets a new id.
 anything_once(K, W = #{ids := Ids}) when K < 40 ->
     N = rand:uniform(8),
     case Ids of
@@ -731,12 +847,12 @@ anything_once(_, W = #{rules := Rules, ids := Ids}) ->
     Room = integer_to_binary(rand:uniform(2)),
     New = {_, From, To} = {lists:nth(rand:uniform(2), [allow, deny]), Party(), Party()},
     case people:add_rules(Room, [New]) of
-        %% A room that is killed again and again has no time to look for those who have left.
+        %% A room that is killed repeatedly has no time to drop the rules about members who have left.
         {error, too_many_rules} -> W;
         _ -> W#{rules := Rules#{Room := [Rule || Rule = {_, F, T} <- maps:get(Room, Rules), {F, T} =/= {From, To}] ++ [New]}}
     end.
 
-%% As soon as the room has a gateway that is there.
+%% Waits until the room has a running gateway whose flows follow the rules.
 check(Room, #{gateways := Gs, rules := Rules}) ->
     lobby_case:until(fun() -> agrees(Room, maps:get(Room, Rules), Gs) end).
 

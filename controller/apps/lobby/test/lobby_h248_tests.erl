@@ -2,9 +2,9 @@
 
 -include_lib("eunit/include/eunit.hrl").
 
--define(HERE, {{127, 0, 0, 1}, 2945}).
+-define(HERE, {17, 2945}).
 
-%% A request as text, without blanks and with its long and short words in lower case.
+%% Returns a request as text, in lower case and without blanks.
 text(Action) ->
     Text = lobby_h248:request(?HERE, 7, Action),
     re:replace(string:lowercase(Text), "[ \t]", "", [global, {return, list}]).
@@ -13,7 +13,10 @@ contains(Part, Action) ->
     ?assertNotEqual(nomatch, string:find(text(Action), Part)).
 
 the_head_names_the_sender_test() ->
-    ?assertMatch("!/1[127.0.0.1]:2945" ++ _, text(#{context => null, commands => [{audit, root, []}]})).
+    ?assertMatch("!/1<17.lobby>:2945" ++ _, text(#{context => null, commands => [{audit, root, []}]})),
+    %% A request of an earlier release is repeated with its original sender.
+    Earlier = lobby_h248:request({{127, 0, 0, 1}, 2945}, 7, #{context => null, commands => [{audit, root, []}]}),
+    ?assertMatch(<<"!/1 [127.0.0.1]:2945\n", _/binary>>, Earlier).
 
 a_new_context_is_chosen_by_the_gateway_test() ->
     Media = {{{10, 1, 2, 3}, 4000}, pcma},
@@ -41,7 +44,7 @@ acknowledgement_test() ->
     Text = string:lowercase(lobby_h248:acknowledgement(?HERE, [4, 5, 9])),
     ?assertNotEqual(nomatch, re:run(Text, "k\\s*{\\s*4,\\s*5,\\s*9\\s*}")).
 
-%% The texts below are replies as the gateway's profile has them.
+%% Decodes a reply. The texts below are replies in the gateway's profile.
 answer(Text) ->
     lobby_h248:decode(iolist_to_binary(["MEGACO/1 [127.0.0.1]:2944\n", Text])).
 
@@ -75,9 +78,9 @@ errors_test() ->
     ?assertEqual({ok, {reply, 4, {error, 533}}}, answer("Reply=4{Error=533{\"reply too long\"}}")),
     ?assertEqual({ok, {error, 400}}, answer("Error=400{\"syntax\"}")).
 
-%% Nothing is run behind a guard that fails.
+%% The gateway runs nothing after a guard that fails.
 guarded_test() ->
-    Text = lobby_h248:request({{127, 0, 0, 1}, 2945}, 7, #{context => 4, commands => [{subtract, all}], guard => {1, 2}}),
+    Text = lobby_h248:request(?HERE, 7, #{context => 4, commands => [{subtract, all}], guard => {1, 2}}),
     ?assertMatch({match, _}, re:run(Text, "C=1\\{AV=RTP/2\\{AT\\{\\}\\}\\},C=4\\{S=", [caseless])),
     ?assertEqual({ok, {reply, 7, {ok, [#{context => 1, results => [{audit, 2, #{}}]}, #{context => 4, results => [{subtract, 5, #{}}]}]}}},
                  answer("Reply=7{Context=1{AuditValue=RTP/2},Context=4{Subtract=RTP/5}}")),
@@ -89,7 +92,7 @@ not_understood_test() ->
      || Text <- [<<>>, <<"hello">>, <<"MEGACO/1 [127.0.0.1]:2944\nReply=4{Context=1}">>,
                  <<"MEGACO/1 [127.0.0.1]:2944\nTransaction=1{Context=1{Subtract=*}}">>]].
 
-%% What isn't as the gateway writes it must not end the process that reads it.
+%% A reply that the gateway would never write must not crash the process that reads it.
 odd_parts_are_left_out_test() ->
     ?assertEqual({ok, {reply, 1, {ok, [#{context => 4, results => [{add, unknown, #{}}]}]}}},
                  answer("Reply=1{Context=4{Add=A/b{Media{Stream=1{Local{v=0\nm=audio x RTP/AVP 99\n}}}}}}")),

@@ -1,4 +1,4 @@
-%% The HTTP interface, with calls and a real gateway.
+%% Tests the HTTP interface with calls and a real gateway.
 -module(lobby_http_SUITE).
 
 -include_lib("common_test/include/ct.hrl").
@@ -33,7 +33,7 @@ init_per_testcase(Case, Config) ->
 env(over_tls, Config) ->
     {Certificate, Key} = certificate:new("first", proplists:get_value(priv_dir, Config)),
     [{tls, #{certificate => Certificate, key => Key, http => true}}];
-%% Each case has a log of its own.
+%% These cases have separate audit logs.
 env(Case, Config) when Case =:= who_did_what; Case =:= a_change_without_an_answer; Case =:= everything_is_described ->
     _ = file:delete(audit_file(Config)),
     [{audit_log, #{file => audit_file(Config), bytes => 65536, files => 9}}];
@@ -85,7 +85,7 @@ call(Room, Config) ->
     phone:ack(Talking),
     Talking.
 
-%% Two who hear each other: whoever has acknowledged is sent speech a little later.
+%% Two phones call, and hear each other. Speech starts shortly after the ACK.
 two_talk(Config) ->
     [call("100", Config) || _ <- [1, 2]],
     lobby_case:until(fun() -> length(maps:get(flows, people:describe(<<"100">>))) =:= 2 end).
@@ -94,13 +94,13 @@ members(Room, Config) ->
     {200, #{<<"members">> := Members}} = ask(get, "/rooms/" ++ Room, Config),
     [Id || #{<<"id">> := Id} <- Members].
 
-%% A phone that joins the room and leaves it again.
+%% A phone joins the room and leaves it again.
 phone_joins(Config) ->
     Phone = call("100", Config),
     Phone1 = phone:request("BYE", "", Phone),
     [?assertEqual(200, phone:status(phone:recv(Phone1)))].
 
-%% The open flows as the gateway itself says, as many as there are.
+%% Returns the number of open flows, as the gateway reports them.
 flows(Room, Config) ->
     #{context := Context} = people:describe(list_to_binary(Room)),
     length(gateway:topology(Context, proplists:get_value(gateway, Config))).
@@ -120,8 +120,13 @@ a_room_is_steered(Config) ->
     ?assertEqual(5, flows("100", Config)),
     ?assertEqual({200, #{}}, ask(put, "/rooms/100", "{\"rules\": []}", Config)),
     ?assertEqual({200, #{}}, Do(A, "oneway", "{\"listener\": \"" ++ B ++ "\"}")),
-    #{flows := Flows} = people:describe(<<"100">>),
-    ?assertEqual([{list_to_binary(B), list_to_binary(A)}], [{X, Y} || X <- members("100", Config), Y <- members("100", Config), X =/= Y] -- Flows),
+    Closed = fun() ->
+        #{flows := Flows} = people:describe(<<"100">>),
+        [{X, Y} || X <- members("100", Config), Y <- members("100", Config), X =/= Y] -- Flows
+    end,
+    ?assert(lists:member({list_to_binary(B), list_to_binary(A)}, Closed())),
+    %% Speech starts shortly after the ACKs.
+    lobby_case:until(fun() -> Closed() =:= [{list_to_binary(B), list_to_binary(A)}] end),
     ?assertEqual({200, #{}}, ask(post, "/rooms/100/lock", "", Config)),
     ?assertMatch({200, #{<<"locked">> := true}}, ask(get, "/rooms/100", Config)),
     Late = phone:start(proplists:get_value(sip, Config), "100"),
@@ -159,7 +164,7 @@ tokens(Config) ->
     ?assertMatch({401, #{<<"error">> := _}}, ask(get, "/metrics", "", none, Config)),
     ?assertMatch({200, _}, ask(get, "/rooms", "", ?VIEWER, Config)),
     ?assertMatch({403, #{<<"error">> := _}}, ask(put, "/rooms/1", "{\"rules\": []}", ?VIEWER, Config)),
-    ?assertEqual([], lobby_rooms:names()).
+    ?assertEqual([], lobby_room:names()).
 
 errors(Config) ->
     Phone = call("100", Config),
@@ -201,11 +206,11 @@ errors(Config) ->
     ?assertEqual("GET", proplists:get_value("allow", Allowed)),
     {ok, {_, Denied, _}} = httpc:request(get, {url("/rooms", Config), []}, [], []),
     ?assertEqual("Bearer", proplists:get_value("www-authenticate", Denied)),
-    %% Whoever is still sending may lose the answer: the connection is reset.
+    %% A client that is still sending may lose the response, because the connection is reset.
     TooLong = fun Again() -> try ask(put, "/rooms/1", lists:duplicate(70000, $a), Config)
                              catch error:{badmatch, {error, socket_closed_remotely}} -> Again() end end,
     ?assertMatch({413, _, _}, TooLong()),
-    %% Too many rules.
+    %% These are too many rules.
     Many = fun(N) -> "{\"rules\": [" ++ lists:append(lists:join(",", ["{\"hears\": true, \"talker\": {\"role\": \"" ++ integer_to_list(I) ++
                      "\"}, \"listener\": \"everyone\"}" || I <- lists:seq(1, N)])) ++ "]}" end,
     ?assertMatch({409, #{<<"error">> := <<"the room would have too many rules">>}}, ask(post, "/rooms/100/rules", Many(257), Config)),
@@ -214,7 +219,8 @@ errors(Config) ->
     ?assertEqual([list_to_binary(Id)], members("100", Config)),
     phone:close(Phone).
 
-%% The page shows what the gateway has, also when somebody else changed it behind the room's back.
+%% A room's description has the gateway's flows, even if another controller has changed them without the room's
+%% knowledge.
 what_the_gateway_says(Config) ->
     two_talk(Config),
     {200, #{<<"context">> := Context, <<"audited">> := true, <<"flows">> := Flows}} = ask(get, "/rooms/100", Config),
@@ -225,8 +231,8 @@ what_the_gateway_says(Config) ->
     ?assertEqual(2, flows("100", Config)),
     {200, #{<<"gateways">> := [#{<<"name">> := <<"a">>, <<"terminations">> := 3, <<"contexts">> := 2}]}} = ask(get, "/gateways", Config).
 
-%% The page shows what the gateway has, and not what it was asked for: somebody who is still heard isn't shown as isolated,
-%% and nobody is told that he is.
+%% A room's description has the gateway's flows, not the desired ones. While a member can still be heard, no response
+%% confirms the isolation.
 what_the_gateway_refuses(Config) ->
     two_talk(Config),
     [A, _] = members("100", Config),
@@ -244,14 +250,14 @@ what_the_gateway_refuses(Config) ->
     lobby_case:until(fun() -> flows("100", Config) =:= 0 end),
     ?assertMatch({200, _}, ask(post, Isolate, "", Config)).
 
-%% A room that doesn't answer for half a minute, as if it waited for its gateway.
+%% The room hangs for half a minute, as if it waited for its gateway.
 what_takes_too_long(Config) ->
     call("100", Config),
     [Id] = members("100", Config),
     Member = "/members/" ++ binary_to_list(Id),
     ok = sys:suspend(lobby_registry:whereis_name({room, <<"100">>})),
     Parent = self(),
-    %% Each by a connection of its own, not one after the other.
+    %% Each request has its own connection, so that no request waits for another.
     ok = httpc:set_options([{max_keep_alive_length, 0}]),
     Requests = [{get, "/rooms/100", ""}, {put, "/rooms/100", "{\"rules\": []}"}, {post, Member ++ "/mute", ""},
                 {post, Member ++ "/move", "{\"room\": \"200\"}"}],
@@ -263,20 +269,20 @@ metrics(Config) ->
     call("100", Config),
     [ok = lobby_events:count(lobby_gateway_losses_total, Name) || Name <- [<<"a">>, <<"a">>, <<"b\"\\\n">>]],
     {200, "text/plain; version=0.0.4", Text} = ask(get, "/metrics", Config),
-    %% One line for the type of all that have the same name.
+    %% All metrics with the same name share one TYPE line.
     ?assertEqual(1, length(binary:matches(Text, <<"# TYPE lobby_gateway_losses_total counter\n">>))),
     [?assertNotEqual({Line, nomatch}, {Line, binary:match(Text, Line)})
      || Line <- [<<"lobby_gateway_losses_total{gateway=\"a\"} 2\n">>, <<"lobby_gateway_losses_total{gateway=\"b\\\"\\\\\\n\"} 1\n">>,
                  <<"lobby_rooms 1\n">>, <<"lobby_calls 1\n">>, <<"lobby_gateways_serving 1\n">>, <<"lobby_gateway_terminations{gateway=\"a\"} 2\n">>]].
 
-%% Lines of the audit log, without those that aren't asked for.
+%% Returns the lines of the audit log that a query selects.
 lines(Query, Config) ->
     {200, #{<<"lines">> := Lines, <<"more">> := false}} = ask(get, "/audit" ++ Query, Config),
     Lines.
 
 with(Event, Lines) -> [Line || Line = #{<<"event">> := Of} <- Lines, Of =:= Event].
 
-%% Each change with who asked for it and its answer, each call, and who had which termination. Nothing secret is there.
+%% The log has each change with its author and answer, each call, and each member's terminations. It has no secrets.
 who_did_what(Config) ->
     Phones = [call("100", Config) || _ <- [1, 2]],
     [A, B] = members("100", Config),
@@ -303,12 +309,12 @@ who_did_what(Config) ->
     ?assertMatch([#{<<"member">> := A, <<"rooms">> := [<<"100">>, <<"200">>], <<"roles">> := [<<"member">>, <<"coach">>], <<"codecs">> := [<<"PCMU">>],
                     <<"from">> := <<"127.0.0.1">>, <<"packets">> := 0, <<"why">> := <<"an operator hung up">>}], with(<<"ended">>, All)),
     ?assertEqual(lists:sort([A, B]), lists:sort([Id || #{<<"member">> := Id} <- with(<<"began">>, All)])),
-    %% By room and time.
+    %% A query can select lines by room and time.
     ?assertMatch([#{<<"member">> := A}], with(<<"seat">>, lines("?room=200", Config))),
     [#{<<"at">> := From}, #{<<"at">> := To}] = [Line || Line = #{<<"request">> := Of} <- All, Of =:= Number],
     ?assertEqual(2, length([1 || #{<<"request">> := Of} <- lines(["?from=", From, "&to=", To, "&room=100"], Config), Of =:= Number])),
     ?assertEqual([], lines(["?room=200&to=", From], Config)),
-    %% For `heard --names'.
+    %% These names are for `heard --names'.
     {200, "text/csv; charset=utf-8", Names} = ask(get, "/names?gateway=a", Config),
     Seats = lists:usort([{T, Id} || #{<<"member">> := Id, <<"termination">> := T} <- with(<<"seat">>, All)]),
     ?assertEqual(iolist_to_binary([["RTP/", integer_to_list(T), ",\"Test (", Id, ")\"\n"] || {T, Id} <- Seats]), Names),
@@ -321,18 +327,18 @@ who_did_what(Config) ->
     {ok, File} = file:read_file(audit_file(Config)),
     [?assertEqual(nomatch, binary:match(File, Secret)) || Secret <- [<<?OPERATOR>>, <<?VIEWER>>, <<"token">>]].
 
-%% If the controller ends in between, the change has no answer.
+%% If the controller ends during a change, the log has no answer to it.
 a_change_without_an_answer(Config) ->
     call("100", Config),
     [Id] = members("100", Config),
     ok = sys:suspend(lobby_registry:whereis_name({room, <<"100">>})),
     _ = spawn(fun() -> ask(post, "/members/" ++ binary_to_list(Id) ++ "/mute", "", Config) end),
-    lobby_case:until(fun() -> length(with(<<"change">>, element(2, lobby_audit:read(#{})))) =:= 1 end),
+    lobby_case:until(fun() -> length(with(<<"change">>, maps:get(lines, element(2, lobby_audit:read(#{}))))) =:= 1 end),
     ok = supervisor:terminate_child(lobby_serving, lobby_http),
     exit(whereis(lobby_audit), kill),
     {ok, _} = supervisor:restart_child(lobby_serving, lobby_http),
     lobby_case:until(fun() -> whereis(lobby_audit) =/= undefined end),
-    {ok, Lines, false} = lobby_audit:read(#{}),
+    {ok, #{lines := Lines, more := false}} = lobby_audit:read(#{}),
     ?assertEqual({1, 0}, {length(with(<<"change">>, Lines)), length(with(<<"answer">>, Lines))}),
     {200, _} = ask(put, "/rooms/200", "{\"preset\": \"plain\"}", Config),
     ?assertMatch([#{<<"rooms">> := [<<"200">>]}], with(<<"answer">>, lines("", Config))),
@@ -342,7 +348,7 @@ the_page(Config) ->
     {200, "text/html; charset=utf-8", Page} = ask(get, "/", "", none, Config),
     ?assertNotEqual(nomatch, binary:match(Page, <<"<title>Lobby</title>">>)).
 
-%% Each request that is described is answered, and rooms have the members that are described.
+%% Each request in openapi.json is answered, and rooms have the fields that it lists.
 everything_is_described(Config) ->
     {200, #{<<"paths">> := Paths, <<"components">> := #{<<"schemas">> := Schemas}}} = ask(get, "/openapi.json", "", none, Config),
     Described = [{string:uppercase(binary_to_list(Method)), Path} || {Path, Methods} <- maps:to_list(Paths), Method <- maps:keys(Methods)],
@@ -374,7 +380,7 @@ body(<<"/members/{id}/let_in">>, _) -> "{\"role\": \"agent\"}";
 body(<<"/members/{id}/move">>, _) -> "{\"room\": \"200\"}";
 body(_, _) -> "{\"rules\": []}".
 
-%% Each change is sent as an event, and a question isn't.
+%% Each change causes an event. A query doesn't.
 events(Config) ->
     Watching = watch(?VIEWER, Config),
     ?assertMatch("HTTP/1.1 200 OK\r\nContent-Type: text/event-stream\r\n" ++ _, head(Watching)),
@@ -394,7 +400,7 @@ events(Config) ->
     gateway:kill(proplists:get_value(gateway, Config)),
     "event: gateway\ndata: " ++ Data = said(Watching),
     ?assertEqual(#{<<"name">> => <<"a">>, <<"state">> => <<"lost">>}, jiffy:decode(string:trim(Data), [return_maps])),
-    %% Who ends the connection is forgotten.
+    %% A client that closes its connection is unsubscribed.
     ok = gen_tcp:close(Watching),
     until(fun() -> pg:get_local_members(lobby, events) =:= [] end),
     NoToken = watch("", Config),
@@ -410,7 +416,7 @@ head(Socket) ->
     {ok, Text} = gen_tcp:recv(Socket, 0, 2000),
     Text.
 
-%% What is sent until it is quiet for a while, each once.
+%% Returns the events that arrive until the connection is quiet, each once.
 said(Socket) -> said(3000, Socket).
 said(Timeout, Socket) ->
     lists:append(lists:uniq([Event ++ "\n\n" || Event <- string:split(received(Timeout, Socket), "\n\n", all), Event =/= ""])).
@@ -427,13 +433,13 @@ watchers_are_limited(Config) ->
     ok = gen_tcp:close(hd(Watching)),
     until(fun() -> length(pg:get_local_members(lobby, events)) =:= 31 end),
     ?assertMatch("HTTP/1.1 200 " ++ _, head(watch(?VIEWER, Config))),
-    %% Viewers take nothing from operators, of whom the one who watches longest goes.
+    %% Viewers take no streams from operators. If there are too many operators, the oldest stream is disconnected.
     Operators = [begin S = watch(?OPERATOR, Config), "HTTP/1.1 200" ++ _ = head(S), S end || _ <- lists:seq(1, 33)],
     ?assertEqual({error, closed}, gen_tcp:recv(hd(Operators), 0, 2000)),
     _ = phone_joins(Config),
     ?assertMatch({ok, "event: room" ++ _}, gen_tcp:recv(lists:last(Operators), 0, 2000)).
 
-%% It is disconnected, and holds nobody up.
+%% A slow reader is disconnected, and no other process waits for it.
 a_watcher_that_does_not_read(Config) ->
     Watching = watch(?VIEWER, Config),
     _ = head(Watching),
@@ -451,7 +457,7 @@ a_watcher_that_does_not_read(Config) ->
     ?assertEqual([], pg:get_local_members(lobby, events)),
     ?assertMatch({200, _}, ask(get, "/rooms", Config)).
 
-%% What needs the rooms is started again with them, and that includes the sockets.
+%% All processes that depend on the rooms are restarted with them, including the sockets.
 supervisors_fail(Config) ->
     Phone = call("100", Config),
     [begin
@@ -461,7 +467,7 @@ supervisors_fail(Config) ->
          until(fun() -> is_answered(Config) end)
      end || Name <- [lobby_room_sup, lobby_call_sup, lobby_room_sup, lobby_registry, lobby_room_sup, lobby_gateway_sup, lobby_serving, lobby_store]],
     ?assertEqual(1, length(members("100", Config))),
-    %% At once, as a supervisor does it.
+    %% The supervisor can restart these processes immediately.
     [begin
          ok = supervisor:terminate_child(lobby_serving, Child),
          ?assertMatch({ok, _}, supervisor:restart_child(lobby_serving, Child))
@@ -483,7 +489,7 @@ is_answered(Config) ->
         _ -> false
     end.
 
-%% Anything at the port: each request is answered or the connection closed, and the server goes on.
+%% Garbage on the port is answered, or its connection is closed, and the server continues.
 anything(Config) ->
     {Address, Port} = proplists:get_value(http, Config),
     [begin
@@ -497,7 +503,7 @@ anything(Config) ->
                       <<"GET / HTTP/1.1\r\nHost: x\r\n", (binary:copy(<<"X: y\r\n">>, 10000))/binary, "\r\n">> | [rand:bytes(200) || _ <- lists:seq(1, 50)]]],
     ?assertMatch({200, _}, ask(get, "/rooms", Config)).
 
-%% One request, byte by byte as it is, and what comes back until the connection ends or is quiet.
+%% Sends raw bytes. Returns the response until the connection is closed or quiet.
 raw(Bytes, Config) -> raw(Bytes, 1000, Config).
 
 raw(Bytes, Timeout, Config) ->
@@ -520,7 +526,7 @@ request(Method, Path, Headers, Body) ->
 
 with_length(Body) -> ["Content-Length: " ++ integer_to_list(iolist_size(Body))].
 
-%% Whatever a request has in it.
+%% Every error response is JSON, whatever the request contains.
 every_error_is_json(Config) ->
     [?assertMatch({Path, Body, Status, {match, _}},
                   begin
@@ -534,7 +540,7 @@ every_error_is_json(Config) ->
              {400, "PUT", "/rooms/1", lists:duplicate(60000, $[)}, {400, "PUT", "/rooms/1", [$", 255, $"]}]],
     ?assertMatch("HTTP/1.1 401 " ++ _, raw(["GET /rooms HTTP/1.1\r\nHost: x\r\nAuthorization: Bearer \xff\xfe", "\r\n\r\n"], Config)).
 
-%% A body that isn't announced isn't read, and one that is too long neither.
+%% A body without a Content-Length isn't read, nor is a body that is too long.
 bodies_are_limited(Config) ->
     Whole = "{\"rules\": []" ++ lists:duplicate(65536 - 14, $ ) ++ "}",
     ?assertMatch("HTTP/1.1 200 " ++ _, raw(request("PUT", "/rooms/1", with_length(Whole), Whole), Config)),
@@ -543,17 +549,17 @@ bodies_are_limited(Config) ->
     Refused = raw(request("PUT", "/rooms/2", ["Transfer-Encoding: chunked", "Connection: keep-alive"], ["30d40\r\n", Chunk, "\r\n"]), Config),
     ?assertMatch("HTTP/1.1 411 " ++ _, Refused),
     ?assertNotEqual(nomatch, string:find(Refused, " CLOSED")),
-    %% Nothing in it is read as a request.
+    %% No part of a chunked body is read as a request.
     Smuggled = request("PUT", "/rooms/3", with_length("{\"rules\": []}"), "{\"rules\": []}"),
     _ = raw(request("PUT", "/rooms/2", ["transfer-encoding: Chunked"], [integer_to_list(iolist_size(Smuggled), 16), "\r\n", Smuggled, "\r\n0\r\n\r\n"]), Config),
     ?assertEqual({200, #{<<"rooms">> => [<<"1">>]}}, ask(get, "/rooms", Config)).
 
-%% Who sends half a request is waited for, but not for long.
+%% The server waits for the rest of a request, but not for long.
 half_a_request(Config) ->
     ok = application:set_env(lobby, http_body, 500),
     ?assertMatch("HTTP/1.1 408 " ++ _, raw(request("PUT", "/rooms/1", ["Content-Length: 10"], "{"), 3000, Config)),
     ?assertMatch("HTTP/1.1 408 " ++ _, raw("GET /rooms HTTP/1.1\r\nHost: x\r\n", 12000, Config)),
-    %% And the timer ends with the request.
+    %% The timer ends with the request.
     {Address, Port} = proplists:get_value(http, Config),
     {ok, Socket} = gen_tcp:connect(Address, Port, [list, {active, false}]),
     [begin
@@ -562,11 +568,11 @@ half_a_request(Config) ->
          ?assertEqual("", element(2, {Socket, received(700, Socket, "") -- "{}"}))
      end || _ <- [1, 2, 3]].
 
-%% By a number, that the answer has too.
+%% The log and the response have the same request number.
 failures_are_logged(Config) ->
     File = filename:join(proplists:get_value(priv_dir, Config), "log"),
     ok = logger:add_handler(file, logger_std_h, #{config => #{file => File}}),
-    %% Something that isn't foreseen.
+    %% This causes an unexpected error.
     ok = persistent_term:put(lobby_http, bad),
     Answer = raw(request("GET", "/rooms", [], ""), Config),
     ?assertMatch("HTTP/1.1 500 " ++ _, Answer),
@@ -577,7 +583,7 @@ failures_are_logged(Config) ->
     {ok, Log} = file:read_file(File),
     ?assertNotEqual(nomatch, string:find(Log, "HTTP request " ++ Number ++ ": GET \"/rooms\" was answered 500")).
 
-%% The page runs its own script alone, in no frame of others.
+%% The page runs only its own script, and can't be shown in another site's frame.
 pages_are_closed_to_others(Config) ->
     [begin
          {ok, {{_, Status, _}, Headers, _}} = httpc:request(get, {url(Path, Config), []}, [], []),
@@ -588,7 +594,8 @@ pages_are_closed_to_others(Config) ->
     {200, _, Page} = ask(get, "/", "", none, Config),
     ?assertEqual(nomatch, re:run(Page, "<script>|<style>|\\bon[a-z]+=|location")).
 
-%% With the operator's certificate, and with another one when that has changed. What is answered is the same.
+%% Clients see the operator's certificate, and a new certificate after a change. The responses are the same as without
+%% TLS.
 over_tls(Config) ->
     {Address, Port} = proplists:get_value(http, Config),
     Get = fun(Path) ->
@@ -607,5 +614,5 @@ over_tls(Config) ->
     _ = certificate:new("second", proplists:get_value(priv_dir, Config)),
     ok = ssl:clear_pem_cache(),
     ?assertMatch({"HTTP/1.1 200" ++ _, "second", _}, Get("/rooms")),
-    %% Without TLS there is no answer.
+    %% A request without TLS gets no response.
     ?assertEqual(nomatch, string:find(raw(request("GET", "/rooms", [], ""), Config), "200 OK")).

@@ -32,7 +32,7 @@ flags_test() ->
     ?assertEqual([true, false, false], [lobby_json:flag(<<"door">>, O) || O <- [#{<<"door">> => true}, #{<<"door">> => false}, #{}]]),
     ?assertThrow({invalid, <<"\"door\" must be true or false">>}, lobby_json:flag(<<"door">>, #{<<"door">> => 1})).
 
-%% One caller's name must not break the list for all.
+%% One caller's name must not break the description of the room.
 names_need_not_be_utf8_test() ->
     Room = lobby_json:room(<<"100">>, #{members => [{#{id => <<"x">>, role => <<"member">>, muted => false, direction => sendrecv}, none}],
                                         rules => [], flows => [], gateway => none, context => new, settings => #{}, sends => #{}},

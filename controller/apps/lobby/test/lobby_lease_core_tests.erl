@@ -1,5 +1,5 @@
-%% What a node of a pair decides: each decision for itself, and two nodes over a network that is late and is cut, in one
-%% direction or both. Whoever takes over has all that was answered.
+%% Tests the decisions of a node of a pair: first each decision separately, then two nodes over a network that is slow,
+%% or cut in one or both directions. A node that takes over must have every change that was answered.
 -module(lobby_lease_core_tests).
 
 -include_lib("eunit/include/eunit.hrl").
@@ -9,7 +9,7 @@
 
 -define(GAP, 250).
 
-%%% One node. Its other one is imitated by what it says.
+%%% A single node. The tests send it the other node's beats.
 
 new() -> new(free).
 
@@ -17,7 +17,7 @@ new(Permit) ->
     {State, _} = lobby_lease_core:new(#{gap => ?GAP, run => own, permit => Permit, now => 0}),
     State.
 
-%% All events in turn, and all actions since the last one.
+%% Handles the events in turn. Returns the state and the actions of the last event.
 run(Events, State) ->
     lists:foldl(fun(Event, {S, _}) -> lobby_lease_core:handle(Event, S) end, {State, []}, Events).
 
@@ -43,22 +43,22 @@ stopped(Actions) -> [Why || {stop, Why} <- Actions].
 asked(Actions) -> [Asked || {ask, Asked} <- Actions].
 limit(Actions) -> hd([Limit || {limit, Limit} <- Actions]).
 
-%% What a node does in the last of these events.
+%% These functions return some of the last event's actions.
 serves(Events, State) -> served(element(2, run(Events, State))).
 stops(Events, State) -> stopped(element(2, run(Events, State))).
 limits(Events, State) -> limit(element(2, run(Events, State))).
 
-%% A standby that was told at 100.
+%% Returns a standby that heard at 100 that the other node serves.
 standby() ->
     after_events([heard({serving, 4}, 100), tick(120)], new()).
 
 granted(Sent, Now) -> heard({serving, 4}, #{granted => {own, Sent}}, Now).
 
-%% A node that serves since 0, with a standby that has said at 100 that it was told.
+%% Returns a node that has served since 0, and whose standby confirmed this at 100.
 serving() ->
     after_events([alone(0), heard(standby, #{told => own}, 100)], new()).
 
-%%% What a node that starts does.
+%%% A node that starts.
 
 a_node_opens_with_its_store_test() ->
     {State, First} = run([tick(#{open => false, connected => false}, 0)], new()),
@@ -66,7 +66,7 @@ a_node_opens_with_its_store_test() ->
     {_, Then} = run([tick(#{connected => false}, 10), tick(#{connected => false}, 110)], State),
     ?assertEqual([standby], roles(Then)).
 
-%% Who is connected with the other node doesn't take over before it has heard whether that serves.
+%% A node that is connected to the other node doesn't take over before it has heard whether that node serves.
 a_node_that_is_connected_hears_first_test() ->
     ?assertEqual([], serves([{connected, 0}, lease(10)], new())),
     ?assertEqual([], serves([{connected, 0}, lease(10), lease(110)], new())),
@@ -77,19 +77,19 @@ a_node_that_is_connected_hears_first_test() ->
 it_says_at_once_who_serves_test() ->
     ?assertMatch([#{role := {serving, 5}, granted := none}], said(element(2, run([{connected, 500}], serving())))).
 
-%%% When a standby takes over.
+%%% A standby that takes over.
 
 a_standby_needs_a_grant_test() ->
     ?assertEqual([], serves([lease(140)], standby())),
     ?assertEqual([5], serves([granted(100, 140), lease(160)], standby())).
 
-%% From the stamp on, and not from when the grant came. A grant that comes again prolongs nothing.
+%% The time counts from the stamp, not from the grant's arrival. A duplicate grant doesn't extend it.
 a_grant_ends_3_s_after_its_stamp_test() ->
     Granted = after_events([granted(200, 1000), granted(200, 3000)], standby()),
     ?assertEqual([5], serves([lease(3200)], Granted)),
     ?assertMatch({_, [{stop, _}]}, run([lease(3201)], Granted)).
 
-%% Also if it was told only after it had sent the stamp.
+%% A standby doesn't take over after its grant, even if it sent the stamp before it heard that the other node serves.
 nothing_is_taken_over_after_the_grant_test() ->
     Granted = after_events([granted(50, 140)], standby()),
     ?assertEqual([5], serves([lease(3050)], Granted)),
@@ -98,7 +98,7 @@ nothing_is_taken_over_after_the_grant_test() ->
 a_grant_to_an_earlier_process_is_none_test() ->
     ?assertEqual([], serves([heard({serving, 4}, #{granted => {earlier, 100000}}, 140), lease(160)], standby())).
 
-%% The other node has started another process, which may have answered what isn't here.
+%% The other node has started a new process, which may have answered changes that this node lacks.
 a_new_process_revokes_what_the_one_before_granted_test() ->
     Next = heard({serving, 5}, #{sent => {next, 1}}, 150),
     ?assertEqual([], serves([granted(100, 140), Next, lease(160)], standby())).
@@ -106,18 +106,18 @@ a_new_process_revokes_what_the_one_before_granted_test() ->
 a_standby_without_a_grant_ends_after_3_s_test() ->
     ?assertEqual([], stops([tick(3100)], standby())),
     ?assertMatch([_], stops([tick(3101)], standby())),
-    %% Even if the other node is heard.
+    %% A standby ends even if it hears the other node.
     ?assertMatch([_], stops([heard({serving, 4}, 3090), tick(3101)], standby())),
     ?assertEqual([], stops([granted(200, 300), tick(3200)], standby())),
     ?assertMatch([_], stops([granted(200, 300), tick(3201)], standby())).
 
-%% The process doesn't know what its predecessor was granted.
+%% The process doesn't know its predecessor's grants.
 a_process_that_is_started_again_needs_a_grant_test() ->
     ?assertEqual([], serves([tick(0), heard(waiting, 20), lease(40)], new(told))),
     ?assertMatch([_], stops([heard(waiting, 20), tick(40), tick(3001)], new(told))),
     ?assertEqual([5], serves([heard(waiting, 10), lease(20)], new(free))).
 
-%% Its node served, so it serves or ends.
+%% The node has served, so its new process serves or ends.
 a_process_of_a_node_that_served_is_started_again_test() ->
     ?assertEqual([5], serves([lease(0)], new(serves))),
     ?assertMatch([_], stops([tick(0)], new(serves))),
@@ -125,7 +125,7 @@ a_process_of_a_node_that_served_is_started_again_test() ->
     ?assertMatch([_], stops([heard({serving, 4}, 0)], new(serves))),
     ?assertEqual([], stops([heard(standby, 0), heard(waiting, 0)], new(serves))).
 
-%% Before it answers, it makes sure that it doesn't begin with an old copy. While it waits, it has none.
+%% Before a standby answers, it makes sure that its next start doesn't use an old copy. A waiting node has no copy.
 it_follows_before_it_answers_test() ->
     Standby = after_events([heard(standby, 0), tick(20)], new()),
     {_, [{limit, none} | Actions]} = run([heard({serving, 4}, 30)], Standby),
@@ -139,7 +139,7 @@ nodes_that_were_apart_test() ->
     ?assertEqual([], stops([inconsistent], serving())),
     ?assertEqual([], stops([inconsistent], new())).
 
-%%% What a node that serves does.
+%%% A node that serves.
 
 it_says_so_before_it_serves_test() ->
     {_, [{limit, none} | Actions]} = run([granted(100, 140), lease(3000)], standby()),
@@ -163,7 +163,8 @@ it_drops_a_silent_node_once_test() ->
     ?assert(lists:member(drop, Actions)),
     ?assertNot(lists:member(drop, element(2, run([lease(371)], Dropped)))).
 
-%% Who waits has no copy, who wasn't told doesn't count the time, and what isn't copied isn't granted.
+%% A waiting node gets no grant, because it has no copy. A standby that hasn't heard that this node serves gets none,
+%% because it doesn't count the time. Without a copy of all writes, there is no grant, either.
 it_grants_only_to_its_standby_test_() ->
     [?_assertEqual(Granted, begin
          {_, Actions} = run([Says, tick(maps:merge(#{lease => true}, Seen), Now)], serving()),
@@ -177,17 +178,17 @@ it_grants_only_to_its_standby_test_() ->
               {[], heard(standby, #{told => own}, 110), #{}, 400},
               {[], {lost, 110}, #{}, 120}]].
 
-%% Until when the other node may take over counts from when its stamp came, and is known before the grant leaves.
+%% The limit counts from the arrival of the other node's stamp. It is set before the grant is sent.
 what_it_granted_limits_its_answers_test() ->
     {Granted, Actions} = run([lease(120)], serving()),
     ?assertMatch([{limit, 3110}, {say, #{granted := {other, _}}} | _], Actions),
     {_, Next} = run([heard(standby, #{told => own}, 200), lease(220)], Granted),
     ?assertMatch([{limit, 3210}, {say, _} | _], Next),
-    %% That a node is lost or silent changes nothing.
+    %% The limit is the same for a lost and for a silent node.
     ?assertEqual(3110, limits([{lost, 130}], Granted)),
     ?assertEqual(3110, limits([lease(400)], Granted)).
 
-%% Who ended or waits has no grant. Once it has started again, it's granted again.
+%% A node that has ended or waits has no grant. It gets a new grant after its restart.
 a_node_that_ended_limits_nothing_test() ->
     Granted = after_events([lease(120)], serving()),
     ?assertEqual(none, limits([heard(waiting, #{told => own}, 130)], Granted)),
@@ -195,19 +196,19 @@ a_node_that_ended_limits_nothing_test() ->
     ?assertEqual(none, limits([lease(140)], Ended)),
     ?assertEqual(3150, limits([heard(standby, #{told => own}, 140), lease(220)], Ended)).
 
-%% Who was heard since it was asked about has started again.
+%% A node that was heard after the check was requested has restarted.
 a_node_that_was_heard_since_has_not_ended_test() ->
     Granted = after_events([lease(120)], serving()),
     ?assertEqual(3110, limits([{gone, 100}], Granted)),
     ?assertEqual(none, limits([{gone, 101}], Granted)).
 
-%% Until it says that it was told, a standby may take over without a grant.
+%% A standby may take over without a grant until it confirms that this node serves.
 a_standby_that_was_not_told_limits_its_answers_test() ->
     State = after_events([heard(standby, 10), lease(20)], new()),
     ?assertEqual(3110, limits([heard(standby, 100)], State)),
     ?assertEqual(none, limits([heard(standby, #{told => own}, 100)], State)).
 
-%% An earlier process of this node may have granted something.
+%% An earlier process of this node may have sent a grant.
 a_node_that_starts_answers_after_3_s_test() ->
     {State, First} = lobby_lease_core:new(#{gap => ?GAP, run => own, permit => free, now => 0}),
     ?assertEqual([{limit, 3010}], First),
@@ -215,7 +216,7 @@ a_node_that_starts_answers_after_3_s_test() ->
     ?assertEqual({[5], 3010, [10]}, {served(Actions), limit(Actions), asked(Actions)}),
     ?assertEqual(none, limits([{gone, 10}], Serves)).
 
-%% If something waits for the answer.
+%% The node checks this only if a change waits for the result.
 it_asks_whether_a_lost_node_has_ended_test() ->
     Granted = after_events([lease(120)], serving()),
     Asks = fun(Events, State) -> asked(element(2, run(Events, State))) end,
@@ -227,7 +228,7 @@ it_asks_whether_a_lost_node_has_ended_test() ->
     ?assertEqual([], Asks([lease(230)], Granted)),
     ?assertEqual([], Asks([{lost, 130}], standby())).
 
-%% What is said to keepalived.
+%% This value is the priority for keepalived.
 its_priority_test() ->
     Ready = fun(Events, State) -> [Value || {ready, Value} <- element(2, run(Events, State))] end,
     ?assertEqual([-254], Ready([tick(#{open => false}, 0)], new())),
@@ -239,20 +240,20 @@ its_priority_test() ->
     ?assertEqual([25], Ready([{reaches, 5000}, lease(15000)], serving())),
     ?assertEqual([-20], Ready([{reaches, 5000}, lease(15001)], serving())).
 
-%%% Two nodes. What each has is a set of changes. A change is on both nodes if they are connected and the network
-%%% delivers, and on the serving node alone if they are not connected. Until one of these holds, it isn't written.
+%%% A model of two nodes, each with a set of changes. A change is on both nodes if they are connected and the network
+%%% delivers, and only on the serving node if they are disconnected. Otherwise, it isn't written yet.
 
-%% `serves': which of the nodes that served it was, in order of their beginning, or 0.
+%% `serves': the node's number in the order in which nodes began to serve, or 0.
 -record(node, {core = ended, permit = free, clock, has = [], pending = [], limit = none, serves = 0, hangs = 0,
                open = false, seen = 0}).
-%% `cut': directions in which nothing arrives. `wire': what is under way, oldest first.
+%% `cut': the directions in which nothing arrives. `wire': the messages under way, oldest first.
 -record(pair, {now = 0, nodes, lease = a, connected = true, cut = [], wire = [], changes = 0, answered = [],
                broken = [], runs = 0, served = 0}).
 
 other(a) -> b;
 other(b) -> a.
 
-%% `a' serves, and `b' is its standby.
+%% Returns a pair in which `a' serves, and `b' is its standby.
 pair() ->
     Pair = #pair{nodes = #{a => #node{clock = {7000, 1000}}, b => #node{clock = {-90000, 1001}}}},
     pass(400, start(b, true, pass(40, start(a, true, Pair)))).
@@ -261,7 +262,7 @@ start(Name, Open, Pair = #pair{now = Now}) ->
     #node{clock = Clock, has = Has} = node_of(Name, Pair),
     process(Name, #node{clock = Clock, has = Has, open = Open, seen = Now}, Pair).
 
-%% Starts the process of the lease, for the first time or again.
+%% Starts or restarts the process of the lease.
 process(Name, Node = #node{clock = Clock, permit = Permit}, Pair = #pair{runs = Runs}) ->
     {Core, Actions} = lobby_lease_core:new(#{gap => ?GAP, run => Runs, permit => Permit, now => clock(Clock, Pair)}),
     act(Actions, Name, with(Name, Node#node{core = Core}, Pair#pair{runs = Runs + 1})).
@@ -300,13 +301,15 @@ act_one({ask, Asked}, Name, Pair = #pair{now = Now, cut = Cut, wire = Wire}) ->
     Pair#pair{wire = Wire ++ [{Name, Name, {gone, Asked}, Now + 2} || Cut =:= [], not is_up(other(Name), Pair)]};
 act_one(_, _, Pair) -> Pair.
 
-%% What is under way still arrives, unless the network is cut. Then the other node hears of the end.
+%% Disconnects the nodes. Messages that are under way still arrive, unless the network is cut. Then both nodes learn of
+%% the disconnection.
 disconnected(_, Pair = #pair{connected = false}) -> Pair;
 disconnected(Name, Pair = #pair{wire = Wire, now = Now}) ->
     Lost = [{Name, To, lost, Now + 1} || To <- [Name, other(Name)]],
     written(b, written(a, Pair#pair{connected = false, wire = Wire ++ Lost})).
 
-%% What waits for the other node is written there, too, once that answers, or here alone if it's disconnected.
+%% Writes the waiting changes to both nodes once the other node answers, or only to this node if the other one is
+%% disconnected.
 written(Name, Pair = #pair{cut = Cut}) ->
     Node = #node{has = Has, pending = Pending} = node_of(Name, Pair),
     Written = with(Name, Node#node{has = Pending ++ Has, pending = []}, Pair),
@@ -322,15 +325,15 @@ ended(Name, Pair) ->
     #node{clock = Clock, has = Has} = node_of(Name, Pair),
     disconnected(other(Name), with(Name, #node{clock = Clock, has = Has}, Pair)).
 
-%%% What happens.
+%%% Events.
 
 step({pass, Ms}, Pair) -> pass(Ms, Pair);
 step({cut, Directions}, Pair) -> Pair#pair{cut = Directions};
 step({kill, Name}, Pair) -> case is_up(Name, Pair) of true -> ended(Name, Pair); false -> Pair end;
 step({hang, Name, Ms}, Pair) -> with(Name, (node_of(Name, Pair))#node{hangs = Pair#pair.now + Ms}, Pair);
-%% keepalived takes at least 261 ms.
+%% keepalived takes at least 261 ms to give the address to the other host.
 step({lease, Name}, Pair) -> pass(260, Pair#pair{lease = Name});
-%% The node itself goes on.
+%% Only the process ends. The node continues.
 step({crash, Name}, Pair) ->
     case is_up(Name, Pair) andalso not hangs(Name, Pair) of
         true -> process(Name, node_of(Name, Pair), Pair);
@@ -340,7 +343,7 @@ step(disconnect, Pair) -> disconnected(a, Pair);
 step({start_again, Name}, Pair) -> again(is_up(Name, Pair), Name, Pair);
 step(change, Pair) -> lists:foldl(fun change/2, Pair, [a, b]).
 
-%% A node that ended is started again, and copies what the node has that serves.
+%% Restarts a node that has ended. The node copies the serving node's data.
 again(false, Name, Pair = #pair{cut = []}) ->
     case node_of(other(Name), Pair) of
         #node{serves = Serves, has = Has, hangs = Hangs} when Serves > 0, Hangs =< Pair#pair.now ->
@@ -368,7 +371,7 @@ change(Name, Pair = #pair{changes = N}) ->
 
 hangs(Name, Pair) -> (node_of(Name, Pair))#node.hangs > Pair#pair.now.
 
-%% In steps of 10 ms. A node ticks every 20 ms, unless it hangs, and after a gap it ends itself.
+%% Time passes in steps of 10 ms. A node ticks every 20 ms unless it hangs, and ends itself after a gap.
 pass(Ms, Pair) when Ms =< 0 -> Pair;
 pass(Ms, Pair = #pair{now = Now}) ->
     Delivered = deliver(written(a, written(b, Pair#pair{now = Now + 10}))),
@@ -398,7 +401,8 @@ ticked(Name, Pair = #pair{now = Now, lease = Lease}) ->
             event({tick, Sees, clock(Clock, Pair)}, Name, with(Name, Node#node{seen = Now}, Pair))
     end.
 
-%% All that it has and may answer. A node that began to serve later, and goes on, has to know it.
+%% Answers all changes that a node has and may answer. A node that began to serve later, and continues, must have these
+%% changes.
 answer(Name, Pair = #pair{answered = Answered, now = Now}) ->
     #node{serves = Serves, has = Has, limit = Limit, clock = Clock} = node_of(Name, Pair),
     Durable = is_copied(Name, Pair) orelse Limit =:= none orelse clock(Clock, Pair) >= Limit,
@@ -418,14 +422,14 @@ steps() ->
                     {2, {lease, oneof([a, b])}}, {2, {start_again, oneof([a, b])}},
                     {1, {crash, oneof([a, b])}}])).
 
-%% Only one node has the lease at a time. What happens when both do, no node can know.
+%% Only one node has the lease at a time. If both nodes had it, neither could know the other's changes.
 prop_who_takes_over_has_what_was_answered() ->
     ?FORALL(Steps, steps(), begin
         #pair{broken = Broken} = lists:foldl(fun step/2, pair(), Steps ++ [{pass, 3500}]),
         Broken =:= []
     end).
 
-%% What the property does isn't empty: changes are answered, at once or after 3 s, and the other node takes over.
+%% The property isn't vacuous: changes are answered, immediately or after 3 s, and the other node takes over.
 the_pair_of_the_property_works_test() ->
     Go = fun(Steps) -> lists:foldl(fun step/2, pair(), Steps) end,
     ?assertMatch(#pair{answered = [0], broken = []}, Go([change, {pass, 20}])),
@@ -436,7 +440,7 @@ the_pair_of_the_property_works_test() ->
                  Go([change, {pass, 20}, {kill, a}, {lease, b}, {pass, 40}])),
     ?assertMatch(#pair{answered = [], nodes = #{b := #node{serves = 2, has = []}}},
                  Go([{cut, [a, b]}, change, {pass, 600}, {kill, a}, {lease, b}, {pass, 40}])),
-    %% Beats that come late, when the network delivers again, prolong nothing.
+    %% Late beats, which arrive once the network delivers again, don't extend a grant.
     Late = [{cut, [b]}, {pass, 900}, change, {cut, []}, {pass, 2400}, {kill, a}, {lease, b}, {pass, 40}],
     ?assertMatch(#pair{answered = [0], broken = []}, Go(Late)).
 

@@ -17,10 +17,10 @@ all_members_have_to_fit_test() ->
 a_context_has_to_be_free_test() ->
     ?assertEqual([{b, 1}], ranked(1, none, [{a, load(0, 2)}, {b, load(9, 1)}])).
 
-%% Who moves there may have his seat already.
+%% A member who moves to the preferred gateway may already have a seat there.
 what_is_preferred_is_asked_first_test() ->
     ?assertEqual([{a, 1}, {b, 1}], ranked(1, {a, 1}, [{a, load(10, 2)}, {b, load(2, 0)}])),
-    %% It was lost since.
+    %% The preferred gateway has been lost since then.
     ?assertEqual([{b, 1}], ranked(1, {a, 2}, [{b, load(2, 0)}])).
 
 no_gateway_test() ->

@@ -1,5 +1,6 @@
-%% The promise to people, with ears: from the answer to a change that closes a flow until one that opens it is asked for,
-%% no packet carries that talker's speech to that listener, whichever process, message or gateway fails meanwhile.
+%% Tests the promise with the packets that members receive. Once a change that closes a flow is answered, no packet
+%% carries that talker's speech to that listener until a change that opens the flow is requested. Any process, message
+%% or gateway may fail meanwhile.
 -module(lobby_promise_SUITE).
 
 -include_lib("common_test/include/ct.hrl").
@@ -42,7 +43,7 @@ run(Gateways, Options) ->
     {ok, _} = application:ensure_all_started(lobby),
     lobby_case:until(fun() -> length(lobby_gateway:serving()) =:= length(Gateways) end).
 
-%% Somebody who talks, and somebody who only listens.
+%% These functions add a member who talks, and a member who only listens.
 talker(Room, Id, Role) ->
     Caller = caller:start(),
     {ok, _} = people:joins(Id, #{room => Room, role => Role, caller => Caller}),
@@ -53,8 +54,8 @@ listener(Room, Id, Role) ->
     {ok, _} = people:join(Room, Id, Role, caller:media(Caller), sendrecv),
     Caller.
 
-%% Packets with speech within so many milliseconds, but for those that were on their way, and whether there were packets at
-%% all. On a busy machine, they may take a while.
+%% Returns whether any packets arrive, and how many packets with speech arrive within this many milliseconds. Packets
+%% that are already under way don't count. On a busy machine, packets may take a while.
 heard(Caller, Ms) ->
     timer:sleep(40),
     caller:reset(Caller),
@@ -69,7 +70,7 @@ received(Caller, Tries) ->
 
 hears(Caller) -> lobby_case:until(fun() -> caller:heard(Caller) > 3 end).
 
-%% How many terminations the gateway has, but for the controller's own.
+%% Returns the number of terminations on the gateway, without the sentinel.
 terminations(G) ->
     length(lists:append([gateway:terminations(C, G) || C <- lists:seq(1, 40)])) - 1.
 
@@ -91,7 +92,7 @@ isolated_people_stay_isolated_when_they_move(_) ->
     ok = people:release(alice),
     hears(Carol).
 
-%% Whichever is answered first.
+%% The isolation holds no matter which change is answered first.
 isolate_and_move_at_once(_) ->
     run([{<<"a">>, gateway:start()}]),
     _ = talker(<<"100">>, alice, <<"member">>),
@@ -102,13 +103,13 @@ isolate_and_move_at_once(_) ->
         case N rem 3 of 0 -> ok; Ms -> timer:sleep(Ms) end,
         ok = people:isolate(alice),
         ?assertEqual([?SILENT, ?SILENT], [heard(Caller, 60) || Caller <- Ears]),
-        receive {moved, {ok, _}} -> ok after 5000 -> error(not_moved) end,
+        receive {moved, {ok, _}} -> ok after 15000 -> error(not_moved) end,
         ?assertEqual([?SILENT, ?SILENT], [heard(Caller, 60) || Caller <- Ears]),
         ok = people:release(alice),
         [Other, To]
     end, [<<"200">>, <<"100">>], lists:seq(1, 40)).
 
-%% He can be commanded, and there is nobody else.
+%% After the failure, the member can still be isolated, and no orphaned termination is left.
 a_call_fails_while_it_moves(_) ->
     G = gateway:start(),
     run([{<<"a">>, G}]),
@@ -127,7 +128,7 @@ a_call_fails_while_it_moves(_) ->
         case Room of To -> [Other, To]; _ -> [To, Other] end
     end, [<<"200">>, <<"100">>], lists:seq(1, 30)).
 
-%% Up to 3 ms.
+%% Waits for up to 3 ms.
 wait(N) ->
     Until = erlang:monotonic_time(microsecond) + 100 * N,
     wait_until(Until).
@@ -146,14 +147,14 @@ a_room_fails_while_somebody_moves(_) ->
         wait(N),
         killed({room, case N rem 2 of 0 -> To; 1 -> Other end}),
         ok = people:isolate(alice),
-        receive {moved, {ok, _}} -> ok after 5000 -> error(not_moved) end,
+        receive {moved, {ok, _}} -> ok after 15000 -> error(not_moved) end,
         ?assertEqual([?SILENT, ?SILENT], [heard(Caller, 60) || Caller <- Ears]),
         ok = people:release(alice),
         lobby_case:until(fun() -> terminations(G) =:= 3 end),
         [Other, To]
     end, [<<"200">>, <<"100">>], lists:seq(1, 30)).
 
-%% The first copy of an Add is lost, and the next one is sent when the room has been started again, without its newcomer.
+%% The first copy of an Add is lost, and the next copy is sent after the room has restarted without the newcomer.
 a_room_fails_before_its_request_arrives(_) ->
     G = gateway:start(),
     Relay = relay:start(gateway:address(G), #{lose => 0.0, double => 0.0, delay => 1}),
@@ -174,7 +175,7 @@ a_room_fails_before_its_request_arrives(_) ->
     ?assertEqual(2, terminations(G)),
     hears(Carol).
 
-%% He stays where he is until the gateway has silenced him, and those who mustn't hear him don't.
+%% Carol stays in her room until the gateway has silenced her. Members who mustn't hear her don't.
 who_cannot_be_silenced_does_not_move(_) ->
     G = gateway:start(),
     Relay = relay:start(gateway:address(G), #{lose => 0.0, double => 0.0, delay => 1}),
@@ -186,19 +187,19 @@ who_cannot_be_silenced_does_not_move(_) ->
     relay:refuse(Relay, [<<"MF=">>, <<"MO=IN">>]),
     Self = self(),
     spawn(fun() -> Self ! {moved, people:move(carol, <<"200">>)} end),
-    %% He isn't added before she is silent.
+    %% Dave isn't added before Carol is silent.
     Dave = caller:start(),
     spawn(fun() -> Self ! {joined, people:join(<<"100">>, dave, <<"customer">>, caller:media(Dave), sendrecv)} end),
     ?assertEqual([?SILENT, {false, 0}], [heard(Caller, 300) || Caller <- [Alice, Dave]]),
     receive {moved, {ok, _}} -> error(moved) after 0 -> ok end,
     relay:pass(Relay),
-    receive {joined, {ok, _}} -> ok after 5000 -> error(not_joined) end,
+    receive {joined, {ok, _}} -> ok after 15000 -> error(not_joined) end,
     ?assertEqual([?SILENT, ?SILENT], [heard(Caller, 300) || Caller <- [Alice, Dave]]),
-    receive {moved, _} -> ok after 5000 -> error(not_answered) end,
+    receive {moved, _} -> ok after 15000 -> error(not_answered) end,
     lobby_case:until(fun() -> people:agrees(<<"100">>) andalso people:agrees(<<"200">>) end),
     ?assertEqual([?SILENT, ?SILENT, ?SILENT], [heard(Caller, 300) || Caller <- [Alice, Dave, Bob]]).
 
-%% The customer doesn't hear the coach, whatever the coach was before.
+%% The customer doesn't hear the coach, even after the coach was isolated and released.
 release_overrides_no_rule(_) ->
     run([{<<"a">>, gateway:start()}]),
     ok = people:create(<<"100">>, lobby_rules:preset(coaching)),
@@ -221,7 +222,8 @@ rules_do_not_release_anybody(_) ->
     ok = people:release(carol),
     hears(Bob).
 
-%% Somebody else has ended a member, so the gateway adds the newcomer and refuses his Topology. Nothing more reaches it.
+%% Another controller has subtracted a member's termination. So the gateway adds the newcomer and rejects the Topology.
+%% No further request reaches the gateway.
 a_newcomer_whose_topology_is_refused(_) ->
     G = gateway:start(),
     Relay = relay:start(gateway:address(G), #{lose => 0.0, double => 0.0, delay => 1}),
@@ -237,14 +239,14 @@ a_newcomer_whose_topology_is_refused(_) ->
     lobby_case:until(fun() -> terminations(G) =:= 2 end),
     ?assertMatch({_, 0}, heard(Bob, 300)),
     relay:pass(Relay),
-    receive {joined, {ok, _}} -> ok after 5000 -> error(not_joined) end,
+    receive {joined, {ok, _}} -> ok after 15000 -> error(not_joined) end,
     ?assertEqual(?SILENT, heard(Bob, 300)).
 
-%%% With phones.
+%%% Phones.
 
 sip() -> element(2, application:get_env(lobby, sip)).
 
-%% A phone that talks as soon as it is answered, under a name.
+%% Starts a phone that calls under a name, and talks as soon as its call is answered.
 calls(Room, Name, Headers) ->
     Phone = phone:start(sip(), Room),
     Calling = phone:invite(phone:sdp(Phone), ["Subject: " ++ Name | Headers], Phone),
@@ -270,10 +272,10 @@ a_role_comes_before_audio(_) ->
     ?assertEqual(0, caller:heard(Customer)),
     ?assertMatch([#{role := <<"coach">>}], [M || M = #{call := _} <- maps:values(members(<<"100">>))]).
 
-%% Who waits at the door isn't heard, and hears nobody.
+%% A caller who waits at the door isn't heard, and hears nobody.
 a_door(_) ->
     run([{<<"a">>, gateway:start()}]),
-    ok = lobby_rooms:create(<<"100">>, lobby_rules:preset(coaching), #{door => true}),
+    ok = lobby_room:create(<<"100">>, lobby_rules:preset(coaching), #{door => true}),
     _ = talker(<<"100">>, dave, <<"agent">>),
     [Alice, Bob] = [listener(<<"100">>, Id, Role) || {Id, Role} <- [{alice, <<"customer">>}, {bob, <<"agent">>}]],
     ok = lobby_member:change(dave, #{muted => true}),
@@ -313,7 +315,8 @@ a_muted_caller_vanishes(_) ->
 
 %%% Gateways.
 
-%% It has begun anew, and nobody has noticed: it is noticed by the first request, which isn't run.
+%% The gateway has restarted from scratch, and the controller hasn't noticed. The first request reveals the restart, and
+%% isn't run.
 a_gateway_that_begins_anew_runs_nothing(_) ->
     G = gateway:start(),
     run([{<<"a">>, G}], #{audit => 5000}),
@@ -328,8 +331,8 @@ a_gateway_that_begins_anew_runs_nothing(_) ->
     ?assertEqual(?SILENT, heard(Carol, 100)),
     ?assertEqual(4, length(lists:append([gateway:terminations(C, New) || C <- lists:seq(500, 520)]))).
 
-%% It hangs, its conference is made again elsewhere, somebody is isolated, and it goes on as before: what it has is ended
-%% before it sends anything.
+%% The gateway hangs, its conference is recreated elsewhere, and a member is isolated. When the gateway continues, all
+%% its terminations are subtracted before it sends anything.
 a_gateway_that_hung_sends_nothing(_) ->
     Gs = maps:from_list([{Name, gateway:start()} || Name <- [<<"a">>, <<"b">>]]),
     run(maps:to_list(Gs)),
@@ -351,7 +354,8 @@ started(Name, G, Options) ->
     {ok, #{gateways := [Whole]}} = lobby_config:check([{gateways, [maps:merge(gateway:config(Name, G), Options)]}]),
     {ok, _} = supervisor:start_child(lobby_gateway_sup, #{id => Name, start => {lobby_gateway, start_link, [Whole]}}).
 
-%% The controller takes it for lost, and it mixes on. Alice's phone doesn't learn of the other one for a while.
+%% The controller considers the gateway lost, but the gateway continues to mix. For a while, Alice's phone doesn't learn
+%% of the other gateway.
 a_phone_still_sends_to_a_gateway_out_of_reach(_) ->
     G = gateway:start(),
     Relay = relay:start(gateway:address(G), #{lose => 0.0, double => 0.0, delay => 1}),
@@ -362,7 +366,7 @@ a_phone_still_sends_to_a_gateway_out_of_reach(_) ->
     _ = started(<<"b">>, gateway:start(), #{}),
     Alice = lobby_registry:whereis_name({member, alice}),
     true = erlang:suspend_process(Alice),
-    relay:drop(Relay, <<"!/1">>),
+    relay:drop(Relay, <<"/1">>),
     lobby_case:until(fun() -> maps:get(gateway, people:describe(<<"100">>)) =:= <<"b">> end),
     Self = self(),
     spawn(fun() -> Self ! {isolated, people:isolate(bob)} end),
@@ -370,14 +374,14 @@ a_phone_still_sends_to_a_gateway_out_of_reach(_) ->
     hears(Bob),
     receive {isolated, _} -> error(answered) after 300 -> ok end,
     true = erlang:resume_process(Alice),
-    receive {isolated, ok} -> ok after 5000 -> error(not_answered) end,
-    %% What her phone had sent there has been played.
+    receive {isolated, ok} -> ok after 15000 -> error(not_answered) end,
+    %% The lost gateway has played the packets that Alice's phone had sent to it.
     caller:reset(Bob),
     timer:sleep(60),
     ?assertEqual(0, caller:heard(Bob)),
     ?assertEqual(?SILENT, heard(Bob, 300)).
 
-%% Three rooms of 26 see the same free seats. Nobody is hung up.
+%% Three rooms of 26 members see the same free seats. No member's call ends.
 rooms_of_a_lost_gateway_spread(_) ->
     [A, B, C] = [gateway:start() || _ <- [1, 2, 3]],
     run([{<<"a">>, A}]),
@@ -391,7 +395,8 @@ rooms_of_a_lost_gateway_spread(_) ->
     ?assertEqual([26, 26, 26], [length([T || #{termination := T} <- maps:values(members(Room))]) || Room <- [<<"1">>, <<"2">>, <<"3">>]]),
     ?assertEqual([<<"b">>, <<"c">>], lists:usort([maps:get(gateway, people:describe(Room)) || Room <- [<<"1">>, <<"2">>, <<"3">>]])).
 
-%% It has fewer seats than the controller thinks. The room goes to another gateway with him.
+%% The gateway has fewer seats than the controller assumes. The room moves to another gateway, together with the
+%% newcomer.
 who_is_refused_a_seat_waits(_) ->
     run([{<<"a">>, gateway:start()}]),
     [{ok, _} = people:join(Room, {Room, N}, <<"member">>)
@@ -400,12 +405,13 @@ who_is_refused_a_seat_waits(_) ->
     spawn(fun() -> Self ! {joined, people:join(<<"2">>, bob, <<"member">>)} end),
     receive {joined, Early} -> error(Early) after 500 -> ok end,
     _ = started(<<"b">>, gateway:start(), #{}),
-    receive {joined, {ok, _}} -> ok after 5000 -> error(not_joined) end,
+    receive {joined, {ok, _}} -> ok after 15000 -> error(not_joined) end,
     lobby_case:until(fun() -> people:agrees(<<"1">>) andalso people:agrees(<<"2">>) end),
     ?assertEqual([{<<"a">>, 64}, {<<"b">>, 16}],
                  [{maps:get(gateway, people:describe(Room)), map_size(members(Room))} || Room <- [<<"1">>, <<"2">>]]).
 
-%% Somebody else has ended the others. What is audited then is understood.
+%% Another controller has subtracted the other members' terminations. Our controller understands the reply to the next
+%% audit.
 the_last_one_in_a_context(_) ->
     G = gateway:start(),
     run([{<<"a">>, G}]),
@@ -417,7 +423,7 @@ the_last_one_in_a_context(_) ->
     lobby_case:until(fun() -> people:agrees(<<"100">>) andalso length(gateway:terminations(Context, G)) =:= 3 end),
     ?assertEqual([], [N || {{lobby_gateway_losses_total, _}, N} <- lobby_events:counts()]).
 
-%% Somebody else has added it, and it would hear everyone.
+%% Another controller has added a termination, which would hear everyone.
 a_stray_is_ended(_) ->
     G = gateway:start(),
     run([{<<"a">>, G}]),
@@ -432,19 +438,19 @@ a_stray_is_ended(_) ->
     lobby_case:until(fun() -> terminations(G) =:= 2 end),
     hears(Bob).
 
-%% Its process is started again.
+%% A lock survives a restart of the room's process.
 a_lock_outlives_its_room(_) ->
     run([{<<"a">>, gateway:start()}]),
     {ok, _} = people:join(<<"100">>, alice, <<"member">>),
-    ok = lobby_rooms:call(<<"100">>, {settings, #{locked => true}}),
+    ok = lobby_room:call(<<"100">>, {settings, #{locked => true}}),
     Room = lobby_registry:whereis_name({room, <<"100">>}),
     killed({room, <<"100">>}),
     lobby_case:until(fun() -> not lists:member(lobby_registry:whereis_name({room, <<"100">>}), [undefined, Room]) end),
     ?assertEqual({error, room_locked}, people:join(<<"100">>, bob, <<"member">>)),
-    ok = lobby_rooms:call(<<"100">>, {settings, #{locked => false}}),
+    ok = lobby_room:call(<<"100">>, {settings, #{locked => false}}),
     {ok, _} = people:join(<<"100">>, carol, <<"member">>).
 
-%% The first of them can't be read, and there are more than are let in: those that were there before stay.
+%% The first stored room can't be read, and the store has more rooms than the limit. All other stored rooms stay.
 more_rooms_than_are_allowed_start_again(_) ->
     G = gateway:start(),
     run([{<<"a">>, G}]),
@@ -457,7 +463,7 @@ more_rooms_than_are_allowed_start_again(_) ->
     ok = lobby_store:put(lobby_rooms, <<"0">>, nonsense),
     exit(whereis(lobby_room_sup), kill),
     lobby_case:until(fun() -> is_running(<<"100">>) andalso length(lobby_registry:names(room)) >= length(Names) end, 60000),
-    lobby_case:until(fun() -> not lobby_rooms:exists(<<"0">>) end),
+    lobby_case:until(fun() -> not lobby_room:exists(<<"0">>) end),
     ?assertEqual([], [Name || Name <- Names, not is_running(Name)]),
     ?assertEqual({error, too_many_rooms}, people:create(<<"new">>, [])),
     caller:reset(Bob),
@@ -468,7 +474,7 @@ more_rooms_than_are_allowed_start_again(_) ->
 
 is_running(Room) -> is_pid(lobby_registry:whereis_name({room, Room})).
 
-%% Its state can't be read. The others go on, and its members' calls end.
+%% The room's state can't be read. Other rooms continue, and the calls of its members end.
 a_room_that_fails_is_set_aside(_) ->
     G = gateway:start(),
     run([{<<"a">>, G}]),
@@ -477,13 +483,13 @@ a_room_that_fails_is_set_aside(_) ->
     {ok, _} = people:join(<<"bad">>, carol, <<"member">>),
     ok = lobby_store:put(lobby_rooms, <<"bad">>, nonsense),
     killed({room, <<"bad">>}),
-    lobby_case:until(fun() -> not lobby_rooms:exists(<<"bad">>) end),
+    lobby_case:until(fun() -> not lobby_room:exists(<<"bad">>) end),
     lobby_case:until(fun() -> lobby_member:find(carol) =:= error end),
     lobby_case:until(fun() -> terminations(G) =:= 2 end),
     hears(Bob),
     ?assertEqual(1, lists:sum([N || {{lobby_set_aside_total, _}, N} <- lobby_events:counts()])).
 
-%% Its topology can't be audited. What the rules close is closed again.
+%% The topology of a large room can't be audited, so the room closes the forbidden flows again.
 a_large_room_is_closed_again(_) ->
     G = gateway:start(),
     run([{<<"a">>, G}]),
@@ -499,13 +505,13 @@ a_large_room_is_closed_again(_) ->
          ?assertEqual(?SILENT, heard(Bob, 300))
      end || _ <- [1, 2]].
 
-%% What concerns one person or one room costs the same with 20,000 others.
+%% A change of one member or one room costs no more with 20,000 others.
 nobody_else_is_looked_at(_) ->
     run([{<<"a">>, gateway:start()}]),
     {ok, _} = people:join(<<"100">>, alice, <<"member">>),
     {ok, _} = people:join(<<"100">>, bob, <<"member">>),
     Steps = [{isolate, fun() -> ok = people:isolate(alice), ok = people:release(alice) end},
-             {describe, fun() -> #{members := Rows} = lobby_rooms:call(<<"100">>, describe), lobby_call:callers([Row || {Row, _} <- Rows]) end},
+             {describe, fun() -> #{members := Rows} = lobby_room:call(<<"100">>, describe), lobby_call:callers([Row || {Row, _} <- Rows]) end},
              {audit, fun() -> same = people:audit(<<"100">>) end},
              {move, fun() -> {ok, _} = people:move(alice, <<"200">>), {ok, _} = people:move(alice, <<"100">>) end},
              {join, fun() -> {ok, _} = people:join(<<"100">>, carol, <<"member">>), ok = lobby_member:hang_up(carol) end},
@@ -521,7 +527,7 @@ nobody_else_is_looked_at(_) ->
     ct:pal("reductions: ~p, and with 20,000 others ~p", [Few, Many]),
     ?assertEqual([], [{Name, Before, After} || {{Name, Before}, {Name, After}} <- lists:zip(Few, Many), After > Before + Before div 2 + 4000]).
 
-%% The fewest reductions in which all processes did something.
+%% Returns the least number of reductions that all processes together take for a step.
 cost(Step) ->
     lists:min([begin
         {Before, _} = erlang:statistics(exact_reductions),

@@ -19,7 +19,7 @@ a_name_is_one_processes() ->
     ?assertEqual(A, lobby_registry:send({room, <<"1">>}, hello)),
     ?assertExit({badarg, {nobody, hello}}, lobby_registry:send(nobody, hello)).
 
-%% At once, so that a supervisor can start its successor.
+%% A name is free as soon as its process ends, so that a supervisor can start the successor.
 names_end_with_their_process() ->
     A = process(),
     [yes = lobby_registry:register_name(Name, A) || Name <- [x, y]],
@@ -28,7 +28,7 @@ names_end_with_their_process() ->
     ?assertEqual(yes, lobby_registry:register_name(y, self())),
     ?assertEqual(self(), lobby_registry:whereis_name(y)).
 
-%% However soon after it the process is killed.
+%% A name is removed even if its process is killed right after its registration.
 names_of_short_lives_end() ->
     [killed_soon({short, N}) || N <- lists:seq(1, 100)],
     lobby_case:until(fun() -> lobby_registry:names(short) =:= [] end).

@@ -6,8 +6,8 @@ row(Id, From) ->
     lobby_member:new(Id, #{room => <<"2">>, from => From, media => {{{127, 0, 0, 1}, 40000}, pcmu}, direction => sendrecv,
                            identity => <<"test">>}).
 
-%% A process that was killed may have been told where he still sends, and not have stored it. Until his phone has
-%% confirmed where the gateway receives him, it may still send to a gateway that was lost.
+%% A killed process may have learned where an arriving member's phone still sends, without storing it. Until the phone
+%% has confirmed its new address, it may still send to a lost gateway.
 who_arrives_at_a_restart_is_awaited_test() ->
     Kept = #{rules => [], settings => #{}, gateway => none, stale => #{b => unknown}},
     {Room, Actions} = lobby_room_core:handle({start, Kept, [row(a, <<"1">>), row(b, none), row(c, none)]}, 0,
@@ -15,7 +15,7 @@ who_arrives_at_a_restart_is_awaited_test() ->
     ?assertEqual([#{a => unknown, b => unknown}], [Stale || {save, #{stale := Stale}} <- Actions]),
     ?assertNot(lobby_room_core:agrees(Room)).
 
-%% Seats are reserved by one request, which isn't undone meanwhile.
+%% Seats are reserved with one request, and no other request undoes it meanwhile.
 seats_are_reserved_once_test() ->
     Seats = fun(Actions) -> [Action || Action <- Actions, lists:member(element(1, Action), [reserve, seats])] end,
     Room0 = lobby_room_core:new(#{name => <<"2">>, run => 1}),

@@ -32,7 +32,7 @@ the_streams_own_address_counts_test() ->
     {ok, Session} = offer(["m=audio 4000 RTP/AVP 0", "c=IN IP4 192.0.2.10"]),
     ?assertMatch({{{192, 0, 2, 10}, 4000}, _}, lobby_sdp:media(Session)).
 
-%% RFC 3264, section 6: an answer has as many streams as the offer, in the same order, and port 0 declines one.
+%% RFC 3264, section 6: an answer has as many streams as the offer, in the same order, and port 0 declines a stream.
 others_are_declined_in_their_places_test() ->
     {ok, Session} = offer(["m=video 5000 RTP/AVP 96 97", "m=audio 4000 RTP/SAVP 0", "m=audio 4002 RTP/AVP 8", "m=image 9 udptl t38"]),
     Answer = lobby_sdp:answer(Session, {{{192, 0, 2, 1}, 30000}, pcma}, 1, 1),
@@ -75,27 +75,27 @@ refused_test_() ->
     ++ [?_assertEqual({error, bad_address}, lobby_sdp:parse(<<"v=0\r\nc=IN IP6 ::1\r\nm=audio 4000 RTP/AVP 0\r\n">>)),
         ?_assertEqual({error, no_audio}, lobby_sdp:parse(<<>>))].
 
-%% RFC 4566, section 6, and RFC 3264, section 5.1.
+%% See RFC 4566, section 6, and RFC 3264, section 5.1.
 packets_of_20_ms_test() ->
     [?assertMatch({Lines, {ok, _}}, {Lines, offer(["m=audio 4000 RTP/AVP 0" | Lines])})
      || Lines <- [["a=ptime:20"], ["a=maxptime:20"], ["a=maxptime:150", "a=ptime:20"], ["a=maxptime:20.5"]]],
-    %% The other stream's.
+    %% The second stream has its own ptime, so it is chosen.
     {ok, Session} = offer(["m=audio 4000 RTP/AVP 0", "a=ptime:30", "m=audio 4002 RTP/AVP 0", "a=ptime:20"]),
     ?assertMatch({{_, 4002}, _}, lobby_sdp:media(Session)).
 
-%% RFC 3261, section 20.43.
+%% See RFC 3261, section 20.43.
 a_refusal_has_a_reason_test() ->
     [?assertMatch([{warning, [{Code, <<"lobby">>, <<$", _/binary>>}]}], lobby_sdp:warning(Reason))
      || {Reason, Code} <- [{no_audio, 304}, {no_common_format, 305}, {bad_address, 301}, {bad_packet_time, 306}, {bad_syntax, 399}, {foreign_address, 399}]].
 
-%% Lines of descriptions, and lines with any bytes in them.
+%% Generates lines of session descriptions, and lines with arbitrary bytes.
 text() ->
     Word = oneof([<<"m=">>, <<"c=">>, <<"a=">>, <<"audio ">>, <<"video ">>, <<"4000 ">>, <<"0 ">>, <<"8 ">>, <<"RTP/AVP ">>,
                   <<"IN IP4 ">>, <<"10.0.0.1">>, <<"sendonly">>, <<"\r\n">>, <<"\n">>,
                   <<"m=audio 4000 RTP/AVP 0\r\n">>, <<"c=IN IP4 10.0.0.1\r\n">>, <<"a=ptime:">>, <<"a=maxptime:">>, binary()]),
     ?BIND(Words, list(Word), iolist_to_binary(Words)).
 
-%% An accepted offer is answered with as many streams as it has, of which exactly one is taken.
+%% The answer to an accepted offer has as many streams as the offer, and accepts exactly one of them.
 prop_any_text_is_answered_or_refused() ->
     ?FORALL(Text, text(),
             case lobby_sdp:parse(Text) of

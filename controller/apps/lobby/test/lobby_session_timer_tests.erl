@@ -10,18 +10,18 @@ request(Lines) ->
 
 asked(Lines) -> lobby_session_timer:asked(request(Lines), 90).
 
-%% RFC 4028, section 9.
+%% See RFC 4028, section 9.
 asked_test() ->
     Timer = "Supported: 100rel, Timer",
     [?assertEqual({Lines, Is}, {Lines, asked(Lines)})
      || {Lines, Is} <- [{[], none}, {[Timer], none}, {[Timer, "Session-Expires: 1800"], {1800, theirs}}, {[Timer, "x: 1800;refresher=uac"], {1800, theirs}},
                         {[Timer, "Session-Expires: 1800;refresher=uas"], {1800, ours}}, {[Timer, "Session-Expires: 89"], {too_short, [{'min-se', {90, []}}]}},
-                        %% Who doesn't know it, and for whom a proxy asks.
+                        %% This phone doesn't support the extension, and a proxy asks on its behalf.
                         {["Session-Expires: 1800"], {1800, ours}}, {["Session-Expires: 60"], {90, ours}},
-                        %% No proxy names a refresher.
+                        %% A proxy wouldn't name a refresher.
                         {["Session-Expires: 1800;refresher=uac"], {1800, theirs}}]].
 
-%% A day at most, whatever is asked for: a timer of Erlang's holds no more than 49 days.
+%% A session lasts at most a day, because Erlang's timers can't be longer than 49 days.
 what_is_asked_for_is_bounded_test() ->
     [begin
          Asked = asked(["Supported: timer", ["Session-Expires: ", Seconds, ";refresher=", Refresher], ["Min-SE: ", Seconds]]),
@@ -32,7 +32,7 @@ what_is_asked_for_is_bounded_test() ->
     ?assertEqual([180000, 0, 5000, 180000], [lobby_session_timer:invitation(request(Lines))
                                              || Lines <- [[], ["Expires: 0"], ["Expires: 5"], ["Expires: 99999999999999999999"]]]).
 
-%% Require names what the caller said he supports.
+%% The Require header names only an extension that the caller supports.
 answers_test() ->
     ?assertEqual([{require, [<<"timer">>]}, {'session-expires', {90, [{<<"refresher">>, <<"uac">>}]}}], lobby_session_timer:answer({90, theirs})),
     ?assertEqual([{'session-expires', {90, [{<<"refresher">>, <<"uas">>}]}}], lobby_session_timer:answer({90, ours})),
@@ -40,7 +40,7 @@ answers_test() ->
     ?assertEqual([{supported, [<<"timer">>]}, {'session-expires', {90, [{<<"refresher">>, <<"uac">>}]}}], lobby_session_timer:request({90, ours})),
     ?assertEqual([[], []], [lobby_session_timer:answer(none), lobby_session_timer:request(none)]).
 
-%% Section 10.
+%% See section 10.
 timeouts_test() ->
     ?assertEqual([{infinity, none}, {45000, refresh}, {60000, expired}, {1768000, expired}],
                  [lobby_session_timer:timeout(Timer) || Timer <- [none, {90, ours}, {90, theirs}, {1800, theirs}]]).

@@ -1,4 +1,4 @@
-%% The simulated gateways of the trial of scale: the proved program behind a socket.
+%% Tests the simulated gateways of the scale trial, which are the proved program behind a socket.
 -module(lobby_simulated_SUITE).
 
 -include_lib("common_test/include/ct.hrl").

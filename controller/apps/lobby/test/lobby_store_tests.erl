@@ -2,7 +2,7 @@
 
 -include_lib("eunit/include/eunit.hrl").
 
-%% The store isn't opened, and what is in it stays.
+%% The store of a later release isn't opened, and its contents stay unchanged.
 what_a_later_release_wrote_test_() ->
     {timeout, 60, fun what_a_later_release_wrote/0}.
 

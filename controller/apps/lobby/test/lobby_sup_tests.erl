@@ -2,8 +2,8 @@
 
 -include_lib("eunit/include/eunit.hrl").
 
-%% A killed supervisor's rooms may end a little later than it does. If its successor started rooms before, a room could
-%% seem to be there that is about to end.
+%% A killed supervisor's rooms may end a moment after it. If its successor started rooms before that, a room that is
+%% about to end could count as running.
 waits_for_what_ends_late_test_() ->
     {setup, fun() -> {ok, Pid} = lobby_registry:start_link(), Pid end, fun gen_server:stop/1, fun() ->
         Room = spawn(fun() -> receive stop -> ok end end),

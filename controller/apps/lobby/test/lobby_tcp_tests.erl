@@ -16,7 +16,7 @@ short_and_strange_spellings_test() ->
 
 without_a_length_there_is_no_body_test() ->
     ?assertEqual({ok, message("", ""), <<"abc">>}, lobby_tcp:frame(message("", "abc"))),
-    %% A header that only ends like it.
+    %% This header only ends like Content-Length.
     ?assertEqual({ok, message("X-Content-Length: 3\r\n", ""), <<"abc">>}, lobby_tcp:frame(message("X-Content-Length: 3\r\n", "abc"))).
 
 blank_lines_are_skipped_test() ->
@@ -36,7 +36,7 @@ too_long_test() ->
     Head = <<(binary:copy(<<"a">>, 8192))/binary, "\r\n\r\n">>,
     ?assertEqual({ok, Head, <<>>}, lobby_tcp:frame(Head)).
 
-%% Their supervisor was killed, and starts again before they have ended.
+%% The connections' supervisor was killed, and restarts before the old connections have ended.
 connections_start_when_the_old_ones_have_ended_test() ->
     Old = spawn(fun() -> receive stop -> timer:sleep(50) end end),
     true = register(lobby_connections, Old),

@@ -1,4 +1,4 @@
-%% Changes of the topology, against what RFC 3525, section 7.1.18, says that a triple does.
+%% Compares changes of the topology with the effects of triples in RFC 3525, section 7.1.18.
 -module(lobby_topology_tests).
 
 -include_lib("eunit/include/eunit.hrl").
@@ -6,7 +6,8 @@
 
 -export([prop_the_batches_lead_to_the_wanted_flows/0, prop_closing_comes_first/0]).
 
-%% The open flows after a triple. Isolate and bothway concern both directions, oneway also closes the other one.
+%% Returns the open flows after a triple. Isolate and bothway affect both directions; oneway also closes the other
+%% direction.
 apply_triple({A, B, How}, Ids, Flows) ->
     Pairs = [{X, Y} || X <- named(A, Ids), Y <- named(B, Ids), X =/= Y],
     lists:foldl(fun({X, Y}, Open) -> apply_pair(How, X, Y, Open) end, Flows, Pairs).
@@ -23,7 +24,7 @@ apply_batch(Batch, Ids, Flows) ->
 
 equal(A, B) -> lists:sort(sets:to_list(A)) =:= lists:sort(sets:to_list(B)).
 
-%% Members, two sets of open flows between them, and a limit of triples.
+%% Generates members, two sets of open flows between them, and a limit on the number of triples.
 change() ->
     ?BIND(N, range(0, 7), ?BIND({Before, After}, {flows(N), flows(N)}, {lists:seq(1, N), Before, After, range(1, 30)})).
 
@@ -39,8 +40,8 @@ prop_the_batches_lead_to_the_wanted_flows() ->
                 equal(After, Last) andalso lists:all(fun(B) -> B =/= [] andalso length(B) =< Max end, Batches)
             end).
 
-%% After each request: nothing is open that is open neither before nor after; and once a flow has been opened, no flow
-%% that is to be closed is open any more.
+%% After each request, no flow is open that is closed both before and after the change. When the first flow is opened,
+%% all flows to be closed are already closed.
 prop_closing_comes_first() ->
     ?FORALL({Ids, Before, After, Max}, change(),
             begin
@@ -53,7 +54,7 @@ prop_closing_comes_first() ->
                 Fine
             end).
 
-%% Every pair that loses a flow has lost it, unless the same triple opens its other direction.
+%% Each pair that is to lose a flow has lost it, unless the same triple opens its other direction.
 no_pair_left(Now, Before, After) ->
     Opened = sets:subtract(Now, Before),
     Left = sets:subtract(sets:intersection(Now, Before), After),
@@ -73,12 +74,12 @@ one_pair_takes_one_triple_test() ->
     ?assertEqual([[{2, 1, oneway}]],
                  lobby_topology:changes([1, 2, 3], Before, sets:del_element({1, 2}, Before))).
 
-%% Whoever enters is connected both ways with everyone, and nothing else changes.
+%% A member who enters is connected both ways with everyone, and no other flow changes.
 an_entry_closes_flows_test() ->
     After = sets:from_list([{1, 2}, {2, 1}, {3, 2}, {2, 4}, {3, 4}], [{version, 2}]),
     ?assertEqual([{3, 2, oneway}, {2, 4, oneway}, {2, 5, isolate}], lobby_topology:entry(2, [1, 3, 4, 5], After)).
 
-%% A lecture of 64: one request, with a wildcard.
+%% A lecture of 64 takes one request, with a wildcard.
 a_lecture_takes_one_request_test() ->
     Ids = lists:seq(1, 64),
     After = sets:from_list([{1, To} || To <- tl(Ids)], [{version, 2}]),

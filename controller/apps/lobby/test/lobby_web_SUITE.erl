@@ -1,4 +1,4 @@
-%% People who join by links from browsers, with real gateways, ears, and a rtpengine that only answers.
+%% Tests members who join by links from browsers, with real gateways and a fake rtpengine.
 -module(lobby_web_SUITE).
 
 -include_lib("common_test/include/ct.hrl").
@@ -57,7 +57,7 @@ link_to(Room, Role, Seconds, Config) ->
     {200, #{<<"number">> := Number, <<"link">> := Link}} = ask(post, "/links", Body, Config),
     {Number, Link}.
 
-%% Joins, and returns the ears and the place.
+%% Joins by a link. Returns the caller, and the path of the POST's resource.
 join({_, Link}, Config) ->
     {Caller, Offer} = rtpengine:offer(proplists:get_value(relay, Config)),
     case post(Link, Offer, Config) of
@@ -83,7 +83,7 @@ hears(Caller) ->
     caller:reset(Caller),
     lobby_case:until(fun() -> caller:heard(Caller) > 3 end).
 
-%% Somebody with a phone, who talks.
+%% Adds a member with a phone, who talks.
 talker(Room, Id) ->
     Caller = caller:start(),
     {ok, _} = people:joins(Id, #{room => Room, role => <<"agent">>, caller => Caller}),
@@ -101,7 +101,7 @@ a_link_has_one_member(Config) ->
     ?assertMatch([#{<<"caller">> := <<"Ann">>, <<"says">> := <<"Ann">>, <<"proved">> := true, <<"role">> := <<"coach">>}],
                  [Member || Member = #{<<"role">> := <<"coach">>} <- members("100", Config)]),
     ?assertEqual({200, #{<<"state">> => <<"in">>}}, state(Link, Place, Config)),
-    %% From another browser.
+    %% The member joins from another browser.
     {Second, Next} = join(Link, Config),
     hears(Second),
     ?assertEqual(2, length(members("100", Config))),
@@ -112,16 +112,16 @@ a_link_has_one_member(Config) ->
     ?assertEqual(1, length(members("100", Config))),
     ?assertMatch({404, _}, state(Link, Next, Config)),
     lobby_case:until(fun() -> rtpengine:calls(proplists:get_value(relay, Config)) =:= [] end),
-    %% His call is recorded, without the link.
+    %% The audit log has the call, without the link's token.
     Number = element(1, Link),
-    Ended = fun() -> {ok, Lines, _} = lobby_audit:read(#{}), [Line || Line = #{<<"event">> := <<"ended">>} <- Lines] end,
+    Ended = fun() -> {ok, #{lines := Lines}} = lobby_audit:read(#{}), [Line || Line = #{<<"event">> := <<"ended">>} <- Lines] end,
     lobby_case:until(fun() -> Ended() =/= [] end),
     ?assertMatch([#{<<"link">> := Number, <<"caller">> := <<"Ann">>, <<"rooms">> := [<<"100">>], <<"roles">> := [<<"coach">>], <<"codecs">> := [<<"PCMU">>],
                     <<"from">> := <<"127.0.0.1">>, <<"why">> := <<"the caller hung up">>}], Ended()),
     {ok, File} = file:read_file(audit_file(a_link_has_one_member, Config)),
     ?assertEqual(nomatch, binary:match(File, binary:part(Token, 0, 40))).
 
-%% In the room, or after he has left.
+%% A member who joins again stays isolated, whether or not the member is still in the room.
 who_joins_again_stays_isolated(Config) ->
     Other = talker(<<"100">>, <<"other">>),
     Link = {_, Token} = link_to(<<"100">>, <<"coach">>, Config),
@@ -139,7 +139,7 @@ who_joins_again_stays_isolated(Config) ->
     [{200, _} = ask(post, Member ++ "/" ++ Action, "", Config) || Action <- ["release", "unmute"]],
     hears(Third),
     hears(Other),
-    %% He stays where he was moved.
+    %% The member stays in the room to which an operator moved the member.
     {200, _} = ask(post, Member ++ "/move", "{\"room\": \"200\"}", Config),
     {_, _} = join(Link, Config),
     ?assertEqual([Id], [Of || #{<<"id">> := Of} <- members("200", Config)]).
@@ -167,7 +167,7 @@ links_end(Config) ->
     lobby_case:until(fun() -> element(1, request(get, "/web", Short, "", "", Config)) =:= 401 end),
     ?assertEqual(<<"the link has expired">>, Says(Short)),
     ?assertMatch({401, _}, join(Soon, Config)),
-    %% Who is hung up can join again, unless the link is revoked.
+    %% A member whose call an operator has ended can join again, unless the link is revoked.
     {_, _} = join(Link, Config),
     [#{<<"id">> := Id}] = members("100", Config),
     Member = "/members/" ++ binary_to_list(Id),
@@ -185,7 +185,7 @@ links_end(Config) ->
     ?assertMatch({404, _}, ask(delete, "/links/x", "", Config)),
     ?assertEqual({200, #{}}, ask(delete, "/links/" ++ binary_to_list(Number), "", Config)).
 
-%% He waits, and doesn't wait again.
+%% A member waits at the door only once.
 a_door(Config) ->
     {200, _} = ask(put, "/rooms/100", "{\"preset\": \"plain\", \"door\": true}", Config),
     Other = talker(<<"100">>, <<"other">>),
@@ -245,7 +245,7 @@ bad_offers(Config) ->
     [Told | _] = rtpengine:offers(Relay),
     ?assertEqual([nomatch, nomatch], [binary:match(Told, It) || It <- [<<"192.0.2.66">>, <<"candidate">>]]).
 
-%% Browsers learn that rtpengine was lost, and join again. Whoever was isolated or muted stays so.
+%% Browsers learn that rtpengine was lost, and join again. Isolation and mute persist.
 rtpengine_is_lost(Config) ->
     Relay = proplists:get_value(relay, Config),
     Other = talker(<<"100">>, <<"other">>),
@@ -256,13 +256,15 @@ rtpengine_is_lost(Config) ->
     {200, _} = ask(post, "/members/" ++ binary_to_list(Id) ++ "/isolate", "", Config),
     ok = rtpengine:restart(Relay),
     lobby_case:until(fun() -> {200, #{<<"state">> => <<"lost">>}} =:= state(Link, Place, Config) end),
-    {Second, _} = join(Link, Config),
+    {Second, Next} = join(Link, Config),
     ?assertEqual([?SILENT, ?SILENT], [heard(Caller, 300) || Caller <- [Second, Other]]),
     ok = rtpengine:be(lost, Relay),
     lobby_case:until(fun() -> lobby_rtpengine:state() =:= lost end),
     ?assertMatch({200, #{<<"rtpengine">> := <<"lost">>}}, ask(get, "/gateways", "", Config)),
     ?assertMatch({503, #{<<"error">> := <<"rtpengine doesn't answer">>}}, join(link_to(<<"100">>, <<"coach">>, Config), Config)),
-    %% Changes don't wait for it.
+    %% A member who tries in vain to join again stays in the room, and changes don't wait for rtpengine.
+    ?assertMatch({503, _}, join(Link, Config)),
+    ?assertEqual({200, #{<<"state">> => <<"lost">>}}, state(Link, Next, Config)),
     {200, _} = ask(post, "/members/" ++ binary_to_list(Id) ++ "/mute", "", Config),
     ok = rtpengine:be(serving, Relay),
     lobby_case:until(fun() -> lobby_rtpengine:state() =:= serving end),
@@ -290,7 +292,7 @@ processes_fail(Config) ->
     hears(First),
     hears(Other).
 
-%% rtpengine learns where he is now.
+%% rtpengine is notified of the new gateway's address.
 a_gateway_is_lost(Config) ->
     Link = link_to(<<"100">>, <<"coach">>, Config),
     Two = link_to(<<"100">>, <<"agent">>, Config),

@@ -1,60 +1,70 @@
-%% A small world for searches: people, rooms, and gateways that are the proved program. What the controller decides is
-%% decided by its own modules; this one has what lies between them: the store, messages, datagrams, failures, and phones.
+%% A small world for searches: people, rooms, and gateways that run the proved program. The controller's own modules
+%% make its decisions. This module models everything between them: the store, messages, datagrams, failures, and phones.
 %%
-%% Between any two events, somebody can ask for a change, and a process can be killed. A gateway can end, and start again
-%% empty or from its journal. The other node of a pair can take over. A datagram can be lost, or come twice or much later.
-%% Messages arrive in the order in which they were sent, except for a few that overtake others. Timers run out only when
-%% nothing else can happen, so nothing waits without a reason; but rooms and members may be impatient.
+%% Between any two events, a change can be requested, and a process can be killed. A gateway can end, and restart empty
+%% or from its journal. The other node of a pair can take over. A datagram can be lost, duplicated, or delayed for long.
+%% Messages arrive in the order in which they were sent, except for a few that overtake others. Timers expire only when
+%% no other event is possible, so nothing waits without a reason; but the timers of rooms and members may expire early.
 -module(lobby_world).
 
 -export([start/1, model/1, format/1]).
 -export_type([world/0, options/0]).
 
-%% Who calls for the first time, the second time, and so on: the controller gives no id twice.
+%% A person and the number of the person's call, because the controller never uses an id twice.
 -type id() :: {Name :: atom(), Call :: pos_integer()}.
-%% `people' with their roles, and the rooms where they may be, and where they have `joined' in the beginning. With a `door',
-%% others wait until they are let in. `rules' are each room's in the beginning, and `rulesets' are those that it may be
-%% given. `roles' are those that somebody may be given. `seats': of each gateway, with its own termination. `changes' and
-%% `faults': which kinds there are, or which changes, and how many may happen. `races': how many messages may come before
-%% their turn. `journal': gateways that end may come back. `pair': another node may take over.
+%% `people': the people with their roles. `rooms': the rooms that they may join. `joined': the people who are in rooms
+%% at the start. `door': newcomers wait until they are let in. `rules': each room's rules at the start. `rulesets': the
+%% rules that a room may get. `roles': the roles that a person may get. `seats': the maximum number of terminations of
+%% each gateway, including the sentinel. `changes' and `faults': their maximum number, and their kinds or the changes
+%% themselves. `races': the maximum number of messages that overtake others. `journal': gateways that end may resume.
+%% `pair': another node may take over. `fence': messages that an earlier run sent within `quiet' of its end may arrive
+%% at any later time, repeatedly; with `whenever', all its messages may. Gateways drop messages with a number below the
+%% fence. With `ignored', gateways have no fence.
 -type options() :: #{people := #{atom() => binary()}, rooms := [binary()], joined => [{atom(), binary()}], door => boolean(),
                      rules => [lobby_rules:rule()], rulesets => [[lobby_rules:rule()]], roles => [binary()],
                      seats := #{atom() => pos_integer()}, changes := {non_neg_integer(), [atom() | tuple()]},
                      faults := {non_neg_integer(), [atom()]}, races => non_neg_integer(),
-                     journal => boolean(), pair => boolean()}.
+                     journal => boolean(), pair => boolean(), fence => true | whenever | ignored}.
 
 -record(world, {options :: options(), oracles :: #{atom() => oracle:oracle()},
                 now = 1000000 :: integer(), run = 1 :: pos_integer(),
-                %% Processes. A person without one hasn't called, or has hung up.
+                %% The processes. A person without a process hasn't called, or has hung up.
                 people = #{} :: #{id() => lobby_person:person()}, rooms = #{} :: #{binary() => lobby_room_core:room()},
                 gateways = #{} :: #{atom() => lobby_gateway_core:gateway()},
                 timers = #{} :: #{{room | gateway | node, term(), atom()} => integer()},
                 loads = #{} :: #{atom() => {term(), map()}},
-                %% Tables: {Table, Key} => Value.
+                %% The store's tables: {Table, Key} => Value.
                 store = #{} :: #{{atom(), term()} => term()},
-                %% What the other node of a pair has, and who had called by then. `none' can't take over.
+                %% The other node's copy of the store, and the people who had called by then. With `none', no node can
+                %% take over.
                 standby = none :: none | copied | {behind, Store :: #{{atom(), term()} => term()}, [id()]},
-                %% The proved gateways' worlds, or `ended', and those of gateways that may resume. Datagrams that may still
-                %% come, until when.
+                %% The proved gateways' worlds, or `ended', and the worlds of gateways that may resume. Datagrams that
+                %% may still arrive, each until a time.
                 worlds = #{} :: #{atom() => oracle:world() | ended}, journals = #{} :: #{atom() => oracle:world()},
-                late = [] :: [{atom(), binary(), integer()}],
-                %% Between processes (and `net'), in order.
+                late = [] :: [{atom(), binary(), integer() | infinity}],
+                %% With a fence, the messages that were sent lately, each with the time until which a copy may still
+                %% arrive.
+                sent = [] :: [{atom(), binary(), integer() | infinity}],
+                %% The highest number among the messages that a gateway has run. The gateway's journal keeps it.
+                fences = #{} :: #{atom() => pos_integer()},
+                %% The messages under way between processes (and `net'), in order.
                 queues = #{} :: #{{From :: term(), To :: term()} => [term()]},
-                %% How often each has called. Where the phones send to.
+                %% The number of each person's calls. The addresses to which the phones send.
                 calls = #{} :: #{atom() => pos_integer()},
                 phones = #{} :: #{id() => {atom(), lobby_h248:endpoint()} | gone},
                 changes = 0 :: non_neg_integer(), faults = 0 :: non_neg_integer(), races = 0 :: non_neg_integer(),
-                %% What was asked for, and which answers wait until the other node can't take over without it.
-                promises = promises:new() :: promises:promises(), unanswered = [] :: [asked()]}).
+                %% The promises, and the answers that wait until the other node can't take over without the change.
+                promises = promises:new() :: promises:promises(), unanswered = [] :: [asked() | {durable, atom(), pos_integer()}]}).
 %% A setting, and the number of the change.
 -type asked() :: {Key :: term(), Number :: term()}.
 -opaque world() :: #world{}.
 
-%% Milliseconds within which a copy of a request can arrive, and in which a node takes over without the other one.
+%% For so many milliseconds, a copy of a request can still arrive.
 -define(QUIET, 5000).
+%% For so many milliseconds after a cut, the other node can still take over.
 -define(ALONE, 3010).
 
-%%% The start: gateways that serve, and those who have joined.
+%%% The start of a world: gateways that serve, and members who have joined.
 
 -spec start(options()) -> world().
 start(Options = #{seats := Seats, rooms := Rooms, changes := {Changes, _}, faults := {Faults, _}}) ->
@@ -75,12 +85,12 @@ is_pair(Options) -> maps:get(pair, Options, false).
 
 address(G) -> {10, 0, 1, maps:get(G, #{a => 1, b => 2, c => 3})}.
 
-%% Each call has a port of its own.
+%% Returns the media of a call. Each call sends from its own port.
 remote({Name, Call}) -> {{{10, 0, 0, maps:get(Name, #{ann => 1, bob => 2, cay => 3, dan => 4})}, port(Call)}, pcmu}.
 
 port(Call) -> 40000 + 2 * Call.
 
-%% Whose such a remote is.
+%% Returns the call to which a Remote belongs.
 person(Host, Port) -> {lists:nth(Host, [ann, bob, cay, dan]), (Port - 40000) div 2}.
 
 config(G, Options = #{seats := Seats}) ->
@@ -88,7 +98,7 @@ config(G, Options = #{seats := Seats}) ->
       audit => 250, returns => case Options of #{journal := true} -> 10000; _ -> 0 end,
       terminations => maps:get(G, Seats), contexts => 64}.
 
-%% A node of a pair waits before its gateways serve.
+%% Lets timers expire until all gateways serve, because a node of a pair waits before that.
 serving(World0) ->
     World = #world{worlds = Worlds, loads = Loads} = settled(World0),
     case map_size(Loads) =:= map_size(Worlds) of
@@ -96,7 +106,7 @@ serving(World0) ->
         false -> serving(step(hd(timeouts(World)), World))
     end.
 
-%% Until nothing is under way. It is an error if that takes long.
+%% Delivers messages until none is under way. Fails if that takes too many steps.
 settled(World) -> settled(World, 500).
 
 settled(_, 0) -> error(never_settles);
@@ -106,7 +116,7 @@ settled(World, Left) ->
         [] -> World
     end.
 
-%%% The model.
+%%% Returns the model for the search.
 
 -spec model(options()) -> search:model().
 model(Options) ->
@@ -130,7 +140,7 @@ returns(#world{journals = Journals, standby = Standby}) ->
 
 deliveries(#world{queues = Queues}) -> [{deliver, From, To} || {From, To} <- lists:sort(maps:keys(Queues))].
 
-%% Timers that run out next, but for those that begin again for ever.
+%% Returns the next timer to expire, without timers that restart forever.
 timeouts(World = #world{timers = Timers, people = People}) ->
     Sorted = lists:sort([{Due, Key} || {Key, Due} <- maps:to_list(Timers)]),
     Needed = [{timer, Key} || {_, Key} <- Sorted, is_needed(Key, World)],
@@ -143,13 +153,13 @@ orphans(G, #world{gateways = Gateways, store = Store}) ->
     lobby_gateway_core:orphans(fun(Id) -> maps:find({lobby_members, Id}, Store) end, GatewayOf, maps:get(G, Gateways)).
 
 is_needed({node, _, _}, _) -> true;
-%% The controller never stops asking a lost gateway whether it is back.
-is_needed({gateway, G, transactions}, #world{worlds = Worlds, loads = Loads, timers = Timers}) ->
-    maps:get(G, Worlds) =/= ended orelse is_map_key(G, Loads) orelse is_map_key({gateway, G, back}, Timers);
+%% Returns whether a timer is needed. The controller never stops asking a lost gateway whether it is back.
+is_needed({gateway, G, transactions}, #world{worlds = Worlds, loads = Loads}) ->
+    maps:get(G, Worlds) =/= ended orelse is_map_key(G, Loads);
 is_needed({gateway, _, probe}, _) -> true;
 is_needed({gateway, _, clean}, _) -> true;
 is_needed({gateway, G, back}, #world{worlds = Worlds}) -> maps:get(G, Worlds) =:= ended;
-%% An audit of the controller's own termination shows that a gateway has ended or was restarted empty.
+%% An audit of the sentinel reveals that a gateway has ended or has restarted empty.
 is_needed({gateway, G, audit}, #world{worlds = Worlds, oracles = Oracles, store = Store}) ->
     case {Worlds, Store} of
         {#{G := ended}, _} -> true;
@@ -157,7 +167,7 @@ is_needed({gateway, G, audit}, #world{worlds = Worlds, oracles = Oracles, store 
             maps:get(T, oracle:remotes(maps:get(G, Oracles), World), none) =/= {<<"127.0.0.9">>, <<"9">>};
         {_, _} -> false
     end;
-%% Rooms can leave if there is another gateway, and the last thing that leaves is our own termination.
+%% Rooms can leave if there is another gateway. The sentinel is the last termination to go.
 is_needed({gateway, G, leave}, #world{loads = Loads}) ->
     case Loads of
         #{G := {_, #{contexts := 1}}} -> true;
@@ -193,7 +203,8 @@ faults(W = #world{options = #{faults := {_, Kinds}}}) ->
 
 faults(lose, W) -> [{lose, Key} || Key <- datagrams(W)];
 faults(double, W) -> [{double, Key} || Key = {_, {net, _}} <- datagrams(W)];
-faults(late, W = #world{late = Late}) -> [{late, Key} || Key = {_, {net, _}} <- datagrams(W), Late =:= []];
+faults(late, W = #world{late = Late}) ->
+    [{late, Key} || Key = {_, {net, _}} <- datagrams(W), [L || L = {_, _, Until} <- Late, Until =/= infinity] =:= []];
 faults(early, #world{timers = Timers, rooms = Rooms, people = People}) ->
     [{early, {timer, Key}} || Key = {room, R, retry} <- lists:sort(maps:keys(Timers)), is_map_key(R, Rooms)]
         ++ [{early, {again, Id}} || {Id, Person} <- lists:sort(maps:to_list(People)), not lobby_person:is_settled(Person)];
@@ -219,16 +230,19 @@ step({deliver, From, To}, W = #world{queues = Queues}) ->
     received(To, From, Message, W#world{queues = Left});
 step({race, Delivery}, W = #world{races = N}) ->
     step(Delivery, W#world{races = N - 1});
-step({timer, Key}, W = #world{timers = Timers, now = Now, late = Late}) ->
+step({timer, Key}, W = #world{timers = Timers, now = Now, late = Late, sent = Sent}) ->
     {Due, Rest} = maps:take(Key, Timers),
-    Still = [Datagram || Datagram = {_, _, Until} <- Late, Until > Due],
-    ran_out(Key, W#world{timers = Rest, now = max(Now, Due), late = Still});
+    Still = fun({_, _, Until}) -> Until > Due end,
+    ran_out(Key, W#world{timers = Rest, now = max(Now, Due), late = lists:filter(Still, Late), sent = lists:filter(Still, Sent)});
 step({look, G}, W) -> handled({gateway, G}, {orphans, orphans(G, W)}, W);
 step({again, Id}, W) -> handled({person, Id}, again, W);
 step({change, Change}, W = #world{changes = N}) -> change(Change, W#world{changes = N - 1});
-step({arrive, N}, W = #world{late = Late}) ->
-    {G, Datagram, _} = Arriving = lists:nth(N, Late),
-    run(G, Datagram, W#world{late = Late -- [Arriving]});
+step({arrive, N}, W = #world{late = Late, queues = Queues}) ->
+    case lists:nth(N, Late) of
+        %% The gateway replies to the socket of the earlier run.
+        {G, Datagram, infinity} -> (passed(G, Datagram, W))#world{queues = Queues};
+        {G, Datagram, _} = Arriving -> passed(G, Datagram, W#world{late = Late -- [Arriving]})
+    end;
 step({resume, G}, W = #world{worlds = Worlds, journals = Journals}) ->
     {World, Others} = maps:take(G, Journals),
     W#world{worlds = Worlds#{G := World}, journals = Others};
@@ -241,7 +255,7 @@ ran_out({room, R, retry}, W) -> handled({room, R}, retry, W);
 ran_out({node, pair, alone}, W = #world{unanswered = Unanswered}) ->
     lists:foldl(fun answered/2, W#world{standby = none, unanswered = []}, Unanswered).
 
-%%% What people do.
+%%% Actions of people.
 
 change({join, Id = {Name, Call}, Room}, W = #world{options = Options = #{people := Roles}, people = People}) ->
     Door = maps:get(door, Options, false),
@@ -251,7 +265,7 @@ change({join, Id = {Name, Call}, Room}, W = #world{options = Options = #{people 
     Given = [{isolated, false}, {muted, false}, {waiting, Door}, {unasked, true}, {role, Role}, {room, Room}],
     handled({person, Id}, {join, {joins, Id}},
             given(Given, Id, W#world{people = People#{Id => lobby_person:new(Row)}, calls = (W#world.calls)#{Name => Call}}));
-%% Whoever moves somebody lets him in.
+%% Moving a person also lets the person in.
 change({move, Id, Room}, W) ->
     {Tag, Asked} = asked([{{room, Id}, Room} || is_pair(W#world.options)], W),
     {_, Let} = asked([{{waiting, Id}, false}], Asked),
@@ -293,9 +307,10 @@ asked(Values, W = #world{changes = N, promises = P}) ->
 given(Values, Id, W = #world{promises = P}) ->
     W#world{promises = lists:foldl(fun({Kind, Value}, Acc) -> promises:given({Kind, Id}, Value, Acc) end, P, Values)}.
 
+answered({durable, G, Number}, W) -> handled({gateway, G}, {durable, Number}, W);
 answered({Key, Number}, W = #world{promises = P}) -> W#world{promises = promises:answered(Key, Number, P)}.
 
-%% In a pair, the other node has what is answered, or it can't take over any more.
+%% In a pair, an answer waits until the other node has the change, or can't take over any more.
 answered_to(Asked, W = #world{standby = {behind, _, _}, unanswered = Unanswered}) ->
     W#world{unanswered = Unanswered ++ Asked};
 answered_to(Asked, W) -> lists:foldl(fun answered/2, W, Asked).
@@ -304,7 +319,7 @@ left(Id, W) ->
     Left = #world{people = People} = handled({person, Id}, leave, W),
     Left#world{people = maps:remove(Id, People), queues = to_nobody({person, Id}, Left)}.
 
-%%% What fails.
+%%% Failures.
 
 fault({lose, Key}, W = #world{queues = Queues}) ->
     case Queues of
@@ -314,15 +329,18 @@ fault({lose, Key}, W = #world{queues = Queues}) ->
 fault({double, Key}, W = #world{queues = Queues}) ->
     #{Key := [First | Rest]} = Queues,
     W#world{queues = Queues#{Key := [First, First | Rest]}};
-%% A copy comes at any time within `quiet', and the first one is lost.
+%% The datagram is lost, and a copy arrives at any time within `quiet'.
 fault({late, Key = {_, {net, G}}}, W = #world{queues = Queues, late = Late, now = Now}) ->
     #{Key := [First | _]} = Queues,
     fault({lose, Key}, W#world{late = [{G, First, Now + ?QUIET} | Late]});
-%% A timer runs out before what is under way has come. The time stays as it is.
+%% A timer expires before the messages under way have arrived. The time doesn't change.
 fault({early, {timer, Key}}, W = #world{timers = Timers}) ->
     ran_out(Key, W#world{timers = maps:remove(Key, Timers)});
 fault({early, Again}, W) ->
     step(Again, W);
+fault({kill, {gateway, G}}, W = #world{options = #{fence := _}}) ->
+    Killed = W#world{queues = maps:remove({{gateway, G}, {net, G}}, to_nobody({gateway, G}, W))},
+    started({gateway, G}, earlier(G, Killed));
 fault({kill, Process}, W) ->
     started(Process, W#world{queues = to_nobody(Process, W)});
 fault({'end', G}, W = #world{options = Options, worlds = Worlds, journals = Journals, queues = Queues}) ->
@@ -334,30 +352,39 @@ fault({anew, G}, W = #world{worlds = Worlds, oracles = Oracles}) ->
     W#world{worlds = Worlds#{G := oracle:new(maps:get(G, Oracles))}};
 fault(take_over, W = #world{store = Store}) ->
     taken_over(Store, callers(W), W);
-%% From now on, nothing that is written is on the other node.
+%% From now on, the other node gets no writes.
 fault(cut, W = #world{store = Store, timers = Timers, now = Now}) ->
     W#world{standby = {behind, Store, callers(W)}, timers = Timers#{{node, pair, alone} => Now + ?ALONE}}.
+
+%% From now on, late and recently sent messages belong to an earlier run.
+earlier(G, W = #world{options = #{fence := _}, late = Late, sent = Sent}) ->
+    Earlier = fun({Of, Datagram, Until}) -> {Of, Datagram, case Of of G -> infinity; _ -> Until end} end,
+    W#world{late = lists:usort([Earlier(L) || L <- Late] ++ [Earlier(S) || S = {Of, _, _} <- Sent, Of =:= G]),
+            sent = [S || S = {Of, _, _} <- Sent, Of =/= G]};
+earlier(_, W) ->
+    W.
 
 to_nobody(Process, #world{queues = Queues}) ->
     maps:filter(fun({_, To}, _) -> To =/= Process end, Queues).
 
-%% All processes of a node end, and the other node starts them with what it has. It doesn't know of who has called since.
-%% What was sent to gateways may still come.
+%% All processes of a node end, and the other node starts them from its copy of the store. It doesn't know people who
+%% have called since the copy. Messages to gateways may still arrive.
 taken_over(Store, Known, W = #world{people = People, queues = Queues, late = Late, now = Now, gateways = Gateways}) ->
     Sent = [{G, Datagram, Now + ?QUIET} || {{_, {net, G}}, Datagrams} <- maps:to_list(Queues), Datagram <- Datagrams],
     Rows = maps:from_list([{Id, lobby_person:restored(Row)} || {{lobby_members, Id}, Row} <- maps:to_list(Store)]),
     Ended = W#world{store = Store, queues = #{}, timers = #{}, loads = #{}, rooms = #{}, late = Late ++ Sent, unanswered = [],
                     people = maps:merge(maps:with(Known, People), Rows), standby = copied},
-    lists:foldl(fun started/2, Ended, [{gateway, G} || G <- lists:sort(maps:keys(Gateways))]
+    lists:foldl(fun started/2, lists:foldl(fun earlier/2, Ended, maps:keys(Gateways)),
+                [{gateway, G} || G <- lists:sort(maps:keys(Gateways))]
                 ++ [{room, R} || {lobby_rooms, R} <- lists:sort(maps:keys(Store))]
                 ++ [{person, Id} || Id <- callers(Ended)]).
 
-%% A process is started with what the store has.
+%% Starts a process from the store.
 started({person, Id}, W = #world{people = People, store = Store}) ->
     case Store of
         #{{lobby_members, Id} := Row} ->
             invited(Id, handled({person, Id}, again, W#world{people = People#{Id := lobby_person:restored(Row)}}));
-        %% He wasn't in a room yet: he asks again.
+        %% The person wasn't in a room yet, and joins again.
         #{} ->
             #{Id := Person} = People,
             handled({person, Id}, {join, {joins, Id}}, W#world{people = People#{Id := lobby_person:new(lobby_person:row(Person))}})
@@ -369,18 +396,25 @@ started({room, R}, W = #world{rooms = Rooms, store = Store, run = Run}) ->
             W#world{rooms = Rooms#{R => Core}, run = Run + 1, timers = maps:remove({room, R, retry}, W#world.timers)});
 started({gateway, G}, W = #world{gateways = Gateways, store = Store, options = Options, run = Run}) ->
     Core = lobby_gateway_core:new(#{
-        config => config(G, Options), sender => {{127, 0, 0, 1}, 2945}, first => 1000 * Run,
+        config => config(G, Options), sender => {Run, 2945}, first => 1000 * Run,
         settled => case is_pair(Options) of true -> 1000; false -> 0 end,
         kept => maps:get({lobby_gateways, G}, Store, none),
-        entries => [{T, Entry} || {{lobby_terminations, {In, T}}, Entry} <- lists:sort(maps:to_list(Store)), In =:= G],
-        requests => [Request || {{lobby_requests, {In, _}}, Request} <- lists:sort(maps:to_list(Store)), In =:= G]}),
+        entries => [{T, Entry} || {{lobby_terminations, {In, T}}, Entry} <- lists:sort(maps:to_list(Store)), In =:= G]}),
+    Earlier = [Request || {{lobby_requests, {In, _}}, Request} <- lists:sort(maps:to_list(Store)), In =:= G],
     Timers = maps:filter(fun({Kind, Name, _}, _) -> {Kind, Name} =/= {gateway, G} end, W#world.timers),
-    handled({gateway, G}, start, W#world{gateways = Gateways#{G => Core}, run = Run + 1, timers = Timers,
+    handled({gateway, G}, {start, Earlier}, W#world{gateways = Gateways#{G => Core}, run = Run + 1, timers = Timers,
                                          loads = maps:remove(G, W#world.loads)}).
 
-%%% What processes receive.
+%%% Receiving messages.
 
-received({net, G}, _, Datagram, W) -> run(G, Datagram, W);
+received({net, G}, _, Datagram, W = #world{worlds = Worlds, oracles = Oracles}) ->
+    case {is_stale(G, Datagram, W), Worlds} of
+        {true, #{G := World}} when World =/= ended ->
+            %% The gateway answers the check that accompanies a retransmission.
+            {[Reply], _} = oracle:run(maps:get(G, Oracles), World, lobby_h248:check()),
+            send({net, G}, {gateway, G}, Reply, W);
+        {_, _} -> passed(G, Datagram, W)
+    end;
 received({gateway, G}, {net, G}, Datagram, W) ->
     {ok, Message} = lobby_h248:decode(Datagram),
     handled({gateway, G}, {received, Message}, W);
@@ -389,7 +423,28 @@ received({room, R}, _, {holdings, Holdings}, W = #world{store = Store}) ->
     Others = maps:from_list([{Id, Row} || #{member := Id} <- Holdings, {ok, Row} <- [maps:find({lobby_members, Id}, Store)]]),
     handled({room, R}, {holdings, Holdings, Others}, W);
 received({person, Id}, {phone, Id}, hung_up, W) -> left(Id, W);
+received({gateway, G}, {gateway, G}, {durable, Number}, W) -> answered_to([{durable, G, Number}], W);
 received(Process, _, Message, W) -> handled(Process, Message, W).
+
+passed(G, Datagram, W) ->
+    case is_stale(G, Datagram, W) of
+        true -> W;
+        false -> run(G, Datagram, fenced(G, number(Datagram), W))
+    end.
+
+%% Forgets late datagrams that the fence would drop. Gateways with a fence never restart from scratch here.
+fenced(G, Number, W = #world{options = #{fence := Fence}, worlds = Worlds, fences = Fences, late = Late})
+  when Fence =/= ignored ->
+    Matters = fun({Of, Sent, _}) -> Of =/= G orelse number(Sent) >= Number end,
+    case Worlds of
+        #{G := ended} -> W;
+        #{} -> W#world{fences = Fences#{G => Number}, late = lists:filter(Matters, Late)}
+    end;
+fenced(_, _, W) ->
+    W.
+
+is_stale(G, Datagram, #world{fences = Fences}) ->
+    number(Datagram) < maps:get(G, Fences, 0).
 
 run(G, Datagram, W = #world{worlds = Worlds, oracles = Oracles}) ->
     case Worlds of
@@ -400,19 +455,31 @@ run(G, Datagram, W = #world{worlds = Worlds, oracles = Oracles}) ->
                         W#world{worlds = Worlds#{G := Next}}, Replies)
     end.
 
+sent(G, Message, W = #world{options = #{fence := Fence}, now = Now, sent = Sent}) ->
+    Others = [Other || Other = {Of, Was, _} <- Sent, {Of, Was} =/= {G, Message}],
+    Until = case Fence of whenever -> infinity; _ -> Now + ?QUIET end,
+    W#world{sent = lists:sort([{G, Message, Until} | Others])};
+sent(_, _, W) ->
+    W.
+
+%% Returns the number in the name of a datagram's sender.
+number(Datagram) ->
+    {match, [Number]} = re:run(Datagram, "<(\\d+)\\.", [{capture, all_but_first, list}]),
+    list_to_integer(Number).
+
 send(From, To, Message, W = #world{queues = Queues}) ->
     W#world{queues = Queues#{{From, To} => maps:get({From, To}, Queues, []) ++ [Message]}}.
 
 %%% Phones.
 
-%% When a call's process is started again, it tells its caller where the gateway receives him.
+%% A restarted process of a call notifies its phone of the gateway's media address.
 invited(Id, W = #world{store = Store}) ->
     case Store of
         #{{local, Id} := Local, {lobby_members, Id} := #{room := Room}} -> send({person, Id}, {phone, Id}, {Room, Local}, W);
         #{} -> W
     end.
 
-%% He sends there from now on, and asks for speech. One who has hung up says so.
+%% The phone sends to this address from now on, and acknowledges it. A phone that has hung up reports that.
 invited(Id, Room, Local, W = #world{phones = Phones, people = People}) ->
     case {Phones, People} of
         {#{Id := gone}, #{Id := _}} -> send({phone, Id}, {person, Id}, hung_up, W);
@@ -432,7 +499,7 @@ target({Endpoint = {Address, _}, _}, #world{worlds = Worlds}) ->
     [G] = [G || G <- maps:keys(Worlds), address(G) =:= Address],
     {G, Endpoint}.
 
-%%% What processes do.
+%%% Actions of processes.
 
 handled({person, Id}, Event, W = #world{people = People}) ->
     case People of
@@ -452,9 +519,12 @@ handled({room, R}, Event, W = #world{rooms = Rooms, now = Now}) ->
 handled({gateway, G}, Event, W = #world{gateways = Gateways, now = Now}) ->
     #{G := Core} = Gateways,
     {Changed, Actions} = lobby_gateway_core:handle(Event, Now, Core),
-    lists:foldl(fun(Action, Acc) -> gateway_acts(G, Action, Acc) end, W#world{gateways = Gateways#{G := Changed}}, Actions).
+    Acted = lists:foldl(fun(Action, Acc) -> gateway_acts(G, Action, Acc) end, W#world{gateways = Gateways#{G := Changed}}, Actions),
+    %% Without another node, stored requests are durable immediately.
+    Durable = [Kept || Kept = {durable, _} <- Actions, W#world.standby =:= none],
+    lists:foldl(fun(Kept, Acc) -> handled({gateway, G}, Kept, Acc) end, Acted, Durable).
 
-%% A call tells its phone when the gateway receives it somewhere else, and its room again that the phone sends there.
+%% A call notifies its phone of a new media address, and notifies its room again if the phone already sends to it.
 told(Id, {report, Room, {holds, _, Local, Everywhere}}, Person, W = #world{store = Store, phones = Phones}) ->
     case {lobby_person:row(Person), Store} of
         {#{room := Room}, #{{local, Id} := Local}} ->
@@ -482,7 +552,7 @@ person_acts(Id, {answer, {joins, Id}, {error, _}}, W = #world{people = People}) 
     W#world{people = maps:remove(Id, People)};
 person_acts(_, {answer, _, _}, W) -> W.
 
-%% As lobby_rooms does: a room is started for whoever comes, and for others if it is kept.
+%% Sends an event to a room, like `lobby_room'. Starts the room if the event admits a member, or if the room is stored.
 tell_room(R, Event, From, W = #world{rooms = Rooms, store = Store, options = Options}) ->
     IsNew = lists:member(element(1, Event), [admit, want, rules]),
     case is_map_key(R, Rooms) orelse IsNew orelse is_map_key({lobby_rooms, R}, Store) of
@@ -547,7 +617,13 @@ tell_person(Id, Event, R, W = #world{people = People}) ->
         false -> W
     end.
 
-gateway_acts(G, {send, Message}, W) -> send({gateway, G}, {net, G}, iolist_to_binary(Message), W);
+gateway_acts(G, {send, Message}, W) ->
+    case lobby_h248:check() of
+        Message -> W;
+        _ -> send({gateway, G}, {net, G}, Message, sent(G, Message, W))
+    end;
+gateway_acts(_, {durable, _}, W = #world{standby = none}) -> W;
+gateway_acts(G, Kept = {durable, _}, W) -> send({gateway, G}, {gateway, G}, Kept, W);
 gateway_acts(G, {keep, Kept}, W) -> put_in({lobby_gateways, G}, Kept, W);
 gateway_acts(G, {request, Number, none}, W) -> delete({lobby_requests, {G, Number}}, W);
 gateway_acts(G, {request, Number, Request}, W) -> put_in({lobby_requests, {G, Number}}, Request, W);
@@ -569,10 +645,10 @@ gateway_acts(_, _, W) -> W.
 timed(Key, infinity, W = #world{timers = Timers}) -> W#world{timers = maps:remove(Key, Timers)};
 timed(Key, Due, W = #world{timers = Timers}) -> W#world{timers = Timers#{Key => Due}}.
 
-%%% What is promised.
+%%% The promises.
 
-%% Who hears whom now: by the proved gateways' definition, and if the talker's phone sends there. A listener hears what
-%% is sent to his phone, wherever it comes from.
+%% Returns the flows: a listener hears a talker by the proved gateways' definition, and only if the talker's phone sends
+%% to that gateway. Listeners hear everything that any gateway sends to their phones.
 heard(#world{worlds = Worlds, oracles = Oracles, phones = Phones}) ->
     lists:usort([{Talker, Listener}
                  || {G, World} <- maps:to_list(Worlds), World =/= ended, Oracle <- [maps:get(G, Oracles)],
@@ -582,13 +658,13 @@ heard(#world{worlds = Worlds, oracles = Oracles, phones = Phones}) ->
                     #{From := #{port := Port}} <- [Terminations],
                     maps:get(Talker, Phones, none) =:= {G, {address(G), Port}}]).
 
-%% Whose a termination is, by its Remote.
+%% Returns the owner of each termination, according to its Remote.
 persons(Oracle, World) ->
     maps:from_list([{T, person(binary_to_integer(Host), binary_to_integer(Port))}
                     || {T, {<<"10.0.0.", Host/binary>>, Port}} <- maps:to_list(oracle:remotes(Oracle, World))]).
 
-%% Whatever happens: nobody is heard who was promised not to be. And when nothing is under way, everybody is where he
-%% belongs.
+%% Returns the broken promises: a person is heard against a promise or, when no message is under way, a person isn't in
+%% the right room.
 broken(W) ->
     case [{Promise, Flow} || Flow <- heard(W), Promise <- broken_by(Flow, W)] of
         [] -> case deliveries(W) ++ timeouts(W) of [] -> resting(W); _ -> [] end;
@@ -605,7 +681,8 @@ broken_by({Talker, Listener}, W) ->
 
 is_promised(Key, Value, #world{promises = P}) -> promises:possible(Key, P) =:= [Value].
 
-%% With any rules and roles that they may have, in any room where both may be.
+%% Returns `[rules]' if all possible rules and roles close the flow in all rooms in which both people may be, and
+%% `[apart]' if there is no such room.
 ruled_out(_, _, [], _) -> [apart];
 ruled_out(Talker, Listener, Rooms, #world{promises = P}) ->
     [rules || not lists:any(fun({TalkerRole, ListenerRole, Rules}) ->
@@ -613,7 +690,8 @@ ruled_out(Talker, Listener, Rooms, #world{promises = P}) ->
     end, [{A, B, Rules} || A <- promises:possible({role, Talker}, P), B <- promises:possible({role, Listener}, P),
                            R <- Rooms, Rules <- promises:possible({rules, R}, P)])].
 
-%% The rooms where somebody may be, or all for one whose call has ended. A node that takes over may not know of his moves.
+%% Returns the rooms in which a person may be, or all rooms if the call has ended. A node that takes over may not know
+%% the person's moves.
 rooms(Id, #world{store = Store, options = Options = #{rooms := All}, promises = P}) ->
     case {Store, is_pair(Options)} of
         {#{{lobby_members, Id} := #{room := Room, from := From}}, false} -> [Room, From] -- [none];
@@ -621,7 +699,7 @@ rooms(Id, #world{store = Store, options = Options = #{rooms := All}, promises = 
         {#{}, _} -> All
     end.
 
-%% A walk ends while something is under way. If no gateway is left, that never ends.
+%% A walk may end while messages are under way. If no gateway is left, some always are.
 at_rest(_, 0) -> [];
 at_rest(W, Left) ->
     case deliveries(W) ++ timeouts(W) of
@@ -629,7 +707,7 @@ at_rest(W, Left) ->
         [] -> resting(W)
     end.
 
-%% What is left over is ended at the next audit.
+%% Orphaned terminations are subtracted at the next audit.
 resting(W = #world{rooms = Rooms}) ->
     case left_over(W) of
         [] -> [];
@@ -645,8 +723,8 @@ rested(W, Left) ->
         [] -> W
     end.
 
-%% Everybody is in his room, as the gateway says, and nobody else is anywhere. While no gateway has seats for a room, its
-%% members wait.
+%% Returns members who are missing on the gateways, and people who shouldn't be there. While no gateway has seats for a
+%% room, its members wait.
 left_over(W = #world{store = Store, people = People, rooms = Rooms}) ->
     Members = [Id || {{lobby_members, Id}, _} <- maps:to_list(Store)],
     There = there(W),
@@ -663,24 +741,24 @@ room(Id, #world{store = Store}) ->
     #{{lobby_members, Id} := #{room := R}} = Store,
     R.
 
-%% Those for whom gateways have something.
+%% Returns the people for whom gateways have a termination.
 there(W) -> lists:append([there(G, W) || G <- running(W)]).
 
 there(G, #world{worlds = Worlds, oracles = Oracles}) -> maps:values(persons(maps:get(G, Oracles), maps:get(G, Worlds))).
 
-%% Whether a gateway in service has seats for all members of a room.
+%% Returns whether a gateway in service has seats for all members of a room.
 has_seats(R, W = #world{loads = Loads, store = Store}) ->
     Members = [Id || {{lobby_members, Id}, #{room := In}} <- maps:to_list(Store), In =:= R],
     lists:any(fun({G, {_, #{max_terminations := Max}}}) -> length(there(G, W) -- Members) + length(Members) < Max end,
               [Load || Load = {G, _} <- maps:to_list(Loads), lists:member(G, running(W))]).
 
-%%% States that are alike.
+%%% Equivalent states.
 
-%% Times and numbers that only grow don't matter but for their order.
+%% Only the order of times and of growing numbers matters, not their values.
 canonical(#world{people = People, rooms = Rooms, gateways = Gateways, timers = Timers, store = Store, standby = Standby,
-                 worlds = Worlds, journals = Journals, late = Late, queues = Queues, calls = Calls, phones = Phones,
+                 worlds = Worlds, journals = Journals, late = Late, sent = Sent, fences = Fences, queues = Queues, calls = Calls, phones = Phones,
                  changes = Changes, faults = Faults, races = Races, promises = Promises, unanswered = Unanswered, now = Now}, Known) ->
-    Rest = {Now, Timers, Late, Worlds, Journals, Calls, Phones, Changes, Faults, Races, Promises, Unanswered},
+    Rest = {Now, Timers, Late, Sent, Fences, Worlds, Journals, Calls, Phones, Changes, Faults, Races, Promises, Unanswered},
     Processes = lists:append([maps:to_list(Of) || Of <- [People, Rooms, Gateways]]),
     canonical:alike([Rest, Queues, Store, Standby | Processes],
                     1000000, Known).

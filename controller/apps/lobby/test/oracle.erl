@@ -1,9 +1,9 @@
-%% The proved gateway as a function, for searches: what a control datagram leads to, in any state that a search has come
-%% to. Each answer is asked once, from `mg_bridge replay --flows' on a port, and then remembered.
+%% The proved gateway as a function, for searches: the result of a control datagram in any state that a search has
+%% reached. Each result is computed once, by `mg_bridge replay --flows' behind a port, and then kept.
 %%
 %% A world is a gateway's content: terminations, topology, media, kept replies, and the numbers used so far. Scripts
-%% with the same content lead to the same world, so a search meets few worlds. `recheck/2' tries whether such scripts
-%% go on alike. In a world, no time passes, and no RTP arrives.
+%% with the same content lead to the same world, so a search meets few worlds. `recheck/2' checks that such scripts have
+%% the same results afterwards. In a world, no time passes, and no RTP arrives.
 -module(oracle).
 -behaviour(gen_server).
 
@@ -12,44 +12,45 @@
 -export([init/1, handle_call/3, handle_cast/2, handle_info/2, terminate/2]).
 -export_type([oracle/0, world/0, options/0, content/0]).
 
-%% `slots': how many terminations the gateway has room for. `arguments': more options of `replay'. `controller': where
-%% datagrams come from. `lost': how many of the last datagrams a journal may lack, see `resume/2'. `servers': processes
-%% that ask gateways, for as many workers of a search. `processes': how many gateways run at most for each of them.
+%% `slots': the gateway's maximum number of terminations. `arguments': more options of `replay'. `controller': the
+%% address that sends datagrams. `lost': the maximum number of last datagrams that a journal may lack, see `resume/2'.
+%% `servers': the number of processes that run gateways, for as many workers of a search. `processes': the maximum
+%% number of gateways for each server.
 -type options() :: #{slots => 1..256, arguments => [string()], controller => {inet:ip4_address(), inet:port_number()},
                      lost => non_neg_integer(), servers => pos_integer(), processes => pos_integer()}.
 -record(oracle, {servers :: tuple(), table :: ets:tid(), lost :: non_neg_integer()}).
 -opaque oracle() :: #oracle{}.
-%% The content's number, and those of the worlds before it that a journal may go back to.
+%% A world is the number of its content, with the numbers of the earlier worlds to which a journal may go back.
 -opaque world() :: {id(), Past :: [id()]}.
 -type id() :: non_neg_integer().
 %% `audit': the answers to audits of each context's media and topology, in order of entry. `last': the highest numbers
 %% of a termination and of a context.
 -type content() :: #{terminations := #{pos_integer() => termination()}, audit := #{pos_integer() => binary()},
-                     kept := #{pos_integer() => [binary()]}, last := {non_neg_integer(), non_neg_integer()}}.
+                     kept := #{{Sender :: binary(), pos_integer()} => [binary()]}, last := {non_neg_integer(), non_neg_integer()}}.
 -type flows() :: ordsets:ordset({Talker :: pos_integer(), Listener :: pos_integer()}).
 -type termination() :: #{context := pos_integer(), port := pos_integer(), mode := atom(), hears := [pos_integer()]}.
-%% Where a termination sends to: an address and a port.
+%% The address and port to which each termination sends.
 -type remotes() :: #{pos_integer() => {Address :: binary(), Port :: binary()}}.
 
 -define(DEFAULTS, #{slots => 256, arguments => [], controller => {{127, 0, 0, 1}, 2945}, lost => 0, servers => 1,
                     processes => 60}).
-%% Gateways that are started before they are needed, because a start takes as long as 500 lines.
+%% The number of gateways that are started in advance, because a start takes as long as 500 lines.
 -define(SPARE, 8).
-%% Nothing marks the end of what a line led to, so a line follows whose answer is known. Audits come from a controller
-%% of their own, which acknowledges each answer, so that no reply to an audit is kept.
+%% Nothing marks the end of a line's output, so a line with a known answer follows it. Audits come from another
+%% controller, which acknowledges each answer, so that no reply to an audit is kept.
 -define(END, "say 127.0.0.9:9 end\n").
 -define(ENDED, <<"say 127.0.0.9:9 ", _/binary>>).
 -define(AUDITOR, "127.0.0.8:8").
-%% The gateway keeps 32 replies, and one of an audit.
+%% The gateway keeps 32 replies, one of which is the reply to an audit.
 -define(KEPT, 31).
 
 -record(state, {bridge :: file:filename(), arguments :: [string()], address :: binary(), processes :: pos_integer(),
                 table :: ets:tid(),
-                %% Gateways with their worlds, the last used first, and gateways that have done nothing.
+                %% Gateways with their worlds, the most recently used first, and unused gateways.
                 running = [] :: [{id(), port()}], spare = [] :: [port()]}).
 -type state() :: #state{}.
 
-%% @doc The gateway is in BRIDGE, or in dist/.
+%% @doc Starts an oracle. The gateway's program is BRIDGE, or in dist/.
 -spec start(options()) -> oracle().
 start(Options0) ->
     Options = #{lost := Lost, servers := Servers} = maps:merge(?DEFAULTS, Options0),
@@ -61,17 +62,17 @@ start(Options0) ->
 -spec stop(oracle()) -> ok.
 stop(#oracle{servers = Servers}) -> lists:foreach(fun gen_server:stop/1, lists:reverse(tuple_to_list(Servers))).
 
-%% @doc A gateway that has just started with nothing.
+%% @doc Returns the world of a gateway that has just started.
 -spec new(oracle()) -> world().
 new(#oracle{}) -> {0, []}.
 
-%% @doc What the gateway answers to a datagram from the controller, and the world after it.
+%% @doc Returns the gateway's replies to a datagram from the controller, and the next world.
 -spec run(oracle(), world(), Datagram :: iodata()) -> {[binary()], world()}.
 run(#oracle{servers = Servers, table = Table, lost = Lost}, {Id, Past}, Datagram) ->
     Text = iolist_to_binary(Datagram),
     {Replies, Next} = case ets:lookup(Table, {step, Id, Text}) of
         [{_, Known}] -> Known;
-        %% A process that goes on in a world asks the server that has a gateway there.
+        %% A process that continues in a world asks the server that has a gateway in that world.
         [] -> call(element(erlang:phash2(self(), tuple_size(Servers)) + 1, Servers), {run, Id, Text})
     end,
     {Replies, {Next, lists:sublist([Id | Past], Lost)}}.
@@ -82,44 +83,44 @@ call(Server, Request) ->
         {error, Reason} -> error(Reason)
     end.
 
-%% @doc The gateway ended, and starts without a journal: with nothing, and with the same numbers again.
+%% @doc Returns the world after a restart without a journal: empty, and with the same numbers again.
 -spec restart(world()) -> world().
 restart(_) -> {0, []}.
 
-%% @doc The gateway ended, and starts with its journal, which lacks as many of the last datagrams (or as many as were
-%% kept, see `lost'). A journal that lacks nothing leads to the same world: this is proved.
+%% @doc Returns the world after a restart with a journal that lacks this many of the last datagrams (at most `lost'). A
+%% journal that lacks nothing leads to the same world: this is proved.
 -spec resume(world(), Lost :: non_neg_integer()) -> world().
 resume(World, 0) -> World;
 resume(World = {_, []}, _) -> World;
 resume({_, [Id | Past]}, Lost) -> resume({Id, Past}, Lost - 1).
 
-%% @doc Who can be heard: the talker's and the listener's termination.
+%% @doc Returns the flows that can be heard, as pairs of the talker's and the listener's termination.
 -spec flows(oracle(), world()) -> flows().
 flows(#oracle{table = Table}, {Id, _}) -> ets:lookup_element(Table, {world, Id}, 4).
 
 -spec terminations(oracle(), world()) -> #{pos_integer() => termination()}.
 terminations(#oracle{table = Table}, {Id, _}) -> ets:lookup_element(Table, {world, Id}, 5).
 
-%% @doc Where terminations send to, as far as they have a Remote.
+%% @doc Returns the addresses to which terminations send, if they have a Remote.
 -spec remotes(oracle(), world()) -> remotes().
 remotes(#oracle{table = Table}, {Id, _}) -> ets:lookup_element(Table, {world, Id}, 6).
 
-%% @doc All that decides what the gateway does next.
+%% @doc Returns the content of a world, which determines the gateway's further results.
 -spec content(oracle(), world()) -> content().
 content(#oracle{table = Table}, {Id, _}) -> ets:lookup_element(Table, {world, Id}, 3).
 
-%% @doc Compares scripts that lead to the same world: each answer that is known from one is asked from the other one, up
-%% to so many. Returns how many were compared, and those that differ.
+%% @doc Compares scripts that lead to the same world: for each result that is known after one script, up to `Most', runs
+%% the other script. Returns the number of comparisons, and those that differ.
 -spec recheck(oracle(), Most :: non_neg_integer()) -> {non_neg_integer(), [{Script :: [binary()], binary()}]}.
 recheck(#oracle{servers = Servers}, Most) -> call(element(1, Servers), {recheck, Most}).
 
-%% @doc How many worlds there are, how many answers are known, and what that took.
+%% @doc Returns the number of known worlds and results, and the number of gateways and lines that they took.
 -spec statistics(oracle()) -> #{worlds | answers | started | lines => non_neg_integer()}.
 statistics(#oracle{table = Table}) ->
     Counts = maps:from_list([hd(ets:lookup(Table, Counter)) || Counter <- [answers, started, lines]]),
     Counts#{worlds => ets:select_count(Table, [{{{content, '_'}, '_'}, [], [true]}])}.
 
-%%% The processes that have the gateways. In their table: {{world, Id}, Origin, Content, Flows, Terminations, Remotes},
+%%% The processes that run the gateways. Their table has {{world, Id}, Origin, Content, Flows, Terminations, Remotes},
 %%% {{content, Content}, Id}, {{step, Id, Datagram}, {Replies, Next}}, and counters.
 
 -spec init(map()) -> {ok, state()}.
@@ -136,7 +137,7 @@ table() ->
     0 = interned(none, #{terminations => #{}, audit => #{}, kept => #{}, last => {0, 0}}, Table),
     Table.
 
-%% What the gateway doesn't say isn't made up: then the process ends.
+%% If the gateway's output is unexpected, the process returns an error and ends.
 -spec handle_call(term(), gen_server:from(), state()) -> {reply, term(), state()} | {stop, normal, term(), state()}.
 handle_call(table, _, State = #state{table = Table}) ->
     {reply, Table, State};
@@ -165,7 +166,7 @@ handle_info(_, State) -> {noreply, State}.
 terminate(_, #state{running = Running, spare = Spare}) ->
     lists:foreach(fun port_close/1, Spare ++ [Port || {_, Port} <- Running]).
 
-%% A gateway that is in this world moves on to the next one.
+%% Computes a result with a gateway that is in this world, and moves on to the next world.
 asked(Id, Datagram, State0 = #state{table = Table}) ->
     {Port, Script, State} = gateway_in(Id, State0),
     {Replies, Content} = outcome(Port, Script, Datagram, content_of(Id, Table), State),
@@ -199,7 +200,7 @@ remotes_of(Audit) ->
                        {match, Found} <- [re:run(Text, Remote, [global, dotall, {capture, all_but_first, binary}])],
                        [T, Address, Port] <- Found]).
 
-%% One that is in this world, or a new one and the script that leads there.
+%% Returns a gateway that is in this world, or a new gateway and the script that leads to this world.
 gateway_in(Id, State0 = #state{running = Running, processes = Processes, table = Table}) ->
     case lists:keytake(Id, 1, Running) of
         {value, {_, Port}, Rest} -> {Port, [], State0#state{running = Rest}};
@@ -210,14 +211,14 @@ gateway_in(Id, State0 = #state{running = Running, processes = Processes, table =
             {Port, script(Id, Table, []), State}
     end.
 
-%% The datagrams that first led to a world.
+%% Returns the datagrams that first led to a world.
 script(Id, Table, Script) ->
     case ets:lookup_element(Table, {world, Id}, 2) of
         none -> Script;
         {Before, Datagram} -> script(Before, Table, [Datagram | Script])
     end.
 
-%% The one that has had the most time to start.
+%% Returns the gateway that has had the most time to start.
 fresh(State = #state{bridge = Bridge, arguments = Arguments, spare = Spare, table = Table}) ->
     Options = [{args, Arguments}, {line, 200000}, binary, stderr_to_stdout, exit_status],
     New = [open_port({spawn_executable, Bridge}, Options) || _ <- lists:seq(length(Spare), ?SPARE)],
@@ -228,7 +229,7 @@ fresh(State = #state{bridge = Bridge, arguments = Arguments, spare = Spare, tabl
 from_controller(Datagram, #state{address = Address}) ->
     ["control ", Address, $\s, string:lowercase(binary:encode_hex(Datagram)), $\n].
 
-%% What is printed for each of these groups of lines.
+%% Returns the gateway's output for each group of lines.
 printed(Port, Groups, #state{table = Table}) ->
     _ = ets:update_counter(Table, lines, length(lists:append(Groups)) + length(Groups)),
     try port_command(Port, [[Group, ?END] || Group <- Groups]) of
@@ -245,12 +246,12 @@ until_end(Port, Printed) ->
         {'EXIT', Port, Reason} -> error({gateway_ended, Reason, lists:reverse(Printed)})
     end.
 
-%%% Content.
+%%% The content of a world.
 
-%% All is asked at once, for which contexts there will be has to be guessed.
+%% All lines are sent at once, so the contexts that will exist are guessed.
 outcome(Port, Script, Datagram, Before, State = #state{address = Address}) ->
     #{terminations := Were, kept := WereKept, last := Last = {_, LastContext}} = Before,
-    Made = length(binary:matches(Datagram, <<"Context=$">>)),
+    Made = length(binary:matches(Datagram, [<<"Context=$">>, <<"C=$">>])),
     Guess = lists:usort(contexts(Were) ++ lists:seq(LastContext + 1, LastContext + Made)),
     Groups = [[from_controller(D, State) || D <- Script], [from_controller(Datagram, State)], audits(Guess)],
     [_, Printed, Audited] = printed(Port, Groups, State),
@@ -266,7 +267,7 @@ contexts(Terminations) -> lists:usort([In || #{context := In} <- maps:values(Ter
 last(Terminations, {Termination, Context}) ->
     {lists:max([Termination | maps:keys(Terminations)]), lists:max([Context | contexts(Terminations)])}.
 
-%% What `--flows' says of a termination.
+%% Applies a line of `--flows' about a termination.
 changed(Line, Terminations) ->
     [Number | Words] = binary:split(Line, <<" ">>, [global]),
     T = binary_to_integer(Number),
@@ -285,14 +286,15 @@ set(T, Key, Value, Terminations) ->
     #{T := Termination} = Terminations,
     Terminations#{T := Termination#{Key := Value}}.
 
-%% Answers with a transaction number are kept until they are acknowledged.
+%% Returns the kept replies. Replies with a transaction number are kept until their sender acknowledges them.
 kept(Datagram, Replies, Kept) ->
+    Sender = iolist_to_binary(found(<<"^(?:MEGACO|!)/1\\s+(\\S+)">>, Datagram)),
     Answered = found(<<"Reply=(\\d+)\\{">>, iolist_to_binary(Replies)),
-    New = maps:from_list([{binary_to_integer(Number), Replies} || Number <- Answered]),
-    Ranges = [binary:split(Range, <<"-">>) || List <- found(<<"TransactionResponseAck\\{([^}]*)\\}">>, Datagram),
-                                              Range <- binary:split(List, <<",">>, [global])],
+    New = maps:from_list([{{Sender, binary_to_integer(Number)}, Replies} || Number <- Answered]),
+    Ranges = [binary:split(Range, <<"-">>) || List <- found(<<"(?:TransactionResponseAck|K)\\s*\\{([^}]*)\\}">>, Datagram),
+                                              Range <- string:lexemes(List, ", \r\n\t")],
     Numbers = [lists:seq(binary_to_integer(hd(Range)), binary_to_integer(lists:last(Range))) || Range <- Ranges],
-    maps:without(lists:append(Numbers), maps:merge(Kept, New)).
+    maps:without([{Sender, Number} || Number <- lists:append(Numbers)], maps:merge(Kept, New)).
 
 found(Pattern, Text) ->
     case re:run(Text, Pattern, [global, {capture, all_but_first, binary}]) of
@@ -300,7 +302,8 @@ found(Pattern, Text) ->
         nomatch -> []
     end.
 
-%% Also what can't be heard: media, and the topology while modes keep terminations silent.
+%% Returns the lines that audit contexts. The audits include settings that have no effect on flows: media, and the
+%% topology while modes keep terminations silent.
 audits(Contexts) ->
     Say = ["say ", ?AUDITOR, " MEGACO/1 [127.0.0.8]:8 "],
     What = "{ContextAudit{Topology},AuditValue=*{Audit{Media}}}}\n",
@@ -311,7 +314,7 @@ audit(Port, Guess, Audited, Contexts, State) ->
     case Contexts -- Guess of
         [] ->
             Audit = maps:with(Contexts, Known),
-            %% A context of many members doesn't fit into an answer.
+            %% A context with many members doesn't fit into a reply.
             [] = [Answer || Answer <- maps:values(Audit), binary:match(Answer, <<"Error=">>) =/= nomatch],
             Audit;
         _ ->
@@ -319,7 +322,7 @@ audit(Port, Guess, Audited, Contexts, State) ->
             audit(Port, Contexts, Again, Contexts, State)
     end.
 
-%% The datagrams that went to this address.
+%% Returns the datagrams that were sent to this address.
 answers(Address, Printed) ->
     Size = byte_size(Address),
     [unescaped(Text) || <<"say ", To:Size/binary, " ", Text/binary>> <- Printed, To =:= Address].
@@ -330,7 +333,7 @@ unescaped(<<"\\\\", Rest/binary>>) -> <<$\\, (unescaped(Rest))/binary>>;
 unescaped(<<Byte, Rest/binary>>) -> <<Byte, (unescaped(Rest))/binary>>;
 unescaped(<<>>) -> <<>>.
 
-%%% The same content by another script.
+%%% Comparing scripts that lead to the same content.
 
 rechecked(Most, State = #state{table = Table}) ->
     Steps = [Step || Step = {{step, _, _}, _} <- ets:tab2list(Table)],

@@ -1,4 +1,4 @@
-%% The proved gateway as a function, against what RFC 3525 says of its commands.
+%% Compares the gateway, as a function, with the effects of commands in RFC 3525.
 -module(oracle_tests).
 
 -include_lib("eunit/include/eunit.hrl").
@@ -13,7 +13,7 @@ mode(Which, Mode) ->
     ["Modify=", Which, "{Media{LocalControl{Mode=", Mode, "},Local{v=0\nc=IN IP4 $\nm=audio $ RTP/AVP 0\n},",
      ?REMOTE(4000), "}}"].
 
-%% The world after these datagrams, and the last answers.
+%% Returns the last replies, and the world after these datagrams.
 run(Datagrams, Oracle) -> run(Datagrams, oracle:new(Oracle), Oracle).
 
 run(Datagrams, World, Oracle) ->
@@ -22,13 +22,13 @@ run(Datagrams, World, Oracle) ->
 world(Datagrams, Oracle) -> element(2, run(Datagrams, Oracle)).
 world(Datagrams, World, Oracle) -> element(2, run(Datagrams, World, Oracle)).
 
-%% An action of the only answer.
+%% Returns the action in the only reply.
 answer(Datagrams, Oracle) ->
     {[Answer], _} = run(Datagrams, Oracle),
     {match, [Text]} = re:run(Answer, "Reply=\\d+\\{(.*)\\}$", [dotall, {capture, all_but_first, list}]),
     Text.
 
-%% Two members of context 1 who hear each other.
+%% Returns datagrams that make two members of context 1 hear each other.
 talking() -> [request(1, add(2)), request(2, ["Context=1{", mode("*", "SendReceive"), "}"])].
 
 with(Options, Test) ->
@@ -66,7 +66,7 @@ remotes_are_known_test_() ->
          ?_assertEqual(maps:from_keys([1, 2], {<<"127.0.0.1">>, <<"4000">>}), oracle:remotes(Oracle, world(talking(), Oracle)))]
     end).
 
-%% The same request isn't run twice, until its reply is acknowledged.
+%% A duplicate request isn't run again until its reply is acknowledged.
 a_copy_changes_nothing_test_() ->
     with(fun(Oracle) ->
         Add = request(1, add(2)),
@@ -77,6 +77,9 @@ a_copy_changes_nothing_test_() ->
          ?_assertEqual([1, 2, 3, 4], Made(Acknowledged("1"))),
          ?_assertEqual([1, 2, 3, 4], Made(Acknowledged("9,1-2"))),
          ?_assertEqual([1, 2], Made(Acknowledged("2-9,11"))),
+         %% Dropping a kept reply leads to another world, in both forms of an acknowledgement.
+         ?_assertNotEqual(World, world([Add, ack("1")], Oracle)),
+         ?_assertEqual(world([Add, ack("1")], Oracle), world([Add, "MEGACO/1 [127.0.0.1]:2945 K{1}"], Oracle)),
          ?_assertEqual({[], World}, run([Add, ack("2")], Oracle))]
     end).
 
@@ -87,7 +90,7 @@ seats_are_few_test_() ->
                        answer([request(1, add(2)), request(2, add(2))], Oracle))]
     end).
 
-%% Whatever was tried from a world before.
+%% A result doesn't depend on other datagrams that were run in the same world.
 branches_are_apart_test_() ->
     with(fun(Oracle) ->
         World = world(talking(), Oracle),
@@ -100,7 +103,7 @@ branches_are_apart_test_() ->
          ?_assertEqual([{1, 2}, {2, 1}], oracle:flows(Oracle, Back))]
     end).
 
-%% So that a search meets few worlds.
+%% Scripts with the same content lead to the same world. Otherwise, a search would meet many more worlds.
 the_same_content_is_the_same_world_test_() ->
     with(fun(Oracle) ->
         World = world(talking(), Oracle),
@@ -113,7 +116,7 @@ the_same_content_is_the_same_world_test_() ->
                        world([Isolate(3), Bothway(4), Isolate(5), ack("3-5")], World, Oracle))]
     end).
 
-%% However its context was asked for.
+%% Media belong to the content, in all spellings of the context in the request.
 media_belong_to_the_content_test_() ->
     with(fun(Oracle) ->
         Add = "{Add=${Media{LocalControl{nt/jit=200}}}}",
@@ -123,7 +126,7 @@ media_belong_to_the_content_test_() ->
          ?_assertMatch({match, _}, re:run(maps:get(1, hd(Audits)), "nt/jit=200"))]
     end).
 
-%% What can't be heard may matter later.
+%% A setting that can't be heard may matter later.
 other_content_is_another_world_test_() ->
     with(fun(Oracle) ->
         World = world([request(1, add(2)), ack("1")], Oracle),
@@ -131,14 +134,14 @@ other_content_is_another_world_test_() ->
                  [request(2, ["Context=1{Modify=RTP/1{Media{", ?REMOTE(4000), "}}}"])],
                  [request(2, ["Context=1{Modify=RTP/1{Media{", ?REMOTE(4002), "}}}"])],
                  [request(2, "Context=1{Modify=RTP/1{Media{LocalControl{nt/jit=200}}}}")],
-                 %% The other order of entry.
+                 %% In this world, the order of entry is reversed.
                  [request(2, "Context=${Move=RTP/2}"), request(3, "Context=2{Move=RTP/1}")],
                  [request(2, "Context=${Move=RTP/1}"), request(3, "Context=2{Move=RTP/2}")],
-                 %% Later numbers.
+                 %% This world has higher last numbers.
                  [request(2, add(1)), request(3, "Context=2{Subtract=*{Audit{}}}")]],
         Worlds = [World | [world(Script ++ [ack("2-3")], World, Oracle) || Script <- Other]],
         [?_assertEqual(length(Worlds), length(lists:usort(Worlds))),
-         %% A reply that is kept.
+         %% This world keeps a reply.
          ?_assertNotEqual(World, world([request(2, "Context=1{ContextAudit{Topology}}")], World, Oracle))]
     end).
 
@@ -158,14 +161,14 @@ a_journal_may_lack_its_end_test_() ->
         [?_assertEqual(Isolated, oracle:resume(Isolated, 0)),
          ?_assertEqual([{1, 2}, {2, 1}], Flows(Resumed)),
          ?_assertEqual([], Flows(oracle:resume(Isolated, 2))),
-         %% It goes on from there, and may lack the end of that, too.
+         %% The gateway continues from there, and a later restart may lack the end of that, too.
          ?_assertEqual([], Flows(world([request(3, "Context=1{Topology{RTP/1,RTP/2,Isolate}}")], Resumed, Oracle))),
          ?_assertEqual(oracle:resume(Isolated, 2), oracle:resume(Resumed, 1)),
-         %% No more than that is remembered.
+         %% A journal can't lack more than `lost' datagrams.
          ?_assertEqual(oracle:resume(Isolated, 2), oracle:resume(Isolated, 3))]
     end).
 
-%% Without `lost', worlds don't differ in what came before.
+%% Without `lost', worlds don't depend on earlier worlds.
 what_came_before_does_not_matter_test_() ->
     with(fun(Oracle) -> ?_assertEqual(world(talking(), Oracle), oracle:resume(world(talking(), Oracle), 1)) end).
 
@@ -184,18 +187,18 @@ any_bytes_are_answered_test_() ->
          || Bytes <- [<<>>, <<"x">>, <<0, 10, 13, 92, 255>>, binary:copy(<<"\\n">>, 4000)]]
     end).
 
-%% Its numbers are those that the options say.
+%% The gateway's numbers begin as the options say.
 options_are_passed_on_test_() ->
     with(#{arguments => ["--first-termination", "1000001", "--first-context", "2000001"]}, fun(Oracle) ->
         ?_assertEqual("Context=2000001{Add=RTP/1000001}", answer([request(1, add(1))], Oracle))
     end).
 
-%% Where the program ends, nothing is made up.
+%% If the program ends, no result is invented.
 a_gateway_that_ends_is_an_error_test() ->
     Oracle = oracle:start(#{arguments => ["--nonsense"]}),
     ?assertError({gateway_ended, _, _}, oracle:run(Oracle, oracle:new(Oracle), "x")).
 
-%% The gateway forgets its 33rd reply, and an audit of the oracle counts.
+%% The gateway drops a reply once 32 others follow, one of which is the reply to the oracle's own audit.
 too_many_kept_replies_are_an_error_test_() ->
     {timeout, 20, fun() ->
         Oracle = oracle:start(#{}),
@@ -204,7 +207,7 @@ too_many_kept_replies_are_an_error_test_() ->
         ?assertError({too_many_kept_replies, 32}, run([lists:last(Audits)], World, Oracle))
     end}.
 
-%% A search for a listener who isn't heard by the one he hears.
+%% This search looks for a flow that is open in only one direction.
 a_search_of_the_gateway_test_() ->
     with(fun(Oracle) ->
         Requests = [[add(2)], ["Context=1{", mode("*", "SendReceive"), "}"],
@@ -221,12 +224,12 @@ a_search_of_the_gateway_test_() ->
          ?_assertMatch([{2, _, _, _}, {3, _, _, _}, {4, _, _, _}], Levels)]
     end).
 
-%% What the gateway can't report of a context of many members isn't left out.
+%% If the gateway can't report a context with many members, the oracle fails.
 a_large_context_is_an_error_test() ->
     Oracle = oracle:start(#{slots => 64}),
     ?assertError({badmatch, [_]}, run([request(1, add(64))], Oracle)).
 
-%% Random scripts, with few gateways running at a time, asked by several processes at once.
+%% Several processes run random scripts at once, with few gateways running at a time.
 scripts_with_the_same_content_go_on_alike_test_() ->
     {timeout, 120, with(#{slots => 4, servers => 2, processes => 3}, fun(Oracle) ->
         Parts = [spawn_monitor(fun() -> exit([walk(Seed, Oracle) || Seed <- lists:seq(From, 60, 4)]) end)
@@ -234,11 +237,11 @@ scripts_with_the_same_content_go_on_alike_test_() ->
         Ends = [receive {'DOWN', Monitor, process, _, Worlds} -> Worlds end || {_, Monitor} <- Parts],
         {Compared, Differ} = oracle:recheck(Oracle, 200),
         [?_assertEqual([], Differ), ?_assertEqual(200, Compared),
-         %% Alone, with all gateways running, each leads to the same content.
+         %% Each script leads to the same content when it is run alone, with all gateways running.
          ?_assertEqual([oracle:content(Oracle, End) || End <- lists:append(Ends)], alone())]
     end)}.
 
-%% Servers that find the same content at once agree on its world.
+%% Servers that find the same content at the same time agree on its world.
 servers_agree_test_() ->
     {timeout, 120, with(#{slots => 4, servers => 4}, fun(Oracle) ->
         Parts = [spawn_monitor(fun() -> exit([walk(Seed, Oracle) || Seed <- lists:seq(1, 10)]) end)
@@ -249,7 +252,7 @@ servers_agree_test_() ->
          ?_assertMatch(#{answers := Answers} when Answers =< 12 * 10, oracle:statistics(Oracle))]
     end)}.
 
-%% A program that counts its datagrams, so that the same content doesn't go on alike.
+%% This program counts its datagrams, so the same content can have different results.
 other_answers_are_noticed_test() ->
     Folder = string:trim(os:cmd("mktemp -d")),
     Program = filename:join(Folder, "counting"),
@@ -273,7 +276,7 @@ alone() ->
     ok = oracle:stop(Oracle),
     Contents.
 
-%% Requests with new numbers, old ones and acknowledgements.
+%% Runs a random script: requests with new and old numbers, and acknowledgements.
 walk(Seed, Oracle) ->
     walk(12, rand:seed_s(exsss, Seed), 1, oracle:new(Oracle), Oracle).
 

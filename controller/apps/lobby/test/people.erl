@@ -1,5 +1,5 @@
-%% Members without phones, for tests: processes that do for `lobby_person' what a call's process does. Rooms as tests ask
-%% them.
+%% Members without phones, for tests. Their processes carry out the actions of `lobby_person', like the process of a
+%% call. This module also has requests to rooms.
 -module(people).
 
 -export([join/3, join/5, joins/2, leave/1, move/2, update/2, isolate/1, release/1, start_again/1]).
@@ -7,15 +7,15 @@
 
 -record(state, {person, local = none, parent, caller = none}).
 
-%% Lets somebody in. The process that calls is sent `{moved, Id, Local}' when the gateway receives him somewhere else, and
-%% `{silent, Id}' if no packets come from him.
+%% Adds a member. The calling process is sent `{moved, Id, Local}' when the member's address on the gateway changes, and
+%% `{silent, Id}' if no packets arrive from the member.
 join(Room, Id, Role) ->
     join(Room, Id, Role, {{{127, 0, 0, 1}, 40000}, pcmu}, sendrecv).
 
 join(Room, Id, Role, Media, Direction) ->
     joins(Id, #{room => Room, role => Role, media => Media, direction => Direction}).
 
-%% With a `caller', who has his media, he talks to wherever the gateway receives him.
+%% Adds a member. With a `caller', which has the member's media, the member talks to the current address on the gateway.
 joins(Id, Wanted) ->
     Parent = self(),
     Caller = maps:get(caller, Wanted, none),
@@ -29,7 +29,7 @@ joins(Id, Wanted) ->
         {'DOWN', Monitor, process, Pid, Reason} -> {error, Reason}
     end.
 
-%% As after a failure of his process.
+%% Restarts a member's process, as after a failure.
 start_again(Id) ->
     {ok, Row} = lobby_member:find(Id),
     Parent = self(),
@@ -38,7 +38,7 @@ start_again(Id) ->
     lobby_case:until(fun() -> lobby_registry:whereis_name({member, Id}) =:= Pid end),
     ok.
 
-%% Until nothing of him is left on a gateway.
+%% Ends a member's call, and waits until no termination of the member is left.
 leave(Id) ->
     Result = lobby_member:hang_up(Id),
     _ = lobby_case:until(fun() -> lists:all(fun({_, _, {version, _, #{member := Of}}, _}) -> Of =/= Id end, ets:tab2list(lobby_terminations)) end),
@@ -82,7 +82,7 @@ event(Event, State = #state{person = Person}) ->
 act({answer, {asked, From}, Answer}, State) ->
     lobby_member:answer(From, case Answer of {ok, _} -> ok; _ -> Answer end),
     State;
-%% Whoever isn't let in is gone.
+%% The process of a member who isn't admitted ends.
 act({answer, {joins, {From, Tag}}, Answer}, State) ->
     case Answer of {error, _} -> _ = event(leave, State); {ok, _} -> ok end,
     From ! {Tag, Answer},
@@ -96,14 +96,14 @@ act(Action, State) ->
         {admitted, Room, Error} -> event({admitted, Room, Error}, State)
     end.
 
-%% A phone takes the new address, and says so.
+%% The member's phone accepts the new address, and confirms it.
 told({holds, _, Local = {Address, _}, _}, Room, State = #state{local = Before, parent = Parent}) when Local =/= Before ->
     talk(Address, State),
     Before =:= none orelse (Parent ! {moved, id(State), Local}),
-    lobby_rooms:tell(Room, {confirmed, id(State), Local}),
+    lobby_room:tell(Room, {confirmed, id(State), Local}),
     State#state{local = Local};
 told({holds, _, Local, false}, Room, State = #state{local = Local}) ->
-    lobby_rooms:tell(Room, {confirmed, id(State), Local}),
+    lobby_room:tell(Room, {confirmed, id(State), Local}),
     State;
 told(_, _, State) ->
     State.
@@ -113,19 +113,19 @@ talk(Address, #state{caller = Caller}) -> caller:talk(Caller, Address).
 
 %%% Rooms.
 
-create(Room, Rules) -> lobby_rooms:create(Room, Rules, #{}).
-add_rules(Room, Rules) -> lobby_rooms:call(Room, {rules, add, Rules}).
-set_rules(Room, Rules) -> lobby_rooms:call(Room, {rules, set, Rules}).
-audit(Room) -> lobby_rooms:call(Room, audit).
-agrees(Room) -> lobby_rooms:call(Room, agrees).
+create(Room, Rules) -> lobby_room:create(Room, Rules, #{}).
+add_rules(Room, Rules) -> lobby_room:call(Room, {rules, add, Rules}).
+set_rules(Room, Rules) -> lobby_room:call(Room, {rules, set, Rules}).
+audit(Room) -> lobby_room:call(Room, audit).
+agrees(Room) -> lobby_room:call(Room, agrees).
 
-%% With the members by id, and without whose packets came lately.
+%% Returns a room's description, with the members by id, and without `sends'.
 describe(Room) ->
-    case lobby_rooms:call(Room, describe) of
+    case lobby_room:call(Room, describe) of
         About = #{members := Members} ->
             (maps:remove(sends, About))#{members := maps:from_list([{Id, case T of none -> Row; _ -> Row#{termination => T} end} || {Row = #{id := Id}, T} <- Members])};
         Error -> Error
     end.
 
-%% Somebody is isolated by a room's rules.
+%% Returns rules of the room that isolate a member.
 isolation(Id) -> [{deny, {member, Id}, everyone}, {deny, everyone, {member, Id}}].

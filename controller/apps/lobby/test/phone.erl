@@ -1,18 +1,24 @@
-%% A SIP phone for tests, that writes and reads its messages as text, and only does what it is told.
+%% A SIP phone for tests, which writes and reads its messages as text, and only does what a test asks.
 -module(phone).
 
--export([received/2, automatic/2, start_tcp/2, start_tls/2, send_slowly/2, start/1, start/2, invite/2, invite/3, request/3, request/4, answer/3, answer/4, ack/1, ack/2, recv/1, recv/2, flush/1, sdp/1, sdp/2,
+-export([received/2, automatic/2, automatic/3, start_tcp/2, start_tls/2, send_slowly/2, start/1, start/2, invite/2, invite/3, request/3, request/4, answer/3, answer/4, ack/1, ack/2, recv/1, recv/2, flush/1, sdp/1, sdp/2,
          close/1, port/1, media/1, header/2, status/1, learn/2, send/2, room/2, number/2, quiet/2, as/2, tagged/2]).
+
+%% Milliseconds that a call may take on a busy machine.
+-define(PATIENCE, 30000).
 
 -record(phone, {transport = "UDP", socket, port, to, room, call_id, tag, cseq = 0, remote_tag = "", extra = [], caller}).
 
-%% A phone that calls a room, talks all the time, and answers what comes.
-automatic(To, Room) ->
+%% Starts a phone that calls a room, talks continuously, and answers each request.
+automatic(To, Room) -> automatic(To, Room, fun caller:start/0).
+
+%% The phone gets its media from `Start'.
+automatic(To, Room, Start) ->
     Parent = self(),
     spawn_link(fun() ->
-        Phone = start(To, Room),
+        Phone = (start(To, Room))#phone{caller = Start()},
         Calling = invite(sdp(Phone), Phone),
-        Response = recv(Calling),
+        Response = recv(Calling, ?PATIENCE),
         200 = status(Response),
         Talking = learn(Response, Calling),
         ack(Talking),
@@ -20,7 +26,7 @@ automatic(To, Room) ->
         Parent ! {self(), media(Talking)},
         answer_all(Talking)
     end),
-    receive {Pid, Caller} when is_pid(Pid) -> Caller after 5000 -> error(no_call) end.
+    receive {Pid, Caller} when is_pid(Pid) -> Caller after ?PATIENCE -> error(no_call) end.
 
 answer_all(P) ->
     Text = recv(P, 1000),
@@ -43,7 +49,7 @@ start(To, Room) ->
     Random = integer_to_list(rand:uniform(1000000000)),
     #phone{socket = Socket, port = Port, to = To, room = Room, call_id = "Call-" ++ Random, tag = "TaG" ++ Random, caller = caller:start()}.
 
-%% A phone that calls over TCP.
+%% Starts a phone that calls over TCP.
 start_tcp(To = {Address, ToPort}, Room) ->
     {ok, Socket} = gen_tcp:connect(Address, ToPort, [binary, {active, false}, {nodelay, true}]),
     {ok, Port} = inet:port(Socket),
@@ -59,7 +65,7 @@ start_tls(To = {Address, ToPort}, Room) ->
 room(Room, P) -> P#phone{room = Room}.
 number(N, P) -> P#phone{cseq = N}.
 tagged(Tag, P) -> P#phone{remote_tag = Tag}.
-%% Another phone, that says what this one would say.
+%% Gives another phone the dialog of this phone, so that it can send this phone's requests.
 as(#phone{call_id = CallId, tag = Tag, remote_tag = Remote, cseq = N}, P) -> P#phone{call_id = CallId, tag = Tag, remote_tag = Remote, cseq = N}.
 port(#phone{port = Port}) -> Port.
 media(#phone{caller = Caller}) -> Caller.
@@ -79,7 +85,7 @@ invite(Body, Extra, P) -> request("INVITE", Body, Extra, P).
 
 request(Method, Body, P) -> request(Method, Body, [], P).
 
-%% A request with the next number. CANCEL has the number of the last one.
+%% Sends a request with the next number. CANCEL has the number of the last request.
 request(Method, Body, Extra, P = #phone{cseq = N}) ->
     Number = case Method of "CANCEL" -> N; _ -> N + 1 end,
     send(message(Method, Number, Body, Extra, P), P),
@@ -90,7 +96,7 @@ ack(Body, P = #phone{cseq = N}) -> send(message("ACK", N, Body, [], P), P).
 
 message(Method, Number, Body, Extra, #phone{transport = Transport, port = Port, room = Room, to = {_, ToPort}, call_id = CallId, tag = Tag, remote_tag = Remote}) ->
     To = case Remote of "" -> ""; _ -> ";tag=" ++ Remote end,
-    %% A CANCEL is of the transaction of its INVITE.
+    %% A CANCEL has the branch of its INVITE.
     Branch = case Method of "CANCEL" -> "INVITE"; _ -> Method end,
     io_lib:format("~s sip:~s@127.0.0.1:~b SIP/2.0\r\nVia: SIP/2.0/~s 127.0.0.1:~b;branch=z9hG4bK-~s-~b-~s;rport\r\nMax-Forwards: 70\r\n"
                   "From: \"Test\" <sip:test@127.0.0.1>;tag=~s\r\nTo: <sip:~s@127.0.0.1>~s\r\nCall-ID: ~s\r\nCSeq: ~b ~s\r\n"
@@ -104,7 +110,8 @@ send(Text, #phone{socket = Socket, to = {Address, Port}}) -> ok = gen_udp:send(S
 
 recv(P) -> recv(P, 2000).
 
-%% But for what only says that an answer takes a while, and for repetitions of what was answered, which are answered again.
+%% Returns the next message. Skips provisional responses (100) and retransmissions of answered requests, which it
+%% answers again.
 recv(P, Timeout) ->
     case received(P, Timeout) of
         "SIP/2.0 100" ++ _ -> recv(P, Timeout);
@@ -130,13 +137,13 @@ received(P = #phone{transport = Transport, socket = Socket}, Timeout) when Trans
     end;
 received(P = #phone{socket = Socket}, Timeout) ->
     case gen_udp:recv(Socket, 0, Timeout) of
-        %% RTP for somebody who had the port before.
+        %% This RTP packet is for an earlier user of the port.
         {ok, {_, _, <<2:2, _/bits>>}} -> received(P, Timeout);
         {ok, {_, _, Text}} -> binary_to_list(Text);
         {error, timeout} -> none
     end.
 
-%% The first whole message.
+%% Returns the first complete message, and the bytes after it.
 whole(Buffer) ->
     case re:run(Buffer, "^(.*?\r\nContent-Length: (\\d+)\r\n\r\n)(.*)$", [dotall, {capture, all_but_first, list}]) of
         {match, [Head, Length, Rest]} when length(Rest) >= 0 ->
@@ -148,7 +155,7 @@ whole(Buffer) ->
         nomatch -> more
     end.
 
-%% An INVITE in small pieces, over TCP.
+%% Sends an INVITE in small pieces over TCP.
 send_slowly(Body, P = #phone{socket = Socket, cseq = N}) ->
     Text = iolist_to_binary(message("INVITE", N + 1, Body, [], P)),
     Send = fun Send(<<Piece:100/binary, Rest/binary>>) -> ok = gen_tcp:send(Socket, Piece), timer:sleep(5), Send(Rest);
@@ -157,12 +164,12 @@ send_slowly(Body, P = #phone{socket = Socket, cseq = N}) ->
     Send(Text),
     P#phone{cseq = N + 1}.
 
-%% Nothing comes for so long.
+%% Returns whether no message arrives for this many milliseconds.
 quiet(P, Ms) -> recv(P, Ms) =:= none.
 
 flush(P) -> case recv(P, 0) of none -> ok; _ -> flush(P) end.
 
-%% The status of a response, or the method of a request.
+%% Returns the status of a response, or the method of a request.
 status(none) -> none;
 status(closed) -> closed;
 status("SIP/2.0 " ++ Rest) -> list_to_integer(lists:sublist(Rest, 3));
@@ -174,14 +181,14 @@ header(Name, Text) ->
         nomatch -> none
     end.
 
-%% The other side's tag, from the answer to an INVITE.
+%% Takes the other side's tag from the response to an INVITE.
 learn(Response, P) ->
     {match, [Tag]} = re:run(header("To", Response), ";tag=([^;]*)", [{capture, all_but_first, list}]),
     P#phone{remote_tag = Tag}.
 
 answer(Status, Request, P) -> answer(Status, Request, "", P).
 
-%% A response to a request.
+%% Sends a response to a request.
 answer(Status, Request, Body, P = #phone{port = Port}) ->
     Answer = io_lib:format("SIP/2.0 ~b Text\r\nVia: ~s\r\nFrom: ~s\r\nTo: ~s\r\nCall-ID: ~s\r\nCSeq: ~s\r\nContact: <sip:test@127.0.0.1:~b>\r\n"
                            "Content-Length: ~b\r\n\r\n~s",

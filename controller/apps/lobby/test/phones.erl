@@ -1,4 +1,4 @@
-%% Many phones behind one socket, for `scale': they call, and answer what comes.
+%% Many phones behind one socket, for `scale': they call, and answer requests.
 -module(phones).
 
 -export([start/3, call/2, forget/1, options/1, asked/3]).
@@ -15,7 +15,7 @@ start(To, Callers, Rooms) ->
     end),
     Pid.
 
-%% Calls with all of them, of whom so many wait for an answer at any time.
+%% Makes calls from all phones. At any time, at most `Window' phones wait for a response.
 call(Pid, Window) ->
     Start = now_ms(),
     Pid ! {call, Window},
@@ -26,12 +26,12 @@ call(Pid, Window) ->
 
 forget(Pid) -> Pid ! forget, ok.
 
-%% Asks in the first call until it is answered, and returns when.
+%% Sends a request in the first call until it is answered. Returns the time of the answer.
 options(Pid) ->
     Pid ! options,
     receive {Pid, options, When} -> When end.
 
-%% Waits until so many have been re-invited since `forget/1', or longer than that.
+%% Waits until this many phones have been re-invited since `forget/1'. Fails after a limit.
 asked(Pid, Count, Limit) ->
     Pid ! {asked, Count},
     receive {Pid, asked} -> ok after Limit -> error(not_asked) end.

@@ -1,5 +1,5 @@
-%% Which values each setting may have at a moment of a search. A value may hold as soon as somebody asks for it. After the
-%% answer, no other value may hold until somebody asks for one.
+%% The values that each setting may have at a moment of a search. A setting may have a value as soon as the value is
+%% requested. After the answer, the setting may have no other value until another one is requested.
 -module(promises).
 
 -export([new/0, given/3, asked/4, answered/3, possible/2]).
@@ -7,18 +7,18 @@
 
 -type key() :: term().
 -type value() :: term().
-%% What was asked for since the last answer, newest first, and what that was for.
+%% The changes since the last answer, newest first, and the number of that answer.
 -opaque promises() :: #{key() => [{Number :: term(), [value()]}]}.
 
 -spec new() -> promises().
 new() -> #{}.
 
-%% @doc A setting that begins with a value.
+%% @doc Adds a setting that begins with a value.
 -spec given(key(), value(), promises()) -> promises().
 given(Key, Value, Promises) ->
     Promises#{Key => [{answered, [Value]}]}.
 
-%% @doc Somebody asks for a change, under a number of its own.
+%% @doc Notes the request for a change, with its own number.
 -spec asked(key(), Number :: term(), fun((value()) -> value()), promises()) -> promises().
 asked(Key, Number, Change, Promises) ->
     #{Key := History} = Promises,
@@ -28,7 +28,7 @@ asked(Key, Number, Change, Promises) ->
         Values -> Promises#{Key := [{Number, Values} | History]}
     end.
 
-%% @doc A change was answered with success, and so were those before it.
+%% @doc Notes that a change, and all changes before it, were answered successfully.
 -spec answered(key(), Number :: term(), promises()) -> promises().
 answered(Key, Number, Promises) ->
     #{Key := History} = Promises,
@@ -37,7 +37,7 @@ answered(Key, Number, Promises) ->
         {_, []} -> Promises
     end.
 
-%% @doc The values that a setting may have now: none if there is no such setting.
+%% @doc Returns the values that a setting may have: none if there is no such setting.
 -spec possible(key(), promises()) -> [value()].
 possible(Key, Promises) ->
     lists:usort(lists:append([Values || {_, Values} <- maps:get(Key, Promises, [])])).

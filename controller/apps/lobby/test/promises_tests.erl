@@ -1,4 +1,4 @@
-%% Settings whose possible values are known.
+%% Tests settings whose possible values are known.
 -module(promises_tests).
 
 -include_lib("eunit/include/eunit.hrl").

@@ -1,8 +1,8 @@
-%% A relay between a controller and a gateway that loses, doubles and delays datagrams in both directions, and can
-%% refuse or drop requests.
+%% A relay between a controller and a gateway. It loses, duplicates and delays datagrams in both directions, and can
+%% reject, drop or copy requests.
 -module(relay).
 
--export([start/2, address/1, refuse/2, drop/2, pass/1]).
+-export([start/2, address/1, refuse/2, drop/2, copy/2, copies/1, pass/1, release/1, wait_for_acknowledgements/2]).
 
 start(Gateway, Faults) ->
     Parent = self(),
@@ -16,25 +16,56 @@ start(Gateway, Faults) ->
 
 address({_, Port}) -> {{127, 0, 0, 1}, Port}.
 
-%% From now on, requests with this text don't reach the gateway, and the answer to them is error 510. In a list of texts,
-%% all have to be there.
+%% Rejects requests that contain this text, or all texts of a list, with error 510. They don't reach the gateway.
 refuse({Pid, _}, Text) -> Pid ! {refuse, Text}, ok.
 
-%% From now on, requests with this text are dropped.
+%% Drops requests with this text.
 drop({Pid, _}, Text) -> Pid ! {drop, Text}, ok.
 
-%% From now on, all requests reach the gateway again.
+%% Keeps copies of requests with this text, even if they are dropped.
+copy({Pid, _}, Text) -> Pid ! {copy, Text}, ok.
+
+%% Returns the number of copies.
+copies({Pid, _}) -> asked(copies, Pid).
+
+asked(What, Pid) ->
+    Pid ! {What, self()},
+    receive {Pid, Answer} -> Answer end.
+
+%% Lets all requests reach the gateway again.
 pass({Pid, _}) -> Pid ! pass, ok.
 
-%% Each controller has a socket of its own to the gateway.
+%% Waits until all replies before the call are acknowledged: after the quiet time, with one of the audits.
+%% Acknowledgements are copied, too.
+wait_for_acknowledgements(Quiet, Relay) ->
+    timer:sleep(Quiet),
+    ok = copy(Relay, <<"K{">>),
+    Before = copies(Relay),
+    _ = lobby_case:until(fun() -> copies(Relay) >= Before + 2 end),
+    pass(Relay).
+
+%% Sends all copies to the gateway. The gateway reads them before all later requests.
+release({Pid, _}) -> asked(release, Pid).
+
+%% Each controller has its own socket to the gateway.
 loop(Socket, Gateway = {GatewayAddress, GatewayPort}, Faults, Sockets) ->
     receive
         {refuse, Text} ->
             loop(Socket, Gateway, Faults#{refuse => Text}, Sockets);
         {drop, Text} ->
             loop(Socket, Gateway, Faults#{drop => Text}, Sockets);
+        {copy, Text} ->
+            loop(Socket, Gateway, Faults#{copy => Text}, Sockets);
+        {copies, From} ->
+            From ! {self(), length(maps:get(copies, Faults, []))},
+            loop(Socket, Gateway, Faults, Sockets);
         pass ->
-            loop(Socket, Gateway, maps:without([refuse, drop], Faults), Sockets);
+            loop(Socket, Gateway, maps:without([refuse, drop, copy], Faults), Sockets);
+        {release, From} ->
+            _ = [ok = gen_udp:send(Out, GatewayAddress, GatewayPort, Copy)
+                 || {Out, Copy} <- lists:reverse(maps:get(copies, Faults, []))],
+            From ! {self(), ok},
+            loop(Socket, Gateway, Faults, Sockets);
         {udp, Socket, Address, Port, Datagram} ->
             {Out, Sockets1} = out({Address, Port}, Sockets),
             case {has(refuse, Datagram, Faults), has(drop, Datagram, Faults)} of
@@ -42,7 +73,8 @@ loop(Socket, Gateway = {GatewayAddress, GatewayPort}, Faults, Sockets) ->
                 {_, true} -> ok;
                 {_, _} -> faulty(Faults, {send, Out, GatewayAddress, GatewayPort, Datagram})
             end,
-            loop(Socket, Gateway, Faults, Sockets1);
+            Copies = [{Out, Datagram} || has(copy, Datagram, Faults)] ++ maps:get(copies, Faults, []),
+            loop(Socket, Gateway, Faults#{copies => Copies}, Sockets1);
         {udp, Out, _, _, Datagram} ->
             #{Out := {Address, Port}} = Sockets,
             faulty(Faults, {send, Socket, Address, Port, Datagram}),

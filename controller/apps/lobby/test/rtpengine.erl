@@ -1,5 +1,5 @@
-%% What rtpengine answers (its ng protocol), for tests, without relaying: a browser's media are those of a `caller', which
-%% talks to where rtpengine would send.
+%% A fake rtpengine for tests, which answers its ng protocol without relaying. A browser's media are those of a
+%% `caller', which talks directly to rtpengine's target.
 -module(rtpengine).
 
 -export([start/0, address/1, offer/1, offers/1, calls/1, be/2, restart/1]).
@@ -20,7 +20,7 @@ now_s() -> erlang:monotonic_time(second).
 
 address({_, Port}) -> {{127, 0, 0, 1}, Port}.
 
-%% A browser: its caller, and its offer.
+%% Returns a browser's caller and offer.
 offer({Pid, _}) ->
     Caller = caller:start(),
     {{_, Port}, _} = caller:media(Caller),
@@ -29,13 +29,13 @@ offer({Pid, _}) ->
         "m=audio 9 UDP/TLS/RTP/SAVPF 111 0 8\r\nc=IN IP4 192.0.2.66\r\na=rtcp:9 IN IP4 192.0.2.66\r\na=candidate:1 1 udp 1 192.0.2.66 9 typ host\r\n"
         "a=ice-ufrag:abcd\r\na=ice-pwd:abcdefghijklmnopqrstuvwx\r\na=fingerprint:sha-256 00\r\na=setup:actpass\r\na=rtpmap:111 opus/48000/2\r\n"])}.
 
-%% The offers that browsers made, the newest first.
+%% Returns the offers that browsers made, the newest first.
 offers(R) -> asked(offers, R).
-%% The calls that there are.
+%% Returns the current calls.
 calls(R) -> asked(calls, R).
-%% `serving', `lost', or `refusing'.
+%% Sets the state: `serving', `lost', or `refusing'.
 be(Is, R) -> asked({be, Is}, R).
-%% As after a kill: it has no calls.
+%% Forgets all calls, as after a kill.
 restart(R) -> asked(restart, R).
 
 asked(What, {Pid, _}) ->
@@ -69,7 +69,7 @@ answer(#{<<"command">> := <<"offer">>, <<"from-tag">> := <<"web">>, <<"sdp">> :=
     Caller = maps:get(binary_to_integer(Port), Callers),
     {#{result => ok, sdp => <<"v=0\r\no=- 1 1 IN IP4 127.0.0.1\r\ns=-\r\nc=IN IP4 127.0.0.1\r\nt=0 0\r\nm=audio ", Port/binary, " RTP/AVP 0 8\r\n">>},
      S#state{calls = Calls#{Id => Caller}, offers = [Sdp | Offers]}};
-%% Where the gateway is.
+%% Answers an offer or an answer. If it has the gateway's address, the browser's caller talks to that address.
 answer(#{<<"command">> := Command, <<"from-tag">> := Tag, <<"sdp">> := Sdp, <<"call-id">> := Id}, S = #state{calls = Calls}) when is_map_key(Id, Calls) ->
     case {Command, Tag} of
         {<<"answer">>, <<"room">>} -> ok;
@@ -83,5 +83,5 @@ answer(#{<<"command">> := <<"delete">>, <<"call-id">> := Id}, S = #state{calls =
     {#{result => ok}, S#state{calls = maps:remove(Id, Calls)}};
 answer(_, S) -> {#{result => error, 'error-reason' => <<"Unknown call-id">>}, S}.
 
-%% It sends nowhere.
+%% Makes a caller talk to a port that no process reads.
 silence(Caller) -> caller:talk(Caller, {{127, 0, 0, 1}, 9}).

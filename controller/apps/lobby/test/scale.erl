@@ -1,5 +1,6 @@
-%% Many callers in many rooms on many simulated gateways, with a pair of controllers: how fast they join, what that takes,
-%% and how long a take-over and the loss of gateways last. Run by trials/door/scale.sh.
+%% Measures many callers in many rooms on many simulated gateways, with a pair of controllers: how fast callers join,
+%% the resources that this takes, and the durations of a take-over and of a loss of gateways. trials/door/scale.sh runs
+%% it.
 -module(scale).
 
 -export([main/1]).
@@ -60,7 +61,7 @@ main(Arguments) ->
     _ = os:cmd("kill -9 " ++ peer:call(B, os, getpid, []) ++ "; sleep 1; rm -r " ++ Folder),
     halt(0).
 
-%% Microseconds from a request until its answer.
+%% Isolates a member. Returns the microseconds from the request until the response.
 isolated(Id, {Address, Port}) ->
     {ok, Socket} = gen_tcp:connect(Address, Port, [binary, {active, false}, {nodelay, true}]),
     Start = erlang:monotonic_time(microsecond),
@@ -98,7 +99,7 @@ serving(Peer) ->
         _ -> length(peer:call(Peer, lobby_gateway, serving, [], 60000))
     end.
 
-%% Resident, in MB.
+%% Returns the resident memory in MB.
 memory(Peer) ->
     Text = os:cmd("grep VmRSS /proc/" ++ peer:call(Peer, os, getpid, []) ++ "/status"),
     {match, [Kb]} = re:run(Text, "(\\d+) kB", [{capture, all_but_first, list}]),

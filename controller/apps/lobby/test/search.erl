@@ -1,5 +1,5 @@
-%% Looks for broken promises: breadth first, through all states up to a limit, or in random walks. Only the model knows
-%% what a state is, which events are possible in it, and what is promised.
+%% Searches for broken promises: breadth first, through all states up to a limit, or in random walks. The model defines
+%% the states, the possible events, and the promises.
 -module(search).
 
 -export([breadth/2, random/2, replay/2, format/1]).
@@ -7,34 +7,36 @@
 
 -type state() :: term().
 -type event() :: term().
-%% What is wrong in a state. The first element of a tuple says which promise is broken.
+%% A broken promise in a state. The first element of a tuple names the promise.
 -type broken() :: term().
-%% `events': what can happen next. `step': what that leads to; a crash is a broken promise, too. `broken': what is wrong
-%% in a state. `final': what is wrong if nothing can happen any more, or a walk ends here. States with the same
-%% `canonical' value count as the same state. States are values: the same event in equal states leads to equal states.
+%% `events': the events that are possible in a state. `step': the state after an event; a crash is a broken promise,
+%% too. `broken': the promises that a state breaks. `final': the promises that a state breaks if no event is possible,
+%% or a walk ends in it. States with the same `canonical' value count as the same state. States are values: the same
+%% event in equal states leads to equal states.
 -type model() :: #{start := state(), events := fun((state()) -> [event()]), step := fun((event(), state()) -> state()),
                    broken := fun((state()) -> [broken()]), final => fun((state()) -> [broken()]),
                    canonical => fun((state()) -> term())}.
-%% The most events in a row, states, and milliseconds. `workers': how many processes compute steps. `all': goes on after
-%% a broken promise, and finds the shortest way to each kind of broken promise.
+%% The maximum numbers of events in a row, states, and milliseconds. `workers': the number of processes that compute
+%% steps. `all': continues after a broken promise, and finds the shortest way to each kind of broken promise.
 -type limits() :: #{depth => non_neg_integer(), states => pos_integer(), time => pos_integer(),
                     workers => pos_integer(), all => boolean()}.
-%% Each walk has the next seed. The most milliseconds are looked at between walks.
+%% Each walk has the next seed. The time limit is checked between walks.
 -type walks() :: #{seed := integer(), runs := pos_integer(), length := pos_integer(), time => pos_integer()}.
-%% `levels': by number of events, how many states and steps there were up to it, and milliseconds. The last level isn't
-%% complete if a limit ended it. `limit': what ended the search, or `none' if all states were seen, or all walks made.
+%% `levels': for each number of events, the numbers of states, steps and milliseconds up to it. The last level is
+%% incomplete if a limit ended it. `limit': the limit that ended the search, or `none' if all states were seen, or all
+%% walks made.
 -type result() :: #{levels => [level()], walks => walked(), limit := none | depth | states | time | broken,
                     found := [found()]}.
 -type level() :: {Events :: non_neg_integer(), States :: non_neg_integer(), Steps :: non_neg_integer(),
                   Milliseconds :: non_neg_integer()}.
 -type walked() :: {Walks :: non_neg_integer(), Steps :: non_neg_integer(), Milliseconds :: non_neg_integer()}.
-%% The shortest way, or what a walk with this seed was shrunk to.
+%% The shortest way to a broken promise, or the shrunk walk with this seed.
 -type found() :: #{broken := broken(), way := [event()], seed => integer()}.
 
-%% States whose steps are computed before the limits are looked at again.
+%% The number of states whose steps are computed between checks of the limits.
 -define(BATCH, 256).
 
-%% Without these, each state is its own, and nothing is wrong in the end.
+%% Fills in defaults: each state is equivalent only to itself, and breaks no promise at the end.
 complete(Model) -> maps:merge(#{final => fun(_) -> [] end, canonical => fun(State) -> State end}, Model).
 
 kind(Broken) when is_tuple(Broken) -> element(1, Broken);
@@ -44,7 +46,7 @@ now_ms() -> erlang:monotonic_time(millisecond).
 
 %%% Breadth first.
 
-%% `seen': the canonical value's hash of each state, and the state and event that led to it first.
+%% `seen': the hash of each state's canonical value, with the state and event that first led to it.
 -record(search, {model :: model(), limits :: limits(), seen :: ets:tid(), began = now_ms() :: integer(),
                  steps = 0 :: non_neg_integer(), levels = [] :: [level()], found = [] :: [found()]}).
 
@@ -75,7 +77,7 @@ exceeded(#search{limits = Limits, seen = Seen, began = Began, found = Found}) ->
         ++ [time || #{time := Most} <- [Limits], now_ms() - Began >= Most],
     hd(Exceeded ++ [none]).
 
-%% The states that the next level begins with. If a limit is exceeded, the rest of this level is left out.
+%% Returns the states with which the next level begins. If a limit is exceeded, skips the rest of this level.
 batches([], Next, S) ->
     {lists:append(lists:reverse(Next)), S};
 batches(Level, Next, S) ->
@@ -92,7 +94,7 @@ steps(Batch, S = #search{limits = Limits}) ->
         Workers -> lists:append(parallel(Batch, Workers, S))
     end.
 
-%% All steps from these states. Those to states that were seen before only count.
+%% Returns all steps from these states. Steps to states that were seen before are only counted.
 steps_from(Batch, #search{model = Model = #{events := Events}, seen = Seen}) ->
     [case ets:member(Seen, Hash) of
          true -> seen;
@@ -127,7 +129,7 @@ parts(List, Size) ->
     {Part, Rest} = lists:split(min(Size, length(List)), List),
     [Part | parts(Rest, Size)].
 
-%% Where a promise is broken, the search doesn't go on.
+%% Notes new states. The search doesn't continue after a broken promise.
 visit(Steps, S = #search{steps = Count}) ->
     {New, S1} = lists:foldl(fun visit_one/2, {[], S#search{steps = Count + length(Steps)}}, Steps),
     {lists:reverse(New), S1}.
@@ -155,7 +157,7 @@ way(Hash, Seen, Way) ->
 hash(State, #{canonical := Canonical}) ->
     erlang:md5(term_to_binary(Canonical(State), [deterministic])).
 
-%% What is wrong in a state, and if nothing can happen any more, what is wrong in the end.
+%% Returns the promises that a state breaks, including the final ones if no event is possible.
 wrong(State, Model = #{events := Events}) ->
     case broken(State, Model) of
         [] -> case Events(State) of [] -> final(State, Model); _ -> [] end;
@@ -165,7 +167,7 @@ wrong(State, Model = #{events := Events}) ->
 broken(State, #{broken := Broken}) -> Broken(State).
 final(State, #{final := Final}) -> Final(State).
 
-%%% At random.
+%%% Random walks.
 
 -spec random(model(), walks()) -> result().
 random(Model, Walks = #{seed := Seed, runs := Runs}) ->
@@ -201,7 +203,7 @@ walk({ok, State}, Model = #{events := Events}, Left, Rand, Way) ->
 walk(Crashed, _, _, _, Way) ->
     {lists:reverse(Way), [Crashed]}.
 
-%% Leaves out ever smaller parts of a way, as long as it breaks the same promise.
+%% Shrinks a way: removes ever smaller parts, as long as the rest breaks the same promise.
 shrunk(Way, Broken, Model) ->
     shrunk(max(1, length(Way) div 2), Way, Broken, Model).
 
@@ -224,8 +226,8 @@ breaks(Events, Kind, Model) ->
         [] -> none
     end.
 
-%% @doc What is wrong after these events, of which those are left out that aren't possible, and those after a broken
-%% promise.
+%% @doc Replays the given events, except the impossible ones, up to the first broken promise. Returns these events, and the
+%% promises broken after them.
 -spec replay([event()], model()) -> {[event()], [broken()]}.
 replay(Events, Model0) ->
     Model = #{start := Start} = complete(Model0),
@@ -244,7 +246,7 @@ replay(Events, {ok, State}, Model = #{events := Possible}, Way) ->
 replay(_, Crashed, _, Way) ->
     {lists:reverse(Way), [Crashed]}.
 
-%% @doc As text: what was searched, and the ways to broken promises.
+%% @doc Formats a result as text: the size of the search, and the ways to broken promises.
 -spec format(result()) -> iodata().
 format(Result = #{limit := Limit, found := Found}) ->
     [[io_lib:format("~b events: ~b states, ~b steps, ~b ms~n", tuple_to_list(Level))

@@ -1,9 +1,9 @@
-%% The search in small worlds whose states can be counted by hand.
+%% Tests the search in small worlds whose states can be counted by hand.
 -module(search_tests).
 
 -include_lib("eunit/include/eunit.hrl").
 
-%% Jugs of five and three litres. To have four litres takes six steps.
+%% A puzzle with jugs of five and three litres. Measuring four litres takes six steps.
 jugs(Broken) ->
     #{start => {0, 0},
       events => fun(_) -> [{Do, Which} || Do <- [fill, empty, pour], Which <- [big, small]] end,
@@ -21,7 +21,7 @@ four(_) -> [].
 
 nothing(_) -> [].
 
-%% Three counters up to two.
+%% This world has three counters up to two.
 counters(More) ->
     maps:merge(#{start => {0, 0, 0}, broken => fun nothing/1,
                  events => fun(State) -> [{up, N} || N <- [1, 2, 3], element(N, State) < 2] end,
@@ -45,7 +45,7 @@ what_is_alike_is_seen_once_test() ->
     ?assertMatch({_, 27, 54, _}, last(search:breadth(counters(#{}), #{}))),
     Alike = #{canonical => fun(State) -> lists:sort(tuple_to_list(State)) end},
     ?assertMatch({_, 10, _, _}, last(search:breadth(counters(Alike), #{}))),
-    %% The way is one that can be gone, also where names were exchanged.
+    %% The way can be replayed, even if names were exchanged.
     End = Alike#{broken => fun({2, 2, 1}) -> [there]; ({2, 1, 2}) -> [there]; ({1, 2, 2}) -> [there]; (_) -> [] end},
     #{found := [#{way := Way}]} = search:breadth(counters(End), #{}),
     ?assertEqual({Way, [there]}, search:replay(Way, counters(End))),
@@ -57,7 +57,7 @@ limits_test() ->
     ?assertMatch(#{limit := states, levels := [_, _, {2, 10, _, _}]}, search:breadth(counters(#{}), #{states => 5})),
     Slow = #{step => fun({up, N}, State) -> timer:sleep(5), setelement(N, State, element(N, State) + 1) end},
     ?assertMatch(#{limit := time, levels := [_, _]}, search:breadth(counters(Slow), #{time => 10})),
-    %% Without more states, there is no limit.
+    %% A search that sees all states isn't ended by a limit.
     ?assertMatch(#{limit := none}, search:breadth(counters(#{}), #{depth => 7, states => 28, time => 60000})).
 
 workers_change_nothing_test() ->
@@ -71,7 +71,7 @@ a_start_can_be_broken_test() ->
     ?assertMatch(#{found := [#{way := [], broken := start}]},
                  search:breadth(counters(#{broken => fun(_) -> [start] end}), #{})).
 
-%% Also behind the first broken promise. Each kind is reported once.
+%% The search continues after the first broken promise, and reports each kind once.
 all_kinds_are_found_test() ->
     Broken = fun({1, 0, 0}) -> [{first, 1}]; ({0, 2, 0}) -> [{second, 2}]; ({0, 0, 2}) -> [{second, 3}]; (_) -> [] end,
     ?assertMatch(#{limit := broken, found := [#{broken := {first, 1}, way := [{up, 1}]}]},
@@ -80,12 +80,12 @@ all_kinds_are_found_test() ->
     ?assertMatch([#{broken := {first, 1}}, #{broken := {second, 2}, way := [{up, 2}, {up, 2}]}], Found),
     ?assertMatch(#{limit := none}, Result).
 
-%% What comes after a broken promise isn't looked at: nine states with the first counter at zero, and nine at one.
+%% States after a broken promise aren't visited: there are nine states with the first counter at zero, and nine at one.
 behind_a_broken_promise_nothing_is_seen_test() ->
     Broken = fun({First, _, _}) -> [{first, First} || First > 0] end,
     ?assertMatch({_, 18, _, _}, last(search:breadth(counters(#{broken => Broken}), #{all => true}))).
 
-%% In the end, nothing can happen any more.
+%% The final check applies to states without possible events.
 the_end_is_looked_at_test() ->
     Final = #{final => fun(State) -> [{ended, State}] end},
     ?assertMatch(#{found := [#{broken := {ended, {2, 2, 2}}, way := [_, _, _, _, _, _]}]},
@@ -105,9 +105,9 @@ a_crash_is_a_broken_promise_test() ->
     #{found := [#{broken := Again, way := Random}]} = search:random(counters(Crashes), Walks),
     ?assertMatch({{crashed, _, _}, 3}, {Again, length(Random)}).
 
-%%% At random.
+%%% Random walks.
 
-%% Broken by the last three digits, in whatever comes before.
+%% The last three digits open the lock, whatever comes before them.
 lock() ->
     #{start => [], events => fun(_) -> [1, 2, 3, 4] end, step => fun(Digit, Before) -> [Digit | Before] end,
       broken => fun([3, 4, 2 | Before]) -> [{open, length(Before)}]; (_) -> [] end}.
@@ -116,7 +116,7 @@ walks_are_shrunk_test() ->
     Walks = #{seed => 7, runs => 1000, length => 50},
     #{limit := broken, found := [Found = #{seed := Seed}]} = search:random(lock(), Walks),
     ?assertMatch(#{broken := {open, 0}, way := [2, 4, 3]}, Found),
-    %% The seed is that of the walk, and the walk can be made again.
+    %% The reported seed repeats the walk.
     Again = search:random(lock(), Walks#{seed := Seed, runs := 1}),
     ?assertMatch(#{walks := {0, 0, _}, found := [Found]}, Again).
 
@@ -131,7 +131,7 @@ walks_end_test() ->
     ?assertMatch(#{limit := none, found := [], walks := {10, 60, _}}, Walks(#{length => 9})),
     ?assertMatch(#{limit := time, walks := {0, 0, _}}, Walks(#{time => 0})).
 
-%% Each of the three counters is the first one at two.
+%% Each of the three counters is the first to reach two in some walk.
 walks_differ_test() ->
     ?assertEqual([{first, 1}, {first, 2}, {first, 3}], lists:usort([first_of(Seed) || Seed <- lists:seq(1, 100)])).
 
@@ -144,7 +144,7 @@ first_of(Seed) ->
 what_is_not_possible_is_left_out_test() ->
     ?assertEqual({[{up, 1}, {up, 1}, {up, 2}], []},
                  search:replay([{up, 1}, {up, 1}, {up, 1}, {up, 9}, {up, 2}], counters(#{}))),
-    %% So is what comes after a broken promise.
+    %% Events after a broken promise are skipped, too.
     ?assertEqual({[2, 4, 3], [{open, 0}]}, search:replay([2, 4, 3, 1], lock())).
 
 text_test() ->

@@ -1,5 +1,5 @@
-%% The proved program behind a socket, without media and without a clock (`mg_bridge replay'): so that one host can have a
-%% hundred gateways.
+%% Runs the proved program behind a socket, without media and without a clock (`mg_bridge replay'), so that one host can
+%% run a hundred gateways.
 -module(simulated_gateway).
 
 -export([start/2, config/1, kill/1, contexts/1]).
@@ -22,7 +22,7 @@ config(#{name := Name, address := Address}) -> #{name => Name, address => Addres
 
 kill(#{pid := Pid}) -> exit(Pid, kill).
 
-%% How many contexts and terminations it has.
+%% Returns the numbers of contexts and terminations on a gateway.
 contexts(#{pid := Pid}) ->
     Pid ! {count, self()},
     receive {Pid, Counts} -> Counts end.
@@ -35,7 +35,7 @@ loop(State = #state{socket = Socket, program = Program, contexts = Contexts}) ->
         {Program, {data, {eol, <<"say ", Line/binary>>}}} ->
             loop(answered(Line, State));
         {count, From} ->
-            %% By audits of all contexts that were ever answered, from an address of nobody.
+            %% Audits all contexts that ever occurred in a reply, from an unused address.
             Known = maps:keys(Contexts),
             [port_command(Program, io_lib:format("say 127.0.0.9:9 MEGACO/1 [127.0.0.9]:9 Transaction=~b{Context=~s{AuditValue=*{Audit{}}}}\n",
                                                  [rand:uniform(1 bsl 31), C])) || C <- Known],

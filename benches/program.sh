@@ -2,7 +2,7 @@
 # Proves, builds and runs the program FOLDER/main.rt.in, which uses these crates of the repository. Needs rt.
 # usage: program.sh FOLDER CRATE ..
 # It builds in a temporary folder, which it removes at the end. It runs the program TURNS times (default: 1) on one
-# processor, followed each time by the program BESIDE, if that is set.
+# processor, followed each time by the program BESIDE, if that variable is set.
 set -eu
 folder=$1
 shift

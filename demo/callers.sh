@@ -4,13 +4,13 @@
 
 # The gateway's control port, the port in the controller's name, and the first port of the callers. For a second run,
 # choose other ports, and type the same commands. For another gateway, set CONTROL_PORT and CALLER_PORT. For the same
-# one, set CONTROLLER_PORT and CALLER_PORT; it then treats the messages as another controller's.
+# gateway, set CONTROLLER_PORT and CALLER_PORT: it then treats the messages as another controller's.
 : "${CONTROL_PORT:=2944}" "${CONTROLLER_PORT:=2945}" "${CALLER_PORT:=40000}"
-# What the gateway chose: its port for the first caller, the context, and the first termination. `mg` takes them from
-# the answer to an Add.
+# The gateway's choices: its port for the first caller, the context, and the first termination. `mg` takes them from the
+# answer to an Add.
 : "${MEDIA_PORT:=30000}" "${CONTEXT:=1}" "${TERMINATION:=1}"
 
-# Commands and messages use the ports and numbers of a first run on a new gateway. This prints the port to use now.
+# Commands and messages use the ports and numbers of a first run on a new gateway. This prints the port to use instead.
 moved() {
     if [ "$1" -lt 40000 ]; then echo $(($1 - 30000 + MEDIA_PORT)); else echo $(($1 - 40000 + CALLER_PORT)); fi
 }
@@ -43,7 +43,7 @@ say() {
         udpsink host=127.0.0.1 port="$(moved "$2")" bind-address=127.0.0.1 bind-port="$(moved "$3")"
 }
 
-# The same with packet loss: FILE.wav GATEWAY_PORT FROM_PORT PROBABILITY. 0.1 loses one packet in ten.
+# The same as `say`, with packet loss: FILE.wav GATEWAY_PORT FROM_PORT PROBABILITY. 0.1 loses one packet in ten.
 say_with_loss() {
     gst-launch-1.0 -q filesrc location="$1" ! wavparse ! audioconvert ! audioresample ! \
         audio/x-raw,rate=8000,channels=1 ! mulawenc ! \
@@ -61,8 +61,8 @@ say_by_ffmpeg() {
         "rtp://$to?localaddr=127.0.0.1&localrtpport=$from&localrtcpport=$((from + 1))&pkt_size=172" > /dev/null
 }
 
-# Records what a caller is sent: CALLER_PORT FILE.wav SECONDS. If no packets arrive, it gives up 10 seconds later.
-# To hear it live, replace the last three elements with audioconvert ! audioresample ! autoaudiosink.
+# Records what a caller is sent: CALLER_PORT FILE.wav SECONDS. If no packets arrive, `record` gives up 10 seconds later.
+# To hear them live, replace the last three elements with audioconvert ! audioresample ! autoaudiosink.
 record() {
     timeout $(($3 + 10)) gst-launch-1.0 -q udpsrc address=127.0.0.1 port="$(moved "$1")" num-buffers=$(($3 * 50)) \
         caps="application/x-rtp,media=audio,clock-rate=8000,encoding-name=PCMU,payload=0" ! \

@@ -11,9 +11,9 @@
 %% `quit`, which ends the conferences.
 %%
 %% Once a second, it audits one of its terminations on each gateway. A gateway that does not answer within 1.2 s is
-%% lost; one that answers with error 411 or 430 has restarted. In both cases, its conferences are made again on others,
-%% with the same isolations. The controller prints lines about these events. The `member` lines are for callers: member
-%% 3 of conference 1 listens on port 40004, and sends to port 30004.
+%% lost; a gateway that answers with error 411 or 430 has restarted. In both cases, its conferences are recreated on
+%% other gateways, with the same isolations. The controller prints lines about these events. The `member` lines are for
+%% callers: member 3 of conference 1 listens on port 40004, and sends to port 30004.
 %%     gateway 127.0.0.1:2944 up
 %%     gateway 127.0.0.1:2944 lost: no answer
 %%     conference 1 on 127.0.0.1:2944 context 1764079200
@@ -100,7 +100,8 @@ read_lines() ->
 %% The server knows which gateway has which conference.
 server(S = #server{up = Up, gateways = Gateways}) ->
     receive
-        %% Once a second, not as soon as a gateway is up, so that the first conferences are spread over all of them.
+        %% Conferences are placed once a second, not as soon as a gateway is up, so that the first ones are spread over
+        %% all gateways.
         place -> erlang:send_after(1000, self(), place), server(place(none, [], S));
         %% A gateway serves once it has received `serve`. It ignores whatever it was sent before it reported itself up.
         {up, Name} -> tell(Name, serve, S), server(S#server{up = [Name | Up -- [Name]]});
@@ -112,7 +113,7 @@ server(S = #server{up = Up, gateways = Gateways}) ->
         {line, Words} -> server(try line(Words, S) catch _:_ -> say("not understood", []), S end)
     end.
 tell(Name, Message, S) -> maps:get(Name, S#server.gateways) ! Message.
-%% Has conferences made (all of a gateway's, or one by number), each on the gateway with the most room.
+%% Places conferences (all of a gateway's, or one by number), each on the gateway with the most room.
 place(Which, Except, S = #server{conferences = All}) ->
     Chosen = [C || {C, #conference{gateway = Name}} <- maps:to_list(All), lists:member(Which, [Name, C])],
     lists:foldl(fun(C, T) -> place_one(C, Except, T) end, S, Chosen).
@@ -134,7 +135,7 @@ line([Word, Conference, From, To], S = #server{conferences = All}) ->
     X = #conference{callers = Callers, gateway = Name, topology = Before} = maps:get(C, All),
     Pair = {A, B} = {list_to_integer(From), case To of "*" -> all; _ -> list_to_integer(To) end},
     true = A =/= B andalso {B, How} =/= {all, oneway} andalso [] =/= [lists:nth(M, Callers) || M <- [A, B], M =/= all],
-    %% The topology is kept, in order, for a gateway that has to make the conference again.
+    %% The topology is kept, in order, for a gateway that has to recreate the conference.
     Topology = [Triple || Triple = {A1, B1, _} <- Before, {A1, B1} =/= Pair] ++ [{A, B, How}],
     Name =:= none orelse tell(Name, {topology, C, {A, B, How}}, S),
     S#server{conferences = All#{C := X#conference{topology = Topology}}}.
@@ -178,11 +179,11 @@ check(G = #gateway{name = Name, up = Up}) ->
         {ok, _, _} -> leave(G), server ! {up, Name}, G#gateway{stale = []};
         _ -> lost(G, "no answer")
     end.
-%% If the gateway was only unreachable it still has the contexts, so they are remembered until it answers.
+%% If the gateway was only unreachable, it still has the contexts, so they are remembered until it answers.
 lost(G = #gateway{name = Name, own = Own, stale = Stale, up = Up}, Why) ->
     Up andalso begin say("gateway ~s lost: ~s", [Name, Why]), server ! {lost, Name} end,
     G#gateway{up = false, own = [], stale = [Context || {_, Context, _} <- Own] ++ Stale}.
-%% Ends the contexts that it has, and those that it may have. It is no error if one no longer exists.
+%% Ends the contexts that the gateway has, and those that it may have. It is no error if one doesn't exist.
 leave(#gateway{own = Own, stale = Stale} = G) ->
     Subtract = {'CommandRequest', {subtractReq, {'SubtractRequest', [?ALL], {'AuditDescriptor', []}}}, 'NULL', ?NONE},
     Contexts = [Context || {_, Context, _} <- Own] ++ Stale,

@@ -1,4 +1,4 @@
-# Extracts what was said and heard from a recording, using tools that every distribution has. Source it in a shell:
+# Extracts speech and packets from a recording, using tools that every distribution has. Source it in a shell:
 #     . demo/recordings.sh
 # It needs xxd, sox and tcpdump.
 

@@ -21,7 +21,7 @@ esac
 work=$(mktemp -d)
 trap 'rm -rf "$work"' EXIT
 
-# Whether the program of a check is here.
+# Whether the program of a check is installed.
 has() {
     command -v "$1" > /dev/null || { echo "skipped, as $1 is missing: $2"; false; }
 }
@@ -89,7 +89,8 @@ metrics() {
     mv "$work/metrics.new" "$work/metrics"
 }
 
-# drains STATUS WANTED [SECONDS]: how `drain` must exit, and all that it must print, without the name of the file.
+# drains STATUS WANTED [SECONDS]: checks the exit status of `drain`, and everything that it prints, without the name of
+# the file.
 drains() {
     status=0
     "$here/drain" "$work/metrics" "${3:-0}" > "$work/said" 2>&1 || status=$?
@@ -125,7 +126,7 @@ if [ "$status" != 2 ] || ! grep -q 'is 6[0-9] seconds old: is the gateway runnin
 fi
 echo 'drain: as expected'
 
-# stops WANTED [VARIABLE=VALUE]..: all that the unit's ExecStop must print in this environment.
+# stops WANTED [VARIABLE=VALUE]..: checks everything that the unit's ExecStop prints in this environment.
 command=$(sed -n "s|^ExecStop=-/bin/sh -c '\(.*\)'$|\1|p" "$here/lobbysorrel@.service" |
     sed "s|/usr/lib/lobbysorrel|$here|; s|/run/lobbysorrel/%i/gateway.prom|$work/metrics|; s|/run/|$work/|")
 stops() {

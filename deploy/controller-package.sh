@@ -32,7 +32,7 @@ install_in "usr/lib/erlang/lib/lobby-$version/priv" "$top"/controller/apps/lobby
 chmod 755 "$root/usr/lib/erlang/lib/lobby-$version/priv/ready"
 install_in usr/lib/systemd/system "$here/lobbysorrel-controller.service" "$here/lobbysorrel-controller-keeper.service"
 install -D -m 755 -t "$root/usr/lib/lobbysorrel-controller" "$here/keeper" "$here/listens"
-install_in usr/share/doc/lobbysorrel-controller "$top/controller/README.md" "$top/controller/page.png" "$top/controller/page-phone.png" \
+install_in usr/share/doc/lobbysorrel-controller "$top/controller/README.md" "$top"/controller/page-*.png \
     "$here/debian/copyright"
 install_in usr/share/doc/lobbysorrel-controller/pair "$here/pair/keepalived.conf" "$here/pair/lobby.config"
 install_in etc/lobbysorrel "$here/lobby.config"

@@ -55,7 +55,7 @@ class Help:
         self.summary = text.partition("\n")[0]
         self.usage = re.search(r"^Usage: \S+ ?(.*)$", text, re.M).group(1)
         self.commands = sorted(set(re.findall(r"^  (\w+)  +\S", text, re.M)) - {"help"})
-        # Each option: its short form, its long form, what its value is, and the text.
+        # Each option: its short form, its long form, the kind of its value, and the text.
         self.options = re.findall(r"^ +(?:(-\w), )?(--[\w-]+)(?: <(\w+)>)?  +(\S.*)$", text, re.M)
 
     def names(self):
@@ -63,7 +63,7 @@ class Help:
         return [name for short, long, _, _ in self.options for name in (long, short) if name]
 
     def taking(self, value):
-        """The options with such a value."""
+        """The options with this kind of value."""
         return {long for _, long, of, _ in self.options if of == value}
 
 
@@ -129,7 +129,7 @@ def completion(program):
     taken = (one.taking("FILE") for one in (top, *helps.values()))
     files = "".join(f" | {option}" for option in sorted(set().union(*taken)))
     values = []
-    # After an option with an address comes one of this machine; after one with a number nothing is proposed.
+    # After an option with an address, this machine's addresses are proposed; after an option with a number, nothing is.
     for value, words in ("ADDRESS", "$(hostname -I | tr ' ' '\\n' | grep -v :)"), ("NUMBER", ""):
         taking = sorted(set().union(*(one.taking(value) for one in (top, *helps.values()))))
         values += [f"        {' | '.join(taking)}) words={words} ;;"] * bool(taking)

@@ -75,7 +75,7 @@ put 644 usr/share/lintian/overrides/lobbysorrel "$here/debian/lintian-overrides"
 (cd "$root" && find etc -type f -printf '/%p\n' | sort) > "$root/DEBIAN/conffiles"
 (cd "$root" && find usr -type f | sort | xargs md5sum) > "$root/DEBIAN/md5sums"
 install -m 755 "$here/debian/postinst" "$here/debian/prerm" "$here/debian/postrm" "$root/DEBIAN/"
-# As dpkg-gencontrol counts: each file in whole kilobytes, and one for each folder.
+# Counts as dpkg-gencontrol does: each file in whole kilobytes, and one kilobyte for each folder.
 size=$(find "$root/etc" "$root/usr" -printf '%y %s\n' |
     awk '{ sum += $1 == "f" ? int(($2 + 1023) / 1024) : 1 } END { print sum }')
 sed "s/@VERSION@/$version/; s/@SIZE@/$size/" "$here/debian/control" > "$root/DEBIAN/control"

@@ -1,11 +1,12 @@
-"""Ports on 127.0.0.1 for the trials, and how they end."""
+"""Ports on 127.0.0.1 for the trials, and how trials end."""
 import signal
 import socket
 import sys
 
 
 def end_on_signals():
-    """Ends the trial by an exception if it is told to stop, so that the blocks that hold programs and files end, too."""
+    """Makes a signal to stop end the trial by an exception, so that the blocks that hold programs and files end,
+    too."""
     for one in (signal.SIGTERM, signal.SIGHUP):
         signal.signal(one, lambda number, _: sys.exit(128 + number))
 

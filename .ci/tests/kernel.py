@@ -35,7 +35,7 @@ def program_of(numbers):
 
 
 class Kernel:
-    """What a program meets instead of the system, until the end of the `with` block.
+    """What a program gets in place of the system, until the end of the `with` block.
 
     `decide` is called with each `Call` that has one of the names. It returns the number of the error that the call fails
     with, or `None` if the system is to do it. Meanwhile, the program waits."""

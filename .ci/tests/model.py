@@ -11,7 +11,7 @@ SILENCE = [0] * SAMPLES
 
 
 def magnitudes(law, level):
-    """The smallest magnitude of a level of G.711, and the decoded one."""
+    """The smallest magnitude of a level of G.711, and the decoded magnitude."""
     exponent, mantissa = divmod(level, 16)
     if law == MU:
         return (16 + mantissa << exponent + 3) - 132, ((8 * mantissa + 132) << exponent) - 132
@@ -72,7 +72,7 @@ class Gateway:
         self.terminations, self.members, self.muted = {}, defaultdict(list), set()
 
     def talkers(self, listener):
-        """Whose speech flows to a listener."""
+        """The talkers whose speech flows to a listener."""
         if listener.mode not in LISTENS:
             return []
         others = [it for it in self.terminations.values() if it is not listener and it.context == listener.context]
@@ -86,7 +86,7 @@ class Gateway:
         return 435 if number is not None and self.terminations[number].context != context else None
 
     def enter(self, it, context):
-        """A context of None is a new one. Each member and the newcomer hear each other."""
+        """A context of None means a new one. Each member and the newcomer hear each other."""
         if context is None:
             context = self.last_context = self.last_context + 1
         it.context = context
@@ -146,7 +146,7 @@ class Gateway:
         return {it.number: (it.context, it.mode, talkers[it.number], 30000 + 2 * it.slot) for it in found}
 
     def changes(self, before):
-        """What has changed since this state, as comments."""
+        """The changes since this state, as comments."""
         head, after = f"# {self.ticks} ticks: RTP/", self.state()
         lines = [f"{head}{number} ended" for number in before if number not in after]
         for number, (context, mode, talkers, port) in after.items():

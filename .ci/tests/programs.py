@@ -19,7 +19,7 @@ HEARTBEAT = "MEGACO/1 [127.0.0.1]:2945 Transaction=1{Context=-{AuditValue=ROOT{A
 
 
 def program(name):
-    """The path of a program. The name `mg_bridge.by-rattle` is that of the program as Rattle's own compiler makes it."""
+    """The path of a program. `mg_bridge.by-rattle` is the program built by Rattle's own compiler."""
     return (FOLDER / name) if FOLDER else ROOT / "crates" / name.removesuffix(".by-rattle") / "out" / name
 
 
@@ -78,7 +78,7 @@ def ports(place, slots):
 
 
 class Gateway:
-    """A gateway that runs until the end of the `with` block, perhaps on a `Kernel` of a test's own."""
+    """A gateway that runs until the end of the `with` block, perhaps on a test's own `Kernel`."""
 
     def __init__(self, *words, kernel=None):
         pipes = {it: subprocess.PIPE for it in ("stdin", "stdout", "stderr")}
@@ -89,10 +89,17 @@ class Gateway:
         self.end.start()
         # The lines that were printed before the counts.
         self.lines = []
-        # A recording has a title, and what isn't an event is a comment.
+        # A recording has a title, and lines that aren't events are comments.
         first = self.process.stdout.readline()
         self.title = first if first.startswith("# mg_bridge ") else None
         self.ready = self.process.stdout.readline().removeprefix("# ") if self.title else first
+        # The lines about itself that a gateway in real time prints on standard error, up to its fence.
+        self.said = []
+        if words[0] == "live" and self.ready:
+            for line in iter(self.process.stderr.readline, ""):
+                self.said.append(line)
+                if line.startswith("fence: "):
+                    break
 
     def __enter__(self):
         return self

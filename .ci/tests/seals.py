@@ -4,7 +4,7 @@ import re
 
 
 def part(text):
-    """The text that its next seal is about: all of it from the line of its last seal on."""
+    """The part of a text that its next seal covers: all from the line of its last seal on."""
     return text[text.rfind("\n# sha256 ") + 1 :]
 
 

@@ -51,6 +51,16 @@ class Addresses(Commands):
         for text in ("localhost:2944", "127.0.0.1", "127.0.0.1:65536", ":2944"):
             self.refuses(wanted, "check", text)
 
+    def test_to_check_from(self):
+        for text, why in (
+            ("localhost", "not an IPv4 address in dotted decimal"),
+            ("127.0.0.1:0", "not an IPv4 address in dotted decimal"),
+            ("0.0.0.0", "nobody can send from 0.0.0.0"),
+            ("224.0.0.1", "not a unicast address"),
+        ):
+            wanted = f"error: invalid value for '--source <ADDRESS>': {why}\n"
+            self.refuses(wanted, "check", "127.0.0.1:2944", f"--source={text}")
+
     def test_of_another_machine(self):
         wanted = "cannot bind 192.0.2.1:{port}: Cannot assign requested address (os error 99)\n"
         for option in ("--address=192.0.2.1", "--bind-address=192.0.2.1"):

@@ -80,7 +80,7 @@ class Arguments(Commands):
             self.refuses("error: an argument is not valid UTF-8\n", b"\xff", name=name)
 
     def test_help_that_cannot_be_printed(self):
-        # Whoever reads mg_pace may stop reading at any time.
+        # The reader of mg_pace's output may stop reading at any time.
         for name, status, message in (("mg_bridge", 3, b"write failed\n"), ("mg_pace", 0, b"")):
             with open("/dev/full", "wb") as full:
                 ran = subprocess.run([program(name), "--help"], stdout=full, stderr=subprocess.PIPE, timeout=LIMIT)

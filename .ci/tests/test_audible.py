@@ -27,7 +27,7 @@ HEARD = "RTP/2 (127.0.0.1:40002) heard RTP/1 (127.0.0.1:40000) in context 1 from
 
 class Audible(Commands):
     def audible(self, output, *words, talker="RTP/1", text=SPEECH, errors=""):
-        """What is printed about a talker."""
+        """Checks what is printed about a talker."""
         self.ends(0, output, errors, "heard", "--audible", "--talker", talker, *words, text=text)
 
     def test_speech_and_silence(self):

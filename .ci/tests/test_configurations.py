@@ -7,7 +7,7 @@ class Configurations(Commands):
         slots = "--slots must be from 1 to 256"
         base = "--base-port must be even and not 0, with room for --slots even ports"
         control = "--control-port must not be 0 or a media port"
-        # A configuration is refused before a port is bound: this one is taken.
+        # A configuration is refused before a port is bound: this port is taken.
         taken = f"--control-port={FIRST}"
         with bound(FIRST):
             for words, wanted in (

@@ -8,7 +8,7 @@ COMMANDS = {".out": ["replay"], ".flows": ["replay", "--flows"], ".heard": ["hea
 
 
 class Examples(Commands):
-    # The program as each compiler makes it. A folder, such as dist, has LLVM's alone.
+    # The program as each compiler builds it. A folder, such as dist, has only LLVM's.
     COMPILED = ["mg_bridge"] if programs.FOLDER else ["mg_bridge", "mg_bridge.by-rattle"]
 
     def test_output_is_as_stored(self):

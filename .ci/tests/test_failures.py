@@ -1,4 +1,4 @@
-"""What a gateway does when the system refuses something, or takes long."""
+"""Gateways whose system refuses something, or takes a long time."""
 import contextlib
 import errno
 import tempfile
@@ -53,7 +53,7 @@ class Failures(Commands):
                 line = gateway.process.stderr.readline()
                 self.assertEqual(line, "the journal can't be written: messages get no answer\n")
                 failing.clear()
-                # Nobody knows what the disk has, so only a restart helps.
+                # What the disk has isn't known, so only a restart helps.
                 self.assertIsNone(self.ask(caller, 3, 0.5))
         with udp() as caller, Gateway("live", *words):
             self.assertEqual(self.ask(caller, 3), "Reply=3{Context=3{Add=RTP/3}}")
@@ -85,7 +85,7 @@ class Failures(Commands):
                     self.assertTrue(self.has_received(gateway, words, control=1, media=1))
                     made = sum(kernel.made.values())
                     time.sleep(1)
-                    # A gateway that doesn't wait makes thousands.
+                    # A gateway that doesn't wait makes thousands of calls.
                     self.assertLess(sum(kernel.made.values()) - made, 500)
 
     def test_nothing_is_received_where_nothing_arrived(self):
@@ -104,5 +104,6 @@ class Failures(Commands):
             caller.recv(2000)
             before = processor_seconds(gateway)
             time.sleep(2)
-            # It wakes up a few times in each tick. One that doesn't wait at all takes twice as long as this, or more.
+            # The gateway wakes up a few times in each tick. A gateway that doesn't wait at all takes twice this time,
+            # or more.
             self.assertLess(processor_seconds(gateway) - before, 0.06)

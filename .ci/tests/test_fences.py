@@ -3,7 +3,7 @@ import os
 import tempfile
 from pathlib import Path
 
-from programs import FIRST, Commands, Gateway, ports, udp
+from programs import FIRST, Commands, Gateway, ports, run, udp
 
 FENCE = ("--fence", "--controller=127.0.0.1")
 REFUSED = b"MEGACO/1 <99.lobby.example> Transaction=1{Context=-{AuditValue=ROOT}"
@@ -28,7 +28,7 @@ class Fences(Commands):
             return gateway.stats("poll")
 
     def fenced(self, counts, control, fence, stale):
-        """So many messages were run, and this is the fence."""
+        """Checks how many messages were run, and the fence."""
         self.assertTrue(counts.startswith(f"control={control} "), counts)
         self.assertTrue(counts.endswith(f" fence={fence} stale={stale}\n"), counts)
 
@@ -44,7 +44,9 @@ class Fences(Commands):
             self.fenced(self.counts(gateway, audit("<17.x>", 1), audit("<16.x>", 2), audit("<x>", 3)), 2, 17, 1)
         with Gateway(*words) as gateway:
             self.fenced(self.counts(gateway, audit("<16.x>", 4), audit("<17.x>", 5)), 3, 17, 1)
-            self.assertTrue(gateway.finish()[2].endswith(" 2 messages and 0 ticks\nfence: begins at 17\n"))
+            self.assertTrue(gateway.finish()[2].endswith(" 2 messages and 0 ticks\n"))
+        with Gateway("live", *words[1:]) as gateway:
+            self.assertEqual(gateway.said[-1], "fence: begins at 17\n")
         # Without a fence, all messages are run, and with one, the highest number counts again.
         with Gateway(*[word for word in words if word not in FENCE]) as gateway:
             counts = self.counts(gateway, audit("<18.x>", 6), audit("<16.x>", 7))
@@ -59,7 +61,9 @@ class Fences(Commands):
         with Gateway(*[word for word in words if word != "--fence"], "--fence-from=17") as gateway:
             self.fenced(self.counts(gateway, audit("<16.x>", 3), audit("<18.x>", 4)), 2, 18, 1)
         self.assertIn("\n# fence 17\n", Path(self.path).read_text())
-        # This is not forgotten.
+        # Ticks that were missed before the restart have a line, too.
+        self.assertRegex(run("heard", self.path)[1], r"\A(gap .*\n)?fence 17 from .*\n\Z")
+        # The fence survives another restart.
         with Gateway(*words) as gateway:
             self.fenced(self.counts(gateway, audit("<17.x>", 5), audit("<18.x>", 6)), 3, 18, 1)
         with Gateway(*words, "--fence-from", "20") as gateway:

@@ -22,7 +22,7 @@ def module():
 
 class Hear(unittest.TestCase):
     def test_a_busy_machine(self):
-        """What can't be judged is tried once again, and no more."""
+        """A run that can't be judged is repeated once, and no more."""
         busy, right, wrong = (3, "busy."), (0, "right."), (1, "wrong.")
         for attempts, status in (([right], 0), ([wrong], 1), ([busy, right], 0), ([busy, wrong], 1), ([busy, busy], 3)):
             hear, left, said = module(), list(attempts), io.StringIO()
@@ -35,7 +35,7 @@ class Hear(unittest.TestCase):
                 self.assertEqual("busy. It is tried once again.\n" in said.getvalue(), len(attempts) == 2)
 
     def test_a_gateway_that_is_late(self):
-        """It sends what it missed at once, so that no packet is missing."""
+        """The caller sends the missed packets at once, so that no packet is missing."""
         caller = module().Caller("agent")
         for tick, now in enumerate((0, 0.02, 0.04, 0.26)):
             self.assertLess(caller.lateness(), 0.001)

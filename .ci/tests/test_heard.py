@@ -56,16 +56,16 @@ CHANGES = (
 )
 # Two callers with a date. The first doesn't hear the second from the third tick on. Then the gateway is restarted.
 DATED = date(20) + PAIR + "tick\ntick\n" + PART + "tick\n# missed 2 ticks\ntick\ntick\ntick\n"
-# The ticks before the date, and the ticks after a change, have no dates of their own.
+# The ticks before the date, and the ticks after a change, don't have their own dates.
 LASTING = PAIR + "tick\n" + date(20) + "tick\n" + PART + "tick\n"
 # The first caller stops hearing the second before the date.
 OVER = PAIR + "tick\n" + PART + "tick\n" + date(20) + "tick\n"
-# Without a date, no time is known.
+# Without a date, the times aren't known.
 NEVER = PAIR + "tick\ntick\n"
 
 
 class Heard(Commands):
-    """Two callers from 14:03:20 on. The first one no longer hears the second after two ticks, and three ticks follow."""
+    """Two callers from 14:03:20 on. The first one stops hearing the second after two ticks, and three ticks follow."""
 
     TITLE = TITLE
     CALL = (
@@ -200,23 +200,24 @@ class Intervals(Commands):
                 CHANGES,
                 ["1,3,,1,1,2", "3,1,,1,1,2", "1,2,,1,1,4", "2,3,,1,1,4", "3,2,,1,1,4", "2,1,,1,1,5"],
             ),
-            # What is undone before the next tick makes no difference.
+            # A change that is undone before the next tick makes no difference.
             (PAIR + "tick\n" + PART + JOIN + "tick\n", ["1,2,,1,0,", "2,1,,1,0,"]),
-            # At the very tick of a change.
+            # Changes that happen at the same tick.
             (
                 PAIR + "tick\ntick\n" + PART + "tick\n" + JOIN + "tick\n",
                 ["1,2,,1,0,2", "1,2,,1,3,", "2,1,,1,0,"],
             ),
-            # A change after the last tick concerns the tick that comes next.
+            # A change after the last tick affects the tick that comes next.
             ("tick\n" + PAIR, ["1,2,,1,1,", "2,1,,1,1,"]),
-            # Another context is another interval.
+            # Another context begins another interval.
             (PAIR + "tick\n" + MOVE + "tick\n", ["1,2,,1,0,1", "2,1,,1,0,1", "1,2,,2,1,", "2,1,,2,1,"]),
             ("", []),
         ):
             self.ends(0, self.table(rows), "", "heard", "--format=csv", text=TITLE + script)
 
     def table(self, rows):
-        """The report with these intervals, without times and Remotes: listener, talker, nothing, context and ticks."""
+        """Checks the report of these intervals, without times and Remotes: listener, talker, nothing, context and
+        ticks."""
         lines = [HEAD]
         for listener, talker, rest in (row.split(",", 2) for row in rows):
             lines.append(f"heard,RTP/{listener},,RTP/{talker},{rest},,,,")
@@ -254,6 +255,36 @@ class Intervals(Commands):
                 self.ends(0, "", "", "heard", text=text)
         gap = "gap from tick 1 until tick 4\n"
         self.ends(0, gap, "", "heard", text=TITLE + "tick\n# missed 003 ticks\ntick\n")
+
+    def test_a_fence_that_was_set(self):
+        hour = "2026-11-27T14:03"
+        text = TITLE + date(20) + "tick\ntick\n# missed 2 ticks\ntick\ntick\n# fence 17\ntick\n# fence 4294967295\ntick\n"
+        gap = f"gap from {hour}:20.04Z (tick 2) until {hour}:20.08Z (tick 4)\n"
+        first = f"fence 17 from {hour}:20.08Z (tick 4) until {hour}:20.08Z (tick 4)\n"
+        second = f"fence 4294967295 from {hour}:20.1Z (tick 5) until {hour}:20.1Z (tick 5)\n"
+        for words, wanted in (
+            ([], gap + first + second),
+            (["--listener=RTP/1", f"--from={hour}:20.09Z"], second),
+            ([f"--to={hour}:20.1Z"], gap + first),
+        ):
+            self.ends(0, wanted, "", "heard", *words, text=text)
+        table = (
+            f"{HEAD}\ngap,,,,,,2,4,{hour}:20.04Z,{hour}:20.08Z,,\n"
+            f"fence 17,,,,,,4,4,{hour}:20.08Z,{hour}:20.08Z,,\n"
+            f"fence 4294967295,,,,,,5,5,{hour}:20.1Z,{hour}:20.1Z,,\n"
+        )
+        self.ends(0, table, "", "heard", "--format=csv", text=text)
+        line = f'{{"kind":"fence 4294967295","first_tick":5,"end_tick":5,"from":"{hour}:20.1Z","until":"{hour}:20.1Z"}}\n'
+        self.ends(0, line, "", "heard", "--format=json", f"--from={hour}:20.09Z", text=text)
+        # The interval contains no time.
+        self.ends(1, "could not hear\n", "", "heard", f"--at={hour}:20.08Z", text=text)
+        self.ends(0, "", "", "heard", "--never=* -> *", text=text)
+
+    def test_comments_that_set_no_fence(self):
+        for number in ("", "x", "-1", "4294967296", "1.5", "17 ", " 17", "00000000017"):
+            with self.subTest(number=number):
+                self.ends(0, "", "", "heard", text=TITLE + f"tick\n# fence {number}\n#fence 17\n# fences 17\ntick\n")
+        self.ends(0, "fence 17 from tick 1 until tick 1\n", "", "heard", text=TITLE + "tick\n# fence 17\ntick\n")
 
 
 class Formats(Commands):
@@ -303,7 +334,7 @@ class Zones(Commands):
     """The first caller stops hearing the second when summer time ends in Berlin, after one tick."""
 
     CALL = TITLE + "# time 2026-10-25T00:59:59.98Z\n" + PAIR + "tick\n" + PART + "tick\n"
-    # The same at the beginning of summer time.
+    # The same text at the beginning of summer time.
     SPRING = CALL.replace("10-25", "03-29")
 
     def heard(self, words, text, first, end):
@@ -345,7 +376,7 @@ class Names(Commands):
     """The two callers of `Heard.CALL`, with a file of names."""
 
     TEXT = TITLE + Heard.CALL
-    # What is printed about the first caller and the second one.
+    # The lines about the first caller and the second one.
     FIRST, SECOND = Heard.FIRST, Heard.SECOND
 
     def setUp(self):
@@ -476,7 +507,7 @@ class Answers(Commands):
             (DATED, "14:03:19.999Z", unknown),
             (DATED, "14:03:20Z", yes),
             (DATED, "14:03:20.039Z", yes),
-            # The very tick of the change, also with another offset.
+            # The tick of the change itself, also with another offset.
             (DATED, "14:03:20.04Z", no),
             (DATED, "15:03:20.04+01:00", no),
             (DATED, "14:03:20.059Z", no),

@@ -49,7 +49,7 @@ class Journals(Commands):
             self.assertEqual(caller.recv(2000), answer)
 
     def test_a_title_has_the_numbers_that_the_gateway_begins_with(self):
-        """Five different ones, in a new journal, and after a restart that isn't given them."""
+        """Five different options, for a new journal, and for a restart without them."""
         os.remove(self.path)
         numbers = "--first-termination=11 --first-context=12 --ssrc=7 --sequence=8 --timestamp=9"
         words = [*ports(0, 2), "--journal", self.path]
@@ -101,7 +101,7 @@ class Journals(Commands):
         self.assertRegex(output, rf"\Agap from \S+ \(tick 5\) until \S+ \(tick {ticks}\)\n\Z")
 
     def test_goes_on_like_a_replay(self):
-        """A gateway that resumes from a script answers and sends what a gateway does that ran the script."""
+        """A gateway that resumes from a script answers and sends like a gateway that ran the script."""
         speech = "".join(
             f"rtp {FIRST + 2 + 2 * slot} 127.0.0.1:40000 {spoken(1, byte * 160).hex()}\n"
             for slot, byte in enumerate((b"\x10", b"\x9c"))
@@ -115,7 +115,7 @@ class Journals(Commands):
                 self.check_resumed(script + end, controller, list(modes))
 
     def check_resumed(self, text, controller, callers):
-        """A gateway that resumes from this script goes on like a replay of it."""
+        """A gateway that resumes from this script continues like a replay of it."""
         audit = request(3, "Context=12{AuditValue=RTP/11{Audit{Media,Statistics}}},Context=12{ContextAudit{Topology}}")
         title = self.TITLE.replace("28807", str(FIRST)).replace("28808", str(FIRST + 2)).replace("=2 ", "=3 ")
         Path(self.path).write_text(title + text)

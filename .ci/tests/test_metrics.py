@@ -1,4 +1,4 @@
-"""Metrics, compared with what was done to the gateway."""
+"""Metrics, compared with what happened to the gateway."""
 import contextlib
 import errno
 import re
@@ -16,7 +16,7 @@ CONTROL, SPEECH = ("127.0.0.1", FIRST), ("127.0.0.1", FIRST + 2)
 PACKET = 172
 
 
-# What was done, by metric.
+# The expected counts, by metric.
 COUNTS = {
     "control_messages_total": 1,
     "control_messages_unread_total": 0,
@@ -30,7 +30,7 @@ COUNTS = {
 
 
 class Page:
-    """One writing of the metrics."""
+    """The metrics as written at one time."""
 
     def __init__(self, path):
         self.inode, text = path.stat().st_ino, path.read_text()
@@ -100,7 +100,7 @@ class Metrics(Commands):
             self.assertNotEqual(first.inode, second.inode)
 
     def talk(self, caller, stranger):
-        """A conference of the caller and somebody on hold, whom others disturb."""
+        """A conference of the caller and a member on hold, whom strangers disturb."""
         for _ in range(2):
             stranger.sendto(b"MEGACO/1 mg", CONTROL)
         caller.sendto(conference(add(caller.getsockname()[1]), add(40000, address="0.0.0.0")), CONTROL)
@@ -114,7 +114,7 @@ class Metrics(Commands):
             time.sleep(0.5)
 
     def starve(self, gateway, caller):
-        """The gateway gets no more memory, and three messages that need some."""
+        """The gateway gets no more memory, and then three messages that need memory."""
         pid = gateway.process.pid
         size = int(Path(f"/proc/{pid}/statm").read_text().split()[0]) * resource.getpagesize()
         resource.prlimit(pid, resource.RLIMIT_AS, (size, resource.RLIM_INFINITY))

@@ -1,4 +1,4 @@
-"""Readers of a gateway's output: slow ones, ones that are gone, and files."""
+"""Readers of a gateway's output: slow readers, readers that are gone, and files."""
 import contextlib
 import os
 import resource
@@ -21,7 +21,8 @@ def start(**how):
 
 class Outputs(unittest.TestCase):
     def test_a_gateway_does_not_wait_for_its_reader(self):
-        """A pipe holds 64 KiB. While nobody reads, the gateway runs 400,000 ticks and answers. Then all lines arrive."""
+        """A pipe holds 64 KiB. While the reader waits, the gateway runs 400,000 ticks and answers. Then all lines
+        arrive."""
         ticks = 400_000
         with udp() as controller, Gateway(*WORDS) as gateway:
             gateway.tell(*["tick"] * ticks)
@@ -34,7 +35,8 @@ class Outputs(unittest.TestCase):
         self.assertTrue(output == "tick\n" * ticks + message, output[-300:])
 
     def test_a_reader_that_is_too_slow(self):
-        """It gets the beginning of the recording, without holes, and the operator is told once. Calls go on."""
+        """A reader that is too slow gets the beginning of the recording, without holes. This is reported once, and
+        calls continue."""
         with udp() as controller, Gateway(*WORDS) as gateway:
             lines = []
             # Each line has 32 KB. The queue and the pipe hold some 2,080 of them.

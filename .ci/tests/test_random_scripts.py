@@ -15,7 +15,7 @@ def name(number):
 
 
 def descriptions(number, local, remote):
-    """The Local and Remote of a termination, as far as there are any."""
+    """The Local and Remote of a termination, if it has them."""
     text = "" if local is None else f",Local{{v=0\\nc=IN IP4 $\\nm=audio $ RTP/AVP {local}\\n}}"
     if remote is not None:
         text += f",Remote{{v=0\\nc=IN IP4 192.0.2.{number}\\nm=audio 40000 RTP/AVP {remote}\\n}}"
@@ -92,7 +92,7 @@ class Script:
 
 
 def found(line):
-    """An output line as the model gives it: of a reply, only its error."""
+    """An output line in the model's form: a reply is reduced to its error."""
     reply = re.match(r"say 10\.0\.0\.9:2945 MEGACO/1 \[127\.0\.0\.1\]:2944\\nReply=([0-9]+){", line)
     if not reply:
         return line

@@ -14,7 +14,7 @@ def address(caller):
 
 
 def datagram(line):
-    """Where a line of a replay's output goes, and the datagram."""
+    """The destination and the datagram of a line of a replay's output."""
     word, *rest = line.split(" ", 3)
     if word == "rtp":
         return rest[1], bytes.fromhex(rest[2])
@@ -30,7 +30,7 @@ class Recordings(Commands):
             sends = [(first, CONTROL, it) for it in (create, b"", b"MEGACO/1 mg K{7", b"MEGACO/1 mg K{7}", change)]
             sends += [(first, ONE, spoken(1, b"\x21" * 160)), (first, ONE, b"\x80\x00\xff\x0a")]
             sends += [(second, OTHER, spoken(7, b"\xde" * 160)), (second, OTHER, b"")]
-            # Each is recorded before the next one is sent.
+            # Each datagram is recorded before the next one is sent.
             for count, (caller, to, bytes_sent) in enumerate(sends, 1):
                 caller.sendto(bytes_sent, to)
                 gateway.received(min(count, 5), max(0, count - 5))

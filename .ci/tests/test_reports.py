@@ -13,7 +13,7 @@ from programs import ROOT, Commands, program, run
 from test_heard import CHANGES, DATED, LASTING, PAIR, PART, TITLE, date
 
 VOID = {"meta", "br"}
-# What would run, or fetch something.
+# Elements and attributes that would run or fetch something.
 ACTIVE = {"a", "audio", "base", "embed", "form", "frame", "iframe", "img", "input", "link", "object", "script", "video"}
 FETCHES = {"action", "background", "data", "formaction", "href", "poster", "src", "srcset", "xlink:href"}
 
@@ -75,8 +75,8 @@ def rows_of(table):
         first, end = row["first_tick"], row["end_tick"]
         attrs = {"style": f"--a:{first};--b:{end or 'var(--t1)'}"}
         times = [moment(row["from"], first), moment(row["until"], end) if end else "the end", ""]
-        if row["kind"] == "gap":
-            yield {"class": "gap", **attrs}, ["Gap", *times]
+        if row["kind"] == "gap" or row["kind"].startswith("fence "):
+            yield {"class": "gap", **attrs}, [row["kind"], *times]
         else:
             parties = (party(row[it], row[f"{it}_at"], row[f"{it}_name"]) for it in ("listener", "talker"))
             yield attrs, [*parties, row["context"], *times]
@@ -95,7 +95,7 @@ class Reports(Commands):
 
     def test_rows(self):
         examples = (ROOT / "examples/coached_call.txt").read_text()
-        for text in (TITLE + CHANGES, TITLE + DATED, TITLE + LASTING, TITLE, examples):
+        for text in (TITLE + CHANGES, TITLE + DATED, TITLE + LASTING, TITLE + "# fence 17\n", TITLE, examples):
             for words in ([], ["--listener=RTP/1"], ["--talker=RTP/9"], ["--from=2026-11-27T14:03:20.04Z"]):
                 with self.subTest(text=text[-200:], words=words):
                     table = run("heard", "--format=csv", *words, text=text)[1]
@@ -107,7 +107,7 @@ class Reports(Commands):
         for text, words, scale in (
             (DATED, [], (0, 6)),
             (DATED, ["--listener=RTP/1"], (0, 2)),
-            # A flow that opens in the last tick, and no flow at all.
+            # A flow that opens in the last tick, and a script without flows.
             ("tick\ntick\n" + PAIR, [], (2, 3)),
             ("tick\ntick\ntick\n", [], (0, 3)),
             ("", [], (0, 1)),
@@ -142,7 +142,7 @@ class Reports(Commands):
         )
 
     def test_hash_of_sealed_file(self):
-        """The hash is that of all bytes, also if the file has seals."""
+        """The hash covers all bytes, even if the file has seals."""
         path = ROOT / "examples/coached_call.txt"
         self.assertIn("\n# sha256 ", path.read_text())
         for words, text in (([str(path)], ""), ([], path.read_text())):
@@ -203,7 +203,7 @@ class Reports(Commands):
             # The period that ended before the fault.
             self.assertEqual([cells[:2] for _, cells in page.rows[1:]], [["RTP/1", "RTP/2"]])
             self.assertEqual(page.facts["Time covered"], ["not known"])
-        # There is no page about what isn't a script.
+        # If the input isn't a script, there is no page.
         self.refuses("standard input: line 1 isn't the title", "heard", "--report", status=6)
         self.refuses("none.txt: cannot be opened", "heard", "--report", "none.txt", status=6)
 

@@ -1,4 +1,5 @@
 """Each subcommand in its simplest form."""
+import tempfile
 import threading
 
 from programs import FIRST, HEARTBEAT, Commands, Gateway, bound, counted, ports, run
@@ -30,6 +31,29 @@ class Runs(Commands):
         self.assertEqual((status, errors), (0, ""))
         self.assertRegex(output, rf"\A127\.0\.0\.1:{FIRST} answered in [0-9]+ us\n\Z")
 
+    def test_live_says_what_it_is(self):
+        version = "version: " + run("--version")[1].splitlines(keepends=True)[0]
+        control = f"control: 127.0.0.1:{FIRST}\n"
+        with Gateway("live", *ports(0, 4)) as gateway:
+            self.assertEqual(gateway.ready, "ready\n")
+            media = f"media: 127.0.0.1, ports {FIRST + 2} to {FIRST + 8}\n"
+            warning = "warning: no --controller: anybody may command this gateway\n"
+            self.assertEqual(gateway.said, [version, control, media, warning, "journal: none\n", "fence: none\n"])
+        with tempfile.NamedTemporaryFile() as journal:
+            words = ["--bind-address=0.0.0.0", "--controller=127.0.0.1", "--controller=10.0.0.2", "--fence-strict"]
+            with Gateway("live", *ports(0, 1), *words, "--fence-from=17", "--sync", f"--journal={journal.name}") as gateway:
+                media = f"media: 127.0.0.1, ports {FIRST + 2} to {FIRST + 2}\n"
+                controllers = "controllers: 127.0.0.1 10.0.0.2\n"
+                last = [f"journal: {journal.name}, each message synced\n", "fence: begins at 17, strict\n"]
+                self.assertEqual(gateway.said, [version, control, media, "bound to: 0.0.0.0\n", controllers, *last])
+
+    def test_check_from_an_address(self):
+        with Gateway("live", *ports(0, 1), "--controller=127.0.0.2"):
+            self.assertEqual(run("check", "--source=127.0.0.2", f"127.0.0.1:{FIRST}")[0], 0)
+            self.ends(2, "", f"127.0.0.1:{FIRST} doesn't answer: timed out\n", "check", f"127.0.0.1:{FIRST}")
+        wanted = "cannot send from 192.0.2.1: Cannot assign requested address (os error 99)\n"
+        self.ends(3, "", wanted, "check", "--source=192.0.2.1", f"127.0.0.1:{FIRST}")
+
     def test_check_of_a_gateway_that_answers_something_else(self):
         with bound(FIRST) as (gateway,):
             other = threading.Thread(target=answer, args=(gateway, b"MEGACO/1 mg\nReply=2{Context=-{AuditValue=ROOT}}"))
@@ -48,7 +72,7 @@ class Runs(Commands):
             self.assertEqual([gateway.recv(100) for _ in range(3)], [heartbeat] * 3)
 
     def test_check_acknowledges_the_answer(self):
-        """So the gateway need not keep it."""
+        """So the gateway doesn't have to keep the reply."""
         found = []
 
         def serve(gateway):

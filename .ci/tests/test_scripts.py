@@ -1,4 +1,4 @@
-"""Scripts that need options, what `--flows` adds, and lines that are no events."""
+"""Scripts that need options, the lines that `--flows` adds, and lines that aren't events."""
 from pathlib import Path
 
 from programs import HEARTBEAT, Commands, run

@@ -22,7 +22,7 @@ class Seals(Commands):
             self.ends(0, whole, "", "seal", text=text)
         text = "# a comment\ntick\n"
         self.verifies(0, "seals hold: 1, the last in line 3; lines after it: 0", text + seal(text))
-        # After a seal, right or wrong, and after a partial line there is none.
+        # No seal is added after a seal, right or wrong, or after a partial line.
         for text in (text + seal(text), "# sha256 \n", "tick\n# sha256 00\n", "tick", "tick\n\ntick", "tick\n# sha256"):
             self.ends(0, text, "", "seal", text=text)
 
@@ -64,7 +64,8 @@ class Seals(Commands):
             (one + "tick\n" + two[len(one) :], "after line 3, up to line 6"),
             (one + "rtp\n" + three[len(one) + 5 :], "after line 3, up to line 5"),
             (two + three[len(two) + 5 :], "after line 5, up to line 6"),
-            # A seal of nothing, one that covers its own mark, three that leave lines out, and one of all lines.
+            # A seal of nothing, a seal that covers its own mark, three seals that leave lines out, and a seal of all
+            # lines.
             (one + seal_of(""), "after line 3, up to line 4"),
             (one + seal_of(part(one) + "# sha256 "), "after line 3, up to line 4"),
             (one + "tick\n" + seal_of("tick\n"), "after line 3, up to line 5"),

@@ -33,7 +33,7 @@ static double now(void) {
     return t.tv_sec * 1e9 + t.tv_nsec;
 }
 
-// The minimum of several runs, because other work on the machine disturbs it least.
+// The minimum of several runs, which other work on the machine disturbs least.
 #define LEAST_NS(STEP) ({ \
     double least = 1e18; \
     for (int run = 0; run < RUNS; run++) { \

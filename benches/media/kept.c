@@ -1,4 +1,4 @@
-// A hand-written mixer, for comparing ticks. It receives G.711 packets, keeps the total of each conference,
+// A hand-written mixer, with which ticks are compared. It receives G.711 packets, keeps the total of each conference,
 // and sends each caller the total without its own frame. It checks less than the gateway, keeps no counters, and has
 // one mode and no topology.
 #define _POSIX_C_SOURCE 199309L

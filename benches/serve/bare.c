@@ -1,6 +1,6 @@
-/* Only receives and sends as many datagrams as a gateway does: the cost of the sockets without the gateway.
-   usage: bare CALLERS SLOTS
-   It is driven by the same lines, receives what arrives, and sends each caller a packet of 172 bytes in each tick. */
+/* Only receives and sends as many datagrams as a gateway does: the cost of the sockets without the gateway. usage: bare
+   CALLERS SLOTS The same lines drive it. It receives all datagrams that arrive, and sends each caller a packet of 172
+   bytes in each tick. */
 #define _GNU_SOURCE
 #include "loopback.h"
 #include <stdint.h>

@@ -1,6 +1,6 @@
 #!/bin/bash
-# Measures the gateway over loopback: `live`, which waits for its ticks and messages itself, and `serve`, to which mg_pace
-# says when to poll and tick (mg_pace's own time isn't counted). Compares their processor time with that of plain
+# Measures the gateway over loopback: `live`, which waits for its ticks and messages itself, and `serve`, which polls
+# and ticks when mg_pace says so (mg_pace's own time isn't counted). Compares their processor time with that of plain
 # receives and sends in C.
 # usage: run.sh CALLERS A_CONFERENCE SECONDS [SLOTS]
 # With 0 CALLERS it measures an idle gateway. TURNS=N measures each N times, in turn.
@@ -30,7 +30,7 @@ measure() {
     sed -n 's/^VmHWM:[ \t]*/  memory at most: /p' "/proc/$process/status"
     sed 's/^/  /' "$work/errors"
 }
-# What is driven by mg_pace.
+# Runs a gateway that mg_pace drives.
 paced() {
     name=$1
     shift

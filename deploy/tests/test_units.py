@@ -1,4 +1,4 @@
-"""The programs of the units: run, started, keeper and firewall. A fake systemctl or nft stands for the real one."""
+"""The programs of the units: run, started, keeper and firewall. A fake systemctl or nft replaces the real one."""
 import os
 import re
 import socket
@@ -43,7 +43,7 @@ class Scripts(unittest.TestCase):
             time.sleep(0.05)
 
     def said(self, name, *words, **environment):
-        """What a script prints, and its status."""
+        """Returns the output of a script, and its status."""
         process = self.begin(name, *words, **environment)
         return process.communicate(timeout=30)[0], process.returncode
 
@@ -96,7 +96,7 @@ class Run(Scripts):
 
 
 class Gateway(unittest.TestCase):
-    """./gateway, as far as it gets with a wrong option."""
+    """./gateway with a wrong option, which ends it early."""
 
     def said(self, *words):
         done = subprocess.run([DEPLOY.parent / "gateway", *words, "--slots=0"], capture_output=True, text=True)
@@ -139,7 +139,7 @@ class Started(Scripts):
         self.assertEqual(said, ("the gateway ended: its last line says why\n", 1))
 
     def test_it_waits_for_the_port(self):
-        """Another process that has no port yet is waited for."""
+        """The script waits for a process that has no port yet."""
         other = subprocess.Popen(["sleep", "1"])
         self.addCleanup(other.wait)
         start = time.monotonic()
@@ -166,7 +166,7 @@ class Listens(Scripts):
         return process
 
     def test_a_controller_that_ends(self):
-        """Whatever else this user runs may listen, so the controller ends a little later, as if its last port were taken."""
+        """Other programs of this user may listen, so the controller ends later, as if its last port were taken."""
         with socket.create_server(("127.0.0.1", 0)):
             process = self.process("import time; time.sleep(1)")
             waiting = self.begin("listens", MAINPID=str(process.pid))
@@ -178,7 +178,7 @@ class Listens(Scripts):
         self.assertEqual(self.said("listens", MAINPID=str(process.pid)), ("", 0))
 
 
-# Prints the unit's state, and writes down what it is told.
+# Prints the unit's state, and records its orders.
 SYSTEMCTL = """
 case $1 in
     show) cat "$STATE" ;;
@@ -192,7 +192,7 @@ class Keeper(Scripts):
         self.state, self.orders = self.folder / "state", self.folder / "orders"
         self.orders.touch()
         self.fake("systemctl", SYSTEMCTL)
-        # Time goes faster between looks, but not for the pauses, which are by the clock.
+        # Time passes faster between checks, but not for the pauses, which follow the clock.
         self.fake("sleep", "exec /bin/sleep 0.1")
 
     def unit(self, state, main=0, status=0, since=0):
@@ -206,7 +206,7 @@ class Keeper(Scripts):
         return self.begin("keeper", *words, RUNTIME_DIRECTORY=str(self.folder), STATE=str(self.state), ORDERS=str(self.orders))
 
     def ordered(self, count, seconds=20):
-        """The orders, once there are so many or the time is over."""
+        """The orders, once there are this many or the time is over."""
         end = time.monotonic() + seconds
         while len(lines := self.orders.read_text().splitlines()) < count and time.monotonic() < end:
             time.sleep(0.05)
@@ -297,7 +297,7 @@ class Keeper(Scripts):
 
 
 class Firewall(Scripts):
-    """The fake nft has a file in place of the kernel's rules, and takes only files that say `good`."""
+    """The fake nft has a file in place of the kernel's rules, and accepts only files that contain `good`."""
 
     def setUp(self):
         super().setUp()

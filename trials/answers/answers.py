@@ -1,4 +1,4 @@
-"""Sends messages to `mg_bridge live`, and measures how soon they are answered.
+"""Sends messages to `mg_bridge live`, and measures how quickly they are answered.
 
 usage: answers.py BRIDGE CALLERS
 
@@ -82,7 +82,7 @@ class Gateway:
         return [int(port) for port in re.findall(r"m=audio (\d+)", answer)]
 
     def times(self):
-        """Sends messages one after another at random intervals, and measures how soon they are answered."""
+        """Sends messages one after another at random intervals, and measures how quickly they are answered."""
         times = []
         for _ in range(MESSAGES):
             time.sleep(random.uniform(0.001, 0.045))
@@ -132,7 +132,7 @@ def bursts():
     answered = {}
     with Gateway() as gateway:
         for _ in range(BURSTS):
-            # Start at a random moment between two ticks.
+            # Starts at a random moment between two ticks.
             start = time.monotonic() + random.uniform(0, 0.02)
             for n in range(BURST):
                 time.sleep(max(0, start + n * BURST_MS / BURST / 1000 - time.monotonic()))

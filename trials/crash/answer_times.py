@@ -1,4 +1,4 @@
-"""Measures how soon `mg_bridge live` answers without a journal, with one, and with one that is synced.
+"""Measures how quickly `mg_bridge live` answers without a journal, with a journal, and with a synced journal.
 
 usage: answer_times.py BRIDGE FOLDER
 
@@ -19,7 +19,7 @@ HEARTBEAT = "Context=-{AuditValue=ROOT{Audit{}}}"
 
 
 def times(*options):
-    """How long a gateway took to answer, in milliseconds, in ascending order."""
+    """Returns how long a gateway took to answer, in milliseconds, in ascending order."""
     found = []
     with Gateway([BRIDGE], 4, *options) as gateway:
         for _ in range(MESSAGES):

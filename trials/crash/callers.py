@@ -8,7 +8,7 @@ from loopback import udp
 
 RATE, FRAME, STRIDE = 8000, 160, 0.02
 SILENCE, TONE = b"\xff" * FRAME, b"\x80\x00" * (FRAME // 2)
-# An interval between two packets is kept if it is longer, in seconds.
+# An interval between two packets is kept if it is longer than this, in seconds.
 GAP = 0.05
 ADD = ("Add=${Media{LocalControl{Mode=SendReceive},Local{v=0\nc=IN IP4 $\nm=audio $ RTP/AVP 0\n},"
        "Remote{v=0\nc=IN IP4 %s\nm=audio %d RTP/AVP 0\n}}}")
@@ -27,8 +27,8 @@ class Caller:
         # When the last packet and the last speech arrived, and the intervals without them: start and length.
         self.last, self.heard = None, None
         self.gaps, self.speech_gaps = [], []
-        # How far the timestamps and the clock have got since the first packet, in seconds, and by how much the timestamps
-        # led at each packet.
+        # How far the timestamps and the clock have advanced since the first packet, in seconds, and by how much the
+        # timestamps led at each packet.
         self.played, self.start, self.leads = 0.0, None, array("d")
 
     def add(self):

@@ -1,11 +1,12 @@
-"""Kills `mg_bridge live` with a journal at random moments, restarts it as the unit does, and checks that callers hear a gap
-and nothing else changes.
+"""Kills `mg_bridge live` with a journal at random moments, restarts it as the unit does, and checks that callers only
+hear a gap.
 
 usage: crash.py BRIDGE TERMINATIONS SECONDS KILLS
 
-TERMINATIONS is a multiple of eight. One of them comes and goes: it is a controller's, in the first conference. The others
-are callers, eight in each conference. The first sends a tone, from which the last is isolated; the others send silence.
-One kill in five hits a gateway that is starting after another kill. Exits with 1 if a check fails.
+TERMINATIONS is a multiple of eight. One of them, which a controller adds and removes again and again, is in the first
+conference. The others are callers, eight in each conference. The first sends a tone, from which the last is isolated;
+the others send silence. One kill in five hits a gateway that is starting after another kill. Exits with 1 if a check
+fails.
 """
 import os
 import random
@@ -62,7 +63,7 @@ def trial(unit):
     kills = moments(calls.start)
     killed, leads = [], []
     while (now := time.monotonic()) < calls.start + SECONDS:
-        # To repeat a request that was forgotten would hide that.
+        # Repeating a request that was forgotten would hide that.
         if unit.turn() and len(killed) % 2:
             controller.request_again()
         edits.turn()
@@ -79,7 +80,7 @@ def trial(unit):
 
 
 def lives(leads):
-    """For each caller, by how much the timestamps led the clock in each life of the gateway: the medians."""
+    """For each caller, the median of how much the timestamps led the clock in each run of the gateway."""
     return [[statistics.median(life) for life in one if life] for one in zip(*leads)]
 
 
@@ -116,7 +117,9 @@ def main():
         finally:
             unit.kill()
             errors.seek(0)
-            lines = [line for line in errors.read().decode().splitlines() if ": continues after " not in line]
+            # Each start says what the gateway serves.
+            said = re.compile("journal .*: continues after |(version|control|media|controllers|warning|journal|fence): ")
+            lines = [line for line in errors.read().decode().splitlines() if not said.match(line)]
             print("".join(line + "\n" for line in lines[-20:]), end="")
     sys.exit(not holds)
 

@@ -3,7 +3,7 @@ whole lines of that part.
 
 usage: cuts.py BRIDGE
 
-Exits with 1 at the first difference. The part of a last line must be gone from the file.
+Exits with 1 at the first difference. A partial last line must be gone from the file.
 """
 import os
 import subprocess
@@ -33,7 +33,7 @@ def title_of(lines):
 
 
 def audit_after(lines, source):
-    """What a gateway that replays these lines answers to the audit."""
+    """Returns the answer to the audit from a gateway that replays these lines."""
     message = AUDIT.replace("\\", "\\\\").replace("\n", "\\n")
     script = "\n".join([*lines, f"say {source} {message}", ""])
     done = subprocess.run([BRIDGE, "replay", *title_of(lines)], input=script.encode(), stdout=subprocess.PIPE, check=True)

@@ -26,7 +26,7 @@ def title(control, base, slots=SLOTS):
 
 
 def files(folder, control, base):
-    """Files that are no journals of this gateway: each has a message of its own, and stays as it is."""
+    """Files that aren't journals of this gateway: each has its own message, and stays unchanged."""
     options = ["--control-port", str(control), "--base-port", str(base), "--slots", str(SLOTS)]
     head = title(control, base)
     cases = {

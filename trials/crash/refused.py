@@ -5,10 +5,10 @@ usage: refused.py BRIDGE LIBRARY
 LIBRARY is built from trials/refusals/refuse.c. In a session, a controller sends five requests, with ticks after each. A
 refused write may also make each cut of the file fail. Then the journal is broken, as it is after a refused sync.
 
-An answer needs a whole line in the file. If the journal isn't broken, it consists of whole lines, and a repeated request
-is answered. If it is broken, requests get no answer, packets go on, and the gateway reports it. A gateway that goes on
-from the file knows what was answered, and answers all requests with the same bytes as one whose calls don't fail. Exits
-with 1 at the first session that goes wrong.
+An answer needs a whole line in the file. If the journal isn't broken, it consists of whole lines, and a repeated
+request is answered. If it is broken, requests get no answer, packets continue, and the gateway reports it. A gateway
+that resumes from the file knows what was answered, and answers all requests with the same bytes as a gateway whose
+calls don't fail. Exits with 1 at the first session that goes wrong.
 """
 import os
 import sys
@@ -26,7 +26,7 @@ FULL, WORKS = "the journal can't be written: messages get no answer\n", "the jou
 
 
 class Wrong(Exception):
-    """The gateway did something wrong."""
+    """Raised if the gateway did something wrong."""
 
 
 def expect(holds, what):
@@ -53,7 +53,7 @@ class Trial:
                    "Context=1{Subtract=RTP/2{Audit{}}}")
         self.messages = [message(number, action) for number, action in enumerate(actions, 1)]
         self.options = ("--control-port", str(self.control), "--base-port", str(self.base), "--slots", str(SLOTS))
-        # The answers of a gateway whose calls don't fail, and what it answers to an audit before and after each.
+        # The answers of a gateway whose calls don't fail, and its answers to an audit before and after each.
         self.answers, self.audits = [], []
         with self.serving(self.path("reference")) as gateway:
             self.audits.append(self.audit(gateway))
@@ -142,7 +142,7 @@ class Session:
             expect(found == 1, f"the journal has {found} lines for the answered {one}")
 
     def go_on(self, answered):
-        """Checks a gateway that goes on from the journal."""
+        """Checks a gateway that resumes from the journal."""
         trial = self.trial
         with trial.serving(self.journal) as gateway:
             expect(gateway.is_ready, "the next gateway doesn't start")

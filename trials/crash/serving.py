@@ -1,7 +1,7 @@
 """`mg_bridge serve` with a journal, for the trials of the journal."""
 import subprocess
 
-# The most seconds that a gateway may take to end.
+# The maximum number of seconds that a gateway may take to end.
 PATIENCE = 20
 
 

@@ -23,7 +23,7 @@ from serving import Serving
 BRIDGE, FOLDER = sys.argv[1:]
 SLOTS, MEMBERS, RUNS = 256, 8, 3
 MESSAGES, TICKS = 20_000, 24 * 3600 * 50
-# The most seconds that a start may take, for each number of days.
+# The maximum number of seconds that a start may take, for each number of days.
 LIMITS = {1: 0.3, 30: 5.0}
 
 

@@ -1,10 +1,10 @@
-"""Random joins, isolations, rules, roles, mutes, moves and failures, on two gateways with journals. Every second, what the
-gateways themselves answer is compared with what the rooms' rules say and with who is isolated, and with what each phone
-hears. The trial keeps its own record of rules, roles, mutes and isolations. Only after a change that wasn't answered by 200,
-it reads them from the controller.
+"""Tries random joins, isolations, rules, roles, mutes, moves and failures, on two gateways with journals. Every second,
+the gateways' own answers are compared with the rooms' rules and isolations, and with what each phone hears. The trial
+keeps its own record of rules, roles, mutes and isolations. Only after a change that wasn't answered with 200 does it
+read them from the controller.
 
 usage: anything.py [MINUTES [SEED]]
-With the same seed, the same is tried in the same order, but it may meet other moments.
+With the same seed, the same changes are tried in the same order, but perhaps at other moments.
 """
 import random
 import signal
@@ -16,7 +16,7 @@ from door import Door, Phone, Phones, check, finish
 from loopback import end_on_signals
 
 PHONES, ROOMS, ROLES = 12, ["1", "2", "3"], ["customer", "agent", "coach"]
-# What a change may be answered with when something else happened first.
+# The possible answers to a change if something else happened first.
 RACES = (404, 409, 502, 503, 504)
 
 
@@ -29,7 +29,8 @@ def matches(party, member):
 
 
 def hears(listener, talker, rules):
-    """The last rule that matches decides. A rule: whether it is heard, the talker, the listener."""
+    """The last rule that matches decides. A rule says whether the talker is heard, and names the talker and the
+    listener."""
     return next((heard for heard, by, to in reversed(rules) if matches(by, talker) and matches(to, listener)), True)
 
 
@@ -37,7 +38,7 @@ class World:
     def __init__(self, door):
         self.door, self.changes, self.failures, self.last = door, 0, 0, None
         self.loop = Phones(self.phone(n) for n in range(PHONES))
-        # By room: its rules. By phone: room, role, and whether it is muted. And whether a change may or may not be done.
+        # The rules by room; room, role and mute by phone; and whether it isn't known if a change was made.
         self.rules, self.known, self.unsure = {room: [] for room in ROOMS}, {}, False
 
     def phone(self, n):
@@ -48,7 +49,7 @@ class World:
         return {name: (room, member) for room in ROOMS for name, member in self.door.members(room).items()}
 
     def ask(self, method, path, body=None):
-        """Returns whether it is done."""
+        """Returns whether the change was made."""
         try:
             self.door.ask(method, path, body)
             return True
@@ -127,7 +128,7 @@ class World:
         self.loop.run(5, lambda: phone.state != "new")
 
     def fail(self):
-        """Ends a gateway or a process of the controller, or holds a gateway up."""
+        """Ends a gateway or a process of the controller, or suspends a gateway for a while."""
         self.failures += 1
         self.last = "a gateway"
         gateway = random.choice(self.door.gateways)
@@ -145,14 +146,15 @@ class World:
                 self.loop.run(random.uniform(0.2, 2.5))
                 gateway.process.send_signal(signal.SIGCONT)
             case _:
-                # Its own end would be that of everything; the store's is the node's.
+                # If the process that evaluates this ended, so would the trial; if the store ended, so would the node.
                 name, process = random.choice(self.door.processes())
                 self.last = name
                 self.door.evaluate(f'exit(list_to_pid("{process}"), kill).')
                 self.loop.run(0.5)
 
     def wanted(self):
-        """By room: the context, and the flows that the rules say, by terminations; and by phone, whom he is to hear."""
+        """For each room, the context and the flows that the rules allow, by terminations; for each phone, whom it must
+        hear."""
         rooms, heard = [], {phone.pitch: set() for phone in self.loop.phones}
         pitches = {phone.name: phone.pitch for phone in self.loop.phones}
         for name in self.door.ask("GET", "/rooms")["rooms"]:
@@ -177,7 +179,7 @@ class World:
         return rooms, heard
 
     def agrees(self):
-        """Whether the gateways have what the rules say. Of a single member, there is nothing to compare."""
+        """Whether the gateways agree with the rules. If a room has a single member, there is nothing to compare."""
         try:
             rooms, self.heard = self.wanted()
             gateways = {gateway.name: gateway for gateway in self.door.gateways}
@@ -186,7 +188,7 @@ class World:
             return False  # Something isn't there yet.
 
     def explain(self, pitches):
-        """Prints what phones, the controller and the gateways know of each other."""
+        """Prints what the controller and the gateways know about these phones' calls."""
         gateways = {gateway.name: gateway for gateway in self.door.gateways}
         members = self.members()
         for gateway in gateways.values():

@@ -9,8 +9,9 @@ from tones import RATE, level
 
 
 class Baresip:
-    """A baresip in a folder of its own that calls a URI, and hangs up after so many seconds. `account` is what its account
-    has in addition, such as a kind of SRTP; `prefix` is a command that runs it, such as one in another network."""
+    """A baresip with its own folder, which calls a URI, and hangs up after this many seconds. `account` has additional
+    parameters of its account, such as a kind of SRTP; `prefix` is a command that runs it, for example in another
+    network."""
 
     def __init__(self, folder, name, pitch, uri, seconds, host="127.0.0.1", account="", prefix=()):
         self.folder, self.name = folder / name, name
@@ -33,11 +34,12 @@ class Baresip:
                                         stdin=subprocess.DEVNULL, stdout=open(self.folder / "log", "w"), stderr=subprocess.STDOUT)
 
     def said(self, text):
-        """Whether this is in its log."""
+        """Whether its log has this text."""
         return text in (self.folder / "log").read_text()
 
     def heard(self, pitches, start, end):
-        """Which of these pitches it heard between two times, in seconds of its recording. Negative ones count from its end."""
+        """The pitches, out of these, that it heard between two times, in seconds of its recording. Negative times count
+        from the recording's end."""
         file, = (self.folder / "recorded").glob("*dec.wav")
         samples = memoryview(file.read_bytes()[44:]).cast("h")[round(start * RATE):round(end * RATE)]
         return {pitch for pitch in pitches if level(samples, pitch) > 0.1}

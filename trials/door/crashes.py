@@ -1,5 +1,5 @@
-"""Ends each process of the controller by force, one after the other, during a call of four, one of whom is isolated. The
-calls go on, nobody isolated is heard, and the controller answers again.
+"""Kills each process of the controller, one after the other, during calls of four people, one of whom is isolated. The
+calls must continue, the isolated caller mustn't be heard, and the controller must answer again.
 """
 from collections import Counter
 
@@ -8,7 +8,7 @@ from loopback import end_on_signals, udp
 
 
 def answers(door):
-    """Whether it answers OPTIONS and HTTP, and has all members."""
+    """Whether the controller answers OPTIONS and HTTP, and has all members."""
     with udp() as own:
         own.setblocking(True)
         own.settimeout(0.2)

@@ -21,7 +21,7 @@ from tones import FRAME, RATE, SAMPLES
 ROOT = Path(__file__).resolve().parents[2]
 TOKEN = "a-token-for-trials"
 SILENCE = bytes([0xFF]) * FRAME
-# Evaluates what it is sent, in the controller's node, for trials that look into it or end its processes.
+# Erlang code that evaluates expressions in the controller's node, for trials that inspect it or end its processes.
 INSIDE = """spawn(fun() ->
     {ok, Socket} = gen_udp:open(%d, [binary, {ip, {127, 0, 0, 1}}, {active, false}, {sndbuf, 262144}]),
     Loop = fun Loop() ->
@@ -45,7 +45,7 @@ failed = []
 
 
 def check(text, holds):
-    """Prints what was seen, and whether it is what had to be seen."""
+    """Prints the result of a check, and whether it is right."""
     print(f"{text}{'' if holds else ': WRONG'}", flush=True)
     if not holds:
         failed.append(text)
@@ -56,7 +56,7 @@ def finish():
 
 
 def until(holds, limit=10, step=0.02):
-    """Waits until something holds. Returns after how many seconds, or None."""
+    """Waits until something holds. Returns how many seconds that took, or None."""
     start = time.monotonic()
     while time.monotonic() - start < limit:
         if holds():
@@ -88,7 +88,7 @@ def free_addresses(count):
 
 
 class Gateway:
-    """A gateway, with a journal or without."""
+    """A gateway, with or without a journal."""
     starts = 0
 
     def __init__(self, folder, name, slots=80, journal=False):
@@ -163,7 +163,7 @@ class Relay:
 class Door:
     """Gateways and a controller."""
     host = "127.0.0.1"
-    # All phones have one address, which is let in like a proxy that speaks for many.
+    # All phones have one address, which is admitted like a proxy for many callers.
     limits = "{proxies, [{{127,0,0,1},32}]}"
 
     def __init__(self, gateways=1, journal=False, returns=0, slots=80, **options):
@@ -216,7 +216,7 @@ class Door:
             return own.recv(65536).decode()
 
     def processes(self):
-        """The application's processes: how they are named in the tree of supervisors, and their number."""
+        """The application's processes: their names in the tree of supervisors, and their process ids."""
         return re.findall(r'{"(.*?)","(<.*?>)"}', self.evaluate(TREE))
 
     def ask(self, method, path, body=None):
@@ -233,7 +233,7 @@ class Door:
             return 0
 
     def members(self, room):
-        """The members of a room, by how they name themselves."""
+        """The members of a room, by the names that they give themselves."""
         try:
             return {member["caller"]: member for member in self.ask("GET", f"/rooms/{room}")["members"]}
         except urllib.error.HTTPError:
@@ -265,7 +265,7 @@ def loudness(payload, pitch):
 
 
 class Phone:
-    """A caller. It answers what comes, and keeps what it hears."""
+    """A caller. It answers requests, and keeps what it hears."""
     count = 0
 
     def __init__(self, door, room, pitch, amplitude=400):
@@ -338,7 +338,7 @@ class Phone:
             self.remote = (media[1], int(media[2]))
 
     def talk(self):
-        """Sends a packet, and a request again that has no answer."""
+        """Sends a packet, and repeats a request that has no answer."""
         if self.state in ("new", "leaving") and self.asked and time.monotonic() > self.again:
             self.again += 0.5
             self.send(self.asked[0])
@@ -364,7 +364,8 @@ class Phones:
                 self.of[one.fileno()] = (phone, one)
 
     def run(self, seconds, done=lambda: False):
-        """Lets them talk and hear for so long, or until something is done. Returns how long."""
+        """Lets the phones talk and hear for this many seconds, or until something is done. Returns how long that
+        took."""
         start = time.monotonic()
         while time.monotonic() - start < seconds and not done():
             for number, _ in self.poll.poll(max(0, self.next - time.monotonic())):
@@ -387,7 +388,7 @@ class Phones:
                 phone.heard.append((time.monotonic(), data[12:]))
 
     def call(self, pause=0.0):
-        """Calls with all of them, one after the other. Returns the times from INVITE to 200."""
+        """Calls with all phones, one after the other. Returns the times from INVITE to 200."""
         for phone in self.phones:
             phone.call()
             self.run(10, lambda: phone.state != "new")
@@ -399,6 +400,6 @@ class Phones:
             phone.heard.clear()
 
     def matrix(self, which=-1):
-        """Who hears whom in their last packets: by listener, the pitches."""
+        """Who hears whom in the last packets: the pitches, by listener."""
         return {phone.pitch: {other.pitch for other in self.phones if loudness(phone.heard[which][1], other.pitch) > 100}
                 for phone in self.phones if phone.heard}

@@ -1,6 +1,7 @@
-"""Upgrades two gateways one after the other under 100 calls: each is drained, ended and started again, and then serves. Two
-of ten callers in each room are isolated. Each caller says a tone of his own, and what each receives is searched for the
-others' tones: how long nobody hears somebody, and whether somebody hears whom he mustn't.
+"""Upgrades two gateways one after the other under 100 calls: each is drained, ended and started again, and then serves.
+Two of ten callers in each room are isolated. Each caller says his own tone, and the trial searches what each receives
+for the others' tones: how long a caller doesn't hear another one, and whether anybody hears a caller whom he mustn't
+hear.
 
 usage: drain.py [ROUNDS]
 """
@@ -26,7 +27,7 @@ class Room:
             door.ask("POST", f"/members/{members[phone.name]['id']}/isolate")
 
     def gap(self):
-        """How long the longest time is in which somebody hears none of another one's tone, with 20 ms for each packet."""
+        """The longest time in which a caller hears nothing of another caller's tone, with 20 ms for each packet."""
         longest = 0
         for listener in self.phones[2:]:
             for talker in self.phones[2:]:
@@ -47,7 +48,7 @@ def gateway_of(door, room):
 
 
 def wait(loop, holds, limit):
-    """Lets them talk until something holds that is looked at every half second."""
+    """Lets the callers talk until something holds, which is checked every half second."""
     start = time.monotonic()
     while time.monotonic() - start < limit:
         loop.run(0.5)

@@ -1,10 +1,10 @@
-"""Kills the gateway of 60 callers, each of whom says a tone of his own, and finds in the spectrum of what each receives
-when all hear each other again. Two of them are isolated: nobody may hear them, and they may hear nobody.
+"""Kills the gateway of 60 callers, each of whom says his own tone, and finds out from the spectrum of what each
+receives when they all hear each other again. Two of them are isolated: nobody may hear them, and they may hear nobody.
 
 usage: failover.py [KILLS [journal]]
 
-Without a journal, the conference is made again on a second gateway. With one, the gateway is started again 0.1 s after
-the kill, as the unit does it.
+Without a journal, the conference is recreated on a second gateway. With a journal, the gateway is restarted 0.1 s after
+the kill, as by its unit.
 """
 import random
 import sys
@@ -17,7 +17,8 @@ CALLERS, LOUD = 60, 100
 
 
 def heard_again(phones, isolated, killed):
-    """When the last of them heard all others again: by halving, as from then on he does."""
+    """When the last caller heard all others again. It is found by bisection, because each caller hears the others from
+    some packet on."""
     last = 0
     others = [phone for phone in phones if phone not in isolated]
     for phone in others:

@@ -1,5 +1,5 @@
-"""Sends garbage to the SIP port over UDP and TCP, and to HTTP: random bytes, and real messages that were changed at random.
-A call goes on meanwhile, and neither memory nor the number of processes grows.
+"""Sends garbage to the SIP port over UDP and TCP, and to HTTP: random bytes, and real messages that were changed at
+random. Meanwhile, a call must continue, and neither memory nor the number of processes may grow.
 
 usage: garbage.py [ROUNDS]
 """
@@ -32,7 +32,7 @@ def changed(message):
 
 
 def sip(door):
-    """A message that would be right, from a caller of its own."""
+    """A valid message, each time from another caller."""
     method = random.choice(["INVITE", "ACK", "BYE", "CANCEL", "OPTIONS", "UPDATE", "REGISTER", "SIP/2.0"])
     first = "SIP/2.0 200 OK" if method == "SIP/2.0" else f"{method} sip:none@127.0.0.1:{door.sip} SIP/2.0"
     body = "v=0\r\no=- 1 1 IN IP4 127.0.0.1\r\ns=-\r\nc=IN IP4 127.0.0.1\r\nt=0 0\r\nm=audio 9 RTP/AVP 0\r\n"
@@ -82,7 +82,7 @@ def connections(port, message):
 
 
 def size(door):
-    """Bytes and processes of the node, after all have collected their garbage."""
+    """Bytes and processes of the node, after all processes have collected their garbage."""
     text = door.evaluate("[garbage_collect(P) || P <- processes()], {erlang:memory(total), erlang:system_info(process_count), "
                          "erlang:system_info(atom_count)}.")
     return [int(number) for number in re.findall(r"\d+", text)]
@@ -105,7 +105,7 @@ def main():
                     loop.run(0.005)
             connections(door.sip, lambda: sip(door))
             connections(door.http, http)
-            # Calls that nobody acknowledged end after 64 times t1.
+            # Calls whose 200 wasn't acknowledged end after 64 times t1.
             loop.run(4)
             sizes.append(size(door))
             print(f"{DATAGRAMS} datagrams, {2 * CONNECTIONS} connections: {sizes[-1][0] / 1e6:.1f} MB, {sizes[-1][1]} processes, "

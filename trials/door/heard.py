@@ -1,5 +1,5 @@
-"""Three baresips call a room, each with a tone, and record what they hear: first each hears exactly the two others. Then
-they are customer, agent and coach, and the customer doesn't hear the coach. At last the customer is isolated.
+"""Three baresips call a room, each with a tone, and record what they hear: first each hears exactly the two others.
+Then they are customer, agent and coach, and the customer doesn't hear the coach. Finally, the customer is isolated.
 
 It needs the Debian package baresip-core.
 """

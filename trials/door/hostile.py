@@ -1,7 +1,7 @@
-"""Hostile senders beside 200 calls: mutated messages of all kinds at 2,000 a second, messages that take long to read,
-connections over TCP, TLS and HTTP that say nothing, half of something or garbage, and floods of new ones, among them offers
-of browsers by a link. They come from 20 addresses that may call. Meanwhile callers talk, call and hang up: none of them loses
-a packet or waits for longer than 200 ms.
+"""Hostile senders during 200 calls: mutated messages of all kinds at 2,000 a second, messages that take long to read,
+connections over TCP, TLS and HTTP that send nothing, part of a request or garbage, and floods of new connections, among
+them browsers' offers by a link. They come from 20 addresses that may call. Meanwhile, callers talk, call and hang up:
+none of them may lose a packet or wait longer than 200 ms.
 
 usage: hostile.py [MINUTES]
 The default is 60. It needs openssl and rtpengine.
@@ -26,7 +26,7 @@ BOMBS = [("Contact", "<sip:a@b>", 5800), ("Contact", "<sip:a@b>", 140), ("Route"
 
 
 class Guarded(Door):
-    """A controller that lets in what it lets in by default, and that nobody asks whether it is still there."""
+    """A controller with the default limits, without checks whether it still runs."""
     limits = ("{max_calls_from, 250}, {max_rooms_from, 40}, {silent_after, 3600000}, "
               "{tls, #{certificate => \"certificate.pem\", key => \"key.pem\", sip => {{127,0,0,1},%d}}}")
 
@@ -39,7 +39,7 @@ class Guarded(Door):
 
 
 class Quiet(Phone):
-    """A caller who is only in a call. What it hears isn't read."""
+    """A caller who is only in a call. Its received packets aren't read."""
 
     def talk(self):
         if self.state != "talking":
@@ -47,7 +47,7 @@ class Quiet(Phone):
 
 
 class Listener(Phone):
-    """A caller who counts what it hears by the packets' numbers."""
+    """A caller who counts received packets by their sequence numbers."""
     got, lost, last = 0, 0, None
 
     def count(self, data):
@@ -58,7 +58,8 @@ class Listener(Phone):
 
 
 class Counted(Phones):
-    """A loop that lets listeners count. Of the quiet ones it reads only SIP: their calls have to be refreshed."""
+    """A loop that lets listeners count. For quiet callers, it reads only SIP, because their calls have to be
+    refreshed."""
 
     def __init__(self, phones):
         super().__init__(phones)
@@ -77,7 +78,7 @@ class Counted(Phones):
 
 
 class Target:
-    """What the senders need to know of a controller."""
+    """The parts of a controller that the senders need."""
 
     def __init__(self, sip, tls, http, link):
         self.sip, self.tls, self.http, self.link = int(sip), int(tls), int(http), link
@@ -96,7 +97,7 @@ def datagram(target):
 
 
 def connection(target):
-    """A connection that says nothing, a part of something, or garbage."""
+    """A connection that sends nothing, part of a request, or garbage."""
     port = random.choice([target.sip, target.tls, target.http])
     one = socket.socket()
     one.setblocking(False)
@@ -111,14 +112,14 @@ def connection(target):
 
 
 def attack(target):
-    """Sends until it is ended."""
+    """Sends until the process is ended."""
     sockets = [socket.socket(socket.AF_INET, socket.SOCK_DGRAM) for _ in HOSTILE]
     for own, address in zip(sockets, HOSTILE):
         own.bind((address, 0))
     held, sent, count, start = [], 0, 0, time.monotonic()
     said = start
     while True:
-        # On a busy machine, what wasn't sent in time isn't sent.
+        # On a busy machine, messages that weren't sent in time are skipped.
         due = int(RATE * (time.monotonic() - start)) - sent
         sent += due
         for _ in range(min(due, int(3 * RATE * TICK))):
@@ -133,7 +134,7 @@ def attack(target):
         held.append(connection(target))
         for one, text in random.sample(held, min(len(held), 20)):
             try:
-                # Some of it slowly, byte by byte.
+                # Sends some texts slowly, byte by byte.
                 one.send(text if random.random() < 0.3 else text[:1])
             except OSError:
                 pass
@@ -143,7 +144,8 @@ def attack(target):
 
 
 def below():
-    """With less priority than whatever is attacked. Above other programs, so that nothing is sent in bursts."""
+    """Runs with a lower priority than the controller and the gateways, but above other programs, so that nothing is
+    sent in bursts."""
     fifo = os.sched_getscheduler(0) == os.SCHED_FIFO
     os.sched_setscheduler(0, os.SCHED_FIFO if fifo else os.SCHED_OTHER, os.sched_param(int(fifo)))
 
@@ -162,7 +164,7 @@ def attacker(door, link):
 
 
 class Watch:
-    """Calls that are made and ended meanwhile, one after the other, and how long each answer took."""
+    """Calls that are made and ended during the attack, one after the other, and how long each answer took."""
 
     def __init__(self, door, loop):
         self.door, self.loop, self.times, self.failed, self.lost = door, loop, [], 0, 0
@@ -191,26 +193,26 @@ def main():
     minutes = float(sys.argv[1]) if len(sys.argv) > 1 else 60
     port, = free_addresses(1)
     with Guarded(gateways=3, slots=100, rtpengine=f"{{{{127,0,0,1}},{port}}}") as door, contextlib.closing(Relay(door.folder, port)):
-        # Its httpd can fail when it is asked before it has started.
+        # The controller's httpd can fail if it gets a request before it has started.
         before = (door.folder / "log").stat().st_size
         link = door.ask("POST", "/links", {"room": "joined", "role": "participant", "name": "x", "seconds": 86400})["link"]
         if os.sched_getscheduler(0) == os.SCHED_FIFO:
-            # Above the controller, so that the trial isn't what is late.
+            # Gives this process a higher priority than the controller, so that the trial itself isn't late.
             os.sched_setscheduler(0, os.SCHED_FIFO, os.sched_param(os.sched_getparam(0).sched_priority + 1))
         quiet = [Quiet(door, f"{n // 10}", 400) for n in range(180)]
         listeners = [Listener(door, "talk", 400 + 50 * n, 4000) for n in range(20)]
         loop = Counted(quiet + listeners)
-        # Not faster than one address may.
+        # Calls no faster than one address is allowed to.
         loop.call(0.025)
         talking = [phone for phone in loop.phones if phone.state == "talking"]
         watch = Watch(door, loop)
         for _ in range(20):
             watch.once()
         loop.run(5)
-        # What is only loaded once is loaded now.
+        # Code that is loaded once is loaded here, before memory is measured.
         with attacker(door, link):
             loop.run(10)
-        # Calls that nobody acknowledged end after 32 s.
+        # Calls whose 200 wasn't acknowledged end after 32 s.
         loop.run(45)
         sizes = [size(door)]
         with attacker(door, link):

@@ -1,8 +1,8 @@
 """Linphone calls a room in which a phone sends a tone: each hears the other. Then it holds the call, resumes it, and hangs
 up.
 
-It needs the Debian package linphone-cli, and a network namespace in which lo is the only interface, as Linphone gives the
-address of another one.
+It needs the Debian package linphone-cli, and a network namespace in which lo is the only interface, because Linphone
+would give the address of another interface.
 """
 import os
 import subprocess
@@ -17,7 +17,7 @@ OWN, OTHER = 400, 1000
 
 
 class Linphone:
-    """A linphonec in a folder of its own, with files in the place of a sound card."""
+    """A linphonec with its own folder, and with files in place of a sound card."""
 
     def __init__(self, folder):
         self.tone, self.recorded = folder / "tone.wav", folder / "heard.wav"
@@ -37,7 +37,7 @@ class Linphone:
         self.process.stdin.flush()
 
     def heard(self):
-        """Whether the other's tone is in what it recorded."""
+        """Whether its recording has the other's tone."""
         samples = memoryview(self.recorded.read_bytes()[44:]).cast("h")
         return level(samples[-2 * RATE:-RATE], OTHER) > 0.02
 

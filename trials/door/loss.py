@@ -1,6 +1,6 @@
-"""Calls 200 times one after the other, in rooms of ten, and takes the time from INVITE to 200. Then SIPp calls 200 times at
-20 a second, and 20 times over a relay that loses the first copy of one kind of
-message of each call: INVITE, its 200, ACK, BYE, and its 200. Each call has to succeed, and nothing may be left over.
+"""Calls 200 times one after the other, in rooms of ten, and measures the time from INVITE to 200. Then SIPp calls 200
+times at 20 a second, and 20 times over a relay that loses the first copy of one kind of message of each call: INVITE,
+its 200, ACK, BYE, and its 200. Each call must succeed, and no call or termination may be left over.
 
 It needs the Debian package sip-tester.
 """
@@ -17,7 +17,7 @@ KINDS = ["INVITE", "200 to INVITE", "ACK", "BYE", "200 to BYE"]
 
 
 class Relay(threading.Thread):
-    """Passes datagrams between a caller and the controller, but for the first of one kind in each call."""
+    """Passes datagrams between a caller and the controller, except for the first of one kind in each call."""
 
     def __init__(self, door, kind):
         super().__init__(daemon=True)
@@ -66,7 +66,7 @@ def over(door):
 
 
 def one_after_the_other(door):
-    """The times of 200 calls, of which ten at a time are in the room."""
+    """The times of 200 calls, with ten callers in the room at a time."""
     times = []
     for _ in range(20):
         loop = Phones(Phone(door, "100", 400) for _ in range(10))

@@ -1,9 +1,9 @@
-"""Installs, upgrades and removes the controller's Debian package under systemd, and checks what a call sees of it.
+"""Installs, upgrades and removes the controller's Debian package under systemd, and checks the effect on calls.
 
 usage: package.py DEBIAN WORK
 
-DEBIAN is a folder with a Debian system that has what the package depends on. It is booted in a container, on an overlay
-in the folder WORK. Prints one line for each check, and exits with 1 if one fails.
+DEBIAN is a folder with a Debian system that has the packages that this one depends on. It is booted in a container, on
+an overlay in the folder WORK. Prints one line for each check, and exits with 1 if one fails.
 """
 import re
 import socket
@@ -22,7 +22,8 @@ HERE = "192.0.2.20"
 
 
 def build(packages):
-    """Builds both packages, the controller's twice, and one of it with a higher version, which it returns."""
+    """Builds both packages, the controller's twice, and a controller's package with a higher version, which it
+    returns."""
     ran(ROOT / "deploy/package.sh", packages)
     built = [Path(ran(ROOT / "deploy/controller-package.sh", folder)) for folder in (packages, WORK / "again")]
     same = built[0].read_bytes() == built[1].read_bytes()
@@ -48,7 +49,7 @@ class Caller:
         self.times = self.loop.call()
 
     def hear(self, seconds=1):
-        """Whether both hear each other after so many seconds."""
+        """Whether both hear each other after this many seconds."""
         self.loop.run(seconds)
         return self.loop.matrix() == {400: {1000}, 1000: {400}}
 
@@ -97,7 +98,7 @@ def install(system):
 
 
 def status(system):
-    """What lobby-status says with both gateways, with one, and without the controller."""
+    """The results of lobby-status with both gateways, with one, and without the controller."""
     statuses = [system.tried("lobby-status").returncode]
     system.run("systemctl stop lobbysorrel@2; sleep 3")
     missing = system.tried("lobby-status")
@@ -152,7 +153,7 @@ def upgrade(system, version):
 
 
 def upgrade_gateways(system):
-    """The gateways restart one after the other, and the call on one of them goes on."""
+    """The gateways restart one after the other, and the call on one of them continues."""
     caller = Caller()
     heard = caller.hear()
     mains = [system.show(f"lobbysorrel@{name}", "MainPID") for name in "12"]

@@ -1,9 +1,12 @@
-"""A moderator's hour on the page, by keyboard alone, in Chromium: at 1280 and 390 pixels, light and dark. Then a room of 64
-whose members change 60 times a second. Names that turn or hide text are shown; so is a gateway's restart.
+"""A moderator's hour on the page, by keyboard alone, in Chromium: at 1280 and 390 pixels, light and dark. Then a room
+of 64 whose members change 60 times a second. The page also has to show names that reverse or hide text, and a gateway's
+restart.
 
 usage: page.py [FOLDER], for screenshots
-It needs the Debian packages chromium, chromium-driver and python3-selenium, and Debian's python3.
+It needs the Debian packages chromium, chromium-driver, python3-selenium and, for screenshots, python3-pil, and Debian's
+python3.
 """
+import io
 import sys
 import threading
 import time
@@ -20,7 +23,7 @@ from loopback import end_on_signals
 
 FOCUS = """const it = document.activeElement;
 return it.getAttribute("aria-label") || it.closest("label")?.innerText || it.innerText || "";"""
-# The lowest contrast of a text with what is behind it, and that text (WCAG 2, 1.4.3).
+# The lowest contrast between a text and its background, and that text (WCAG 2, 1.4.3).
 CONTRAST = """const light = color => { const [r, g, b] = color.match(/[0-9.]+/g).slice(0, 3).map(it => it / 255)
   .map(it => it <= 0.04045 ? it / 12.92 : ((it + 0.055) / 1.055) ** 2.4); return 0.2126 * r + 0.7152 * g + 0.0722 * b; };
 const behind = it => { for (; it; it = it.parentElement) { const color = getComputedStyle(it).backgroundColor;
@@ -55,7 +58,7 @@ class Page:
         return self.driver.execute_script(FOCUS).replace("\u2068", "").replace("\u2069", "").strip()
 
     def reach(self, text):
-        """Goes to something by Tab alone."""
+        """Moves the focus to an element by Tab alone."""
         for _ in range(300):
             if self.focus().startswith(text):
                 return
@@ -92,12 +95,16 @@ class Loop(Phones):
 
 
 def picture(page, name):
+    """Saves a screenshot in few colours, so that the file is small."""
     if len(sys.argv) > 1:
-        page.driver.save_screenshot(f"{sys.argv[1]}/{name}.png")
+        from PIL import Image
+        shot = Image.open(io.BytesIO(page.driver.get_screenshot_as_png())).convert("RGB")
+        shot.quantize(256).save(f"{sys.argv[1]}/{name}.png", optimize=True)
 
 
 def hour(door, width, scheme):
-    """Create, let in, set roles, isolate, mute all, move, undo, lock, rules, end."""
+    """Creates a room, lets callers in, sets roles, isolates, mutes all, moves, undoes, locks, sets rules, and ends the
+    room."""
     what = f"{width} pixels, {scheme}"
     page = Page(door, width, scheme)
     loop = Loop(Phone(door, "sales", pitch, 4000) for pitch in (400, 1000, 1600))
@@ -236,7 +243,7 @@ def crowd(door):
 
 
 def names(door):
-    """What callers call themselves."""
+    """Checks how the page shows names that callers give themselves."""
     page = Page(door, 1280, "light")
     try:
         shown = page.driver.execute_script("return arguments[0].map(shown);", [

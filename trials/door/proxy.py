@@ -1,8 +1,8 @@
-"""Three baresips behind a NAT call a room through Kamailio and rtpengine, by the files in deploy/proxy: with RTP, with SRTP
-over TCP, and with DTLS-SRTP and ICE, as a browser would. Each hears the others. One is isolated, and hears nobody. A gateway
-is killed, and they hear each other on the other one. At the end, all are hung up.
+"""Three baresips behind a NAT call a room through Kamailio and rtpengine, with the files in deploy/proxy: with RTP,
+with SRTP over TCP, and with DTLS-SRTP and ICE, as a browser would. Each hears the others. One is isolated, and hears
+nobody. A gateway is killed, and they hear each other on the other gateway. At the end, all are hung up.
 
-Each host is a network namespace of its own; the controller and the gateways share one. It needs root, and the Debian
+Each host is its own network namespace; the controller and the gateways share one. It needs root, and the Debian
 packages kamailio, rtpengine-daemon, iptables and baresip-core.
 """
 import os
@@ -26,7 +26,7 @@ def run(*words):
 
 
 class Host:
-    """A host in a network of its own, which ends with a process. `own`: this trial's."""
+    """A host in its own network, which ends with a process. `own`: the network of this trial."""
 
     def __init__(self, folder, own=False):
         self.folder, self.processes, self.prefix, self.number = folder, [], [], os.getpid()
@@ -41,7 +41,7 @@ class Host:
         run(*self.prefix, *words)
 
     def python(self, script):
-        """What a script prints there."""
+        """The output of a Python script on this host."""
         return subprocess.run([*self.prefix, sys.executable, "-c", script], stdout=subprocess.PIPE, stderr=subprocess.DEVNULL).stdout
 
     def start(self, name, *words):
@@ -120,7 +120,8 @@ class Proxied(Door):
         (self.folder / "lobby.config").write_text(text.replace("{tokens, []}", f'{{tokens, [{{<<"{TOKEN}">>, operator}}]}}'))
 
     def sessions(self):
-        """How many calls rtpengine has, by its own protocol. A request with the number of an earlier one has its answer."""
+        """How many calls rtpengine has, by its own protocol. A request with the number of an earlier request gets that
+        one's answer."""
         self.asked += 1
         said = self.proxy.python("import socket; s = socket.socket(socket.AF_INET, socket.SOCK_DGRAM); s.settimeout(2); "
                                  f"s.sendto(b'{self.asked} d7:command4:liste', ('127.0.0.1', 2223)); print(s.recv(65536).decode())").decode()
@@ -133,7 +134,7 @@ class Proxied(Door):
 
 
 def is_closed(door):
-    """Whether requests that a phone addresses to others reach nobody."""
+    """Whether requests that a phone addresses to other hosts reach nobody."""
     script = "import socket; s = socket.socket(socket.AF_INET, socket.SOCK_DGRAM); "
     for method, tag in (("INVITE", ""), ("OPTIONS", ""), ("BYE", ";tag=1"), ("INFO", ";tag=1"), ("ACK", ";tag=1")):
         text = (f"{method} sip:x%20@{NOBODY}:5060;alias={NOBODY}~5060~1 SIP/2.0\r\nVia: SIP/2.0/UDP 192.168.1.2:5099;branch=z9hG4bK{method}\r\n"
@@ -181,7 +182,7 @@ def main():
         names = {pitch: name for name, (pitch, _, _) in PHONES.items()}
         others = {name: set(PHONES) - {name} for name in PHONES}
         alone = {"rtp": set(), "srtp": {"dtls"}, "dtls": {"srtp"}}
-        # A recording begins up to a second and a half before the third phone is there.
+        # A recording begins up to a second and a half before the third phone joins.
         for what, start, end, wanted in (("plain", 2, 4.5, others), ("one isolated", 7.5, 9.5, alone), ("on the other gateway", -3.5, -1, alone)):
             heard = {phone.name: {names[pitch] for pitch in phone.heard(names, start, end)} for phone in phones}
             shown = "; ".join(f"{name} hears {' and '.join(sorted(heard[name])) or 'nobody'}" for name in PHONES)

@@ -1,9 +1,10 @@
 #!/bin/sh
 # Runs the controller's trials on this host, with gateways from dist/ (or from BRIDGE) and phones on 127.0.0.1.
 # usage: run.sh [TRIAL ..]
-# The default is heard loss failover crashes garbage started anything; the last takes an hour. It needs python3 and the Debian
-# packages that controller/test needs; the trials linphone, proxy, page, web and two need more. To avoid port conflicts with
-# other programs, run it in a network namespace. Each trial prints what it saw, and exits with 1 if something is wrong.
+# The default is heard loss failover crashes garbage started anything; the last takes an hour. It needs python3 and the
+# Debian packages that controller/test needs; the trials linphone, proxy, page, web and two need more. To avoid port
+# conflicts with other programs, run it in a network namespace. Each trial prints its results, and exits with 1 if
+# something is wrong.
 set -eu
 here=$(CDPATH='' cd -- "$(dirname -- "$0")" && pwd)
 cd "$here/../../controller"

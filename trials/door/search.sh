@@ -1,6 +1,6 @@
 #!/bin/sh
 # Searches worlds of three people, two rooms and two gateways for broken promises: breadth first, and in random walks
-# whose seeds are printed. The controller's own modules decide, and the gateways are the proved program.
+# whose seeds are printed. The controller's own modules decide, and the gateways run the proved program.
 # usage: search.sh [SECONDS [SEED]]
 # SECONDS are for each of the six searches [default: 600]. It exits with status 1 if a promise is broken.
 set -eu
@@ -9,7 +9,7 @@ seconds=${1:-600} seed=${2:-$(date +%s)}
 cd "$(CDPATH='' cd -- "$(dirname -- "$0")/../../controller" && pwd)"
 # shellcheck source=controller/base
 . ./base
-# That compiles the tests, too.
+# This compiles the tests, too.
 rebar3 eunit --module=search_tests
 BRIDGE=${BRIDGE:-$PWD/../dist/mg_bridge} exec erl -noshell -pa "$REBAR_BASE_DIR/test/lib/lobby/ebin" \
     -pa "$REBAR_BASE_DIR/test/lib/lobby/test" -run large_search run "$seconds" "$seed"

@@ -1,5 +1,5 @@
-"""Starts ./lobby and ends it by SIGTERM, by Ctrl-C, and by the end of each of its programs: nothing is left of it. It says who may
-call, and the gateway takes packets only from a caller's own port.
+"""Starts ./lobby and ends it by SIGTERM, by Ctrl-C, and by the end of each of its programs: no process may be left. It
+must print who may call, and the gateway must accept packets only from a caller's own port.
 
 It needs the ports of controller/lobby.config, so run it in a network namespace.
 """
@@ -29,7 +29,7 @@ def children(pid):
 
 
 def free(port):
-    """Whether nobody has the port."""
+    """Whether the port is free."""
     with socket.socket(socket.AF_INET, socket.SOCK_DGRAM) as own:
         try:
             own.bind(("127.0.0.1", port))
@@ -39,7 +39,7 @@ def free(port):
 
 
 def running(pids):
-    """Those that have not ended, also if nobody has asked for their status yet."""
+    """The processes that have not ended. A process that has ended but wasn't waited for doesn't count."""
     def state(pid):
         try:
             return open(f"/proc/{pid}/stat").read().rpartition(")")[2].split()[0]
@@ -79,7 +79,7 @@ def started(end, what, expected):
 
 
 def one(name):
-    """Kills the process whose command has this in it."""
+    """Returns a function that kills the process whose command contains this text."""
     def end(_, below):
         for pid, command in below.items():
             if name in command.split(" ")[0]:

@@ -1,5 +1,5 @@
-"""Two baresips call a room over TLS and hear each other. A third one has wanted UDP. One is hung up by HTTP, which tells it over its
-own connection.
+"""Two baresips call a room over TLS and hear each other. A third one calls over UDP. One is hung up by HTTP, and gets
+its BYE over its own connection.
 
 It needs the Debian package baresip-core, and openssl.
 """
@@ -14,7 +14,7 @@ TONES = {"one": 400, "two": 1000, "three": 2000}
 
 
 class Secured(Door):
-    """A controller with a certificate that it signed itself."""
+    """A controller with a self-signed certificate."""
 
     def configure(self, slots, returns, options):
         self.tls, = free_addresses(1)
@@ -27,7 +27,7 @@ class Secured(Door):
 def main():
     end_on_signals()
     with Secured() as door:
-        # Its httpd can fail when it is asked before it has started.
+        # The controller's httpd can fail if it gets a request before it has started.
         before = (door.folder / "log").stat().st_size
         uris = {name: f"sip:100@127.0.0.1:{door.tls};transport=tls" for name in ("one", "two")} | {"three": f"sip:100@127.0.0.1:{door.sip}"}
         baresips = [Baresip(door.folder, name, pitch, uris[name], 12) for name, pitch in TONES.items()]

@@ -1,6 +1,6 @@
-"""Two controllers with keepalived, each in a network namespace of its own, and phones in a third one that talk through a
-gateway all the time. One of them is isolated. Nodes are killed, stopped and cut off, and each time it is measured how long
-nobody answers SIP at their address; the conference has to go on, with the same members and rules.
+"""Two controllers with keepalived, each in its own network namespace, and phones in a third one that talk through a
+gateway all the time. One of the phones is isolated. Nodes are killed, stopped and cut off. Each time, the trial
+measures how long nobody answers SIP at their address; the conference must continue with the same members and rules.
 
 usage: two.py [KILLS]
 
@@ -83,7 +83,7 @@ class Node:
         self.process.send_signal(number)
 
     def stop(self):
-        """Until none of its threads runs, which takes a moment on a busy machine."""
+        """Waits until none of its threads runs, which takes a moment on a busy machine."""
         self.signal(signal.SIGSTOP)
         tasks = Path(f"/proc/{self.process.pid}/task")
         until(lambda: all(") T " in (task / "stat").read_text() for task in tasks.iterdir()), step=0.001)
@@ -116,12 +116,12 @@ class Outside(Gateway):
 
 
 class Address:
-    """What a phone has to know of the door."""
+    """The properties of a controller that a phone needs."""
     host, sip = OUTSIDE, 5060
 
 
 class Caller(Phone):
-    """It calls the address that one of the nodes has."""
+    """A phone that calls the address that one of the nodes has."""
 
     def __init__(self, pitch):
         super().__init__(Address, "100", pitch, 2000)
@@ -134,14 +134,14 @@ class Caller(Phone):
             pass  # Nobody has the address.
 
     def ping(self):
-        """Asks OPTIONS in the call, now and then: only a node that knows the call answers 200."""
+        """Sends OPTIONS in the call at intervals: only a node that knows the call answers with 200."""
         if time.monotonic() - self.pinged > 0.01:
             self.pinged = time.monotonic()
             self.request("OPTIONS")
         return self.pong
 
     def forget(self):
-        """Answers to what it asked before don't count."""
+        """Answers to earlier requests don't count."""
         self.pong, self.before = False, self.number
 
     def received(self, text):
@@ -226,7 +226,7 @@ class Pair:
 
 
 def enter(namespace):
-    """From now on, this process and what it starts are in this network namespace."""
+    """Moves this process, and the processes that it starts later, into this network namespace."""
     libc = ctypes.CDLL(None, use_errno=True)
     with open(f"/run/netns/{namespace}", "rb") as file:
         if libc.setns(file.fileno(), 0x40000000) != 0:
@@ -253,7 +253,7 @@ class Conference:
         check(f"{len(times)} callers hear each other, but one", len(times) == CALLERS and self.loop.matrix() == self.right)
 
     def outage(self, fail, limit=15):
-        """Does something. Returns after how long a node answers that knows the call, or None."""
+        """Does something. Returns how long it then takes until a node that knows the call answers, or None."""
         self.loop.run(0.5)
         self.loop.forget()
         caller = self.phones[1]
@@ -264,7 +264,8 @@ class Conference:
         return time.monotonic() - start if caller.pong else None
 
     def holds(self, what):
-        """The conference has the same members and context, nobody hears what he may not hear, and packets never stopped."""
+        """Checks that the conference has the same members and context, nobody hears what he may not hear, and packets
+        never stopped."""
         self.loop.run(1.5)
         leaks = sum(loudness(payload, self.isolated.pitch) > 100 for phone in self.phones for _, payload in phone.heard)
         gaps = [later - earlier for phone in self.phones for (earlier, _), (later, _) in zip(phone.heard, phone.heard[1:])]
@@ -277,7 +278,7 @@ class Conference:
 
 
 def again(pair, conference, node):
-    """Starts a node that ended, and waits until it has what the other one has."""
+    """Starts a node that ended, and waits until it has the other node's data."""
     node.process.wait()
     conference.loop.run(0.1)
     node.start()
@@ -309,7 +310,7 @@ def stopped(pair, conference):
 
 
 def apart(pair, conference):
-    """The nodes don't see each other, but both see phones and gateways."""
+    """The nodes can't reach each other, but both reach phones and gateways."""
     holder = pair.holder()
     standby = pair.other(holder)
     conference.loop.forget()
@@ -369,7 +370,7 @@ def main():
             stopped(pair, conference)
             apart(pair, conference)
             unplugged(pair, conference, "o", 0)
-            # Both serve, and the one that began later goes on. Then one that reaches no gateway for longer.
+            # Both serve, and the one that began later continues. Then a node reaches no gateway for longer.
             unplugged(pair, conference, "oi", 1)
             unplugged(pair, conference, "oi", 12)
             both(pair, conference, pair.nodes)

@@ -1,8 +1,9 @@
-"""People join by links from headless Chromium, through rtpengine, into a room with two plain SIP phones. Each says a tone.
-Who hears whom is looked for in each packet to the phones, and in each 10 ms of what Chromium plays. Ten are there while
-rtpengine, a gateway and the controller are killed. Then UDP is blocked, and a TURN server helps.
+"""People join by links from headless Chromium, through rtpengine, into a room with two plain SIP phones. Each says a
+tone. The trial finds out who hears whom from each packet to the phones, and from each 10 ms that Chromium plays. Ten
+people are in the room while rtpengine, a gateway and the controller are killed. Then UDP is blocked, and a TURN server
+helps.
 
-It needs root, a network namespace of its own, the Debian packages rtpengine-daemon, chromium, chromium-driver,
+It needs root, its own network namespace, the Debian packages rtpengine-daemon, chromium, chromium-driver,
 python3-selenium, coturn and iptables, and Debian's python3.
 """
 import math
@@ -23,7 +24,8 @@ from door import Door, Gateway, Phone, Phones, Relay, check, finish, free_addres
 from loopback import end_on_signals
 
 FIRST, SECOND, COACH, CUSTOMER, GUEST = PITCHES = (400, 1600, 1000, 2200, 2800)
-# Before the page's own scripts: the microphone isn't processed, which would take a tone for noise, and what is played is measured.
+# Runs before the page's own scripts. It turns off the processing of the microphone's sound, which would take a tone for
+# noise, and measures what is played.
 PROBE = """window.heard = []; window.marks = {};
 const now = () => performance.timeOrigin + performance.now();
 let latest = 0;
@@ -83,13 +85,15 @@ class Browser:
         return until(lambda: text in self.text(), limit) is not None
 
     def hears(self, seconds):
-        """The pitches in more than half of the last seconds. A gap, which a busy machine makes, has all pitches for a moment."""
+        """The pitches in more than half of the last seconds. A gap, which a busy machine causes, has all pitches for a
+        moment."""
         rows = self.value(f"heard.filter(row => row[0] > {1000 * (time.time() - seconds)})")
         return {pitch for n, pitch in enumerate(PITCHES) if 2 * sum((row[n + 1] or -999) > -60 for row in rows) > len(rows) > 3}
 
 
 def phone_hears(phone, since, packets=3, level=100):
-    """The pitches in so many packets in a row. Each tone is louder than 2000; a gap in one has all pitches for a moment."""
+    """The pitches in this many packets in a row. Each tone is louder than 2000; a gap in one has all pitches for a
+    moment."""
     heard = [payload for at, payload in phone.heard[:] if at >= since]
     return {pitch for pitch in PITCHES if "x" * packets in "".join(" x"[loudness(payload, pitch) > level] for payload in heard)}
 

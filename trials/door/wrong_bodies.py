@@ -1,15 +1,15 @@
 #!/usr/bin/env python3
-"""Plants wrong bodies in a copy of the controller, one at a time, and runs the test that has to notice each. Before
-that, each of these tests has to pass on the unchanged controller. Some need a machine that isn't busy: each is run up
-to three times until it passes, and has to fail twice on a wrong body. Of a search, it prints how deep it went before it
-found a broken promise, and how many states it had seen.
+"""Plants wrong bodies in a copy of the controller, one at a time, and runs the test that must notice each. Before that,
+these tests must pass on the unchanged controller. Some need a machine that isn't busy: a test is run up to three times
+until it passes, and must fail twice on a wrong body. For a search, the trial prints how deep it went before it found a
+broken promise, and how many states it had seen.
 
 usage: wrong_bodies.py [--check | NAME..]
 Without names, all wrong bodies are planted. It exits with status 1 if one isn't noticed. Before that, and with --check
-only that, it looks whether each can be planted in today's controller.
+only that, it checks that each can be planted in the current controller.
 
-Run it in a network namespace of its own. It needs the Debian packages that controller/test needs, and the gateway in
-dist/, or where BRIDGE says.
+Run it in a network namespace of its own. It needs the Debian packages that `controller/test --missing` names, and the
+gateway in dist/, or where BRIDGE says.
 """
 import os
 import pathlib
@@ -18,6 +18,7 @@ import shutil
 import subprocess
 import sys
 import tempfile
+import time
 from dataclasses import dataclass
 
 ROOT = pathlib.Path(__file__).resolve().parent.parent.parent
@@ -41,6 +42,55 @@ ANSWERS, DIALOGS, HTTP = "lobby_answers_SUITE:", "lobby_dialogs_SUITE:", "lobby_
 CONFERENCE, CORE, GATEWAY = "lobby_conference", "lobby_room_core", "lobby_gateway_core"
 
 BODIES = [
+    Wrong("the fence is ignored", "lobby_h248",
+          [("name = integer_to_list(Number) ++", "name = integer_to_list(1 + 0 * Number) ++")],
+          SEARCH + "a_node_was_cut_off_behind_a_fence_test_"),
+    Wrong("each run has the same number", "lobby_gateway",
+          [("    Above = max(erlang:system_time(second), 1 + lobby_store:get(", "    Above = max(1, 0 + lobby_store:get(")],
+          "lobby_gateways_SUITE:an_old_request_is_stale"),
+    Wrong("a run's number isn't kept", "lobby_gateway",
+          [("    ok = lobby_store:put(lobby_settings, {number, Name}, Number),\n", "")],
+          "lobby_gateways_SUITE:numbers_only_rise"),
+    Wrong("a number falls if the store is lost", "lobby_gateway",
+          [("    Above = max(erlang:system_time(second), 1 +", "    Above = max(0, 1 +")],
+          "lobby_gateways_SUITE:numbers_only_rise"),
+    Wrong("the nodes of a pair have the same numbers", "lobby_gateway",
+          [("(Above + length([N || N <- mnesia:system_info(db_nodes), N < node()])) rem 2", "Above rem 2")],
+          "lobby_pair_SUITE:the_other_node_takes_over"),
+    Wrong("what the release before has stored isn't read", "lobby_store_format",
+          [("unpack(_, {version, 3, Value}) -> {ok, Value};\n", "")],
+          "lobby_store_format_tests:what_the_release_before_writes_test"),
+    Wrong("the own number before earlier requests are answered", GATEWAY,
+          [("    case earlier(Again) orelse lists:keymember(", "    case false andalso earlier(Again) orelse lists:keymember(")],
+          "lobby_gateway_core_tests:earlier_requests_are_answered_first_test"),
+    Wrong("something is ended before earlier requests are answered", GATEWAY,
+          [("    case awaits({clean, Place}, G) orelse earlier(G) of", "    case awaits({clean, Place}, G) orelse false andalso earlier(G) of")],
+          "lobby_gateway_core_tests:earlier_requests_are_answered_first_test"),
+    Wrong("earlier requests are repeated seldom while a gateway is awaited", GATEWAY,
+          [("Kind = case State of away -> forever; _ -> patiently end", "Kind = case State of away -> patiently; _ -> patiently end")],
+          "lobby_gateway_core_tests:earlier_requests_are_repeated_test"),
+    Wrong("earlier replies acknowledged with the own number", "lobby_transactions",
+          [("[{Number, Quiet} || Sender =:= Own] ++ Answered", "[{Number, Quiet} || Sender =/= none] ++ Answered")],
+          "lobby_gateway_core_tests:earlier_requests_are_answered_first_test"),
+    Wrong("a copy of an earlier reply is taken for an own one", "lobby_transactions",
+          [("next = max(Next, following(Number))})).", "next = max(Next, 0 * following(Number))})).")],
+          "lobby_transactions_tests:a_kept_request_keeps_its_names_test"),
+    Wrong("what can't be run any more is repeated for ever", GATEWAY,
+          [("unknown = [S || S = {Sender, _, _} <- Unknown, Sender =:= Own]},",
+            "unknown = [S || S = {Sender, _, _} <- Unknown, Sender =:= Own orelse true]},")],
+          SEARCH + "what_is_repeated_in_vain_test_"),
+    Wrong("an earlier number that is too low is taken for the own one", GATEWAY,
+          [("case earlier(G) of true -> Left;", "case false andalso earlier(G) of true -> Left;")],
+          "lobby_gateway_core_tests:an_earlier_number_that_is_too_low_is_given_up_test"),
+    Wrong("a late answer to a check counts", GATEWAY,
+          [("checked(Now, G = #gateway{checked = asked}) ->", "checked(Now, G = #gateway{checked = Is}) when Is =:= asked; Is =:= none ->")],
+          "lobby_gateway_core_tests:a_slow_answer_is_none_of_another_controller_test"),
+    Wrong("a gateway that is being cleaned isn't checked", GATEWAY,
+          [("when State =/= serving, State =/= drained, Is =/= fenced", "when State =/= serving, State =/= drained, State =/= cleaning, Is =/= fenced")],
+          "lobby_gateway_core_tests:one_that_does_not_answer_is_checked_test"),
+    Wrong("a number that is too low isn't noticed", GATEWAY,
+          [("  when Now - Since >= Retry * Tries ->", "  when Now - Since >= 1000 * Retry * Tries ->")],
+          "lobby_gateways_SUITE:one_that_is_fenced_off_says_so"),
     Wrong("a gateway that is being drained takes rooms", "lobby_placement",
           [("{Handle, Load = #{draining := false}} <- All]", "{Handle, Load} <- All]")],
           "lobby_gateways_SUITE:one_is_drained"),
@@ -127,7 +177,7 @@ BODIES = [
           [("    act({request, Number, {Sent, Purpose}}, G);", "    _ = {Number, Sent, Purpose}, G;")],
           SEARCH + "a_gateways_process_is_killed_when_somebody_moves_far_test_"),
     Wrong("replies acknowledged at once", "lobby_transactions",
-          [("[{Number, Now + Quiet} | Answered]", "[{Number, Now + 0 * Quiet} | Answered]")],
+          [("Quiet = Now + maps:get(quiet, Options),", "Quiet = Now + 0 * maps:get(quiet, Options),")],
           SEARCH + "a_datagram_to_a_new_room_test_"),
     Wrong("seats not reserved", "lobby_seats",
           [("when Used =< Max, Contexts =< MaxContexts ->", "when Used + Max + Contexts + MaxContexts > 0 ->")],
@@ -153,7 +203,7 @@ BODIES = [
           [("within(Passed, Gap) when Passed =< Gap ->", "within(Passed, Gap) when Passed =< Gap; Passed > 0 ->")],
           "lobby_pair_SUITE:after_a_gap_nothing_is_sent"),
     Wrong("nothing holds before a request is sent", "lobby_gateway",
-          [("    ok = lobby_lease:hold(),\n    %% What can't", "    %% What can't")],
+          [("    ok = lobby_lease:hold(),\n    %% A message that can't", "    %% A message that can't")],
           "lobby_pair_SUITE:nothing_is_sent_without_a_look_at_the_lease"),
     Wrong("a gap 100 times as long, for the node that hung", "lobby_lease",
           [("persistent_term:put(?MODULE, {Times, Gap}),", "persistent_term:put(?MODULE, {Times, 100 * Gap}),")],
@@ -168,6 +218,21 @@ BODIES = [
           [("    case lobby_lease:durable() of\n        ok ->",
             "    case lobby_lease:durable() of\n        _ when From =/= none ->")],
           "lobby_pair_SUITE:a_change_waits_for_the_standby"),
+    Wrong("a request that makes a context doesn't wait for what the standby lacks", "lobby_transactions",
+          [("    Context =:= new orelse lists:keymember(add_optional, 1, Commands).", "    is_integer(Context) andalso lists:keymember(add_optional, 1, Commands).")],
+          SEARCH + "the_other_node_takes_over_a_new_room_test_"),
+    Wrong("when it is sent again, it doesn't wait", "lobby_transactions",
+          [("lists:foldl(fun(Number, Acc) -> begun(Number, Now, Acc) end,", "lists:foldl(fun(Number, Acc) -> sent(Number, Now, Acc) end,")],
+          SEARCH + "a_gateway_resumes_for_a_new_room_test_"),
+    Wrong("a gateway's process waits for nothing", "lobby_gateway",
+          [("    {noreply, case lobby_lease:durable() of\n        ok ->", "    {noreply, case lobby_lease:durable() of\n        _ when is_tuple(Event) ->")],
+          "lobby_pair_SUITE:a_conference_waits_for_the_standby"),
+    Wrong("an Add to a context that is there doesn't wait", "lobby_transactions",
+          [("    Context =:= new orelse lists:keymember(add_optional, 1, Commands).", "    Context =:= new orelse Commands =:= [].")],
+          SEARCH + "the_other_node_takes_over_a_room_that_ends_test_"),
+    Wrong("what a room of the same name has left is taken for its own", GATEWAY,
+          [("    map_get(Room, Latest) =/= Context.", "    map_get(Room, Latest) < Context.")],
+          SEARCH + "the_other_node_takes_over_who_comes_back_test_"),
     Wrong("no limit for the rooms of one address", "lobby_admission",
           [("andalso map_size(Rooms) >= MaxRooms,", "andalso map_size(Rooms) >= MaxRooms + 1000,")],
           ANSWERS + "one_address_shuts_out_nobody"),
@@ -206,8 +271,8 @@ BODIES = [
             "guarded({_, {room, _, _, _}}, Action, _) -> Action;")],
           SEARCH + "a_gateway_begins_anew_test_"),
     Wrong("a gateway that returns is not cleaned", GATEWAY,
-          [("    lists:foldl(fun(Place, Acc) -> end_place(Place, Now, Acc) end, Repeated, Contexts).",
-            "    _ = Contexts, Repeated#gateway{contexts = []}.")],
+          [("    lists:foldl(fun(Place, Acc) -> end_place(Place, Now, Acc) end, unknown(Unknown, Now, G), Contexts).",
+            "    _ = Contexts, (unknown(Unknown, Now, G))#gateway{contexts = []}.")],
           SEARCH + "a_gateway_resumes_test_"),
     Wrong("release changes the role", "lobby_person",
           [("changed(Tag, maps:merge(Row, Change), P);",
@@ -270,7 +335,8 @@ BODIES = [
           [("seconds(Text) -> min(number(Text, infinity), 86400).", "seconds(Text) -> number(Text, infinity).")],
           ANSWERS + "a_long_session"),
     Wrong("what never served is awaited", GATEWAY,
-          [("                none -> Known;\n", "                none -> Known#gateway{transactions = lobby_transactions:kept(Requests, T)};\n")],
+          [("    G = #gateway{config = Config, sender = Sender, settled = Settled, transactions = T,",
+            "    G = #gateway{config = Config, sender = Sender, settled = Settled, transactions = lobby_transactions:pause(T),")],
           "lobby_gateway_core_tests:one_that_never_served_is_sent_requests_test"),
     Wrong("nobody misses a lost request", GATEWAY,
           [("        false -> act({tell, Room, {answer, Reference, {error, lost}}}, G)\n", "        false -> G\n")],
@@ -384,8 +450,7 @@ BODIES = [
           [("[{body, maps:with(?LOGGED, Object)}]", "[{body, Object}]")],
           HTTP + "who_did_what"),
     Wrong("a viewer reads the audit log", "lobby_http",
-          [("{true, viewer} -> failure(403,", "{viewer, true} -> failure(403,"),
-           ("{true, operator} -> handled(", "{true, _} -> handled(")],
+          [('when Role =:= viewer, Route =:= <<"/audit">> orelse', 'when Role =:= nobody, Route =:= <<"/audit">> orelse')],
           HTTP + "who_did_what"),
     Wrong("only the last room of a call is recorded", "lobby_audit_core",
           [("lists:sublist([Value | Values], ?MAX_SEEN)", "lists:sublist([Value], ?MAX_SEEN)")],
@@ -393,38 +458,38 @@ BODIES = [
     Wrong("a line is added to half a line", "lobby_audit",
           [('case Size =:= 0 orelse file:write(', 'case Size >= 0 orelse file:write(')],
           AUDIT + "a_kill_in_a_line_test_"),
+    Wrong("a node that returns and connects late stays closed", "lobby_store",
+          [("true -> ok = met(Peer), loaded();", "true -> loaded();")],
+          "lobby_pair_SUITE:a_node_that_returns_connects_late"),
     Wrong("the numbers of lines start again", "lobby_audit",
-          [("State#state{number = lists:max([lobby_audit_core:last_number(End) || End <- Ends])}.",
-            "State#state{number = 0 * length(Ends)}.")],
+          [("lists:max([lobby_audit_core:last_number(", "lists:max([0 * lobby_audit_core:last_number(")],
           AUDIT + "a_kill_in_a_line_test_"),
-    Wrong("the newest file is renamed first", "lobby_audit_core",
-          [("lists:seq(Free, 1, -1)]", "lists:seq(1, Free)]")],
+    Wrong("the newest of the older files is removed", "lobby_audit",
+          [("lists:reverse(lists:sort(Found))", "lists:sort(Found)")],
+          AUDIT + "files_are_renamed_test"),
+    Wrong("numbers start again after a file was renamed", "lobby_audit",
+          [("(ending(File)) | older(File)]", "(ending(File)) || true]")],
           AUDIT + "a_kill_while_files_are_renamed_test"),
-    Wrong("a gap among the files isn't filled", "lobby_audit_core",
-          [("[N || N <- lists:seq(1, Max), not lists:member(N, Existing)]",
-            "[N || N <- [length(Existing) + 1], N =< Max]")],
-          AUDIT + "renames_test"),
     Wrong("after a full disk nothing is written", "lobby_audit",
-          [("_ -> closed(lost_again(Ready))", "_ -> lost_again(Ready)")],
-          AUDIT + "a_full_disk_test"),
+          [("closed(Ready#state{lost = true})", "Ready#state{lost = true}")],
+          AUDIT + "a_full_disk_test_"),
     Wrong("a name turns text", "lobby_audit_core",
           [("\"[\\\\p{C}", "\"[\\\\p{Cc}")],
           AUDIT + "names_test"),
     Wrong("two members have one name", "lobby_audit_core",
-          [("case Terminations -- lists:usort(Terminations) of", "case Terminations -- Terminations of")],
+          [("T <- Terminations -- lists:usort(Terminations)]", "T <- Terminations -- Terminations]")],
           AUDIT + "names_test"),
     Wrong("who leaves and joins again by a link isn't isolated any more", "lobby_web",
           [("_ = [lobby_link:keep(Number, Now) || Now =/= Before],", "_ = {Number, Now, Before},")],
           WEB + "who_joins_again_stays_isolated"),
     Wrong("a revoked link lets in", "lobby_link",
-          [("true -> {error, link_revoked};", "none -> {error, link_revoked};"), ("            false -> {ok, Link}\n", "            _ -> {ok, Link}\n")],
+          [("_ = [throw(link_revoked) || lobby_store:has(lobby_settings, {revoked, Number})],", "_ = Number,")],
           WEB + "links_end"),
     Wrong("a link that has expired lets in", "lobby_link",
-          [("case Now < Until of", "case Now < Until + 3600 of")],
+          [("now_s() >= Until]", "now_s() >= Until + 3600]")],
           WEB + "links_end"),
     Wrong("a link isn't signed", "lobby_link",
-          [("true = crypto:hash(sha256, Signature) =:= crypto:hash(sha256, signature(Secret, Text)),",
-            "_ = {Secret, Signature},")],
+          [("true = crypto:hash_equals(Signature, signature(Text)),", "_ = Signature,")],
           WEB + "links_end"),
     Wrong("an offer without encryption is relayed", "lobby_web",
           [('Is("^m=[a-z]+ [0-9]+ UDP/TLS/RTP/SAVPF ")', 'Is("^m=[a-z]+ [0-9]+ ")')],
@@ -433,7 +498,7 @@ BODIES = [
           [('re:replace(Line, "^c=.*", "c=IN IP4 0.0.0.0")', "Line")],
           WEB + "bad_offers"),
     Wrong("a link skips the door", "lobby_web",
-          [("waiting => lobby_rooms:has_door(Room)}", "waiting => false andalso lobby_rooms:has_door(Room)}")],
+          [("waiting => lobby_room:has_door(Room),", "waiting => false andalso lobby_room:has_door(Room),")],
           WEB + "a_door"),
     Wrong("rtpengine isn't told of another gateway", "lobby_web",
           [("reported({holds, _, Local, _}, Leg) -> moved(Leg#leg{wanted = Local});", "reported({holds, _, _, _}, Leg) -> moved(Leg);")],
@@ -444,9 +509,15 @@ BODIES = [
     Wrong("a restart of rtpengine isn't noticed", "lobby_rtpengine",
           [("Before =/= lost, Ran < Before]", "Before =/= lost, Ran < 0]")],
           WEB + "rtpengine_is_lost"),
-    Wrong("the isolated learn it", "lobby_http",
-          [("application:get_env(lobby, show_isolation, false)", "application:get_env(lobby, show_isolation, false) orelse true")],
+    Wrong("the isolated learn it", "lobby_web",
+          [("[isolated || application:get_env(lobby, show_isolation, false)]", "[isolated]")],
           WEB + "isolation_is_not_shown"),
+    Wrong("who joins again in vain is no member any more", "lobby_web",
+          [("|| Began =:= none, Error =/=", "|| Began =:= none orelse Leg#leg.current =:= none, Error =/=")],
+          WEB + "rtpengine_is_lost"),
+    Wrong("a browser is answered without encryption", "lobby_web",
+          [('<<"UDP/TLS/RTP/SAVPF">>', '<<"RTP/AVP">>')],
+          "lobby_browser_SUITE:a_door"),
 ]
 
 
@@ -480,7 +551,7 @@ def passes(copy, test):
 
 
 def searched(printed):
-    """What a search that ended with a broken promise says of itself."""
+    """The numbers that a search prints when it ends with a broken promise."""
     found = re.search(r"(\d+) events: (\d+) states, \d+ steps, (\d+) ms\s+Ended by: broken", printed)
     if not found:
         return ""
@@ -499,7 +570,7 @@ def source(controller, wrong):
 
 
 def edited(wrong, body):
-    """The wrong body, or what can't be replaced."""
+    """The module's text with the wrong body and None, or None and why it can't be planted."""
     for old, new in wrong.edits:
         if body.count(old) != 1:
             return None, f"{wrong.name}: this occurs {body.count(old)} times in {wrong.module}: {old}"
@@ -508,7 +579,7 @@ def edited(wrong, body):
 
 
 def check():
-    """Ends the program if a body can't be planted any more, or its test doesn't exist."""
+    """Ends the program if a body can't be planted, or its test doesn't exist."""
     wrongs = []
     for wrong in BODIES:
         wrongs.append(edited(wrong, source(CONTROLLER, wrong).read_text())[1])
@@ -520,14 +591,16 @@ def check():
 
 
 def plant(wrong, copy):
-    """Whether the test notices the wrong body, and what a search says."""
+    """Whether the test notices the wrong body, and the numbers of a search."""
     path = source(copy, wrong)
     right = path.read_text()
     try:
+        # rebar3 compares times in seconds: a file that is as old as the last build isn't compiled.
+        time.sleep(1)
         path.write_text(edited(wrong, right)[0])
         compile_all(copy, wrong.name)
         passed, printed = run(copy, wrong.test)
-        #  A search finds the same each time.
+        # A search has the same result each time.
         noticed = not passed and (wrong.test.startswith(SEARCH) or not passes(copy, wrong.test))
         return noticed, searched(printed)
     finally:

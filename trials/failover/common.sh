@@ -24,7 +24,7 @@ until_told() {
     exit 1
 }
 
-# Starts gateway N, whose first numbers are the clock's time in seconds.
+# start N: starts gateway N. Its first termination and context have the clock's time in seconds as their numbers.
 declare -A process
 start() {
     numbers=$(date +%s)

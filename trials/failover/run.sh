@@ -8,8 +8,8 @@ set -eu
 here=$(CDPATH= cd -- "$(dirname -- "$0")" && pwd)
 . "$here/common.sh"
 
-# Runs a command at a random moment between two audits, gives the controller and the callers five seconds, and prints
-# what happened to the callers: WHAT COMMAND ..
+# after WHAT COMMAND ..: runs a command at a random moment between two audits, gives the controller and the callers five
+# seconds, and prints what happened to the callers, under the name WHAT.
 failed=0 reports=0
 after() {
     sleep "0.$((RANDOM % 900 + 100))"

@@ -31,24 +31,25 @@ FAMILIES = (
     ("port_frames_concealed_total", "counter"),
     ("port_silence_seconds", "gauge"),
 )
-# The values of the label other than `gateway` in series that always have the same ones.
+# The values of the label other than `gateway`, for families whose label always has the same values.
 LABELS = {
     "rtp_packets_total": RESULTS,
     "datagrams_unsent_total": ("late", "held", "refused"),
     "strangers_total": ("control", "media"),
     "tick_delay_seconds_bucket": BOUNDS,
 }
-# The families that have the same ports. `port_termination` only has those that are held.
+# The families that have the same ports. `port_termination` has only the ports that are held.
 PORTS = ("port_packets_total", "port_packets_lost_total", "port_frames_concealed_total", "port_silence_seconds")
 SAMPLE = re.compile(r'lobbysorrel_(\w+)\{((?:\w+="[^"]*",?)+)\} ([0-9.e+-]+)')
 
 
 class Exposition:
-    """What a gateway's file says at one time."""
+    """The metrics in a gateway's file at one time."""
 
     def __init__(self, text):
         self.families, self.gateways, self.wrong = [], set(), []
-        # For each series without its prefix: the values by its other label than `gateway`, or by None without one.
+        # For each family without its prefix: the values by the label other than `gateway`, or by None if there is no
+        # such label.
         self.values = {}
         for line in text.splitlines():
             self.read(line)
@@ -73,7 +74,7 @@ class Exposition:
         return values[None] if None in values else values
 
     def faults(self, gateway):
-        """Yields what isn't as listed, in the file of the gateway with this label."""
+        """Yields what differs from the lists above, in the file of the gateway with this label."""
         yield from (f"unreadable line: {line}" for line in self.wrong)
         if self.families != list(FAMILIES):
             yield f"families {sorted(set(FAMILIES) ^ set(self.families)) or 'in another order'}"

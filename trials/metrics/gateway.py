@@ -8,7 +8,7 @@ from loopback import free_ports, udp
 
 ADD = ("Add=${Media{LocalControl{Mode=SendReceive},Local{v=0\nc=IN IP4 $\nm=audio $ RTP/AVP 0\n},"
        "Remote{v=0\nc=IN IP4 %s\nm=audio %d RTP/AVP 0\n}}}")
-# So many terminations are added with one message.
+# How many terminations one message adds.
 A_REQUEST = 16
 
 
@@ -16,7 +16,7 @@ class Gateway:
     """A gateway and its controller."""
 
     def __init__(self, words, slots, *options):
-        """Starts the gateway. `words` are the program, and what has to precede it."""
+        """Starts the gateway. `words` are the program and any command before it."""
         self.control, base = free_ports(slots)
         self.ports = range(base, base + 2 * slots, 2)
         self.name = f"127.0.0.1:{self.control}"

@@ -52,7 +52,7 @@ class Caller:
             pass
 
     def missing(self):
-        """Returns how many packets a gateway must count as lost: those at least 64 numbers before the last."""
+        """Returns how many packets a gateway must count as lost: those at least 64 numbers before the last packet."""
         return sum(self.lost and number % self.lost == 0 for number in range(FIRST, self.next - 64))
 
 
@@ -85,12 +85,12 @@ class Load(threading.Thread):
         self.silent.set()
 
     def hush(self):
-        """Has the callers send their last packets."""
+        """Makes the callers send their last packets."""
         self.hushed.set()
         self.silent.wait()
 
     def end(self):
-        """Receives what is still on its way."""
+        """Receives the packets that are still in flight."""
         time.sleep(5 * STRIDE)
         self.ended.set()
         self.join()

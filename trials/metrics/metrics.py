@@ -1,4 +1,4 @@
-"""Checks the file that `mg_bridge live --metrics` writes, and what Prometheus makes of it.
+"""Checks the file that `mg_bridge live --metrics` writes, and what Prometheus reads from it.
 
 usage: metrics.py WORD ..
 
@@ -28,7 +28,7 @@ CALLERS, CONFERENCES, SLOTS, LOST = 64, 4, 96, 25
 PERIOD, PATIENCE = 5, 30
 STRANGERS, INTRUDERS = 12, 9
 LOAD_SECONDS, POLL_SECONDS, POLL_RATE = 25, 12, 1000
-# A packet so many numbers back is too late, but not a jump.
+# A packet this many numbers back is too late, but not a jump.
 LATE = 12
 LOCAL = "Local{v=0\nc=IN IP4 $\nm=audio $ RTP/AVP 0\n},"
 HELD = ("0.0.0.0", 4000)
@@ -51,7 +51,7 @@ def differences(pairs):
 
 
 def wait(holds, seconds=PATIENCE):
-    """Waits until it holds, and returns the seconds that this took, or None if it took too long."""
+    """Waits until something holds, and returns the seconds that this took, or None if it took too long."""
     start = time.monotonic()
     while (now := time.monotonic() - start) < seconds:
         if holds():
@@ -61,7 +61,7 @@ def wait(holds, seconds=PATIENCE):
 
 
 class Metered(Gateway):
-    """A gateway that writes its metrics to a file in a folder of its own. node_exporter's folder has a link to it."""
+    """A gateway that writes its metrics to a file in its own folder. node_exporter's folder has a link to it."""
 
     def __init__(self, folder, links, slots, *options):
         folder.mkdir()
@@ -78,14 +78,14 @@ class Metered(Gateway):
 
     def metrics(self, moment):
         """Returns the metrics of the first file that is written after this moment."""
-        # By so much that the gateway has received all datagrams of before.
+        # Late enough that the gateway has received all earlier datagrams.
         if wait(lambda: self.written() > moment + 0.1, 3 * PERIOD) is None:
             sys.exit(f"{self.file} isn't written every {PERIOD} s")
         return Exposition(self.text())
 
 
 def intrude(gateway, port):
-    """Has strangers send to the control port and to a caller's port."""
+    """Makes strangers send to the control port and to a caller's port."""
     with socket.socket(socket.AF_INET, socket.SOCK_DGRAM) as stranger:
         stranger.bind(("127.0.0.2", 0))
         for _ in range(STRANGERS):
@@ -108,7 +108,7 @@ def form(gateway):
 
 
 def poll(gateway):
-    """Reads the file again and again: it is whole each time, and new every five seconds."""
+    """Reads the file again and again: it must be complete each time, and new every five seconds."""
     texts, absent, start = [], 0, time.monotonic()
     for n in range(POLL_SECONDS * POLL_RATE):
         time.sleep(max(0, start + n / POLL_RATE - time.monotonic()))
@@ -181,9 +181,9 @@ def ticks(earlier, later, seconds):
 
 
 def emptied(gateway, load):
-    """Ends all calls, and checks the counters of sent datagrams, and what is left."""
+    """Ends all calls, and checks the counters of sent datagrams, and the ports that are left."""
     before = gateway.metrics(time.time())["port_packets_total"]
-    # A port that has no termination any more is listed only if it received something.
+    # A port without a termination is listed only if it received something.
     ports = {port: count for port, count in before.items() if count}
     gateway.end()
     load.end()
@@ -207,14 +207,14 @@ def results(gateway):
     # Without a Local, the answer has no port: the termination has the next one.
     gateway.ask("Context=1{%s}" % (ADD.replace(LOCAL, "") % deaf.remote))
     deaf.port, unheld = caller.port + 2, gateway.ports[-1]
-    # Until a file has the lost packets, so the late one could make their number fall.
+    # Waits until a file has the lost packets, so that the late one could make their number fall.
     moment = time.time()
     while gateway.written() < moment + 1:
         caller.speak()
         time.sleep(STRIDE)
     caller.finish()
     caller.send(packet((caller.next - LATE) // LOST * LOST))
-    # The result of each of these datagrams, the caller who sends it, the port, and how often it is sent.
+    # For each datagram: its result, the caller who sends it, its port, the datagram, and how often it is sent.
     odd = (("duplicate", caller, caller.port, packet(caller.next - 1), 2),
            ("no_termination", caller, unheld, packet(1), 3),
            ("no_local", deaf, deaf.port, packet(1), 5),
@@ -284,7 +284,7 @@ def ended(prometheus, gateway):
     # For the link without a file.
     alert(prometheus, {"LobbysorrelNotScraped"}, {("LobbysorrelNotScraped",)})
     alert(prometheus, {"LobbysorrelFileStale", "LobbysorrelNoTicks"}, set(), "gateway")
-    # Longer than what the rules look back for.
+    # Longer than the time that the rules look back.
     time.sleep(70)
     alert(prometheus, {"LobbysorrelGone"}, {("LobbysorrelGone", gateway.name)}, "gateway")
     gateway.link.unlink()

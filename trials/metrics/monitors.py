@@ -33,7 +33,7 @@ def get(url):
 
 
 class Monitor:
-    """A program that answers HTTP requests, from when `path` has status 200."""
+    """A program that answers HTTP requests. It is ready when `path` has status 200."""
 
     def __init__(self, log, path, *words):
         self.address = free_address()

@@ -26,7 +26,7 @@ def udp():
 
 
 def received(s, seconds):
-    """Returns the datagram that arrives next, if one does. It must come from the gateway's public address."""
+    """Returns the next datagram that arrives, if one does. It must come from the gateway's public address."""
     if not select.select([s], [], [], seconds)[0]:
         return None
     datagram, source = s.recvfrom(65535)
@@ -52,7 +52,7 @@ def main():
     frame, heard = tone(PITCH), []
     start = time.monotonic()
     for n in range(PACKETS):
-        # B's packets keep the path through its own NAT, if it had one, and count as speech too: silence.
+        # B's packets, which are silence, would keep the path through B's own NAT, and count as speech, too.
         for caller, to, speech in ((a, to_a, frame), (b, to_b, b"\xff" * FRAME)):
             caller.sendto(struct.pack("!BBHII", 0x80, 0, n, n * FRAME, to) + speech, (GATEWAY, to))
         time.sleep(max(0, start + (n + 1) / PACKETS - time.monotonic()))

@@ -2,8 +2,8 @@
 
 usage: package.py DEBIAN WORK
 
-DEBIAN is a folder with a Debian system. It is booted in a container, on an overlay in the folder WORK, with a network of
-its own that has the addresses of the package's examples. The commands are those of docs/OPERATING.md. Prints one line
+DEBIAN is a folder with a Debian system. It is booted in a container, on an overlay in the folder WORK, with its own
+network, which has the addresses of the package's examples. The commands are those of docs/OPERATING.md. Prints one line
 for each check, and exits with 1 if one fails.
 """
 import re
@@ -128,7 +128,7 @@ def logged(system, unit, *texts):
 
 
 def wrong_start(system, what, name, options, status, said):
-    """Starts a gateway with wrong options. The start has to fail, the unit to be failed, and its log to say why."""
+    """Starts a gateway with wrong options. The start must fail, the unit must have failed, and its log must say why."""
     unit = f"lobbysorrel@{name}"
     if options is not None:
         system.run(f"echo '{options}' > /etc/lobbysorrel/{name}.env")
@@ -179,7 +179,8 @@ def tried_again(system):
 
 
 def full_disk(system):
-    """A gateway whose disk is full goes on; one that can't start because of it is started when there is space."""
+    """A gateway whose disk is full continues. A gateway that can't start because of the disk is started when there is
+    space."""
     folder, space = "/var/lib/private/lobbysorrel/3", "dd if=/dev/zero of=/var/lib/private/lobbysorrel/3/fill bs=1k"
     system.run("echo 'OPTIONS=--control-port 2948 --base-port 32000' > /etc/lobbysorrel/3.env")
     system.run(f"mkdir -p {folder}; mount -t tmpfs -o size=64k tmpfs {folder}; systemctl start lobbysorrel@3")
@@ -224,7 +225,7 @@ def hang(system):
 
 
 def crashes(system):
-    """A gateway that ends again and again fails, and is started again later."""
+    """The unit of a gateway that ends again and again fails, and is started again later."""
     for _ in range(8):
         main, = system.show("lobbysorrel@2", "MainPID")
         if main != "0":
@@ -237,7 +238,7 @@ def crashes(system):
 
 
 def revive(system, what, script):
-    """Runs a script that ends the first gateway and starts it again, while there is a call. Returns how long it took."""
+    """Runs a script that ends the first gateway and starts it again, during a call. Returns how long this took."""
     call = Call()
     start = time.monotonic()
     system.run(script)

@@ -30,7 +30,7 @@ def ran(*words):
 
 
 class System:
-    """A Debian system in a container. This process shares its network, so that sockets are in there."""
+    """A Debian system in a container. This process shares the container's network, so that its sockets are in there."""
 
     def __init__(self, debian, work, packages):
         self.debian, self.work, self.packages = debian, work, packages
@@ -92,7 +92,7 @@ class System:
             self.process.wait()
 
     def tried(self, script):
-        """What a script in the system resulted in."""
+        """The result of a script in the system."""
         words = ["nsenter", f"--target={self.leader}", "--all", "--wd", "sh", "-ec", script]
         environment = {"PATH": "/usr/sbin:/usr/bin:/sbin:/bin", "LC_ALL": "C.UTF-8", "SYSTEMD_PAGER": ""}
         return subprocess.run(words, stdin=subprocess.DEVNULL, stdout=subprocess.PIPE, stderr=subprocess.STDOUT,

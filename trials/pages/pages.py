@@ -30,9 +30,9 @@ def commands(page):
             yield text.strip(), following
 
 
-# What demo/hear prints before a second attempt, and its exit status if that couldn't be judged, either.
+# The text that demo/hear prints before a second attempt, and its exit status if that couldn't be judged, either.
 AGAIN, BUSY = "It is tried once again.\n\n", 3
-# What `dist/mg_bridge` is replaced with.
+# The replacement for `dist/mg_bridge`.
 TRY = 'mg_bridge() { (cd crates/mg_bridge && rt try -- "$@"); }\n'
 
 
@@ -47,7 +47,7 @@ def main():
                     continue
                 typed = TRY + command.replace("dist/mg_bridge", "mg_bridge") if unproved else command
                 run = subprocess.run(["bash", "-c", typed], stdout=subprocess.PIPE, stderr=subprocess.PIPE, text=True)
-                # What a second attempt printed.
+                # Only the output of a second attempt counts.
                 holds = run.stdout.rpartition(AGAIN)[2] in shown
                 skipped = command.startswith("demo/hear") and run.returncode == BUSY
                 wrong += not holds and not skipped

@@ -1,4 +1,4 @@
-"""Lets `mg_bridge live` write to pipes that nobody reads.
+"""Lets `mg_bridge live` write to pipes that have no active reader.
 
 usage: readers.py GATEWAY
 
@@ -56,7 +56,7 @@ class Gateway:
         return subprocess.run([GATEWAY, "check", f"127.0.0.1:{self.control}"], capture_output=True).returncode == 0
 
     def delays(self):
-        """Returns how many ticks began, and how many of them at most 1 ms late, as the metrics say."""
+        """Returns how many ticks began, and how many of them at most 1 ms late, according to the metrics."""
         with open(self.metrics) as file:
             text = file.read()
         found = [re.search(rf'tick_delay_seconds_{name} (\d+)', text).group(1)
@@ -64,7 +64,7 @@ class Gateway:
         return [int(number) for number in found]
 
     def next_delays(self):
-        """The same, from the next file."""
+        """Returns the same numbers from the next file."""
         before = os.stat(self.metrics).st_mtime_ns if os.path.exists(self.metrics) else 0
         soon(lambda: os.path.exists(self.metrics) and os.stat(self.metrics).st_mtime_ns != before)
         return self.delays()
@@ -155,7 +155,7 @@ class Reader:
 
 
 def recorded(gateway, recording):
-    """Stops a gateway once what was waiting is read, and returns the text of its recording."""
+    """Stops a gateway once all waiting output is read, and returns the text of its recording."""
     reader = Reader(gateway, recording)
     before, size = -1000, 0
     # Without callers, a recording grows by 250 bytes a second.
@@ -196,6 +196,10 @@ def no_reader(folder):
     gateway.add_callers(callers)
     load = Load(gateway, callers, SLOTS)
     start = time.monotonic()
+    # First, the gateway prints its addresses.
+    for line in iter(gateway.process.stderr.readline, b""):
+        if line.startswith(b"fence: "):
+            break
     line = gateway.process.stderr.readline().decode()
     seconds = time.monotonic() - start
     check(f"after {seconds:.0f} s: {line.strip()}", line == "standard output ended: its reader is too slow\n")

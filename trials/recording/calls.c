@@ -174,7 +174,7 @@ static void set_mode(struct caller *a)
         modes[chance(8)], 40 + 20 * chance(5));
 }
 
-/* Makes a change for a caller; one who has hung up calls again. */
+/* Makes a change for a caller; a caller who has hung up calls again. */
 static void change(void)
 {
     struct caller *a = &callers[chance(count)];

@@ -122,7 +122,7 @@ for kind in memory read write receive send wait; do
     PYTHONPATH=$here/.. python3 "$here/serve.py" "$bridge" "$work/refuse.so" "$kind"
 done
 
-# A session that isn't asked for anything after the write that fails. `serve` must not end as if all was printed.
+# A session that gets no line after the write that fails. `serve` must not end as if everything was printed.
 name=serve
 printf 'stats\ntick\nstats\nquit\n' > "$work/session"
 serve() {
@@ -139,8 +139,8 @@ while serve write "$k"; was_refused; do
 done
 is_last "$work/whole"
 
-# A core alone: what it returns before and after a message for which memory ran out. Its program is rebuilt if it or
-# the crates have changed.
+# A core alone: its results before and after a message for which memory ran out. Its program is rebuilt if it or the
+# crates have changed.
 name=control
 sources() {
     find "$root"/crates/*/src "$here/control.rt.in" -type f | LC_ALL=C sort \

@@ -29,16 +29,16 @@ ALIVE = b"Reply=2{Context=-{AuditValue=ROOT}}"
 STATS = "control={control} media={media} ticks={ticks} sent={sent} failed={failed} dropped=0,0,0,0,0,0 concealed=0"
 # The kinds of failures after which the gateway can't pass on a line before it prints the next one.
 DELAYING = ("wait", "write")
-# What the gateway prints if a read or a write fails.
+# The text that the gateway prints if a read or a write fails.
 FAILED = {"read": "read failed\n", "write": "write failed\n"}
 
 
 class Wrong(Exception):
-    """The gateway did something wrong."""
+    """Raised if the gateway did something wrong."""
 
 
 class Ended(Exception):
-    """The program ended early."""
+    """Raised if the program ended early."""
 
 
 def expect(holds, what):
@@ -77,7 +77,7 @@ class Session:
         self.printed = b""
         # What the conversation has achieved so far.
         self.counts = {"control": 0, "media": 0, "ticks": 0, "sent": 0, "failed": 0}
-        # Whether an allocation failed, and a smaller one made up for it.
+        # Whether an allocation failed, and a smaller one replaced it.
         self.is_spared = False
         words = ["serve", "--slots", "2", "--control-port", str(self.control_port), "--base-port", str(self.base_port)]
         self.program = subprocess.Popen(
@@ -236,7 +236,7 @@ def main():
                 break
             fronts.append(session.printed)
             spared += session.is_spared
-            # It first allocates for all arguments at once, and then for some.
+            # The program first allocates for all arguments at once, and then for some.
             expect(spared <= 1, "no failure was counted")
         except Wrong as wrong:
             sys.exit(f"serve, {KIND} {at} refused: {wrong}")

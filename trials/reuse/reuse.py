@@ -89,7 +89,7 @@ class Gateway:
 
 
 def second(speakers, listener):
-    """Has callers speak for a second, and returns the samples that a listener receives meanwhile."""
+    """Makes callers speak for a second, and returns the samples that a listener receives meanwhile."""
     list(listener.samples())  # discard earlier ones
     start, samples = time.monotonic(), []
     for n in range(1, PACKETS + 1):

@@ -34,6 +34,9 @@ class Audible(Commands):
         self.audible(HEARD)
         self.audible("", talker="RTP/2")
         self.audible("", talker="RTP/3")
+        counted = SPEECH.replace(TITLE, TITLE + "# counted ticks\n").replace("tick\n" * 4, "ticks 4\n")
+        self.assertEqual(counted.count("ticks 4\n"), 1)
+        self.audible(HEARD, text=counted)
         # In the last tick of a script.
         self.audible(HEARD.replace("tick 6", "the end"), text=TITLE + PAIR + frames(30000, *[LOUD] * 6))
 

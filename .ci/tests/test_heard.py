@@ -1,5 +1,6 @@
 """Who could hear whom, and when."""
 import json
+import re
 import subprocess
 import tempfile
 import unittest
@@ -148,6 +149,10 @@ class Heard(Commands):
             (self.TITLE + "tick\n" + other, "line 3: the title of another gateway"),
             (self.TITLE + "tick\n\n" + other, "line 4: the title of another gateway"),
             (self.TITLE + "tick\n# missed 18446744073709551615 ticks\n", "too many ticks"),
+            (self.TITLE + "# counted ticks\nticks 18446744073709551615\ntick\n", "too many ticks"),
+            (self.TITLE + "# counted ticks\n" + date(20) + "ticks 2\n" + date(18), "line 5: the clock went back"),
+            (self.TITLE + "# counted ticks\nticks 7\ntick\n" + other, "line 5: the title of another gateway"),
+            (self.TITLE + "ticks 3\n", "line 2: bad script line"),
             ("", no_title),
             (self.CALL, no_title),
             ("#" * 5000, no_title),
@@ -247,6 +252,25 @@ class Intervals(Commands):
         for time, status, answer in (("20.019", 1, "could not hear\n"), ("20.02", 2, "not known\n")):
             words = ["--listener=RTP/1", "--talker=RTP/2", f"--at={hour}04:{time}Z"]
             self.ends(status, answer, "", "heard", *words, text=text)
+
+    def test_counted_ticks(self):
+        """A line with a number is as many lines `tick`."""
+        mark = "# counted ticks\n"
+        text = (
+            TITLE + mark + date(20) + PAIR + "ticks 2\n" + PART + "ticks 1\n# missed 2 ticks\nticks 2\ntick\n"
+            + JOIN + "ticks 3000\n" + date(80) + PART + "ticks 12"
+        )
+        plain = re.sub("ticks ([0-9]+)(\n|$)", lambda match: "tick\n" * int(match[1]), text.replace(" 2 ticks", " 2 TICKS"))
+        plain = plain.replace("TICKS", "ticks")
+        for words in (["--format=csv"], ["--format=json"], ["--never=RTP/2 -> RTP/1"], ["--listener=RTP/1"]):
+            wanted = run("heard", *words, text=plain)
+            self.assertEqual((wanted[2], run("heard", *words, text=text)), ("", wanted))
+        # A year and an age are one step.
+        year = f"ticks {365 * 86400 * 50}\n"
+        for count, lines in ((365 * 86400 * 50, year), (2**64 - 2, f"ticks {2**64 - 2}\n")):
+            answer = f"RTP/1 could hear RTP/2 in context 1 from tick 1 until tick {count + 1}\n"
+            text = TITLE + mark + "tick\n" + PAIR + lines + PART
+            self.ends(0, answer, "", "heard", "--listener=RTP/1", text=text)
 
     def test_comments_that_are_no_gaps(self):
         for count in ("0", "", "+3", "-3", "3.5", "18446744073709551616", "000000000000000000003"):

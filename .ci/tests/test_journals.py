@@ -74,7 +74,7 @@ class Journals(Commands):
         wanted = f"seals hold: 2, the last in line {last}; lines after it: {len(lines) - last}\n"
         self.ends(0, wanted, "", "verify", self.path)
         Path(self.path).write_text(text.replace("--ssrc=7", "--ssrc=8"))
-        self.ends(1, "changed up to line 2\n", "", "verify", self.path)
+        self.ends(1, "changed up to line 3\n", "", "verify", self.path)
 
     def test_missed_ticks_are_passed(self):
         """Ten seconds have passed since the journal's date, but only five ticks were run."""
@@ -95,7 +95,7 @@ class Journals(Commands):
             self.assertEqual(gateway.finish("quit")[:2], (0, ""))
         self.assertTrue(500 <= least <= ticks <= most, (least, ticks, most))
         missed = ticks - 5
-        self.assertEqual(Path(self.path).read_text(), f"{text}# missed {missed} ticks\n" + "tick\n" * missed)
+        self.assertEqual(Path(self.path).read_text(), f"{text}# counted ticks\n# missed {missed} ticks\nticks {missed}\n")
         status, output, errors = run("heard", self.path)
         self.assertEqual((status, errors), (0, ""))
         self.assertRegex(output, rf"\Agap from \S+ \(tick 5\) until \S+ \(tick {ticks}\)\n\Z")
@@ -202,6 +202,52 @@ class Journals(Commands):
                 message = f"{self.path}: line {line}: bad script line\n"
                 self.ends(6, "", message, "heard", "--at=2026-11-27T14:03:20Z", self.path)
 
+    def test_counted_ticks(self):
+        """A line can be many ticks, but only behind the line that says so."""
+        for text, ticks in (
+            ("# counted ticks\nticks 1\n", 1),
+            ("tick\n# counted ticks\nticks 12\ntick\r\nticks 4294967296\r\n# counted ticks\n", 14 + 2**32),
+            ("# counted ticks\nticks 18446744073709551615\n", 2**64 - 1),
+            # The counts stay at their greatest value.
+            ("# counted ticks\n" + "ticks 18446744073709551615\n" * 3 + "tick\n" * 40, 2**64 - 1),
+        ):
+            with self.subTest(text=text[:99]):
+                title = self.TITLE.replace("28807", str(FIRST)).replace("28808", str(FIRST + 2))
+                Path(self.path).write_text(title + text)
+                with Gateway("serve", "--journal", self.path) as gateway:
+                    self.assertEqual(gateway.stats(), counted(ticks=ticks))
+                    self.assertEqual(gateway.finish("quit")[:2], (0, ""))
+                self.assertEqual(Path(self.path).read_bytes().decode(), title + text + "# counted ticks\n")
+        mark = "# counted ticks\n"
+        for text, line in (
+            ("ticks 1\n", 2),
+            ("ticks 1\n" + mark, 2),
+            ("# counted  ticks\nticks 1\n", 3),
+            ("#counted ticks\nticks 1\n", 3),
+            *((f"{mark}ticks 1\n{bad}\ntick\n", 4) for bad in (
+                "ticks 0", "ticks 01", "ticks", "ticks ", "ticks  1", "ticks 1 ", "ticks +1", "ticks 0x1", "ticks 1a", "Ticks 1",
+                "ticks 18446744073709551616", "ticks 100000000000000000000",
+            )),
+        ):
+            with self.subTest(text=text):
+                Path(self.path).write_text(self.TITLE + text)
+                status, output, errors = run("serve", "--journal", self.path, text="quit\n")
+                wanted = f": line {line} isn't a line of a script\n"
+                self.assertEqual((status, output, errors[-len(wanted) :]), (6, "", wanted))
+                self.ends(6, "", f"{self.path}: line {line}: bad script line\n", "heard", self.path)
+
+    def test_ticks_are_one_line(self):
+        """However many they are: here, a minute of a gateway's and a month of missed ones."""
+        start = datetime.now(timezone.utc).replace(microsecond=0) - timedelta(days=30)
+        title = self.TITLE.replace("28807", str(FIRST)).replace("28808", str(FIRST + 2))
+        Path(self.path).write_text(f"{title}# time {start:%Y-%m-%dT%H:%M:%S}Z\n")
+        with Gateway("serve", "--journal", self.path) as gateway:
+            self.assertEqual(gateway.finish(*["tick"] * 3000, "quit")[0], 0)
+        lines = [line for line in Path(self.path).read_text().splitlines() if not line.startswith("#")]
+        self.assertRegex(lines[0], r"\Aticks 1296[0-9]{5}\Z")
+        self.assertEqual(lines[1:], ["ticks 10"] * 300)
+        self.assertEqual(run("heard", self.path)[0], 0)
+
     def test_other_files(self):
         bad = self.TITLE + "tick\ntick\n\nspeech\ntick\n"
         for text, option, wanted in (
@@ -232,7 +278,7 @@ class Journals(Commands):
                 Path(self.path).write_text(title + "tic")
                 self.assertEqual(self.session(caller, ["--journal", self.path, *sync], "poll\nquit\n")[:2], (0, ""))
                 found = Path(self.path).read_text()
-                # The next lines are a seal, a date and the caller's message.
+                # The next lines say that ticks are counted, and have a seal, a date and the caller's message.
                 self.assertRegex(found[len(title) :], r"\A(# .*\n)*control 127\.0\.0\.1:[0-9]+ [0-9a-f]+\n\Z")
                 self.assertEqual(found[: len(title)], title)
 

@@ -19,7 +19,8 @@ class Runs(Commands):
             self.ends(0, answer.format(port=port), "", "replay", *words, text=text)
 
     def test_replay_of_a_bad_line(self):
-        self.ends(1, "", "line 2: bad script line\n", "replay", text="tick\ntock\n")
+        for text in ("tick\ntock\n", "tick\nticks 2\n", "# counted ticks\nticks 2\n"):
+            self.ends(1, "", "line 2: bad script line\n", "replay", text=text)
 
     def test_serve(self):
         wanted = "ready\nunknown command\n" + counted(ticks=1)

@@ -1,5 +1,5 @@
-"""Cuts a journal of 300 lines at each of its bytes, resumes each part, and compares the gateway with one that replays the
-whole lines of that part.
+"""Cuts a journal at each of its bytes, resumes each part, and compares the gateway with one that replays the whole lines
+of that part.
 
 usage: cuts.py BRIDGE
 
@@ -14,7 +14,6 @@ from loopback import end_on_signals, free_ports, udp
 from serving import exchange
 
 BRIDGE = sys.argv[1]
-LINES = 300
 AUDIT = ("MEGACO/1 [127.0.0.1]:2945 Transaction=99{Context=1{ContextAudit{Topology},"
          "AuditValue=*{Audit{Media,Statistics}}}}")
 ADD = "Add=${Media{LocalControl{Mode=SendReceive},Remote{v=0\nc=IN IP4 127.0.0.1\nm=audio 9 RTP/AVP 0\n}}}"
@@ -32,17 +31,22 @@ def title_of(lines):
     return lines[0].removeprefix("# mg_bridge replay ").split()
 
 
+def uncounted(line):
+    """The line, or as many lines `tick` as it counts."""
+    return ["tick"] * int(line.removeprefix("ticks ")) if line.startswith("ticks ") else [line]
+
+
 def audit_after(lines, source):
     """Returns the answer to the audit from a gateway that replays these lines."""
     message = AUDIT.replace("\\", "\\\\").replace("\n", "\\n")
-    script = "\n".join([*lines, f"say {source} {message}", ""])
+    script = "\n".join([*(it for line in lines for it in uncounted(line)), f"say {source} {message}", ""])
     done = subprocess.run([BRIDGE, "replay", *title_of(lines)], input=script.encode(), stdout=subprocess.PIPE, check=True)
     answers = [line for line in done.stdout.decode().splitlines() if line.startswith("say ")]
     return answers[-1].split(" ", 2)[2].replace("\\r", "\r").replace("\\n", "\n")
 
 
 def journal_of(folder, socket, control, base):
-    """Makes a journal of 300 lines."""
+    """Makes a journal."""
     path = os.path.join(folder, "journal.txt")
     options = ["--control-port", str(control), "--base-port", str(base), "--slots", "8"]
     messages = [f"MEGACO/1 [127.0.0.1]:2945 Transaction={n + 1}{{{edit}}}" for n, edit in enumerate(EDITS)]
@@ -54,7 +58,7 @@ def journal_of(folder, socket, control, base):
     with open(path) as file:
         lines = [line for line in file.read().splitlines() if not line.startswith(("# time", "# sha256", "# missed"))]
     with open(path, "w") as file:
-        file.write("\n".join(lines[:LINES]) + "\n")
+        file.write("\n".join(lines) + "\n")
     return path
 
 
@@ -80,7 +84,7 @@ def main():
         if status or answers != [wanted[len(lines)]]:
             sys.exit(f"cut after byte {cut}: {status} {errors} {answers} in place of {wanted[len(lines)]}")
         with open(part, "rb") as file:
-            if not file.read().startswith(text[:text.rindex(b"\n") + 1] + b"# sha256 "):
+            if not file.read().startswith(text[:text.rindex(b"\n") + 1] + b"# counted ticks\n# sha256 "):
                 sys.exit(f"cut after byte {cut}: the file isn't the whole lines and what followed")
     if len(set(wanted.values())) <= len(EDITS):
         sys.exit("gateways of different parts can't be told apart")

@@ -48,13 +48,14 @@ def write(path, days, control, base):
     """Writes a journal that ends now. Returns the newest termination."""
     messages = days * MESSAGES
     between = days * TICKS // messages
-    ticks = b"tick\n" * between
+    # A gateway appends ten ticks at a time, and the rest before a message.
+    ticks = b"ticks 10\n" * (between // 10) + (b"ticks %d\n" % (between % 10) if between % 10 else b"")
     per_seal = 60 * 50 // between
     start = datetime.datetime.now(datetime.timezone.utc) - datetime.timedelta(days=days)
     with open(path, "wb") as file:
         part = (f"# mg_bridge replay --address=127.0.0.1 --control-address=127.0.0.1 --control-port={control} "
                 f"--base-port={base} --slots={SLOTS} --first-termination=1 --first-context=1 --ssrc=7 --sequence=0 "
-                f"--timestamp=0\n".encode())
+                f"--timestamp=0\n# counted ticks\n".encode())
         file.write(part)
         for number, (action, newest) in zip(range(1, messages + 1), actions()):
             date = start + datetime.timedelta(milliseconds=20 * between * number)

@@ -114,8 +114,8 @@ impl<S: Sink> Follower for Audible<S> {
         × KeepsTimed config start.pair.talker notes a.pair.whole.state a.pair.without.state a.clock a.open
         (S.told start.sink a.sink) };
 
-    fn comment(&mut self, line: &[u8]) -> Result<(), Stopped> {
-        match self.clock.pass_comment(line) {
+    fn comment(&mut self, number: u64, line: &[u8]) -> Result<(), Stopped> {
+        match self.clock.pass_comment(number, line) {
             Ok(None) => Ok(()),
             Ok(Some(gap)) => tell_gap(gap, &mut self.sink),
             Err(fault) => Err(self.stop(HeardFault::Clock(fault))),
@@ -123,7 +123,6 @@ impl<S: Sink> Follower for Audible<S> {
     }
 
     fn datagram(&mut self, event: &Event, _core: &Core) -> Result<(), Stopped> {
-        self.clock.pass_line();
         match event {
             Event::Control(source, bytes) => {
                 match self.pair.control(self.alloc, *source, bytes.as_slice()) {

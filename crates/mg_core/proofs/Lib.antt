@@ -25,5 +25,7 @@ pub mod RetransmissionLemmas
 pub mod ReadBackLemmas
 pub mod RecordingLemmas
 pub mod SkipLemmas
+pub mod CountedLemmas
+pub mod CountReadBack
 pub mod ResumeLemmas
 pub mod ReadingLemmas

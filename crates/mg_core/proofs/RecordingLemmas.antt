@@ -13,7 +13,7 @@ use Rattle.mg_core.proofs.ReadBackLemmas.{is_not, at_passes, no_feed, no_return,
 -- ## Lines
 
 -- A text that starts with a line consists of that line and the lines after it.
-line_then : (ended : Bool) (partial line rest : List ℕ) → list_all (is_not 10) line ≡ true →
+pub line_then : (ended : Bool) (partial line rest : List ℕ) → list_all (is_not 10) line ≡ true →
     lines_after ended partial (line ++ 10 ∷ rest) ≡ without_return (partial ++ line) ∷ lines_after ended [] rest
 unfolding lines_after
 line_then ended partial [] rest h =
@@ -42,7 +42,7 @@ none_whole partial (b ∷ bs) h =
     rw (not-true (eqb b 10) two.0) (none_whole (partial ++ b ∷ []) bs two.1)
 
 -- A line without carriage returns is returned unchanged.
-whole_line : (line : List ℕ) → list_all (is_not 13) line ≡ true → without_return line ≡ line
+pub whole_line : (line : List ℕ) → list_all (is_not 13) line ≡ true → without_return line ≡ line
 whole_line line h =
     rw (not-true (eqb (slice_index line (length line - 1)) 13) (at_passes (is_not 13) line (length line - 1) refl h))
     refl

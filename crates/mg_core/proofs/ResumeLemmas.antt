@@ -1,10 +1,10 @@
 -- Resuming a script: its notes, the bytes of its lines, and how far it was read.
-use Rattle.std.proofs.Common.{◌≡◌, ◌≢◌, ℕ, zero, suc, ◌+◌, ◌<◌, ◌≤◌, Bool, true, false, List, [], ◌∷◌, ◌++◌, length, codes, eqb, get_or, replicate, take, drop, Option, Some, None, Result, Ok, Err, refl, sym, ap, subst, ◌∙◌, append_assoc, length-append, length-take, arith, inl, inr, ◌⊎◌}
+use Rattle.std.proofs.Common.{◌≡◌, ◌≢◌, ℕ, zero, suc, ◌+◌, ◌<◌, ◌≤◌, Bool, true, false, ◌||◌, List, [], ◌∷◌, ◌++◌, length, codes, eqb, get_or, replicate, take, drop, Option, Some, None, Result, Ok, Err, refl, sym, ap, subst, ◌∙◌, append_assoc, length-append, length-take, arith, inl, inr, ◌⊎◌}
 use Rattle.std.proofs.lemmas.Bool.{eq-eqb, eqb-true, ne_eqb, true≢false}
 use Rattle.std.proofs.lemmas.List.{append-nil, drop-drop, get_or-take, length-replicate, replicate-append-replicate, take-append-drop}
 use Rattle.std.proofs.lemmas.List.Folds.{concat-append}
 use Rattle.std.specs.Cmp.Lexicographic.{pointwise, same_text}
-use Rattle.std.specs.List.{concat}
+use Rattle.std.specs.List.{concat, list_any}
 use Rattle.std.specs.Prelude.{nat_eq}
 use Rattle.mg_core.specs.declared.resumer.TheConstants.{SIXTEEN_TICKS}
 use Rattle.memchr.specs.Find.{IsFirstByte, is_byte}
@@ -31,16 +31,18 @@ use Rattle.mg_core.specs.Follow.{HasRun, IsFollowed, ticks_of}
 use Rattle.mg_core.specs.aids.Following.{GoesOn, IsFollowedUntil}
 use Rattle.mg_core.specs.Headline.{ExtendsByTicks, ExtendsHistory, HasHistory}
 use Rattle.mg_core.specs.Note.{Note, Comment, Happened, NotesHaveEvents, events_in, noted, notes_of}
-use Rattle.mg_core.specs.aids.Resume.{FindsBadLine, IsResumed}
+use Rattle.mg_core.specs.Counted.{expanded, is_mark, journal_lines, lines_in}
+use Rattle.mg_core.specs.aids.Resume.{FindsBadLine, IsBadAfter, IsResumed}
 use Rattle.mg_core.specs.Run.{HasRead}
 use Rattle.mg_core.specs.Script.{event_of, events_of, then_all}
 use Rattle.mg_core.specs.Step.{Sent}
 use Rattle.mg_core.specs.World.{World}
-use Rattle.mg_core.specs.aids.Resuming.{Adds, AllResumed, BytesBad, BytesResumed, BytesRun, EndedResumed, IsAfterTicks, KeepsUp, LastResumed, LineResumed, LinesResumed, Resumes, StartsBad}
+use Rattle.mg_core.specs.aids.Resuming.{Adds, AllResumed, AreGood, BytesBad, BytesResumed, BytesRun, EndedResumed, IsAfterTicks, IsBadLine, KeepsLines, KeepsUp, LastResumed, LineRead, LinesResumed, Resumes, StartsBad, TicksTaken, counted_in}
 use Rattle.mg_core.specs.aids.Steps.{run_fault_at_start, run_fault_of, script_fault_of}
 use Rattle.mg_core.proofs.ReadBackLemmas.{tick_read}
 use Rattle.mg_core.proofs.RunLemmas.{script_result}
-use Rattle.mg_core.proofs.SplitLemmas.{around, bad_later, last_line, line_feed, long_line, no_line, unbroken}
+use Rattle.mg_core.proofs.CountedLemmas.{counted_line, counts_no_mark, expanded_both, expanded_more, expanded_one, long_plain, marks_more, marks_same, plain_line, ticks_stay, ticks_unmarked}
+use Rattle.mg_core.proofs.SplitLemmas.{around, last_line, line_feed, long_bad, long_first, no_line, unbroken}
 
 -- ## The notes of lines
 
@@ -183,54 +185,154 @@ module _ (config : Config) where
 
 -- ## Lines
 
+pub lines_start : (config : Config) (state : CoreState) (c : Bool) (n : ℕ) (Follows : List Note → Type 0) → n ≡ 0 →
+    c ≡ false → HasRun config [] state → Follows [] → KeepsLines config state c n Follows []
+unfolding expanded notes_of
+lines_start config state c n Follows none is run follows =
+    record { notes = []; are = refl; counted = is; keeps = up_to_date config state n Follows [] none run follows }
+
 pub resumes_err : (s : Bool) (A B : Type 0) (P Q : ℕ → Type 0) (e : LineFault) → ((k : ℕ) → P k → Q k) →
     Resumes s A P (Err e) → Resumes s B Q (Err e)
 resumes_err s A B P Q (faults.Bad k) f h = f k h
 resumes_err s A B P Q faults.Write f h = h
 resumes_err s A B P Q faults.NoMemory f h = tt
 
-no_lines : (Old : List Note → Type 0) → LinesResumed Old Old []
-unfolding notes_of
-no_lines Old =
-    record { notes = []; are = refl; adds = λ notes old. subst Old (sym (append-nil notes)) old }
-
-lines_then : (Old Mid New : List Note → Type 0) (xs ys : List (List ℕ)) → LinesResumed Old Mid xs →
-    LinesResumed Mid New ys → LinesResumed Old New (xs ++ ys)
-lines_then Old Mid New xs ys h k = record {
-  notes = h.notes ++ k.notes;
-  are = notes_both xs ys h.notes k.notes h.are k.are;
-  adds = λ notes old. subst New (append_assoc notes h.notes k.notes)
-      (k.adds (notes ++ h.notes) (h.adds notes old));
-}
-
+-- A line that counts no ticks was run.
 pub line_resumed : (Old New : List Note → Type 0) (line : List ℕ) (e : Option Event) → event_of line ≡ Some e →
     Adds Old New (noted line e ∷ []) → LinesResumed Old New (line ∷ [])
 line_resumed Old New line e is adds =
     record { notes = noted line e ∷ []; are = one_note line e is; adds = adds }
 
+no_lines : (Old : List (List ℕ) → Type 0) → Adds Old Old []
+no_lines Old before old = subst Old (sym (append-nil before)) old
+
+lines_then : (Old Mid New : List (List ℕ) → Type 0) (xs ys : List (List ℕ)) → Adds Old Mid xs → Adds Mid New ys →
+    Adds Old New (xs ++ ys)
+lines_then Old Mid New xs ys h k before old =
+    subst New (append_assoc before xs ys) (k (before ++ xs) (h before old))
+
+notes_of_ticks : (k : ℕ) → notes_of (replicate k (codes "tick")) ≡ Some (ticks_of k)
+unfolding notes_of
+notes_of_ticks zero = refl
+notes_of_ticks (suc k) = notes_both (codes "tick" ∷ []) (replicate k (codes "tick")) (Happened Tick ∷ []) (ticks_of k)
+    (one_note (codes "tick") (Some Tick) tick_read) (notes_of_ticks k)
+
+-- ## Lines that were read
+
+module _ (config : Config) (old new : CoreState) (c d : Bool) (n m : ℕ) (Old New : List Note → Type 0) where
+  abbrev Before : List (List ℕ) → Type 0
+  Before lines = KeepsLines config old c n Old lines
+
+  abbrev After : List (List ℕ) → Type 0
+  After lines = KeepsLines config new d m New lines
+
+  -- A line that counts no ticks was read.
+  pub plain_read : (line : List ℕ) → counted_in c line ≡ None → d ≡ (c || is_mark line) →
+      LinesResumed (KeepsUp config old n Old) (KeepsUp config new m New) (line ∷ []) → Adds Before After (line ∷ [])
+  plain_read line none is r before h =
+      let plain : lines_in (list_any is_mark before) line ≡ line ∷ [] =
+      ap (λ (b : Bool). lines_in b line) (sym h.counted) ∙ plain_line c line none in
+      record {
+        notes = h.notes ++ r.notes;
+        are = ap notes_of (expanded_more before line ∙ ap (λ (l : List (List ℕ)). expanded false before ++ l) plain)
+            ∙ notes_both (expanded false before) (line ∷ []) h.notes r.notes h.are r.are;
+        counted = is ∙ ap (λ (b : Bool). b || is_mark line) h.counted ∙ sym (marks_more before line);
+        keeps = r.adds h.notes h.keeps;
+      }
+
+  -- Ticks were read: these lines are as many lines `tick`, and no mark.
+  ticks_come : (lines : List (List ℕ)) (k : ℕ) → expanded c lines ≡ replicate k (codes "tick") →
+      list_any is_mark lines ≡ false → d ≡ c → Adds (KeepsUp config old n Old) (KeepsUp config new m New) (ticks_of k) →
+      Adds Before After lines
+  ticks_come lines k are none is adds before h =
+      let same : expanded (list_any is_mark before) lines ≡ replicate k (codes "tick") =
+      ap (λ (b : Bool). expanded b lines) (sym h.counted) ∙ are in
+      record {
+        notes = h.notes ++ ticks_of k;
+        are = ap notes_of (expanded_both false before lines
+            ∙ ap (λ (l : List (List ℕ)). expanded false before ++ l) same)
+            ∙ notes_both (expanded false before) (replicate k (codes "tick")) h.notes (ticks_of k) h.are (notes_of_ticks k);
+        counted = is ∙ h.counted ∙ sym (marks_same before lines none);
+        keeps = adds h.notes h.keeps;
+      }
+
+  -- A line with a count was read.
+  pub count_read : (line : List ℕ) (k : ℕ) → counted_in c line ≡ Some k → d ≡ c →
+      Adds (KeepsUp config old n Old) (KeepsUp config new m New) (ticks_of k) → Adds Before After (line ∷ [])
+  count_read line k counted is adds =
+      ticks_come (line ∷ []) k (expanded_one c line ∙ counted_line c line k counted)
+      (marks_more [] line ∙ counts_no_mark c line k counted) is adds
+
+  -- Lines `tick` were read.
+  pub ticks_read : (k : ℕ) → d ≡ c → Adds (KeepsUp config old n Old) (KeepsUp config new m New) (ticks_of k) →
+      Adds Before After (replicate k (codes "tick"))
+  ticks_read k is adds = ticks_come (replicate k (codes "tick")) k (ticks_stay k c) (ticks_unmarked k) is adds
+
+-- Lines that were read are good.
+pub good : (config : Config) (state : CoreState) (c : Bool) (n : ℕ) (Follows : List Note → Type 0)
+    (lines : List (List ℕ)) → KeepsLines config state c n Follows lines → AreGood lines
+good config state c n Follows lines h = (h.notes, h.are)
+
+-- ## Bad lines
+
+no_event : (o : Option (Option Event)) (all : Option (List Event)) → all ≡ None →
+    (o >>= λ e. all >>= λ l. Some (then_all e l)) ≡ None
+no_event None all none = refl
+no_event (Some e) all none = rw none refl
+
+first_bad : (line : List ℕ) (o : Option (Option Event)) → o ≡ None →
+    (o >>= λ e. events_of [] >>= λ l. Some (then_all e l)) ≡ None
+first_bad line None none = refl
+first_bad line (Some e) none = absurd (cc none)
+
+events_bad : (xs : List (List ℕ)) (line : List ℕ) → event_of line ≡ None → events_of (xs ++ line ∷ []) ≡ None
+unfolding events_of
+events_bad [] line bad = first_bad line (event_of line) bad
+events_bad (x ∷ xs) line bad = no_event (event_of x) (events_of (xs ++ line ∷ [])) (events_bad xs line bad)
+
+bad_after_lines : (before : List (List ℕ)) (line : List ℕ) → event_of line ≡ None →
+    counted_in (list_any is_mark before) line ≡ None → IsBadAfter before line
+bad_after_lines before line bad none =
+    ap events_of (expanded_more before line
+    ∙ ap (λ (l : List (List ℕ)). expanded false before ++ l) (plain_line (list_any is_mark before) line none))
+    ∙ events_bad (expanded false before) line bad
+
+-- A line that is no script line and counts no ticks is bad.
+pub plain_bad : (config : Config) (state : CoreState) (c : Bool) (n : ℕ) (Follows : List Note → Type 0) (line : List ℕ) →
+    counted_in c line ≡ None → event_of line ≡ None → IsBadLine (KeepsLines config state c n Follows) line
+plain_bad config state c n Follows line none bad before h =
+    bad_after_lines before line bad (ap (λ (b : Bool). counted_in b line) (sym h.counted) ∙ none)
+
+too_long : (Old : List (List ℕ) → Type 0) (line : List ℕ) → 140001 ≤ length line → IsBadLine Old line
+too_long Old line long before old =
+    bad_after_lines before line (long_bad line long) (long_plain (list_any is_mark before) line long)
+
 -- ## A line that a line feed ends
 
-pub tick_ended : (Old New : List Note → Type 0) (partial part : List ℕ) → partial ≡ [] → part ≡ codes "tick" →
-    Adds Old New (Happened Tick ∷ []) → LinesResumed Old New (without_return (partial ++ part) ∷ [])
-tick_ended Old New partial part none is adds =
-    rw (none, is) (line_resumed Old New (codes "tick") (Some Tick) tick_read adds)
+pub tick_ended : (Old New : List (List ℕ) → Type 0) (partial part : List ℕ) → partial ≡ [] → part ≡ codes "tick" →
+    Adds Old New (replicate 1 (codes "tick")) → Adds Old New (without_return (partial ++ part) ∷ [])
+tick_ended Old New partial part none is adds = rw (none, is) adds
 
-pub ended_bad : (count counted k : ℕ) (text line : List ℕ) → counted ≡ count → line ≡ without_return text →
-    (k ≡ counted + 1) × (event_of line ≡ None) →
-    (more : List ℕ) → StartsBad count (lines_after true text (10 ∷ more)) k
-ended_bad count counted k text line same is h more = (
-  record {
-    bad = without_return text;
-    others = lines_after true [] more;
-    parts = line_feed true text more;
-    is_bad = ap event_of (sym is) ∙ h.1;
-  },
-  h.0 ∙ ap (λ n. n + 1) same,
-)
+pub ended_bad : (Old : List (List ℕ) → Type 0) (count counted k : ℕ) (text line : List ℕ) → counted ≡ count →
+    line ≡ without_return text → (k ≡ counted + 1) × IsBadLine Old line →
+    (more : List ℕ) → StartsBad Old count (lines_after true text (10 ∷ more)) k
+ended_bad Old count counted k text line same is h more = record {
+  bad = without_return text;
+  others = lines_after true [] more;
+  parts = line_feed true text more;
+  is_bad = subst (IsBadLine Old) is h.1;
+  number_is = h.0 ∙ ap (λ n. n + 1) same;
+}
 
-pub ended_long : (count : ℕ) (text : List ℕ) → 140002 ≤ length text →
-    (more : List ℕ) → StartsBad count (lines_after true text (10 ∷ more)) (count + 1)
-ended_long count text le more = (long_line text (10 ∷ more) le, refl)
+long_starts : (Old : List (List ℕ) → Type 0) (count : ℕ) (text bytes : List ℕ) → 140002 ≤ length text →
+    StartsBad Old count (lines_after true text bytes) (count + 1)
+long_starts Old count text bytes le =
+    let h = long_first text bytes le in
+    record { bad = h.bad; others = h.others; parts = h.parts; is_bad = too_long Old h.bad h.long; number_is = refl }
+
+pub ended_long : (Old : List (List ℕ) → Type 0) (count : ℕ) (text : List ℕ) → 140002 ≤ length text →
+    (more : List ℕ) → StartsBad Old count (lines_after true text (10 ∷ more)) (count + 1)
+ended_long Old count text le more = long_starts Old count text (10 ∷ more) le
 
 -- ## The bytes of lines
 
@@ -265,18 +367,18 @@ at_cut rest part next cut ended left more =
     ∙ ap (lines_after ended left) (append_assoc part (10 ∷ next) more)
     ∙ unbroken part cut.plain ended left (10 ∷ (next ++ more))
 
-pub bytes_start : (n : ℕ) (partial bytes : List ℕ) (Old : List Note → Type 0) →
+pub bytes_start : (n : ℕ) (partial bytes : List ℕ) (Old : List (List ℕ) → Type 0) →
     BytesRun n n partial bytes partial bytes Old Old
 bytes_start n partial bytes Old = record {
   lines = [];
   split = λ ended more. refl;
   number = omega arith;
-  resumed = no_lines Old;
+  adds = no_lines Old;
 }
 
-pub bytes_feed : (n m : ℕ) (partial bytes left rest part next : List ℕ) (Old Mid New : List Note → Type 0) →
+pub bytes_feed : (n m : ℕ) (partial bytes left rest part next : List ℕ) (Old Mid New : List (List ℕ) → Type 0) →
     BytesRun n m partial bytes left rest Old Mid → IsCut rest part next →
-    LinesResumed Mid New (without_return (left ++ part) ∷ []) → BytesRun n (m + 1) partial bytes [] next Old New
+    Adds Mid New (without_return (left ++ part) ∷ []) → BytesRun n (m + 1) partial bytes [] next Old New
 bytes_feed n m partial bytes left rest part next Old Mid New h cut line =
     let text = without_return (left ++ part) in
     record {
@@ -286,7 +388,7 @@ bytes_feed n m partial bytes left rest part next Old Mid New h cut line =
           ∙ line_feed ended (left ++ part) (next ++ more)) ∙
           sym (append_assoc h.lines (text ∷ []) (lines_after ended [] (next ++ more)));
       number = omega (arith, length-append h.lines (text ∷ []), h.number);
-      resumed = lines_then Old Mid New h.lines (text ∷ []) h.resumed line;
+      adds = lines_then Old Mid New h.lines (text ∷ []) h.adds line;
     }
 
 ticks_then : (n m : ℕ) (text rest next : List ℕ) → IsAfterTicks n text rest → IsAfterTicks m rest next →
@@ -306,12 +408,6 @@ sixteen_more n text rest next h same after =
     ∙ ap (λ (l : List ℕ). l ++ drop 80 rest) (same_text (take 80 rest) SIXTEEN_TICKS.now (sym same))
     ∙ ap (λ (l : List ℕ). SIXTEEN_TICKS.now ++ l) (sym after))
 
-notes_of_ticks : (k : ℕ) → notes_of (replicate k (codes "tick")) ≡ Some (ticks_of k)
-unfolding notes_of
-notes_of_ticks zero = refl
-notes_of_ticks (suc k) = notes_both (codes "tick" ∷ []) (replicate k (codes "tick")) (Happened Tick ∷ []) (ticks_of k)
-    (one_note (codes "tick") (Some Tick) tick_read) (notes_of_ticks k)
-
 lines_of_ticks : (k : ℕ) (ended : Bool) (more : List ℕ) →
     lines_after ended [] (concat (replicate k (codes "tick\n")) ++ more) ≡
     replicate k (codes "tick") ++ lines_after ended [] more
@@ -319,53 +415,52 @@ unfolding lines_after
 lines_of_ticks zero ended more = refl
 lines_of_ticks (suc k) ended more = ap (λ (l : List (List ℕ)). codes "tick" ∷ l) (lines_of_ticks k ended more)
 
-pub bytes_ticks : (n m p k : ℕ) (partial bytes rest next : List ℕ) (Old Mid New : List Note → Type 0) →
-    BytesRun n m partial bytes [] rest Old Mid → p ≡ m + k → IsAfterTicks k rest next → Adds Mid New (ticks_of k) →
+pub bytes_ticks : (n m p : ℕ) (partial bytes rest next : List ℕ) (Old Mid New : List (List ℕ) → Type 0) →
+    BytesRun n m partial bytes [] rest Old Mid → TicksTaken m p rest next Mid New →
     BytesRun n p partial bytes [] next Old New
-bytes_ticks n m p k partial bytes rest next Old Mid New h more are adds =
+bytes_ticks n m p partial bytes rest next Old Mid New h taken =
+    let k = taken.ticks in
     let ticks = replicate k (codes "tick") in
     record {
       lines = h.lines ++ ticks;
       split = λ ended more. h.split ended more ∙
-          ap (λ (l : List (List ℕ)). h.lines ++ l) (ap (λ (l : List ℕ). lines_after ended [] (l ++ more)) are
+          ap (λ (l : List (List ℕ)). h.lines ++ l) (ap (λ (l : List ℕ). lines_after ended [] (l ++ more)) taken.parts
           ∙ ap (lines_after ended []) (append_assoc (concat (replicate k (codes "tick\n"))) next more)
           ∙ lines_of_ticks k ended (next ++ more)) ∙
           sym (append_assoc h.lines ticks (lines_after ended [] (next ++ more)));
-      number = omega (arith, more, h.number, length-append h.lines ticks, length-replicate k (codes "tick"));
-      resumed = lines_then Old Mid New h.lines ticks h.resumed
-          (record { notes = ticks_of k; are = notes_of_ticks k; adds = adds });
+      number = omega (arith, taken.number, h.number, length-append h.lines ticks, length-replicate k (codes "tick"));
+      adds = lines_then Old Mid New h.lines ticks h.adds taken.adds;
     }
 
 -- If a bad line follows the lines so far, it is the first bad line of the bytes.
-bad_after : (n m k : ℕ) (partial bytes left rest : List ℕ) (Old Mid : List Note → Type 0) →
-    BytesRun n m partial bytes left rest Old Mid →
-    ((more : List ℕ) → StartsBad m (lines_after true left (rest ++ more)) k) → BytesBad n partial bytes k
-bad_after n m k partial bytes left rest Old Mid h bad = record {
+bad_after : (n m k : ℕ) (partial bytes left rest : List ℕ) (Old Mid : List (List ℕ) → Type 0) →
+    ((lines : List (List ℕ)) → Mid lines → AreGood lines) → BytesRun n m partial bytes left rest Old Mid →
+    ((more : List ℕ) → StartsBad Mid m (lines_after true left (rest ++ more)) k) → BytesBad Old n partial bytes k
+bad_after n m k partial bytes left rest Old Mid are_good h bad = record {
   lines = h.lines;
   bad = λ more. record {
-    bad = (bad more).0.bad;
-    others = (bad more).0.others;
-    parts = h.split true more ∙ ap (λ (l : List (List ℕ)). h.lines ++ l) (bad more).0.parts;
-    is_bad = (bad more).0.is_bad;
+    bad = (bad more).bad;
+    others = (bad more).others;
+    parts = h.split true more ∙ ap (λ (l : List (List ℕ)). h.lines ++ l) (bad more).parts;
+    is_bad = λ before old. (bad more).is_bad (before ++ h.lines) (h.adds before old);
   };
-  number_is = omega (arith, (bad []).1, h.number);
-  notes = h.resumed.notes;
-  are = h.resumed.are;
+  number_is = omega (arith, (bad []).number_is, h.number);
+  good = λ before old. are_good (before ++ h.lines) (h.adds before old);
 }
 
 pub bytes_stop : (s : Bool) (n m p : ℕ) (partial bytes left rest part next last : List ℕ)
-    (Old Mid New : List Note → Type 0) (e : LineFault) → BytesRun n m partial bytes left rest Old Mid →
-    IsCut rest part next → EndedResumed s m (left ++ part) Mid New (Err e) →
-    BytesResumed s n p partial bytes last Old New (Err e)
-bytes_stop s n m p partial bytes left rest part next last Old Mid New e h cut line =
-    resumes_err s (LinesResumed Mid New (without_return (left ++ part) ∷ []))
-    (BytesRun n p partial bytes last [] Old New)
-    (λ k. (more : List ℕ) → StartsBad m (lines_after true (left ++ part) (10 ∷ more)) k) (BytesBad n partial bytes) e
-    (λ k bad. bad_after n m k partial bytes left rest Old Mid h
-    (λ more. subst (λ (l : List (List ℕ)). StartsBad m l k) (sym (at_cut rest part next cut true left more))
+    (Old Mid New : List (List ℕ) → Type 0) (e : LineFault) → ((lines : List (List ℕ)) → Mid lines → AreGood lines) →
+    BytesRun n m partial bytes left rest Old Mid → IsCut rest part next →
+    EndedResumed s m (left ++ part) Mid New (Err e) → BytesResumed s n p partial bytes last Old New (Err e)
+bytes_stop s n m p partial bytes left rest part next last Old Mid New e are_good h cut line =
+    resumes_err s (Adds Mid New (without_return (left ++ part) ∷ [])) (BytesRun n p partial bytes last [] Old New)
+    (λ k. (more : List ℕ) → StartsBad Mid m (lines_after true (left ++ part) (10 ∷ more)) k)
+    (BytesBad Old n partial bytes) e
+    (λ k bad. bad_after n m k partial bytes left rest Old Mid are_good h
+    (λ more. subst (λ (l : List (List ℕ)). StartsBad Mid m l k) (sym (at_cut rest part next cut true left more))
     (bad (next ++ more)))) line
 
-bytes_kept : (n m : ℕ) (partial bytes left rest : List ℕ) (Old Mid : List Note → Type 0) →
+bytes_kept : (n m : ℕ) (partial bytes left rest : List ℕ) (Old Mid : List (List ℕ) → Type 0) →
     BytesRun n m partial bytes left rest Old Mid → ((k : ℕ) → k < length rest → get_or rest k 0 ≢ 10) →
     BytesRun n m partial bytes (left ++ rest) [] Old Mid
 bytes_kept n m partial bytes left rest Old Mid h plain = record {
@@ -373,194 +468,200 @@ bytes_kept n m partial bytes left rest Old Mid h plain = record {
   split = λ ended more. h.split ended more ∙
       ap (λ (l : List (List ℕ)). h.lines ++ l) (unbroken rest plain ended left more);
   number = h.number;
-  resumed = h.resumed;
+  adds = h.adds;
 }
 
-bytes_long : (n m : ℕ) (partial bytes left rest : List ℕ) (Old Mid : List Note → Type 0) →
-    BytesRun n m partial bytes left rest Old Mid → ((k : ℕ) → k < length rest → get_or rest k 0 ≢ 10) →
-    140002 ≤ length (left ++ rest) → BytesBad n partial bytes (m + 1)
-bytes_long n m partial bytes left rest Old Mid h plain long =
-    bad_after n m (m + 1) partial bytes left rest Old Mid h
-    (λ more. subst (λ (l : List (List ℕ)). StartsBad m l (m + 1)) (sym (unbroken rest plain true left more))
-    (long_line (left ++ rest) more long, refl))
+bytes_long : (n m : ℕ) (partial bytes left rest : List ℕ) (Old Mid : List (List ℕ) → Type 0) →
+    ((lines : List (List ℕ)) → Mid lines → AreGood lines) → BytesRun n m partial bytes left rest Old Mid →
+    ((k : ℕ) → k < length rest → get_or rest k 0 ≢ 10) → 140002 ≤ length (left ++ rest) →
+    BytesBad Old n partial bytes (m + 1)
+bytes_long n m partial bytes left rest Old Mid are_good h plain long =
+    bad_after n m (m + 1) partial bytes left rest Old Mid are_good h
+    (λ more. subst (λ (l : List (List ℕ)). StartsBad Mid m l (m + 1)) (sym (unbroken rest plain true left more))
+    (long_starts Mid m (left ++ rest) more long))
 
 -- The bytes after the last line feed are kept, unless they make the line too long.
-pub bytes_last : (s : Bool) (n m : ℕ) (partial bytes left rest kept : List ℕ) (Old Mid : List Note → Type 0)
-    (r : Result (Unit {0}) LineFault) → BytesRun n m partial bytes left rest Old Mid →
+pub bytes_last : (s : Bool) (n m : ℕ) (partial bytes left rest kept : List ℕ) (Old Mid : List (List ℕ) → Type 0)
+    (r : Result (Unit {0}) LineFault) → ((lines : List (List ℕ)) → Mid lines → AreGood lines) →
+    BytesRun n m partial bytes left rest Old Mid →
     ((k : ℕ) → k < length rest → get_or rest k 0 ≢ 10) → OnOk r (kept ≡ left ++ rest) →
     IfErr r (λ fault. (fault ≡ faults.Bad (m + 1)) × (140002 ≤ length (left ++ rest))) →
     BytesResumed s n m partial bytes kept Old Mid r
-bytes_last s n m partial bytes left rest kept Old Mid (Ok done) h plain same long =
+bytes_last s n m partial bytes left rest kept Old Mid (Ok done) are_good h plain same long =
     subst (λ (l : List ℕ). BytesRun n m partial bytes l [] Old Mid) (sym same)
     (bytes_kept n m partial bytes left rest Old Mid h plain)
-bytes_last s n m partial bytes left rest kept Old Mid (Err fault) h plain same long =
+bytes_last s n m partial bytes left rest kept Old Mid (Err fault) are_good h plain same long =
     subst (λ (e : LineFault). BytesResumed s n m partial bytes kept Old Mid (Err e)) (sym long.0)
-    (bytes_long n m partial bytes left rest Old Mid h plain long.1)
+    (bytes_long n m partial bytes left rest Old Mid are_good h plain long.1)
 
 -- ## How far the script was read
 
--- The text that was read has these notes in its complete lines, and ends with this partial line.
-pub record Far (input remaining : Option (List ℕ)) (partial : List ℕ) (count : ℕ) (notes : List Note) : Type 0 where
+-- The text that was read has these complete lines, and ends with this partial line.
+pub record Far (input remaining : Option (List ℕ)) (partial : List ℕ) (count : ℕ) (lines : List (List ℕ)) : Type 0 where
   pub text : List ℕ
   pub consumed : Consumes input remaining text
-  pub lines : List (List ℕ)
   pub split : (ended : Bool) (more : List ℕ) → lines_of ended (text ++ more) ≡ lines ++ lines_after ended partial more
   pub counted : count ≡ length lines
-  pub are : notes_of lines ≡ Some notes
 
--- The text was read so far, and its notes satisfy `Old`.
-abbrev pub Reaches : (Old : List Note → Type 0) → (input remaining : Option (List ℕ)) → List ℕ → ℕ → Type 0
+-- The text was read so far, and its lines satisfy `Old`.
+abbrev pub Reaches : (Old : List (List ℕ) → Type 0) → (input remaining : Option (List ℕ)) → List ℕ → ℕ → Type 0
 Reaches Old input remaining partial count =
-    (notes : List Note) × Far input remaining partial count notes × Old notes
+    (lines : List (List ℕ)) × Far input remaining partial count lines × Old lines
 
-pub reaches_start : (Old : List Note → Type 0) (input : Option (List ℕ)) (partial : List ℕ) (count : ℕ) →
+pub reaches_start : (Old : List (List ℕ) → Type 0) (input : Option (List ℕ)) (partial : List ℕ) (count : ℕ) →
     partial ≡ [] → count ≡ 0 → Old [] → Reaches Old input input partial count
-unfolding notes_of
 reaches_start Old input partial count none zero_is start = (
   [],
   record {
     text = [];
     consumed = Consumes-nil input;
-    lines = [];
     split = λ ended more. ap (λ (l : List ℕ). lines_after ended l more) (sym none);
     counted = zero_is;
-    are = refl;
   },
   start,
 )
 
-pub reaches_bytes : (Old New : List Note → Type 0) (i x y : Option (List ℕ)) (partial bytes left : List ℕ) (n m : ℕ) →
-    Reaches Old i x partial n → Consumes x y bytes → BytesRun n m partial bytes left [] Old New → Reaches New i y left m
+pub reaches_bytes : (Old New : List (List ℕ) → Type 0) (i x y : Option (List ℕ)) (partial bytes left : List ℕ)
+    (n m : ℕ) → Reaches Old i x partial n → Consumes x y bytes → BytesRun n m partial bytes left [] Old New →
+    Reaches New i y left m
 reaches_bytes Old New i x y partial bytes left n m come eaten h =
-    let (notes, p, old) = come in (
-      notes ++ h.resumed.notes,
+    let (lines, p, old) = come in (
+      lines ++ h.lines,
       record {
         text = p.text ++ bytes;
         consumed = Consumes-trans i x y p.text bytes p.consumed eaten;
-        lines = p.lines ++ h.lines;
         split = λ ended more. ap (lines_after ended []) (append_assoc p.text bytes more) ∙ p.split ended (bytes ++ more) ∙
-            ap (λ (l : List (List ℕ)). p.lines ++ l) (h.split ended more) ∙
-            sym (append_assoc p.lines h.lines (lines_after ended left more));
-        counted = omega (arith, h.number, p.counted, length-append p.lines h.lines);
-        are = notes_both p.lines h.lines notes h.resumed.notes p.are h.resumed.are;
+            ap (λ (l : List (List ℕ)). lines ++ l) (h.split ended more) ∙
+            sym (append_assoc lines h.lines (lines_after ended left more));
+        counted = omega (arith, h.number, p.counted, length-append lines h.lines);
       },
-      h.resumed.adds notes old,
+      h.adds lines old,
     )
 
-bad_in_bytes : (i x y : Option (List ℕ)) (partial bytes : List ℕ) (n k : ℕ) (notes : List Note) →
-    Far i x partial n notes → Consumes x y bytes → BytesBad n partial bytes k → FindsBadLine i y k
-bad_in_bytes i x y partial bytes n k notes p eaten h =
-    let are = notes_both p.lines h.lines notes h.notes p.are h.are in
+bad_in_bytes : (Old : List (List ℕ) → Type 0) (i x y : Option (List ℕ)) (partial bytes : List ℕ) (n k : ℕ) →
+    Reaches Old i x partial n → Consumes x y bytes → BytesBad Old n partial bytes k → FindsBadLine i y k
+bad_in_bytes Old i x y partial bytes n k (lines, p, old) eaten h =
+    let (notes, are) = h.good lines old in
     record {
       text = p.text ++ bytes;
       ended = false;
       read = record { consumed = Consumes-trans i x y p.text bytes p.consumed eaten; at_end = λ e. absurd (cc e) };
-      lines = p.lines ++ h.lines;
-      events = events_in (notes ++ h.notes);
-      are = events_of_notes (p.lines ++ h.lines) (notes ++ h.notes) are;
-      number_is = omega (arith, h.number_is, p.counted, length-append p.lines h.lines);
-      bad = λ more none. bad_later p.lines h.lines (lines_after true partial (bytes ++ more))
-          (lines_of true ((p.text ++ bytes) ++ more))
-          (ap (lines_after true []) (append_assoc p.text bytes more) ∙ p.split true (bytes ++ more)) (h.bad more);
+      lines = lines ++ h.lines;
+      events = events_in notes;
+      are = events_of_notes (expanded false (lines ++ h.lines)) notes are;
+      number_is = omega (arith, h.number_is, p.counted, length-append lines h.lines);
+      bad = λ more none.
+          let b = h.bad more in
+          record {
+            bad = b.bad;
+            others = b.others;
+            parts = ap (lines_after true []) (append_assoc p.text bytes more) ∙ p.split true (bytes ++ more) ∙
+                ap (λ (l : List (List ℕ)). lines ++ l) b.parts ∙ sym (append_assoc lines h.lines (b.bad ∷ b.others));
+            is_bad = b.is_bad lines old;
+          };
     }
 
-pub reaches_fault : (s : Bool) (config : Config) (Old New Follows : List Note → Type 0) (i x y : Option (List ℕ))
-    (partial bytes left : List ℕ) (n m : ℕ) (state : CoreState) (e : LineFault) → Reaches Old i x partial n →
-    Consumes x y bytes → BytesResumed s n m partial bytes left Old New (Err e) →
+pub reaches_fault : (s : Bool) (config : Config) (Old New : List (List ℕ) → Type 0) (Follows : List Note → Type 0)
+    (i x y : Option (List ℕ)) (partial bytes left : List ℕ) (n m : ℕ) (state : CoreState) (e : LineFault) →
+    Reaches Old i x partial n → Consumes x y bytes → BytesResumed s n m partial bytes left Old New (Err e) →
     AllResumed s config i y state Follows (Err (script_fault_of e))
 reaches_fault s config Old New Follows i x y partial bytes left n m state (faults.Bad k) come eaten h =
-    bad_in_bytes i x y partial bytes n k come.0 come.1 eaten h
+    bad_in_bytes Old i x y partial bytes n k come eaten h
 reaches_fault s config Old New Follows i x y partial bytes left n m state faults.Write come eaten h = h
 reaches_fault s config Old New Follows i x y partial bytes left n m state faults.NoMemory come eaten h = tt
 
 abbrev AtEnd : Option (List ℕ) → Option (List ℕ) → Type 0
 AtEnd x y = Keeps x y × IsAtEnd y
 
-read_to_end : (i x y : Option (List ℕ)) (partial : List ℕ) (n : ℕ) (notes : List Note) → AtEnd x y →
-    (p : Far i x partial n notes) → HasRead i y p.text true
-read_to_end i x y partial n notes end p =
+read_to_end : (i x y : Option (List ℕ)) (partial : List ℕ) (n : ℕ) (lines : List (List ℕ)) → AtEnd x y →
+    (p : Far i x partial n lines) → HasRead i y p.text true
+read_to_end i x y partial n lines end p =
     record { consumed = Consumes-kept i x y p.text p.consumed end.0; at_end = λ e. end.1 }
 
-split_at_end : (i x : Option (List ℕ)) (partial : List ℕ) (n : ℕ) (notes : List Note)
-    (p : Far i x partial n notes) → lines_of true p.text ≡ p.lines ++ lines_after true partial []
-split_at_end i x partial n notes p = ap (lines_after true []) (sym (append-nil p.text)) ∙ p.split true []
+split_at_end : (i x : Option (List ℕ)) (partial : List ℕ) (n : ℕ) (lines : List (List ℕ))
+    (p : Far i x partial n lines) → lines_of true p.text ≡ lines ++ lines_after true partial []
+split_at_end i x partial n lines p = ap (lines_after true []) (sym (append-nil p.text)) ∙ p.split true []
 
-followed_at_end : (config : Config) (Old Follows : List Note → Type 0) (i x y : Option (List ℕ)) (partial : List ℕ)
-    (n : ℕ) (state : CoreState) → Reaches Old i x partial n → AtEnd x y →
-    LinesResumed Old (KeepsUp config state 0 Follows) (lines_after true partial []) →
+followed_at_end : (config : Config) (Old : List (List ℕ) → Type 0) (Follows : List Note → Type 0)
+    (i x y : Option (List ℕ)) (partial : List ℕ) (n : ℕ) (state : CoreState) (c : Bool) → Reaches Old i x partial n →
+    AtEnd x y → Adds Old (KeepsLines config state c 0 Follows) (lines_after true partial []) →
     IsFollowed config i y state Follows
-followed_at_end config Old Follows i x y partial n state (notes, p, old) end h =
-    let last = lines_after true partial [] in
-    let (run, follows) = caught_up config state Follows (notes ++ h.notes) (h.adds notes old) in
+followed_at_end config Old Follows i x y partial n state c (lines, p, old) end h =
+    let kept = h lines old in
+    let (run, follows) = caught_up config state Follows kept.notes kept.keeps in
     record {
       script = p.text;
-      read = read_to_end i x y partial n notes end p;
-      notes = notes ++ h.notes;
-      are = ap notes_of (split_at_end i x partial n notes p) ∙ notes_both p.lines last notes h.notes p.are h.are;
+      read = read_to_end i x y partial n lines end p;
+      notes = kept.notes;
+      are = ap (λ (l : List (List ℕ)). notes_of (expanded false l)) (split_at_end i x partial n lines p) ∙ kept.are;
       run = run;
       follows = follows;
     }
 
-bad_at_end : (i x y : Option (List ℕ)) (partial : List ℕ) (n k : ℕ) (notes : List Note) →
-    Far i x partial n notes → AtEnd x y → StartsBad n (lines_after true partial []) k → FindsBadLine i y k
-bad_at_end i x y partial n k notes p end (h, number) = record {
-  text = p.text;
-  ended = true;
-  read = read_to_end i x y partial n notes end p;
-  lines = p.lines;
-  events = events_in notes;
-  are = events_of_notes p.lines notes p.are;
-  number_is = omega (arith, number, p.counted);
-  bad = λ more none. record {
-    bad = h.bad;
-    others = h.others;
-    parts = ap (λ (l : List ℕ). lines_of true (p.text ++ l)) (none refl) ∙ p.split true [] ∙
-        ap (λ (l : List (List ℕ)). p.lines ++ l) h.parts;
-    is_bad = h.is_bad;
-  };
-}
+bad_at_end : (Old : List (List ℕ) → Type 0) (i x y : Option (List ℕ)) (partial : List ℕ) (n k : ℕ) →
+    ((lines : List (List ℕ)) → Old lines → AreGood lines) → Reaches Old i x partial n → AtEnd x y →
+    StartsBad Old n (lines_after true partial []) k → FindsBadLine i y k
+bad_at_end Old i x y partial n k are_good (lines, p, old) end h =
+    let (notes, are) = are_good lines old in
+    record {
+      text = p.text;
+      ended = true;
+      read = read_to_end i x y partial n lines end p;
+      lines = lines;
+      events = events_in notes;
+      are = events_of_notes (expanded false lines) notes are;
+      number_is = omega (arith, h.number_is, p.counted);
+      bad = λ more none. record {
+        bad = h.bad;
+        others = h.others;
+        parts = ap (λ (l : List ℕ). lines_of true (p.text ++ l)) (none refl) ∙ p.split true [] ∙
+            ap (λ (l : List (List ℕ)). lines ++ l) h.parts;
+        is_bad = h.is_bad lines old;
+      };
+    }
 
-pub reaches_end : (s : Bool) (config : Config) (Old Follows : List Note → Type 0) (i x y : Option (List ℕ))
-    (partial : List ℕ) (n : ℕ) (state : CoreState) (r : Result (Unit {0}) LineFault) → Reaches Old i x partial n →
-    AtEnd x y → LastResumed s n partial Old (KeepsUp config state 0 Follows) r →
+pub reaches_end : (s : Bool) (config : Config) (Old : List (List ℕ) → Type 0) (Follows : List Note → Type 0)
+    (i x y : Option (List ℕ)) (partial : List ℕ) (n : ℕ) (state : CoreState) (c : Bool)
+    (r : Result (Unit {0}) LineFault) → ((lines : List (List ℕ)) → Old lines → AreGood lines) →
+    Reaches Old i x partial n → AtEnd x y → LastResumed s n partial Old (KeepsLines config state c 0 Follows) r →
     AllResumed s config i y state Follows (script_result r)
-reaches_end s config Old Follows i x y partial n state (Ok done) come end h =
-    followed_at_end config Old Follows i x y partial n state come end h
-reaches_end s config Old Follows i x y partial n state (Err (faults.Bad k)) come end h =
-    bad_at_end i x y partial n k come.0 come.1 end h
-reaches_end s config Old Follows i x y partial n state (Err faults.Write) come end h = h
-reaches_end s config Old Follows i x y partial n state (Err faults.NoMemory) come end h = tt
+reaches_end s config Old Follows i x y partial n state c (Ok done) are_good come end h =
+    followed_at_end config Old Follows i x y partial n state c come end h
+reaches_end s config Old Follows i x y partial n state c (Err (faults.Bad k)) are_good come end h =
+    bad_at_end Old i x y partial n k are_good come end h
+reaches_end s config Old Follows i x y partial n state c (Err faults.Write) are_good come end h = h
+reaches_end s config Old Follows i x y partial n state c (Err faults.NoMemory) are_good come end h = tt
 
 -- ## The last line
 
-last_empty : (line : List ℕ) (Old : List Note → Type 0) → eqb (length line) 0 ≡ true →
-    LinesResumed Old Old (lines_after true line [])
-last_empty [] Old e = subst (λ (l : List (List ℕ)). LinesResumed Old Old l) (sym no_line) (no_lines Old)
+last_empty : (line : List ℕ) (Old : List (List ℕ) → Type 0) → eqb (length line) 0 ≡ true →
+    Adds Old Old (lines_after true line [])
+last_empty [] Old e = subst (Adds Old Old) (sym no_line) (no_lines Old)
 last_empty (b ∷ bs) Old e = absurd (omega (arith, eqb-true (length (b ∷ bs)) 0 e))
 
-pub no_last_line : (line partial : List ℕ) (Old : List Note → Type 0) → line ≡ partial →
-    eqb (length line) 0 ≡ true → LinesResumed Old Old (lines_after true partial [])
+pub no_last_line : (line partial : List ℕ) (Old : List (List ℕ) → Type 0) → line ≡ partial →
+    eqb (length line) 0 ≡ true → Adds Old Old (lines_after true partial [])
 no_last_line line partial Old is e =
-    subst (λ (l : List ℕ). LinesResumed Old Old (lines_after true l [])) is (last_empty line Old e)
+    subst (λ (l : List ℕ). Adds Old Old (lines_after true l [])) is (last_empty line Old e)
 
-last_bad : (count b k : ℕ) (bs : List ℕ) → (k ≡ count + 1) × (event_of (b ∷ bs) ≡ None) →
-    StartsBad count (lines_after true (b ∷ bs) []) k
-last_bad count b k bs h =
-    (record { bad = b ∷ bs; others = []; parts = last_line b bs; is_bad = h.1 }, h.0)
+last_bad : (Old : List (List ℕ) → Type 0) (count b k : ℕ) (bs : List ℕ) →
+    (k ≡ count + 1) × IsBadLine Old (b ∷ bs) → StartsBad Old count (lines_after true (b ∷ bs) []) k
+last_bad Old count b k bs h =
+    record { bad = b ∷ bs; others = []; parts = last_line b bs; is_bad = h.1; number_is = h.0 }
 
-last_full : (s : Bool) (count : ℕ) (line : List ℕ) (Old New : List Note → Type 0) (r : Result (Unit {0}) LineFault) →
-    eqb (length line) 0 ≡ false → LineResumed s (count + 1) line Old New r → LastResumed s count line Old New r
+last_full : (s : Bool) (count : ℕ) (line : List ℕ) (Old New : List (List ℕ) → Type 0)
+    (r : Result (Unit {0}) LineFault) → eqb (length line) 0 ≡ false → LineRead s (count + 1) line Old New r →
+    LastResumed s count line Old New r
 last_full s count [] Old New r e h = absurd (true≢false e)
-last_full s count (b ∷ bs) Old New (Ok done) e h =
-    subst (λ (l : List (List ℕ)). LinesResumed Old New l) (sym (last_line b bs)) h
+last_full s count (b ∷ bs) Old New (Ok done) e h = subst (Adds Old New) (sym (last_line b bs)) h
 last_full s count (b ∷ bs) Old New (Err fault) e h =
-    resumes_err s (LinesResumed Old New ((b ∷ bs) ∷ [])) (LinesResumed Old New (lines_after true (b ∷ bs) []))
-    (λ k. (k ≡ count + 1) × (event_of (b ∷ bs) ≡ None)) (StartsBad count (lines_after true (b ∷ bs) [])) fault
-    (λ k bad. last_bad count b k bs bad) h
+    resumes_err s (Adds Old New ((b ∷ bs) ∷ [])) (Adds Old New (lines_after true (b ∷ bs) []))
+    (λ k. (k ≡ count + 1) × IsBadLine Old (b ∷ bs)) (StartsBad Old count (lines_after true (b ∷ bs) [])) fault
+    (λ k bad. last_bad Old count b k bs bad) h
 
-pub last_line_resumed : (s : Bool) (count : ℕ) (line partial : List ℕ) (Old New : List Note → Type 0)
+pub last_line_resumed : (s : Bool) (count : ℕ) (line partial : List ℕ) (Old New : List (List ℕ) → Type 0)
     (r : Result (Unit {0}) LineFault) → line ≡ partial → eqb (length line) 0 ≡ false →
-    LineResumed s (count + 1) line Old New r → LastResumed s count partial Old New r
+    LineRead s (count + 1) line Old New r → LastResumed s count partial Old New r
 last_line_resumed s count line partial Old New r is e h =
     subst (λ (l : List ℕ). LastResumed s count l Old New r) is (last_full s count line Old New r e h)
 
@@ -572,7 +673,7 @@ is_resumed config i y state Follows h = record {
   script = h.script;
   read = h.read;
   events = events_in h.notes;
-  are = events_of_notes (lines_of true h.script) h.notes h.are;
+  are = events_of_notes (journal_lines true h.script) h.notes h.are;
   sent = h.run.0;
   world = h.run.1;
   history = h.run.2;
@@ -623,27 +724,27 @@ not_err (Ok value) X none h = h
 not_err (Err e) X none h = absurd (true≢false none)
 
 -- The text was read so far. At its end, the follower was not done.
-abbrev pub Waits : {F : Type 0} → (F → Bool) → (F → List Note → Type 0) → (Old : List Note → Type 0)
+abbrev pub Waits : {F : Type 0} → (F → Bool) → (F → List Note → Type 0) → (Old : List (List ℕ) → Type 0)
     → (input remaining : Option (List ℕ)) → List ℕ → ℕ → Type 0
 Waits done Follows Old input remaining partial count =
     (r : Reaches Old input remaining partial count) × ((r.1.text ≡ []) ⊎ GoesOn done Follows r.1.text)
 
-pub waits_start : {F : Type 0} (done : F → Bool) (Follows : F → List Note → Type 0) (Old : List Note → Type 0)
+pub waits_start : {F : Type 0} (done : F → Bool) (Follows : F → List Note → Type 0) (Old : List (List ℕ) → Type 0)
     (input : Option (List ℕ)) (partial : List ℕ) (count : ℕ) → partial ≡ [] → count ≡ 0 → Old [] →
     Waits done Follows Old input input partial count
 unfolding reaches_start
 waits_start done Follows Old input partial count none zero_is start =
     (reaches_start Old input partial count none zero_is start, inl refl)
 
-pub followed_to_end : {F : Type 0} (config : Config) (Old : List Note → Type 0) (i x y : Option (List ℕ))
-    (partial : List ℕ) (n : ℕ) (state : CoreState) (done : F → Bool) (Follows : F → List Note → Type 0) (last : F) →
-    Waits done Follows Old i x partial n → AtEnd x y →
-    LinesResumed Old (KeepsUp config state 0 (Follows last)) (lines_after true partial []) →
+pub followed_to_end : {F : Type 0} (config : Config) (Old : List (List ℕ) → Type 0) (i x y : Option (List ℕ))
+    (partial : List ℕ) (n : ℕ) (state : CoreState) (c : Bool) (done : F → Bool) (Follows : F → List Note → Type 0)
+    (last : F) → Waits done Follows Old i x partial n → AtEnd x y →
+    Adds Old (KeepsLines config state c 0 (Follows last)) (lines_after true partial []) →
     IsFollowedUntil config i y state done Follows last
 unfolding followed_at_end
-followed_to_end config Old i x y partial n state done Follows last (r, waits) end h =
+followed_to_end config Old i x y partial n state c done Follows last (r, waits) end h =
     let p = r.1 in
-    let f = followed_at_end config Old (Follows last) i x y partial n state r end h in
+    let f = followed_at_end config Old (Follows last) i x y partial n state c r end h in
     let same : p.text ++ [] ≡ p.text = append-nil p.text in
     record {
       front = p.text;
@@ -654,7 +755,7 @@ followed_to_end config Old i x y partial n state done Follows last (r, waits) en
       read = subst (λ (l : List ℕ). HasRead i y l true) (sym same) f.read;
       until = λ e. refl;
       notes = f.notes;
-      are = ap (λ (l : List ℕ). notes_of (lines_of true l)) same ∙ f.are;
+      are = ap (λ (l : List ℕ). notes_of (journal_lines true l)) same ∙ f.are;
       run = f.run;
       follows = f.follows;
     }
@@ -664,54 +765,70 @@ unfolding lines_after
 no_part [] = refl
 no_part (b ∷ bs) = rw (ne_eqb (length (b ∷ bs)) 0 (λ e. absurd (omega arith))) refl
 
--- The notes of the complete lines of the text.
-ended_notes : (i x : Option (List ℕ)) (partial : List ℕ) (n : ℕ) (notes : List Note) (p : Far i x partial n notes) →
-    notes_of (lines_of false p.text) ≡ Some notes
-ended_notes i x partial n notes p =
-    ap notes_of (ap (lines_after false []) (sym (append-nil p.text)) ∙ p.split false []
-    ∙ ap (λ (l : List (List ℕ)). p.lines ++ l) (no_part partial) ∙ append-nil p.lines) ∙ p.are
+-- The complete lines of the text.
+complete : (i x : Option (List ℕ)) (partial : List ℕ) (n : ℕ) (lines : List (List ℕ)) (p : Far i x partial n lines) →
+    lines_of false p.text ≡ lines
+complete i x partial n lines p =
+    ap (lines_after false []) (sym (append-nil p.text)) ∙ p.split false []
+    ∙ ap (λ (l : List (List ℕ)). lines ++ l) (no_part partial) ∙ append-nil lines
+
+-- All ticks that were pending have been run.
+pub ticks_run : (config : Config) (old new : CoreState) (c d : Bool) (n : ℕ) (Old New : List Note → Type 0) → d ≡ c →
+    ((notes : List Note) → KeepsUp config old n Old notes → KeepsUp config new 0 New notes) →
+    (lines : List (List ℕ)) → KeepsLines config old c n Old lines → KeepsLines config new d 0 New lines
+ticks_run config old new c d n Old New is run lines h =
+    record { notes = h.notes; are = h.are; counted = is ∙ h.counted; keeps = run h.notes h.keeps }
 
 -- One more piece of the script was read, and its ticks were run.
-pub record Advances {F : Type 0} (config : Config) (state : CoreState) (done : F → Bool)
+pub record Advances {F : Type 0} (config : Config) (state : CoreState) (c : Bool) (done : F → Bool)
     (Follows : F → List Note → Type 0) (now : F) (i x y : Option (List ℕ)) (front piece left : List ℕ) (m : ℕ)
     : Type 0 where
-  pub notes : List Note
-  pub far : Far i y left m notes
+  pub lines : List (List ℕ)
+  pub far : Far i y left m lines
   pub text : far.text ≡ front ++ piece
-  pub keeps : KeepsUp config state 0 (Follows now) notes
+  pub keeps : KeepsLines config state c 0 (Follows now) lines
 
-pub advances : {F : Type 0} (config : Config) (state : CoreState) (done : F → Bool) (Follows : F → List Note → Type 0)
-    (now : F) (Old Mid : List Note → Type 0) (i x y : Option (List ℕ)) (partial piece left : List ℕ) (n m : ℕ)
-    (r : Reaches Old i x partial n) → Consumes x y piece → BytesRun n m partial piece left [] Old Mid →
-    ((notes : List Note) → Mid notes → KeepsUp config state 0 (Follows now) notes) →
-    Advances config state done Follows now i x y r.1.text piece left m
+pub advances : {F : Type 0} (config : Config) (state : CoreState) (c : Bool) (done : F → Bool)
+    (Follows : F → List Note → Type 0) (now : F) (Old Mid : List (List ℕ) → Type 0) (i x y : Option (List ℕ))
+    (partial piece left : List ℕ) (n m : ℕ) (r : Reaches Old i x partial n) → Consumes x y piece →
+    BytesRun n m partial piece left [] Old Mid →
+    ((lines : List (List ℕ)) → Mid lines → KeepsLines config state c 0 (Follows now) lines) →
+    Advances config state c done Follows now i x y r.1.text piece left m
 unfolding reaches_bytes
-advances config state done Follows now Old Mid i x y partial piece left n m r eaten h step =
+advances config state c done Follows now Old Mid i x y partial piece left n m r eaten h step =
     let next = reaches_bytes Old Mid i x y partial piece left n m r eaten h in
-    record { notes = next.0; far = next.1; text = refl; keeps = step next.0 next.2 }
+    record { lines = next.0; far = next.1; text = refl; keeps = step next.0 next.2 }
 
-pub waits_on : {F : Type 0} (config : Config) (state : CoreState) (done : F → Bool) (Follows : F → List Note → Type 0)
-    (now : F) (i x y : Option (List ℕ)) (front piece left : List ℕ) (m ticks : ℕ) → ticks ≡ 0 → done now ≡ false →
-    Advances config state done Follows now i x y front piece left m →
-    Waits done Follows (KeepsUp config state ticks (Follows now)) i y left m
-waits_on config state done Follows now i x y front piece left m ticks none undone a =
-    let (run, follows) = caught_up config state (Follows now) a.notes a.keeps in (
-      (a.notes, a.far, subst (λ (k : ℕ). KeepsUp config state k (Follows now) a.notes) (sym none) a.keeps),
+-- The notes of the complete lines that were read.
+advanced_notes : {F : Type 0} (config : Config) (state : CoreState) (c : Bool) (done : F → Bool)
+    (Follows : F → List Note → Type 0) (now : F) (i x y : Option (List ℕ)) (front piece left : List ℕ) (m : ℕ)
+    (a : Advances config state c done Follows now i x y front piece left m) →
+    notes_of (journal_lines false a.far.text) ≡ Some a.keeps.notes
+advanced_notes config state c done Follows now i x y front piece left m a =
+    ap (λ (l : List (List ℕ)). notes_of (expanded false l)) (complete i y left m a.lines a.far) ∙ a.keeps.are
+
+pub waits_on : {F : Type 0} (config : Config) (state : CoreState) (c : Bool) (done : F → Bool)
+    (Follows : F → List Note → Type 0) (now : F) (i x y : Option (List ℕ)) (front piece left : List ℕ) (m ticks : ℕ) →
+    ticks ≡ 0 → done now ≡ false → Advances config state c done Follows now i x y front piece left m →
+    Waits done Follows (KeepsLines config state c ticks (Follows now)) i y left m
+waits_on config state c done Follows now i x y front piece left m ticks none undone a =
+    let (run, follows) = caught_up config state (Follows now) a.keeps.notes a.keeps.keeps in (
+      (a.lines, a.far, subst (λ (k : ℕ). KeepsLines config state c k (Follows now) a.lines) (sym none) a.keeps),
       inr (record {
         follower = now;
-        notes = a.notes;
-        are = ended_notes i y left m a.notes a.far;
+        notes = a.keeps.notes;
+        are = advanced_notes config state c done Follows now i x y front piece left m a;
         follows = follows;
         undone = undone;
       }),
     )
 
-pub followed_to_done : {F : Type 0} (config : Config) (state : CoreState) (done : F → Bool)
+pub followed_to_done : {F : Type 0} (config : Config) (state : CoreState) (c : Bool) (done : F → Bool)
     (Follows : F → List Note → Type 0) (now : F) (i x y : Option (List ℕ)) (front piece left : List ℕ) (m : ℕ) →
     length piece ≤ 4096 → ((front ≡ []) ⊎ GoesOn done Follows front) → done now ≡ true →
-    Advances config state done Follows now i x y front piece left m → IsFollowedUntil config i y state done Follows now
-followed_to_done config state done Follows now i x y front piece left m short waits is_done a =
-    let (run, follows) = caught_up config state (Follows now) a.notes a.keeps in
+    Advances config state c done Follows now i x y front piece left m → IsFollowedUntil config i y state done Follows now
+followed_to_done config state c done Follows now i x y front piece left m short waits is_done a =
+    let (run, follows) = caught_up config state (Follows now) a.keeps.notes a.keeps.keeps in
     record {
       front = front;
       piece = piece;
@@ -721,8 +838,9 @@ followed_to_done config state done Follows now i x y front piece left m short wa
       read = subst (λ (l : List ℕ). HasRead i y l false) a.text
           (record { consumed = a.far.consumed; at_end = λ e. absurd (cc e) });
       until = λ e. absurd (true≢false (sym is_done ∙ e));
-      notes = a.notes;
-      are = ap (λ (l : List ℕ). notes_of (lines_of false l)) (sym a.text) ∙ ended_notes i y left m a.notes a.far;
+      notes = a.keeps.notes;
+      are = ap (λ (l : List ℕ). notes_of (journal_lines false l)) (sym a.text)
+          ∙ advanced_notes config state c done Follows now i x y front piece left m a;
       run = run;
       follows = follows;
     }

@@ -37,7 +37,7 @@ at_last_feed partial front left back lines h =
     h false (10 ∷ back) ∙ ap (λ (l : List (List ℕ)). lines ++ l) (line_feed false left back)
 
 -- A line that is too long is bad, with or without a carriage return.
-long_bad : (line : List ℕ) → 140001 ≤ length line → event_of line ≡ None
+pub long_bad : (line : List ℕ) → 140001 ≤ length line → event_of line ≡ None
 unfolding event_of
 long_bad line le = rw (lt-ltb 140000 (length line) (omega arith)) refl
 
@@ -46,26 +46,36 @@ return_long : (t : Bool) (line : List ℕ) (n : ℕ) → n + 1 ≤ length line �
 return_long true line n le = omega (arith, length-take (length line - 1) line)
 return_long false line n le = omega arith
 
+-- The first of these lines is too long.
+pub record StartsLong (lines : List (List ℕ)) : Type 0 where
+  pub bad : List ℕ
+  pub others : List (List ℕ)
+  pub parts : lines ≡ bad ∷ others
+  pub long : 140001 ≤ length bad
+
 long_step : (t : Bool) (partial : List ℕ) (x : ℕ) (bytes : List ℕ) → eqb x 10 ≡ t → 140002 ≤ length partial →
-    HasBadAfter [] (lines_after true (partial ++ x ∷ []) bytes) → HasBadAfter [] (lines_after true partial (x ∷ bytes))
+    StartsLong (lines_after true (partial ++ x ∷ []) bytes) → StartsLong (lines_after true partial (x ∷ bytes))
 unfolding lines_after
 long_step true partial x bytes e le h =
     rw e (record {
       bad = without_return partial;
       others = lines_after true [] bytes;
       parts = refl;
-      is_bad =
-          long_bad (without_return partial) (return_long (eqb (slice_index partial (length partial - 1)) 13) partial 140001
-          (omega arith));
+      long = return_long (eqb (slice_index partial (length partial - 1)) 13) partial 140001 (omega arith);
     })
 long_step false partial x bytes e le h = rw e h
 
-pub long_line : (partial bytes : List ℕ) → 140002 ≤ length partial → HasBadAfter [] (lines_after true partial bytes)
+pub long_first : (partial bytes : List ℕ) → 140002 ≤ length partial → StartsLong (lines_after true partial bytes)
 unfolding lines_after
-long_line partial [] le = rw (ne_eqb (length partial) 0 (λ e. absurd (omega arith)))
-    (record { bad = partial; others = []; parts = refl; is_bad = long_bad partial (omega arith) })
-long_line partial (x ∷ bytes) le = long_step (eqb x 10) partial x bytes refl le
-    (long_line (partial ++ x ∷ []) bytes (omega (arith, length-append partial (x ∷ []))))
+long_first partial [] le = rw (ne_eqb (length partial) 0 (λ e. absurd (omega arith)))
+    (record { bad = partial; others = []; parts = refl; long = omega arith })
+long_first partial (x ∷ bytes) le = long_step (eqb x 10) partial x bytes refl le
+    (long_first (partial ++ x ∷ []) bytes (omega (arith, length-append partial (x ∷ []))))
+
+pub long_line : (partial bytes : List ℕ) → 140002 ≤ length partial → HasBadAfter [] (lines_after true partial bytes)
+long_line partial bytes le =
+    let h = long_first partial bytes le in
+    record { bad = h.bad; others = h.others; parts = h.parts; is_bad = long_bad h.bad h.long }
 
 -- If a bad line follows some lines, it also follows these lines together with the lines before them.
 pub bad_later : (before lines others all : List (List ℕ)) → all ≡ before ++ others → HasBadAfter lines others →

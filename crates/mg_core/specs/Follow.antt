@@ -2,7 +2,7 @@
 use Rattle.std.specs.Prelude.{◌≡◌, ℕ, true, List, Option, Some}
 use Rattle.std.specs.Prelude.{replicate}
 use Rattle.mg_engine.specs.declared.config.Config.{Config}
-use Rattle.mg_lines.specs.Lines.{lines_of}
+use Rattle.mg_core.specs.Counted.{journal_lines}
 use Rattle.mg_core.specs.declared.event.Event.TheVariants.{Tick}
 use Rattle.mg_core.specs.declared.state.CoreState.{CoreState}
 use Rattle.mg_core.specs.Headline.{HasHistory}
@@ -28,6 +28,6 @@ pub record IsFollowed (config : Config) (input rest : Option (List ℕ)) (state 
   pub script : List ℕ
   pub read : HasRead input rest script true
   pub notes : List Note
-  pub are : notes_of (lines_of true script) ≡ Some notes
+  pub are : notes_of (journal_lines true script) ≡ Some notes
   pub run : HasRun config notes state
   pub follows : Follows notes

@@ -5,6 +5,7 @@ pub mod Parsed
 pub mod Step
 pub mod Work
 pub mod Script
+pub mod Counted
 pub mod Flows
 pub mod Run
 pub mod Recording

@@ -18,8 +18,8 @@ pub trait Follower {
     /// gateway that was started with this configuration.
     ghost follows: { Self → Self → Config → List Note → Type 0 };
 
-    /// Handles a comment or an empty line, passed without its line end.
-    fn comment(&mut self, line: &[u8]) -> Result<(), Stopped>
+    /// Handles a comment or an empty line, passed without its line end. `number` is the line's number, counted from 1.
+    fn comment(&mut self, number: u64, line: &[u8]) -> Result<(), Stopped>
         ensures value { (start : Self) (config : Config) (notes : List Note) →
             follows start self.old config notes →
             OnOk result (follows start self.new config (notes ++ Comment line.now ∷ [])) }
@@ -38,7 +38,8 @@ pub trait Follower {
     /// Handles consecutive ticks. `core` is the gateway's state before the first of them. Ticks don't change who hears
     /// whom.
     ///
-    /// Called before the next line of another kind or at the end of the script, if there are any ticks.
+    /// Called before the next line of another kind, before there would be 2^64 ticks, or at the end of the script, if
+    /// there are any ticks.
     fn ticks(&mut self, core: &Core, count: u64) -> Result<(), Stopped>
         ensures value { (start : Self) (config : Config) (notes : List Note) →
             follows start self.old config notes → HasRun config notes core.now.state →

@@ -19,6 +19,7 @@
 mod answer;
 mod answering;
 mod changes;
+mod counted;
 mod counts;
 mod event;
 mod event_line;
@@ -46,6 +47,7 @@ mod watcher;
 mod watching;
 
 pub use crate::answer::Answer;
+pub use crate::counted::{TicksLine, count_of, ticks_line};
 pub use crate::counts::{Counts, DROP_CAUSES};
 pub use crate::event::Event;
 pub use crate::event_line::EventLine;

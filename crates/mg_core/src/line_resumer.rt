@@ -1,10 +1,12 @@
-ghost use Rattle.std.specs.Prelude.{◌≡◌, ◌+◌, ◌≤◌, ◌<◌, ◌^◌, ◌↔◌, [], true, List, Err, IfOk, OnOk, OnErr};
+ghost use Rattle.std.specs.Prelude.{◌≡◌, ◌↔◌, ◌||◌, [], false, true, List, ℕ, Err, IfOk, None, OnOk, OnErr};
 ghost use Rattle.mg_engine.specs.Config.{IsValidConfig};
 ghost use Rattle.mg_engine.specs.declared.config.Config.{Config};
-ghost use Rattle.mg_core.specs.aids.Resuming.{EventResumed, HasFollowed, KeepsUp, LineResumed};
-ghost use Rattle.mg_core.specs.Follow.{HasRun};
+ghost use Rattle.mg_core.specs.aids.Resuming.{Adds, EventResumed, HasFollowed, KeepsLines, KeepsUp, LineRead, LineResumed, counted_in};
+ghost use Rattle.mg_core.specs.Counted.{is_mark};
+ghost use Rattle.mg_core.specs.Follow.{HasRun, ticks_of};
 ghost use Rattle.mg_core.specs.Note.{Note};
 
+use crate::counted::{is_mark, ticks_in};
 use crate::event::Event;
 use crate::fault::LineFault;
 use crate::follower::Follower;
@@ -20,6 +22,8 @@ pub struct LineResumer {
     pub core: Core,
     /// The number of ticks that have been counted but not run yet. They come after everything that has been run.
     pub ticks: u64,
+    /// Whether a line such as `ticks 12` is twelve ticks: a line before it says so.
+    pub counts: bool,
 }
 
 impl LineResumer {
@@ -29,9 +33,14 @@ impl LineResumer {
         ensures sound { OnOk result (IsValidConfig config) }
         ensures start { IfOk result (λ runner. HasRun config [] runner.core.state) }
         ensures ticks { IfOk result (λ runner. runner.ticks ≡ 0) }
+        ensures counts { IfOk result (λ runner. runner.counts ≡ false) }
     {
         let core = Core::new(alloc, config)?;
-        Ok(LineResumer { core, ticks: 0 })
+        Ok(LineResumer {
+            core,
+            ticks: 0,
+            counts: false,
+        })
     }
 
     /// Reports the ticks that have been counted but not run yet to the follower, and then runs them.
@@ -40,6 +49,7 @@ impl LineResumer {
             KeepsUp config self.old.core.state self.old.ticks (HasFollowed F.follows start follower.old config) notes →
             OnOk result (KeepsUp config self.new.core.state 0 (HasFollowed F.follows start follower.new config) notes) }
         ensures ticks { OnOk result (self.new.ticks ≡ 0) }
+        ensures counts { self.new.counts ≡ self.old.counts }
         ensures stops { OnErr result (F.may_stop ≡ true) }
     {
         if self.ticks == 0 {
@@ -51,13 +61,23 @@ impl LineResumer {
         Ok(())
     }
 
-    /// Counts ticks, to be run later.
-    pub fn take_ticks(&mut self, count: u64)
-        requires few { self.old.ticks + count < 2 ^ 64 }
-        ensures state { self.new.core.state ≡ self.old.core.state }
-        ensures ticks { self.new.ticks ≡ self.old.ticks + count }
+    /// Counts ticks, to be run later. If there would be 2^64 or more, runs those that were counted before.
+    pub fn take_ticks<F: Follower>(&mut self, count: u64, follower: &mut F) -> Result<(), Stopped>
+        ensures value { (start : F) (config : Config) → OnOk result (Adds
+            (KeepsUp config self.old.core.state self.old.ticks (HasFollowed F.follows start follower.old config))
+            (KeepsUp config self.new.core.state self.new.ticks (HasFollowed F.follows start follower.new config))
+            (ticks_of count)) }
+        ensures counts { self.new.counts ≡ self.old.counts }
+        ensures stops { OnErr result (F.may_stop ≡ true) }
     {
-        self.ticks += count;
+        match self.ticks.checked_add(count) {
+            Some(ticks) => self.ticks = ticks,
+            None => {
+                self.run_ticks(follower)?;
+                self.ticks = count;
+            }
+        }
+        Ok(())
     }
 
     /// Runs an event, or counts it if it is a tick. The answer to a control datagram is dropped.
@@ -67,16 +87,15 @@ impl LineResumer {
         event: &Event,
         follower: &mut F,
     ) -> Result<(), LineFault>
-        requires few { self.old.ticks + 1 < 2 ^ 64 }
         ensures value { (start : F) (config : Config) → EventResumed F.may_stop event.now
             (KeepsUp config self.old.core.state self.old.ticks (HasFollowed F.follows start follower.old config))
             (KeepsUp config self.new.core.state self.new.ticks (HasFollowed F.follows start follower.new config))
             result }
-        ensures ticks { OnOk result (self.new.ticks ≤ self.old.ticks + 1) }
+        ensures counts { self.new.counts ≡ self.old.counts }
     {
         match event {
             Event::Tick => {
-                self.take_ticks(1);
+                self.take_ticks(1, follower)?;
                 Ok(())
             }
             Event::Media(port, source, bytes) => {
@@ -94,6 +113,48 @@ impl LineResumer {
         }
     }
 
+    /// Runs a complete line that doesn't count ticks; `number` is its number.
+    fn take_plain<F: Follower>(
+        &mut self,
+        alloc: Global,
+        number: u64,
+        line: &[u8],
+        follower: &mut F,
+    ) -> Result<(), LineFault>
+        ensures value { (start : F) (config : Config) → LineResumed F.may_stop number line.now
+            (KeepsUp config self.old.core.state self.old.ticks (HasFollowed F.follows start follower.old config))
+            (KeepsUp config self.new.core.state self.new.ticks (HasFollowed F.follows start follower.new config))
+            result }
+        ensures counts { self.new.counts ≡ self.old.counts }
+    {
+        match event_of(alloc, line) {
+            Err(ParseFault::Bad) => Err(LineFault::Bad(number)),
+            Err(ParseFault::NoMemory) => Err(LineFault::NoMemory),
+            Ok(None) => {
+                self.run_ticks(follower)?;
+                follower.comment(number, line)?;
+                Ok(())
+            }
+            Ok(Some(event)) => {
+                self.take_event(alloc, &event, follower)?;
+                Ok(())
+            }
+        }
+    }
+    /// Returns the number of ticks in a line, or `None` if it doesn't count ticks.
+    fn counted_in(&self, line: &[u8]) -> Option<u64>
+        ensures value { result ≡ counted_in self.now.counts line.now }
+    {
+        if self.counts { ticks_in(line) } else { None }
+    }
+
+    /// Returns whether ticks are counted behind a line.
+    fn counts_after(&self, line: &[u8]) -> bool
+        ensures value { result ≡ (self.now.counts || is_mark line.now) }
+    {
+        self.counts || is_mark(line)
+    }
+
     /// Runs a complete line; `number` is its number.
     pub fn take_line<F: Follower>(
         &mut self,
@@ -102,25 +163,19 @@ impl LineResumer {
         line: &[u8],
         follower: &mut F,
     ) -> Result<(), LineFault>
-        requires few { self.old.ticks + 1 < 2 ^ 64 }
-        ensures value { (start : F) (config : Config) → LineResumed F.may_stop number line.now
-            (KeepsUp config self.old.core.state self.old.ticks (HasFollowed F.follows start follower.old config))
-            (KeepsUp config self.new.core.state self.new.ticks (HasFollowed F.follows start follower.new config))
-            result }
-        ensures ticks { OnOk result (self.new.ticks ≤ self.old.ticks + 1) }
+        ensures value { (start : F) (config : Config) → LineRead F.may_stop number line.now
+            (KeepsLines config self.old.core.state self.old.counts self.old.ticks
+            (HasFollowed F.follows start follower.old config))
+            (KeepsLines config self.new.core.state self.new.counts self.new.ticks
+            (HasFollowed F.follows start follower.new config)) result }
     {
-        match event_of(alloc, line) {
-            Err(ParseFault::Bad) => Err(LineFault::Bad(number)),
-            Err(ParseFault::NoMemory) => Err(LineFault::NoMemory),
-            Ok(None) => {
-                self.run_ticks(follower)?;
-                follower.comment(line)?;
-                Ok(())
-            }
-            Ok(Some(event)) => {
-                self.take_event(alloc, &event, follower)?;
-                Ok(())
+        match self.counted_in(line) {
+            Some(count) => self.take_ticks(count, follower)?,
+            None => {
+                self.take_plain(alloc, number, line, follower)?;
+                self.counts = self.counts_after(line);
             }
         }
+        Ok(())
     }
 }

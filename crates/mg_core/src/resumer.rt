@@ -1,7 +1,7 @@
-ghost use Rattle.std.specs.Prelude.{◌≡◌, ℕ, ◌+◌, ◌*◌, ◌≤◌, ◌<◌, ◌^◌, ◌↔◌, ◌++◌, [], true, codes, drop, Err, length, IfErr, IfOk, OnErr, OnOk};
+ghost use Rattle.std.specs.Prelude.{◌≡◌, ℕ, ◌+◌, ◌*◌, ◌≤◌, ◌<◌, ◌^◌, ◌↔◌, ◌++◌, [], false, true, codes, drop, Err, length, IfErr, IfOk, OnErr, OnOk};
 ghost use Rattle.memchr.specs.Find.{IsFirstByte, is_byte};
 ghost use Rattle.mg_engine.specs.Config.{IsValidConfig};
-ghost use Rattle.mg_core.specs.aids.Resuming.{AllResumed, BytesResumed, EndedResumed, HasFollowed, IsAfterTicks, KeepsUp, LastResumed};
+ghost use Rattle.mg_core.specs.aids.Resuming.{AllResumed, BytesResumed, EndedResumed, HasFollowed, IsAfterTicks, KeepsLines, LastResumed, TicksTaken};
 ghost use Rattle.mg_core.specs.declared.script_runner.TheConstants.{PARTIAL_LIMIT};
 ghost use Rattle.mg_core.specs.Follow.{HasRun};
 ghost use Rattle.mg_core.specs.aids.Following.{IsFollowedUntil};
@@ -11,6 +11,7 @@ use crate::fault::{LineFault, ScriptFault};
 use crate::follower::Follower;
 use crate::line_resumer::LineResumer;
 use crate::script_runner::PARTIAL_LIMIT;
+use crate::stopped::Stopped;
 use crate::watcher::Watcher;
 use memchr::memchr;
 use mg_engine::{Config, StartFault};
@@ -19,7 +20,7 @@ use mg_reply::Bytes;
 use std::alloc::Global;
 use std::io::Read;
 
-/// Returns the index of the first line feed, or `None` if there is none. Most lines of a journal are `tick`, so a
+/// Returns the index of the first line feed, or `None` if there is none. Many lines of a recording are `tick`, so a
 /// comparison with that line comes first.
 fn line_end(text: &[u8]) -> Option<usize>
     ensures value { IsFirstByte (is_byte 10) text.now result }
@@ -75,6 +76,7 @@ impl Resumer {
         ensures sound { OnOk result (IsValidConfig config) }
         ensures start { IfOk result (λ s. HasRun config [] s.runner.core.state) }
         ensures ticks { IfOk result (λ s. s.runner.ticks ≡ 0) }
+        ensures counts { IfOk result (λ s. s.runner.counts ≡ false) }
         ensures lines { IfOk result (λ s. s.lines ≡ 0) }
         ensures partial { IfOk result (λ s. s.partial.text ≡ []) }
     {
@@ -110,19 +112,17 @@ impl Resumer {
         follower: &mut F,
     ) -> Result<(), LineFault>
         requires few { self.old.lines + 1 < 2 ^ 64 }
-        requires ticks { self.old.runner.ticks ≤ self.old.lines }
         ensures partial { OnOk result (self.new.partial.text ≡ []) }
         ensures lines { OnOk result (self.new.lines ≡ self.old.lines + 1) }
-        ensures ticks { OnOk result (self.new.runner.ticks ≤ self.new.lines) }
         ensures value { (start : F) (config : Config) → EndedResumed F.may_stop self.old.lines
             (self.old.partial.text ++ part.now)
-            (KeepsUp config self.old.runner.core.state self.old.runner.ticks
+            (KeepsLines config self.old.runner.core.state self.old.runner.counts self.old.runner.ticks
             (HasFollowed F.follows start follower.old config))
-            (KeepsUp config self.new.runner.core.state self.new.runner.ticks
+            (KeepsLines config self.new.runner.core.state self.new.runner.counts self.new.runner.ticks
             (HasFollowed F.follows start follower.new config)) result }
     {
         if is_tick(&self.partial, part) {
-            self.runner.take_ticks(1);
+            self.runner.take_ticks(1, follower)?;
             self.lines += 1;
             return Ok(());
         }
@@ -136,20 +136,28 @@ impl Resumer {
     }
 
     /// Counts the `tick` lines at the start of a text, except up to fifteen of them. Returns the rest of the text.
-    fn take_ticks<'a>(&mut self, text: &'a [u8]) -> &'a [u8]
+    fn take_ticks<'a, F: Follower>(
+        &mut self,
+        text: &'a [u8],
+        follower: &mut F,
+    ) -> Result<&'a [u8], Stopped>
         requires few { self.old.lines + length text.now < 2 ^ 64 }
-        requires ticks { self.old.runner.ticks ≤ self.old.lines }
         ensures partial { self.new.partial ≡ self.old.partial }
-        ensures lines { self.new.lines + length result.now ≤ self.old.lines + length text.now }
-        ensures ticks { self.new.runner.ticks ≤ self.new.lines }
-        ensures state { self.new.runner.core.state ≡ self.old.runner.core.state }
-        ensures value { (count : ℕ) × (self.new.lines ≡ self.old.lines + count)
-            × (self.new.runner.ticks ≡ self.old.runner.ticks + count) × IsAfterTicks count text.now result.now }
+        ensures lines { IfOk result (λ rest. self.new.lines + length rest.now ≤ self.old.lines + length text.now) }
+        ensures short { IfOk result (λ rest. length rest.now ≤ length text.now) }
+        ensures value { (start : F) (config : Config) → IfOk result (λ rest. TicksTaken self.old.lines self.new.lines
+            text.now rest.now
+            (KeepsLines config self.old.runner.core.state self.old.runner.counts self.old.runner.ticks
+            (HasFollowed F.follows start follower.old config))
+            (KeepsLines config self.new.runner.core.state self.new.runner.counts self.new.runner.ticks
+            (HasFollowed F.follows start follower.new config))) }
+        ensures stops { OnErr result (F.may_stop ≡ true) }
     {
         let count = leading_ticks(text);
-        self.runner.take_ticks(count as u64);
+        self.runner.take_ticks(count as u64, follower)?;
         self.lines += count as u64;
-        &text[5 * count..]
+        let (_, rest) = text.split_at(5 * count);
+        Ok(rest)
     }
 
     /// Handles the next bytes of a script.
@@ -160,14 +168,12 @@ impl Resumer {
         follower: &mut F,
     ) -> Result<(), LineFault>
         requires few { self.old.lines + length bytes.now + 1 < 2 ^ 64 }
-        requires ticks { self.old.runner.ticks ≤ self.old.lines }
         ensures lines { OnOk result (self.new.lines ≤ self.old.lines + length bytes.now) }
-        ensures ticks { OnOk result (self.new.runner.ticks ≤ self.new.lines) }
         ensures value { (start : F) (config : Config) → BytesResumed F.may_stop self.old.lines self.new.lines
             self.old.partial.text bytes.now self.new.partial.text
-            (KeepsUp config self.old.runner.core.state self.old.runner.ticks
+            (KeepsLines config self.old.runner.core.state self.old.runner.counts self.old.runner.ticks
             (HasFollowed F.follows start follower.old config))
-            (KeepsUp config self.new.runner.core.state self.new.runner.ticks
+            (KeepsLines config self.new.runner.core.state self.new.runner.counts self.new.runner.ticks
             (HasFollowed F.follows start follower.new config)) result }
     {
         let mut rest = bytes;
@@ -175,7 +181,7 @@ impl Resumer {
             let (part, tail) = rest.split_at(end);
             self.end_line(alloc, part, follower)?;
             let (_, next) = tail.split_at(1);
-            rest = self.take_ticks(next);
+            rest = self.take_ticks(next, follower)?;
         }
         self.keep(rest)
     }
@@ -183,11 +189,10 @@ impl Resumer {
     /// Runs the last line if it has no line feed.
     fn take_last<F: Follower>(&mut self, alloc: Global, follower: &mut F) -> Result<(), LineFault>
         requires few { self.old.lines + 1 < 2 ^ 64 }
-        requires ticks { self.old.runner.ticks ≤ self.old.lines }
         ensures value { (start : F) (config : Config) → LastResumed F.may_stop self.old.lines self.old.partial.text
-            (KeepsUp config self.old.runner.core.state self.old.runner.ticks
+            (KeepsLines config self.old.runner.core.state self.old.runner.counts self.old.runner.ticks
             (HasFollowed F.follows start follower.old config))
-            (KeepsUp config self.new.runner.core.state self.new.runner.ticks
+            (KeepsLines config self.new.runner.core.state self.new.runner.counts self.new.runner.ticks
             (HasFollowed F.follows start follower.new config)) result }
     {
         let line = self.partial.as_slice();
@@ -202,11 +207,10 @@ impl Resumer {
     /// Runs the last line if it has no line feed, and the last ticks.
     fn finish<F: Follower>(&mut self, alloc: Global, follower: &mut F) -> Result<(), LineFault>
         requires few { self.old.lines + 1 < 2 ^ 64 }
-        requires ticks { self.old.runner.ticks ≤ self.old.lines }
         ensures value { (start : F) (config : Config) → LastResumed F.may_stop self.old.lines self.old.partial.text
-            (KeepsUp config self.old.runner.core.state self.old.runner.ticks
+            (KeepsLines config self.old.runner.core.state self.old.runner.counts self.old.runner.ticks
             (HasFollowed F.follows start follower.old config))
-            (KeepsUp config self.new.runner.core.state 0
+            (KeepsLines config self.new.runner.core.state self.new.runner.counts 0
             (HasFollowed F.follows start follower.new config)) result }
     {
         self.take_last(alloc, follower)?;
@@ -223,6 +227,7 @@ impl Resumer {
     ) -> Result<(), ScriptFault>
         requires lines { self.old.lines ≡ 0 }
         requires ticks { self.old.runner.ticks ≡ 0 }
+        requires counts { self.old.runner.counts ≡ false }
         requires partial { self.old.partial.text ≡ [] }
         ensures value { (config : Config) → HasRun config [] self.old.runner.core.state →
             AllResumed F.may_stop config (R.remaining reader.old) (R.remaining reader.new)
@@ -249,6 +254,7 @@ impl Resumer {
     ) -> Result<(), ScriptFault>
         requires lines { self.old.lines ≡ 0 }
         requires ticks { self.old.runner.ticks ≡ 0 }
+        requires counts { self.old.runner.counts ≡ false }
         requires partial { self.old.partial.text ≡ [] }
         ensures value { (config : Config) → HasRun config [] self.old.runner.core.state → OnOk result
             (IsFollowedUntil config (R.remaining reader.old) (R.remaining reader.new) self.new.runner.core.state F.done

@@ -4,6 +4,7 @@ ghost use Rattle.std.specs.Prelude.{◌≡◌, List};
 ghost use Rattle.mg_core.specs.declared.event.Event.{Event};
 ghost use Rattle.mg_commands.specs.Theorems.{RefusedNamesChangeNothing, RefusedCommandsChangeNothing, RefusedActionsChangeNothing, RefusedTopologiesChangeNothing, OthersAreTried, RefusedRequestsChangeNothing};
 ghost use Rattle.mg_core.specs.Apart.{UnheardChangesNothing, UnheardInHistories, UnheardInScripts};
+ghost use Rattle.mg_core.specs.Counted.{CountsAreTicks, OtherScriptsStay};
 ghost use Rattle.mg_core.specs.Counting.{EventsAreCounted};
 ghost use Rattle.mg_core.specs.ExceptReceived.{RtpChangesSpeechOnly, RtpChangesSpeechOnlyInHistories};
 ghost use Rattle.mg_core.specs.Headline.{EventsDetermineOutcome, GatewayDeterminesFuture, WorldsAreConsistent};
@@ -198,6 +199,13 @@ pub fn events_are_counted()
 pub fn recordings_are_read()
     ensures theorem { RecordingsAreRead }
     ensures cut { CutRecordingsAreRead }
+{}
+
+/// The line with which a gateway appends ticks to its journal is read as these ticks. A script in which no line counts
+/// ticks is read as it is.
+pub fn counted_ticks_are_read()
+    ensures line { CountsAreTicks }
+    ensures others { OtherScriptsStay }
 {}
 
 /// The notes of a script contain its events, in order. A script has notes unless one of its lines is bad.

@@ -7,6 +7,7 @@ ghost use Rattle.mg_ports.specs.Journaled.{AppendsDated};
 use crate::date::Date;
 use crate::date_text::{DateText, TEXT_LIMIT};
 use mg_chain::{END, MARK};
+use mg_core::count_of;
 use mg_journal::{AppendFault, Durability, Journal};
 use mg_reply::Bytes;
 use std::alloc::{AllocError, Global};
@@ -21,6 +22,9 @@ const DATE: &[u8] = b"# time ";
 
 /// The length of `DATE` and a line feed, in bytes.
 const MARKS: usize = 8;
+
+/// The length of a tick, in milliseconds.
+const TICK: u64 = 20;
 
 /// The length of a seal's line, in bytes.
 const SEAL: usize = 9 + END;
@@ -37,7 +41,7 @@ const MAX_AGE: u64 = 60_000;
 ///
 /// A date is preceded by a seal (`mg_chain`): before the first lines, and then once a minute.
 ///
-/// A line that begins with `control` is a message; all others are ticks.
+/// A line that begins with `control` is a message; all others are `ticks` with a number.
 #[derive(Drop)]
 pub struct DatedJournal<'a, J: Journal, C: Clock> {
     journal: J,
@@ -66,13 +70,21 @@ fn is_message(lines: &[u8]) -> bool {
     lines.starts_with(b"control")
 }
 
-/// Returns the time of the events in lines that are being appended. For ticks, this is the time at which the first tick
-/// began: each line of 5 bytes is one tick of 20 ms.
-fn date_of(lines: &[u8], now: Date) -> Date {
-    if is_message(lines) {
-        return now;
-    }
-    now.before((lines.len() as u64).saturating_mul(4))
+/// Returns the number of ticks in a line such as `ticks 12`, or 0 if it is not such a line.
+fn count_in(line: &[u8]) -> u64 {
+    let Some(rest) = line.strip_prefix(b"ticks ".as_slice()) else {
+        return 0;
+    };
+    let Some(digits) = rest.strip_suffix(b"\n".as_slice()) else {
+        return 0;
+    };
+    count_of(digits).unwrap_or(0)
+}
+
+/// Returns the time of the events in a line that is being appended. For ticks, this is the time at which the first tick
+/// began.
+fn date_of(line: &[u8], now: Date) -> Date {
+    now.before(count_in(line).saturating_mul(TICK))
 }
 
 /// Returns whether lines need a date.

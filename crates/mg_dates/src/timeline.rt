@@ -128,7 +128,7 @@ impl Follower for Timeline {
 
     ghost follows = { λ start t config notes. t ≡ timeline_of (reverse notes) };
 
-    fn comment(&mut self, line: &[u8]) -> Result<(), Stopped> {
+    fn comment(&mut self, _number: u64, line: &[u8]) -> Result<(), Stopped> {
         self.pass_comment(line);
         Ok(())
     }

@@ -52,7 +52,7 @@ impl Follower for FenceReader {
 
     ghost follows = { λ start f config notes. Reaches 0 notes f.reached };
 
-    fn comment(&mut self, line: &[u8]) -> Result<(), Stopped> {
+    fn comment(&mut self, _number: u64, line: &[u8]) -> Result<(), Stopped> {
         self.reached = number_set(line).unwrap_or(self.reached);
         Ok(())
     }

@@ -5,7 +5,7 @@ use Rattle.std.specs.Io.KnownBytes.{Appends}
 use Rattle.std.specs.List.{list_any}
 use Rattle.std.specs.Option.{option_map, option_map_or}
 use Rattle.mg_engine.specs.declared.config.Config.{Config}
-use Rattle.mg_lines.specs.Lines.{lines_of}
+use Rattle.mg_core.specs.Counted.{journal_lines}
 use Rattle.mg_core.specs.Note.{Note, events_in, notes_of}
 use Rattle.mg_core.specs.Run.{HasRead}
 use Rattle.mg_core.specs.World.{start_of}
@@ -42,7 +42,7 @@ without_date v = (v.at.tick, v.flow)
 -- The complete lines of this text break no rule before a tick.
 pub record IsKept (rules : List Rule) (config : Config) (text : List ℕ) : Type 0 where
   pub notes : List Note
-  pub are : notes_of (lines_of false text) ≡ Some notes
+  pub are : notes_of (journal_lines false text) ≡ Some notes
   pub before : List (List OpenFlow)
   pub now : List OpenFlow
   pub are_moments : AreMoments (start_of config) (events_in notes) (before ++ now ∷ [])
@@ -60,7 +60,7 @@ pub record IsWatched (rules : List Rule) (config : Config) (input rest : Option 
   pub ended : Bool
   pub read : HasRead input rest (front ++ piece) ended
   pub notes : List Note
-  pub are : notes_of (lines_of ended (front ++ piece)) ≡ Some notes
+  pub are : notes_of (journal_lines ended (front ++ piece)) ≡ Some notes
   pub moments : List (List OpenFlow)
   pub are_moments : AreMoments (start_of config) (events_in notes) moments
   pub first : option_map without_date found ≡ first_forbidden rules 0 moments

@@ -22,7 +22,7 @@ const TITLE_LIMIT: usize = 600;
 /// The beginning of a gateway's title.
 const TITLE: &[u8] = b"# mg_bridge ";
 
-/// Counts the ticks and lines of a script, and keeps track of when the ticks happened.
+/// Counts the ticks of a script, and keeps track of when they happened.
 #[derive(Drop)]
 pub struct Clock {
     pub timeline: Timeline,
@@ -30,8 +30,6 @@ pub struct Clock {
     pub first: Option<Moment>,
     /// The number of ticks so far. This is also the index of the next tick, because ticks are counted from 0.
     pub ticks: u64,
-    /// The number of lines so far.
-    lines: u64,
     /// The first title.
     title: ArrayVec<u8, TITLE_LIMIT>,
 }
@@ -46,7 +44,6 @@ impl Clock {
             timeline: Timeline::new(),
             first: None,
             ticks: 0,
-            lines: 0,
             title: ArrayVec::new(),
         }
     }
@@ -89,15 +86,7 @@ impl Clock {
         })
     }
 
-    /// Counts the line of a datagram.
-    pub fn pass_line(&mut self)
-        ensures ticks { self.new.ticks ≡ self.old.ticks }
-        ensures value { (older : List Note) → IsClock older self.old → IsClock older self.new }
-    {
-        self.lines = self.lines.saturating_add(1);
-    }
-
-    /// Counts ticks and their lines. Fails if the script then has 2^64 ticks or more.
+    /// Counts ticks. Fails if the script then has 2^64 ticks or more.
     pub fn pass_ticks(&mut self, count: u64) -> Result<(), ClockFault>
         ensures ticks { OnOk result (self.new.ticks ≡ self.old.ticks + count) }
         ensures value { (older : List Note) → IsClock older self.old →
@@ -108,26 +97,24 @@ impl Clock {
         };
         self.ticks = ticks;
         self.timeline.pass_ticks(count);
-        self.lines = self.lines.saturating_add(count);
         Ok(())
     }
 
-    /// Counts the line of a comment, and updates the clock if the comment has a date or a title. Returns the gap that
+    /// Updates the clock for the comment in the line with this number, if it has a date or a title. Returns the gap that
     /// begins with the comment, if any.
-    pub fn pass_comment(&mut self, line: &[u8]) -> Result<Option<Gap>, ClockFault>
+    pub fn pass_comment(&mut self, number: u64, line: &[u8]) -> Result<Option<Gap>, ClockFault>
         ensures ticks { self.new.ticks ≡ self.old.ticks }
         ensures value { (older : List Note) → IsClock older self.old → IfOk result (λ gap.
             (gap ≡ gap_of line.now older) × IsClock (Comment line.now ∷ older) self.new) }
     {
-        self.lines = self.lines.saturating_add(1);
         match date_in(line) {
-            Some(date) => self.pass_date(date, line),
-            None => self.pass_undated(line),
+            Some(date) => self.pass_date(date, number, line),
+            None => self.pass_undated(number, line),
         }
     }
 
     /// Updates the clock for a comment without a date. Returns the gap that begins with the comment, if any.
-    fn pass_undated(&mut self, line: &[u8]) -> Result<Option<Gap>, ClockFault>
+    fn pass_undated(&mut self, number: u64, line: &[u8]) -> Result<Option<Gap>, ClockFault>
         requires undated { date_in line.now ≡ None }
         ensures ticks { self.new.ticks ≡ self.old.ticks }
         ensures value { (older : List Note) → IsClock older self.old → IfOk result (λ gap.
@@ -135,7 +122,7 @@ impl Clock {
     {
         match missed_in(line) {
             Some(count) => self.missed(count),
-            None => self.pass_other(line),
+            None => self.pass_other(number, line),
         }
     }
 
@@ -157,7 +144,7 @@ impl Clock {
 
     /// Updates the clock for the date in a comment. If the date is more than a second later than expected, returns the
     /// gap before it. Fails if the date is more than a second earlier than expected.
-    fn pass_date(&mut self, date: Date, line: &[u8]) -> Result<Option<Gap>, ClockFault>
+    fn pass_date(&mut self, date: Date, number: u64, line: &[u8]) -> Result<Option<Gap>, ClockFault>
         requires dated { date_in line.now ≡ Some date }
         ensures ticks { self.new.ticks ≡ self.old.ticks }
         ensures value { (older : List Note) → IsClock older self.old → IfOk result (λ gap.
@@ -168,7 +155,7 @@ impl Clock {
         let end = self.now();
         self.first = self.first.or(Some(end));
         match agreement {
-            Agreement::WentBack => Err(ClockFault::WentBack(self.lines)),
+            Agreement::WentBack => Err(ClockFault::WentBack(number)),
             Agreement::JumpedAhead => Ok(Some(Gap {
                 first,
                 end,
@@ -180,13 +167,13 @@ impl Clock {
 
     /// Checks the title in a comment that has no date and no missed ticks. If the comment says that an operator set the
     /// fence, returns this moment as a gap.
-    fn pass_other(&mut self, line: &[u8]) -> Result<Option<Gap>, ClockFault>
+    fn pass_other(&mut self, number: u64, line: &[u8]) -> Result<Option<Gap>, ClockFault>
         ensures ticks { self.new.ticks ≡ self.old.ticks }
         ensures same { (older : List Note) → IsClock older self.old → IsClock older self.new }
         ensures value { (older : List Note) → IsClock older self.old → IfOk result (λ gap.
             gap ≡ option_map (fence_gap (moment_after older)) (number_set line.now)) }
     {
-        self.pass_title(line)?;
+        self.pass_title(number, line)?;
         Ok(self.fence_gap(line))
     }
 
@@ -205,7 +192,7 @@ impl Clock {
     }
 
     /// Stores the first title, and fails if a later one differs from it. Any other line changes nothing.
-    fn pass_title(&mut self, line: &[u8]) -> Result<(), ClockFault>
+    fn pass_title(&mut self, number: u64, line: &[u8]) -> Result<(), ClockFault>
         ensures ticks { self.new.ticks ≡ self.old.ticks }
         ensures same { (older : List Note) → IsClock older self.old → IsClock older self.new }
     {
@@ -219,7 +206,7 @@ impl Clock {
         if self.title.as_slice() == line {
             Ok(())
         } else {
-            Err(ClockFault::OtherGateway(self.lines))
+            Err(ClockFault::OtherGateway(number))
         }
     }
 }

@@ -6,7 +6,7 @@ use mg_dates::Date;
 
 /// A period in which the gateway did not run, or for which the script has no ticks.
 ///
-/// If the gateway was restarted, its script has a line for each tick that was missed. If the clock was set ahead, the
+/// If the gateway was restarted, its script has the ticks that were missed. If the clock was set ahead, the
 /// script has no ticks between `first` and `end`. If an operator set the fence, `end` is `first`.
 #[derive(Clone, Copy, Debug, PartialEq, Eq)]
 pub struct Gap {

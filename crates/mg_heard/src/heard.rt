@@ -116,8 +116,8 @@ impl<S: Sink> Follower for Heard<S> {
     ghost follows = { λ start h config notes.
         KeepsHeard config notes h.clock h.is_changed h.open (S.told start.sink h.sink) };
 
-    fn comment(&mut self, line: &[u8]) -> Result<(), Stopped> {
-        match self.clock.pass_comment(line) {
+    fn comment(&mut self, number: u64, line: &[u8]) -> Result<(), Stopped> {
+        match self.clock.pass_comment(number, line) {
             Ok(None) => Ok(()),
             Ok(Some(gap)) => tell_gap(gap, &mut self.sink),
             Err(fault) => Err(self.stop(fault)),
@@ -127,7 +127,6 @@ impl<S: Sink> Follower for Heard<S> {
     fn datagram(&mut self, event: &Event, _core: &Core) -> Result<(), Stopped> {
         mg_core::theorems::outcomes_are_unique();
         only_control_changes_flows();
-        self.clock.pass_line();
         if let Event::Control(_, _) = event {
             self.is_changed = true;
         }

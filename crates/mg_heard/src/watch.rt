@@ -107,11 +107,11 @@ impl Follower for Watch<'_> {
     ghost follows = { λ start w config notes. (w.rules.now ≡ start.rules.now)
         × KeepsRules start.rules.now config notes w.clock.ticks w.is_changed w.violation };
 
-    fn comment(&mut self, line: &[u8]) -> Result<(), Stopped> {
+    fn comment(&mut self, number: u64, line: &[u8]) -> Result<(), Stopped> {
         if self.violation.is_some() {
             return Ok(());
         }
-        match self.clock.pass_comment(line) {
+        match self.clock.pass_comment(number, line) {
             Ok(_) => Ok(()),
             Err(fault) => {
                 self.fault = Some(fault);
@@ -123,7 +123,6 @@ impl Follower for Watch<'_> {
     fn datagram(&mut self, event: &Event, _core: &Core) -> Result<(), Stopped> {
         mg_core::theorems::outcomes_are_unique();
         only_control_changes_flows();
-        self.clock.pass_line();
         if let Event::Control(_, _) = event {
             self.is_changed = true;
         }

@@ -1,5 +1,5 @@
--- The appends of a session to its journal: ticks in batches, and then a message.
-use Rattle.std.proofs.Common.{◌≡◌, ℕ, false, is_some, zero, suc, ◌+◌, ◌-◌, ◌<◌, ◌≤◌, min, inl, inr, List, [], ◌∷◌, ◌++◌, IsSome, take, replicate, flat_map, Option, Some, None, Result, Ok, Err, refl, sym, ap, subst, ◌∙◌, append_assoc, arith, codes}
+-- The appends of a session to its journal: ticks, and then a message.
+use Rattle.std.proofs.Common.{◌≡◌, ℕ, false, is_some, ◌+◌, ◌^◌, ◌<◌, inl, inr, List, [], ◌∷◌, ◌++◌, IsSome, decimal, Option, Some, None, Result, Ok, Err, refl, sym, ap, subst, ◌∙◌, append_assoc, codes}
 use Rattle.std.proofs.lemmas.List.{append-nil}
 use Rattle.std.proofs.lemmas.List.Elements.{All-nil, All-cons, All-append}
 use Rattle.mg_fence.specs.declared.fence.Fence.{Fence}
@@ -14,13 +14,14 @@ use Rattle.mg_ports.specs.Calls.{Logged}
 use Rattle.mg_ports.specs.Journaled.{PortsSeen, AppendsDated, JournalAfter}
 use Rattle.mg_words.specs.declared.peer.Peer.{Peer}
 use Rattle.mg_core.specs.declared.event.Event.TheVariants as events
+use Rattle.mg_core.specs.Counted.{ticks_line}
 use Rattle.mg_core.specs.Peer.{peer_text}
 use Rattle.mg_core.specs.Recording.{IsDatagram, event_line}
-use Rattle.mg_serve.specs.Journaled.{Lacks, Announces, IsJournaled, tick_lines}
+use Rattle.mg_serve.specs.Journaled.{Lacks, Announces, IsJournaled}
 use Rattle.mg_serve.specs.aids.Tried.{IsTried}
 use Rattle.mg_serve.specs.Session.{IsAppended}
 use Rattle.mg_serve.specs.Trace.{TraceEntry, Called, Happened, calls_of}
-use Rattle.mg_serve.specs.aids.Journaling.{AreAppends, AppendsBatch, AppendsBefore, EndsTick, LogsCalls, after_one_tick, with_tick}
+use Rattle.mg_serve.specs.aids.Journaling.{AreAppends, AppendsTicks, AppendsBefore, EndsTick, LogsCalls, after_one_tick, with_tick}
 use Rattle.mg_serve.specs.aids.Outside.{JournalView}
 use Rattle.mg_serve.proofs.JournalLemmas.{after_both, append_tried, journaled_both, message_tried, nothing_journaled, nothing_tried, tried_both}
 use Rattle.mg_serve.proofs.Printing.{calls_both}
@@ -28,26 +29,12 @@ use Rattle.mg_serve.proofs.Taking.{told_both, told_none}
 
 -- ## Texts
 
--- The lines for `n` ticks are the first `n` of the `m` tick lines.
-pub batch_lines : (n m : ℕ) → n ≤ m →
-    flat_map (λ (line : List ℕ). line) (take n (replicate m (codes "tick\n"))) ≡ tick_lines n
-batch_lines zero m few = refl
-batch_lines (suc n) zero few = absurd (omega (arith, few))
-batch_lines (suc n) (suc m) few =
-    ap (λ (l : List ℕ). codes "tick\n" ++ l) (batch_lines n m (omega (arith, few)))
-
-ticks_more : (n : ℕ) → tick_lines (suc n) ≡ tick_lines n ++ codes "tick\n"
-ticks_more zero = refl
-ticks_more (suc n) = ap (λ (l : List ℕ). codes "tick\n" ++ l) (ticks_more n)
-
 feed_after : (text front : List ℕ) → text ≡ front ++ 10 ∷ [] → EndsInLineFeed text
 feed_after text front is = subst EndsInLineFeed (sym is) (ends_line front)
 
-pub ticks_feed : (n : ℕ) → 0 < n → EndsInLineFeed (tick_lines n)
-ticks_feed zero some = absurd (omega arith)
-ticks_feed (suc n) some =
-    feed_after (tick_lines (suc n)) (tick_lines n ++ codes "tick")
-    (ticks_more n ∙ sym (append_assoc (tick_lines n) (codes "tick") (10 ∷ [])))
+pub ticks_feed : (n : ℕ) → EndsInLineFeed (ticks_line n)
+ticks_feed n =
+    feed_after (ticks_line n) (codes "ticks " ++ decimal n) (sym (append_assoc (codes "ticks ") (decimal n) (10 ∷ [])))
 
 last_feed : (a b c d : List ℕ) → EndsInLineFeed (a ++ (b ++ (c ++ (d ++ codes "\n"))))
 last_feed a b c d =
@@ -62,49 +49,43 @@ appends_one : (before after : PortsSeen) (call : Call) → Logged before.calls a
     JournalAfter (call ∷ []) before.journal after.journal → LogsCalls before after (call ∷ [])
 appends_one before after call logged journaled = record { logged = logged; journaled = journaled }
 
-batch_refused : (fault : AppendFault) (d : Option Durability) (lacking ticks left : ℕ) → IsSome d →
-    lacking ≡ left + ticks → ticks ≡ min lacking 1000 →
-    IsJournaled d lacking (Called (Append (tick_lines ticks) Written (Err fault)) ∷ []) lacking
-batch_refused fault None lacking ticks left some parts all = absurd cc
-batch_refused fault (Some durable) lacking ticks left some parts all =
-    (Lacks lacking, inl (ticks, left, parts, refl, refl, refl, all), refl)
+ticks_refused : (fault : AppendFault) (d : Option Durability) (lacking : ℕ) → IsSome d → 0 < lacking → lacking < 2 ^ 64 →
+    IsJournaled d lacking (Called (Append (ticks_line lacking) Written (Err fault)) ∷ []) lacking
+ticks_refused fault None lacking has some small = absurd cc
+ticks_refused fault (Some durable) lacking has some small = (Lacks lacking, inl (some, small, refl, refl, refl), refl)
 
-batch_done : (d : Option Durability) (lacking ticks left : ℕ) → IsSome d → lacking ≡ left + ticks →
-    ticks ≡ min lacking 1000 →
-    IsJournaled d lacking (Called (Append (tick_lines ticks) Written (Ok tt)) ∷ []) left
-batch_done None lacking ticks left some parts all = absurd cc
-batch_done (Some durable) lacking ticks left some parts all =
-    (Lacks left, inl (ticks, left, parts, refl, refl, refl, all), refl)
+ticks_done : (d : Option Durability) (lacking : ℕ) → IsSome d → 0 < lacking → lacking < 2 ^ 64 →
+    IsJournaled d lacking (Called (Append (ticks_line lacking) Written (Ok tt)) ∷ []) 0
+ticks_done None lacking has some small = absurd cc
+ticks_done (Some durable) lacking has some small = (Lacks 0, inl (some, small, refl, refl, refl), refl)
 
-pub batch_fails : (fault : AppendFault) (before after : PortsSeen) (j k : JournalView) (ticks : ℕ) →
-    IsSome j.durability → ticks ≡ min j.lacking 1000 → k ≡ record j { untried = 0 } →
-    Logged before.calls after.calls (Append (tick_lines ticks) Written (Err fault) ∷ []) →
-    AppendsDated (tick_lines ticks) Written before.journal after.journal (Err fault) →
-    AppendsBatch (Err fault) before after j k
-batch_fails fault before after j k ticks some few is logged dated =
-    subst (λ (v : JournalView). AppendsBatch (Err fault) before after j v) (sym is) (record {
-      ticks = ticks;
+pub ticks_fail : (fault : AppendFault) (before after : PortsSeen) (j k : JournalView) →
+    IsSome j.durability → 0 < j.lacking → j.lacking < 2 ^ 64 → k ≡ record j { untried = 0 } →
+    Logged before.calls after.calls (Append (ticks_line j.lacking) Written (Err fault) ∷ []) →
+    AppendsDated (ticks_line j.lacking) Written before.journal after.journal (Err fault) →
+    AppendsTicks (Err fault) before after j k
+ticks_fail fault before after j k has some small is logged dated =
+    subst (λ (v : JournalView). AppendsTicks (Err fault) before after j v) (sym is) (record {
       logs = record { logged = logged; journaled = (after.journal, dated, refl) };
       durability = refl;
       fence = refl;
-      lacks = batch_refused fault j.durability j.lacking ticks (j.lacking - ticks) some (omega (arith, few)) few;
-      tries = append_tried j.durability j.untried 0 (tick_lines ticks) Written (Err fault) some refl;
+      lacks = ticks_refused fault j.durability j.lacking has some small;
+      tries = append_tried j.durability j.untried 0 (ticks_line j.lacking) Written (Err fault) has refl;
     })
 
-pub batch_works : (before after : PortsSeen) (j k : JournalView) (ticks : ℕ) → IsSome j.durability →
-    ticks ≡ min j.lacking 1000 → k ≡ record j { lacking = j.lacking - ticks; untried = 0 } →
-    Logged before.calls after.calls (Append (tick_lines ticks) Written (Ok tt) ∷ []) →
-    AppendsDated (tick_lines ticks) Written before.journal after.journal (Ok tt) →
-    AppendsBatch (Ok tt) before after j k
-batch_works before after j k ticks some few is logged dated =
-    subst (λ (v : JournalView). AppendsBatch (Ok tt) before after j v) (sym is)
+pub ticks_work : (before after : PortsSeen) (j k : JournalView) → IsSome j.durability → 0 < j.lacking →
+    j.lacking < 2 ^ 64 → k ≡ record j { lacking = 0; untried = 0 } →
+    Logged before.calls after.calls (Append (ticks_line j.lacking) Written (Ok tt) ∷ []) →
+    AppendsDated (ticks_line j.lacking) Written before.journal after.journal (Ok tt) →
+    AppendsTicks (Ok tt) before after j k
+ticks_work before after j k has some small is logged dated =
+    subst (λ (v : JournalView). AppendsTicks (Ok tt) before after j v) (sym is)
     (record {
-      ticks = ticks;
       logs = record { logged = logged; journaled = (after.journal, dated, refl) };
       durability = refl;
       fence = refl;
-      lacks = batch_done j.durability j.lacking ticks (j.lacking - ticks) some (omega (arith, few)) few;
-      tries = append_tried j.durability j.untried 0 (tick_lines ticks) Written (Ok tt) some refl;
+      lacks = ticks_done j.durability j.lacking has some small;
+      tries = append_tried j.durability j.untried 0 (ticks_line j.lacking) Written (Ok tt) has refl;
     })
 
 -- ## All ticks
@@ -148,14 +129,14 @@ then_tried a b j k n q h more =
     (subst (λ (l : List TraceEntry). IsTried j.durability j.untried l k.untried) (append-nil h.trace) h.tries)
     (subst (λ (d : Option Durability). IsTried d k.untried q n) h.durability more)
 
-pub batch_more : (result : Result (Unit {0}) AppendFault) (a b c : PortsSeen) (j k m : JournalView) →
-    AppendsBefore [] (Ok tt) a b j k → AppendsBatch result b c k m → AppendsBefore [] result a c j m
-batch_more (Ok done) a b c j k m h more =
-    let last = Called (Append (tick_lines more.ticks) Written (Ok tt)) ∷ [] in
+pub ticks_then : (result : Result (Unit {0}) AppendFault) (a b c : PortsSeen) (j k m : JournalView) →
+    AppendsBefore [] (Ok tt) a b j k → AppendsTicks result b c k m → AppendsBefore [] result a c j m
+ticks_then (Ok done) a b c j k m h more =
+    let last = Called (Append (ticks_line k.lacking) Written (Ok tt)) ∷ [] in
     record {
       trace = h.trace ++ last;
       are = All-append IsAppended h.trace last h.are
-          (All-cons IsAppended (Called (Append (tick_lines more.ticks) Written (Ok tt))) [] tt (All-nil IsAppended));
+          (All-cons IsAppended (Called (Append (ticks_line k.lacking) Written (Ok tt))) [] tt (All-nil IsAppended));
       logs = logs_both a b c h.trace last h.logs more.logs;
       durability = more.durability ∙ h.durability;
       fence = more.fence ∙ h.fence;
@@ -164,11 +145,11 @@ batch_more (Ok done) a b c j k m h more =
       tries = subst (λ (l : List TraceEntry). IsTried j.durability j.untried l m.untried)
           (sym (append-nil (h.trace ++ last))) (then_tried a b j k m.untried last h more.tries);
     }
-batch_more (Err fault) a b c j k m h more =
-    let last = Called (Append (tick_lines more.ticks) Written (Err fault)) ∷ [] in
+ticks_then (Err fault) a b c j k m h more =
+    let last = Called (Append (ticks_line k.lacking) Written (Err fault)) ∷ [] in
     record {
       trace = h.trace ++ last;
-      are = (h.trace, tick_lines more.ticks, Written, refl, h.are, inl (more.ticks, refl));
+      are = (h.trace, ticks_line k.lacking, Written, refl, h.are, inl (k.lacking, refl));
       logs = logs_both a b c h.trace last h.logs more.logs;
       durability = more.durability ∙ h.durability;
       fence = more.fence ∙ h.fence;
@@ -294,23 +275,23 @@ tried_again : (d : Option Durability) (n left : ℕ) (lines : List ℕ) (result 
 tried_again None n left lines result h = h
 tried_again (Some durable) n left lines result h = h
 
-pub tick_then_batch : (result : Result (Unit {0}) AppendFault) (before after : PortsSeen) (j i k : JournalView) →
-    j.untried < 10 → i ≡ record j { lacking = after_one_tick j.durability j.lacking } → AppendsBatch result before after i k →
+pub tick_then_append : (result : Result (Unit {0}) AppendFault) (before after : PortsSeen) (j i k : JournalView) →
+    j.untried < 10 → i ≡ record j { lacking = after_one_tick j.durability j.lacking } → AppendsTicks result before after i k →
     EndsTick before after j k
-tick_then_batch result before after j i k few is h =
+tick_then_append result before after j i k few is h =
     let view : i.durability ≡ j.durability = ap (λ (v : JournalView). v.durability) is in
     record {
-      appends = Called (Append (tick_lines h.ticks) Written result) ∷ [];
-      may = inr (tick_lines h.ticks, Written, result, refl);
+      appends = Called (Append (ticks_line i.lacking) Written result) ∷ [];
+      may = inr (ticks_line i.lacking, Written, result, refl);
       logs = h.logs;
       durability = h.durability ∙ view;
       fence = h.fence ∙ ap (λ (v : JournalView). v.fence) is;
       lacks = subst (λ (v : JournalView).
-          IsJournaled v.durability v.lacking (Called (Append (tick_lines h.ticks) Written result) ∷ []) k.lacking) is h.lacks;
+          IsJournaled v.durability v.lacking (Called (Append (ticks_line i.lacking) Written result) ∷ []) k.lacking) is h.lacks;
       in_time = few;
-      tries = tried_again j.durability j.untried k.untried (tick_lines h.ticks) result
+      tries = tried_again j.durability j.untried k.untried (ticks_line i.lacking) result
           (subst (λ (v : JournalView).
-          IsTried v.durability v.untried (Called (Append (tick_lines h.ticks) Written result) ∷ []) k.untried) is h.tries);
+          IsTried v.durability v.untried (Called (Append (ticks_line i.lacking) Written result) ∷ []) k.untried) is h.tries);
     }
 
 pub counted : (d : Option Durability) (lacking : ℕ) → IsSome d → after_one_tick d lacking ≡ lacking + 1

@@ -10,7 +10,7 @@ use Rattle.mg_engine.specs.declared.datagram.Datagram.{Datagram}
 use Rattle.mg_core.specs.declared.event.Event.{Event}
 use Rattle.mg_core.specs.declared.event.Event.TheVariants.{Control, Media, Tick}
 use Rattle.mg_core.specs.ExceptReceived.{without_rtp}
-use Rattle.mg_core.specs.Recording.{RecordingsAreRead, CutRecordingsAreRead}
+use Rattle.mg_core.specs.Recording.{RecordingsAreRead}
 use Rattle.mg_core.specs.Step.{Sent, Packet, answer_to}
 use Rattle.mg_core.specs.World.{World, packets_of}
 use Rattle.mg_ports.specs.declared.call.Call.{Call}
@@ -235,11 +235,11 @@ pub journals_of : (setup : Setup) (durability : Durability) (trace : List TraceE
 journals_of setup durability trace lacking has js =
     subst (λ (d : Option Durability). IsJournaled d 0 trace lacking) has js
 
-kept : RecordingsAreRead → CutRecordingsAreRead → (durability : Durability) (told : List Event) (front before : List TraceEntry)
+kept : RecordingsAreRead → (durability : Durability) (told : List Event) (front before : List TraceEntry)
     (to : Peer) (bytes : List ℕ) (progress : Progress) (start journal : JournalState) → TellsEvents start told
     → front ≡ before ++ Happened (Control to bytes) ∷ [] → Journals durability (Lacks 0) front progress
     → JournalAfter (calls_of front) start journal → IsKept durability told front to journal
-kept read cut durability told front before to bytes progress start journal tells is js after =
+kept read durability told front before to bytes progress start journal tells is js after =
     let message = Happened (Control to bytes) in
     let (state, first, (next, step, last)) =
     journals_parts durability (Lacks 0) progress before (message ∷ [])
@@ -248,7 +248,7 @@ kept read cut durability told front before to bytes progress start journal tells
     after_parts (calls_of before) [] start journal
     (subst (λ (l : List Call). JournalAfter l start journal) (ap calls_of is ∙ calls_both before (message ∷ [])) after) in
     let holds =
-    trace_holds read cut durability told [] before (Lacks 0) state start mid (start_holds durability told start tells) first past
+    trace_holds read durability told [] before (Lacks 0) state start mid (start_holds durability told start tells) first past
     in
     let here = announced durability told (without_rtp (events_of_trace before)) state next to bytes mid holds step in
     let are : without_rtp (events_of_trace front) ≡ without_rtp (events_of_trace before) ++ Control to bytes ∷ [] =
@@ -262,20 +262,20 @@ kept read cut durability told front before to bytes progress start journal tells
       synced = λ sync. subst (λ (j : JournalState). j.synced ≡ j.text) (sym same) (here.1 sync);
     }
 
-forgotten : RecordingsAreRead → CutRecordingsAreRead → (setup : Setup) (durability : Durability) (w : World) (told : List Event)
+forgotten : RecordingsAreRead → (setup : Setup) (durability : Durability) (w : World) (told : List Event)
     (front rest : List TraceEntry) (journal : JournalState) (to : Peer)
     → IsMoment setup durability w told front rest journal → IsAnswer None front to → IsKept durability told front to journal
-forgotten read cut setup durability w told front rest journal to moment (inl (none, wrong)) =
+forgotten read setup durability w told front rest journal to moment (inl (none, wrong)) =
     let never : None ≡ Some to = wrong in
     absurd cc
-forgotten read cut setup durability w told front rest journal to moment (inr (before, bytes, is)) =
+forgotten read setup durability w told front rest journal to moment (inr (before, bytes, is)) =
     let (progress, js, others) =
     journals_parts durability (Lacks 0) (Lacks moment.lacking) front rest
     (journals_of setup durability (front ++ rest) moment.lacking moment.has moment.lacks) in
-    kept read cut durability told front before to bytes progress moment.start journal moment.tells is js moment.after
+    kept read durability told front before to bytes progress moment.start journal moment.tells is js moment.after
 
-pub nothing_is_forgotten : RecordingsAreRead → CutRecordingsAreRead → NothingAnsweredIsForgotten
-nothing_is_forgotten read cut setup durability w told front rest journal to text moment =
-    forgotten read cut setup durability w told front (Called (Send 0 to text) ∷ rest) journal to moment
+pub nothing_is_forgotten : RecordingsAreRead → NothingAnsweredIsForgotten
+nothing_is_forgotten read setup durability w told front rest journal to text moment =
+    forgotten read setup durability w told front (Called (Send 0 to text) ∷ rest) journal to moment
     (answer_at None front to text rest
     (session_follows setup moment.commands w moment.last (front ++ Called (Send 0 to text) ∷ rest) moment.session))

@@ -6,7 +6,7 @@ use Rattle.mg_words.specs.declared.peer.Peer.{Peer}
 use Rattle.mg_core.specs.declared.event.Event.{Event}
 use Rattle.mg_core.specs.declared.event.Event.TheVariants.{Control, Tick}
 use Rattle.mg_core.specs.ExceptReceived.{AgreeExceptReceived, RtpChangesSpeechOnly, without_rtp}
-use Rattle.mg_core.specs.Recording.{RecordingsAreRead, CutRecordingsAreRead}
+use Rattle.mg_core.specs.Recording.{RecordingsAreRead}
 use Rattle.mg_core.specs.Step.{Sent, Packet, Run, Step}
 use Rattle.mg_core.specs.World.{World, packets_of, start_of, world_after_tick, world_after_ticks}
 use Rattle.mg_core.proofs.RunLemmas.{run_both}
@@ -93,19 +93,19 @@ told_at durability told happened (Announces source bytes) journal (tells, works,
 )
 
 -- The events in the journal at a moment of a session.
-pub moment_told : RecordingsAreRead → CutRecordingsAreRead → (setup : Setup) (durability : Durability) (w : World)
+pub moment_told : RecordingsAreRead → (setup : Setup) (durability : Durability) (w : World)
     (told : List Event) (front rest : List TraceEntry) (journal : JournalState)
     → IsMoment setup durability w told front rest journal
     → (progress : Progress) × Journals durability (Lacks 0) front progress
     × ToldAt told (without_rtp (events_of_trace front)) progress journal
-moment_told read cut setup durability w told front rest journal moment =
+moment_told read setup durability w told front rest journal moment =
     let (progress, js, others) =
     journals_parts durability (Lacks 0) (Lacks moment.lacking) front rest
     (journals_of setup durability (front ++ rest) moment.lacking moment.has moment.lacks) in (
       progress,
       js,
       told_at durability told (without_rtp (events_of_trace front)) progress journal
-          (trace_holds read cut durability told [] front (Lacks 0) progress moment.start journal
+          (trace_holds read durability told [] front (Lacks 0) progress moment.start journal
           (start_holds durability told moment.start moment.tells) js moment.after),
     )
 
@@ -148,13 +148,13 @@ resumed_as law w v now resumed events written lacking sent others agree run told
       resumes = inr (source, bytes, first, subst (λ (x : World). Step before (Control source bytes) first x) (sym same) step);
     }
 
-pub crashes_lose_speech : RecordingsAreRead → CutRecordingsAreRead → SessionsAreRuns → OneOutcome → RtpChangesSpeechOnly
+pub crashes_lose_speech : RecordingsAreRead → SessionsAreRuns → OneOutcome → RtpChangesSpeechOnly
     → CrashesLoseSpeechOnly
-crashes_lose_speech read cut runs one law setup durability w v told others front rest journal moment before agree =
+crashes_lose_speech read runs one law setup durability w v told others front rest journal moment before agree =
     let (sent, now, run) =
     front_run setup w moment.last front rest
     (runs setup moment.commands w moment.last (front ++ rest) moment.session) in
-    let (progress, js, (written, tells, loses)) = moment_told read cut setup durability w told front rest journal moment in
+    let (progress, js, (written, tells, loses)) = moment_told read setup durability w told front rest journal moment in
     record {
       now = now;
       sent = sent;

@@ -1,12 +1,12 @@
 -- A journal that is cut off contains the events up to some moment.
-use Rattle.std.proofs.Common.{◌≡◌, ◌⊎◌, inl, inr, ℕ, List, [], ◌∷◌, ◌++◌, replicate, Option, IfSome, refl, sym, ap, subst, ◌∙◌, append_assoc, append-nil, arith}
+use Rattle.std.proofs.Common.{◌≡◌, ◌⊎◌, inl, inr, ℕ, false, true, List, [], ◌∷◌, ◌++◌, replicate, Option, IfSome, refl, sym, ap, subst, ◌∙◌, append_assoc, append-nil, arith}
 use Rattle.mg_journal.specs.declared.durability.Durability.{Durability}
 use Rattle.mg_journal.specs.Journal.{JournalState}
 use Rattle.mg_words.specs.declared.peer.Peer.{Peer}
 use Rattle.mg_core.specs.declared.event.Event.{Event}
 use Rattle.mg_core.specs.declared.event.Event.TheVariants.{Control, Media, Tick}
 use Rattle.mg_core.specs.ExceptReceived.{AgreeExceptReceived, RtpChangesSpeechOnly, without_rtp}
-use Rattle.mg_core.specs.Recording.{RecordingsAreRead, CutRecordingsAreRead}
+use Rattle.mg_core.specs.Recording.{RecordingsAreRead}
 use Rattle.mg_core.specs.Step.{Sent, Run}
 use Rattle.mg_core.specs.World.{World, start_of}
 use Rattle.mg_serve.specs.JournalLaws.{AnyCutIsAMoment, CutsResumeAMoment, IsMoment, IsScriptOf, LosesTicks, ResumesAt, WereTold}
@@ -17,7 +17,7 @@ use Rattle.mg_serve.proofs.JournalCrashes.{front_run, moment_told, resumed_as, s
 use Rattle.mg_serve.proofs.ReadBack.{OneOutcome}
 use Rattle.mg_serve.proofs.Runs.{events_both}
 use Rattle.mg_serve.proofs.JournalSteps.{one_front}
-use Rattle.mg_serve.proofs.JournalText.{cut_script}
+use Rattle.mg_serve.proofs.JournalText.{cut_script, marked}
 
 -- ## Lists in two parts
 
@@ -155,12 +155,12 @@ were_told told front first others written lacking loses (inl (rest, parts, left)
 were_told told front first others written lacking loses (inr (more, is, parts)) =
     more_cut told front first more others written lacking is parts loses loses.wrote
 
-pub any_cut : RecordingsAreRead → CutRecordingsAreRead → AnyCutIsAMoment
-any_cut read cut_law setup durability w told front rest journal text cut lost moment known parts =
-    let (progress, js, (written, tells, loses)) = moment_told read cut_law setup durability w told front rest journal moment in
+pub any_cut : RecordingsAreRead → AnyCutIsAMoment
+any_cut read setup durability w told front rest journal text cut lost moment known parts =
+    let (progress, js, (written, tells, loses)) = moment_told read setup durability w told front rest journal moment in
     let script : IsScriptOf text (told ++ written) =
-    subst (λ (o : Option (List ℕ)). IfSome o (λ t. IsScriptOf t (told ++ written))) known tells in
-    let (first, others, apart_is, front_script) = cut_script text cut lost (told ++ written) parts script in (
+    (subst (λ (o : Option (List ℕ)). IfSome o (λ t. IsScriptOf t (told ++ written) × (marked t ≡ true))) known tells).0 in
+    let (first, others, apart_is, front_script) = cut_script false text cut lost (told ++ written) parts script in (
       first,
       others,
       subst (λ (l : List Event). IsScriptOf text l) apart_is script,

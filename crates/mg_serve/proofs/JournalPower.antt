@@ -1,5 +1,5 @@
 -- The text on the disk after an answer was sent.
-use Rattle.std.proofs.Common.{◌≡◌, ℕ, true, List, [], ◌∷◌, ◌++◌, take, Option, Some, None, IfSome, Result, Ok, Err, refl, sym, ap, subst, ◌∙◌, append_assoc, append-nil}
+use Rattle.std.proofs.Common.{◌≡◌, ℕ, false, true, List, [], ◌∷◌, ◌++◌, take, Option, Some, None, IfSome, Result, Ok, Err, refl, sym, ap, subst, ◌∙◌, append_assoc, append-nil}
 use Rattle.std.specs.Io.KnownBytes.{append_known}
 use Rattle.mg_journal.specs.declared.append_fault.AppendFault.{AppendFault}
 use Rattle.mg_journal.specs.declared.append_fault.AppendFault.TheVariants.{Refused, Broken}
@@ -10,9 +10,9 @@ use Rattle.mg_journal.specs.Journal.{Appends, JournalState, appended}
 use Rattle.mg_journal.proofs.TextLemmas.{whole_after}
 use Rattle.mg_core.specs.declared.event.Event.{Event}
 use Rattle.mg_core.specs.ExceptReceived.{without_rtp}
-use Rattle.mg_core.specs.Recording.{RecordingsAreRead, CutRecordingsAreRead}
+use Rattle.mg_core.specs.Recording.{RecordingsAreRead}
 use Rattle.mg_core.specs.Script.{events_of}
-use Rattle.mg_lines.specs.Lines.{lines_of}
+use Rattle.mg_core.specs.Counted.{journal_lines}
 use Rattle.mg_ports.specs.declared.call.Call.{Call}
 use Rattle.mg_ports.specs.declared.call.Call.TheVariants.{Receive, Send, BeginTick, Append}
 use Rattle.mg_ports.specs.Journaled.{JournalAfter}
@@ -24,7 +24,7 @@ use Rattle.mg_serve.proofs.JournalAnswers.{nothing_is_forgotten}
 use Rattle.mg_serve.proofs.JournalCrashes.{moment_told}
 use Rattle.mg_serve.proofs.JournalSteps.{after_parts}
 use Rattle.mg_serve.proofs.Printing.{calls_both}
-use Rattle.mg_serve.proofs.JournalText.{cut_script}
+use Rattle.mg_serve.proofs.JournalText.{cut_script, marked}
 
 -- The text `base` is on the disk. Text after it may be on the disk too.
 pub record IsOnDisk (base : List ℕ) (journal : JournalState) : Type 0 where
@@ -118,13 +118,13 @@ begins_with : (base rest cut : List ℕ) (before first : List Event) → IsScrip
     → IsScriptOf (whole_lines cut) first → (others : List Event) × (first ≡ before ++ others)
 begins_with base rest cut before first one is script =
     let whole : whole_lines cut ≡ base ++ whole_lines rest = ap whole_lines is ∙ whole_after base rest one.0 in
-    let (fs, gs, parts, front) = cut_script (whole_lines cut) base (whole_lines rest) first whole script in
+    let (fs, gs, parts, front) = cut_script false (whole_lines cut) base (whole_lines rest) first whole script in
     let same : fs ≡ before =
-    same_events fs before (sym front.1 ∙ (ap (λ (l : List ℕ). events_of (lines_of true l)) one.0 ∙ one.1)) in
+    same_events fs before (sym front.1 ∙ (ap (λ (l : List ℕ). events_of (journal_lines true l)) one.0 ∙ one.1)) in
     (gs, parts ∙ ap (λ (l : List Event). l ++ gs) same)
 
 kept_on : (known : Option (List ℕ)) (before all : List Event) (journal : JournalState) (synced more lost : List ℕ)
-    → Rests known journal → IfSome known (λ t. IsScriptOf t before) → TellsEvents journal all
+    → Rests known journal → IfSome known (λ t. IsScriptOf t before × (marked t ≡ true)) → TellsEvents journal all
     → journal.synced ≡ Some synced → journal.text ≡ Some ((synced ++ more) ++ lost)
     → (others : List Event) × IsScriptOf (whole_lines (synced ++ more)) (before ++ others)
 kept_on None before all journal synced more lost rests told tells is text =
@@ -132,16 +132,16 @@ kept_on None before all journal synced more lost rests told tells is text =
     absurd cc
 kept_on (Some base) before all journal synced more lost rests told tells is text =
     let script : IsScriptOf ((synced ++ more) ++ lost) all =
-    subst (λ (o : Option (List ℕ)). IfSome o (λ t. IsScriptOf t all)) text tells in
-    let (first, gs, parts, front) = cut_script ((synced ++ more) ++ lost) (synced ++ more) lost all refl script in
+    (subst (λ (o : Option (List ℕ)). IfSome o (λ t. IsScriptOf t all × (marked t ≡ true))) text tells).0 in
+    let (first, gs, parts, front) = cut_script false ((synced ++ more) ++ lost) (synced ++ more) lost all refl script in
     let here : synced ++ more ≡ base ++ (rests.sure ++ more) =
     ap (λ (l : List ℕ). l ++ more) (same_text synced (base ++ rests.sure) (sym is ∙ rests.synced))
     ∙ append_assoc base rests.sure more in
-    let (others, begins) = begins_with base (rests.sure ++ more) (synced ++ more) before first told here front in
+    let (others, begins) = begins_with base (rests.sure ++ more) (synced ++ more) before first told.0 here front in
     (others, subst (λ (l : List Event). IsScriptOf (whole_lines (synced ++ more)) l) begins front)
 
-pub power_losses : RecordingsAreRead → CutRecordingsAreRead → PowerLossesForgetNoAnswer
-power_losses read cut setup w told front later rest to answer journal synced more lost moment is text =
+pub power_losses : RecordingsAreRead → PowerLossesForgetNoAnswer
+power_losses read setup w told front later rest to answer journal synced more lost moment is text =
     let entry = Called (Send 0 to answer) in
     let all = (front ++ entry ∷ later) ++ rest in
     let next = entry ∷ (later ++ rest) in
@@ -160,9 +160,9 @@ power_losses read cut setup w told front later rest to answer journal synced mor
       tells = moment.tells;
       after = first;
     } in
-    let kept = nothing_is_forgotten read cut setup Synced w told front (later ++ rest) mid to answer earlier in
+    let kept = nothing_is_forgotten read setup Synced w told front (later ++ rest) mid to answer earlier in
     let (progress, js, (written, tells, loses)) =
-    moment_told read cut setup Synced w told (front ++ entry ∷ later) rest journal moment in
+    moment_told read setup Synced w told (front ++ entry ∷ later) rest journal moment in
     kept_on mid.text (told ++ without_rtp (events_of_trace front)) (told ++ written) journal synced more lost
     (calls_rest mid.text (calls_of (entry ∷ later)) mid journal (all_synced mid.text mid refl (kept.synced refl)) after)
     kept.tells tells is text

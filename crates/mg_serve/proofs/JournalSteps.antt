@@ -1,8 +1,7 @@
 -- The events in a journal after each entry of a trace.
 use Rattle.std.proofs.Common.{◌≡◌, ◌⊎◌, inl, inr, ℕ, zero, suc, ◌+◌, ◌-◌, ◌≤◌, Bool, true, false, List, [], ◌∷◌, ◌++◌, length, take, replicate, IfSome, Result, Ok, Err, refl, sym, ap, subst, ◌∙◌, append_assoc, append-nil, arith}
-use Rattle.std.specs.Prelude.{if◌then◌else◌, flat_map}
+use Rattle.std.specs.Prelude.{if◌then◌else◌}
 use Rattle.std.proofs.lemmas.List.{replicate-append-replicate, replicate_more}
-use Rattle.std.proofs.lemmas.List.Elements.{All-nil, All-cons}
 use Rattle.std.specs.Io.KnownBytes.{append_known}
 use Rattle.mg_journal.specs.declared.append_fault.AppendFault.{AppendFault}
 use Rattle.mg_journal.specs.declared.append_fault.AppendFault.TheVariants.{Refused, Broken}
@@ -14,8 +13,7 @@ use Rattle.mg_words.specs.declared.peer.Peer.{Peer}
 use Rattle.mg_core.specs.declared.event.Event.{Event}
 use Rattle.mg_core.specs.declared.event.Event.TheVariants.{Control, Media, Tick}
 use Rattle.mg_core.specs.ExceptReceived.{without_rtp}
-use Rattle.mg_core.specs.Recording.{Entry, IsDatagram, IsRecorded, RecordingsAreRead, CutRecordingsAreRead, event_line}
-use Rattle.mg_core.specs.Recording as entry
+use Rattle.mg_core.specs.Recording.{RecordingsAreRead}
 use Rattle.mg_ports.specs.declared.call.Call.{Call}
 use Rattle.mg_ports.specs.declared.call.Call.TheVariants.{Receive, Send, BeginTick, Append}
 use Rattle.mg_ports.specs.Journaled.{AppendsDated, JournalAfter}
@@ -23,7 +21,7 @@ use Rattle.mg_serve.specs.Journaled.{Progress, Lacks, Announces, Advances, Appen
 use Rattle.mg_serve.specs.JournalLaws.{IsScriptOf, LosesTicks, TellsEvents}
 use Rattle.mg_serve.specs.Trace.{TraceEntry, Called, Happened, Printed, Noted, Stale, calls_of, events_of_trace}
 use Rattle.mg_serve.proofs.Printing.{calls_both}
-use Rattle.mg_serve.proofs.JournalText.{Fit, IsWritten, known_more, written, written_front, written_script}
+use Rattle.mg_serve.proofs.JournalText.{IsScriptFrom, count_script, known_more, marked, message_script, written, written_front}
 
 abbrev pub ticks : ℕ → List Event
 ticks n = replicate n Tick
@@ -48,13 +46,6 @@ ticks_apart left n =
     let swapped : left + n ≡ n + left = omega arith in
     ap ticks swapped ∙ sym (replicate-append-replicate n left Tick)
 
-fit_ticks : (n : ℕ) → Fit (ticks n)
-fit_ticks zero = All-nil IsRecorded
-fit_ticks (suc n) = All-cons IsRecorded (entry.Happened Tick) _ tt (fit_ticks n)
-
-fit_message : (source : Peer) (bytes : List ℕ) → IsDatagram source bytes → Fit (Control source bytes ∷ [])
-fit_message source bytes fits = All-cons IsRecorded (entry.Happened (Control source bytes)) [] fits (All-nil IsRecorded)
-
 pub front_ticks : (n : ℕ) (first others : List Event) → ticks n ≡ first ++ others → (first ≡ ticks (length first)) × (length first ≤ n)
 front_ticks zero [] others is = (refl, omega arith)
 front_ticks zero (x ∷ first) others is = absurd cc
@@ -68,9 +59,9 @@ front_ticks (suc n) (x ∷ first) others is =
 -- ## Appends
 
 tells_more : (old : JournalState) (part : List ℕ) (told events more : List Event) → TellsEvents old (told ++ events)
-    → IsScriptOf part more → IfSome (append_known old.text part) (λ text. IsScriptOf text (told ++ (events ++ more)))
+    → IsScriptFrom true part more → IfSome (append_known old.text part) (λ text. IsScriptOf text (told ++ (events ++ more)) × (marked text ≡ true))
 tells_more old part told events more tells script =
-    subst (λ (l : List Event). IfSome (append_known old.text part) (λ text. IsScriptOf text l)) (append_assoc told events more)
+    subst (λ (l : List Event). IfSome (append_known old.text part) (λ text. IsScriptOf text l × (marked text ≡ true))) (append_assoc told events more)
     (known_more old.text part (told ++ events) more tells script)
 
 -- A working journal, too, loses at most the ticks that it lacks.
@@ -89,53 +80,51 @@ exact : (lacking : ℕ) (happened events : List Event) (b : Bool) → b ≡ fals
     → happened ≡ events ++ ticks lacking
 exact lacking happened events b works stands = subst (λ (b : Bool). Standing b lacking happened events) works stands
 
-ticks_done : (durability how : Durability) (told happened events : List Event) (lacking left n : ℕ) (part : List ℕ)
+ticks_done : (durability how : Durability) (told happened events : List Event) (lacking : ℕ) (part : List ℕ)
     (old new : JournalState) → old.is_broken ≡ false → new ≡ appended part how old → TellsEvents old (told ++ events)
-    → Standing old.is_broken lacking happened events → lacking ≡ left + n → IsScriptOf part (ticks n)
-    → Holds durability told happened (Lacks left) new
-ticks_done durability how told happened events lacking left n part old new works is tells stands count script =
-    let kept : happened ≡ (events ++ ticks n) ++ ticks left =
-    exact lacking happened events old.is_broken works stands
-    ∙ (ap (λ (m : ℕ). events ++ ticks m) count ∙ (ap (λ (l : List Event). events ++ l) (ticks_apart left n)
-    ∙ sym (append_assoc events (ticks n) (ticks left)))) in
-    subst (λ (j : JournalState). Holds durability told happened (Lacks left) j) (sym is) (
-      events ++ ticks n,
-      tells_more old part told events (ticks n) tells script,
-      subst (λ (b : Bool). Standing b left happened (events ++ ticks n)) (sym works) kept,
+    → Standing old.is_broken lacking happened events → IsScriptFrom true part (ticks lacking)
+    → Holds durability told happened (Lacks 0) new
+ticks_done durability how told happened events lacking part old new works is tells stands script =
+    let kept : happened ≡ (events ++ ticks lacking) ++ ticks 0 =
+    exact lacking happened events old.is_broken works stands ∙ sym (append-nil (events ++ ticks lacking)) in
+    subst (λ (j : JournalState). Holds durability told happened (Lacks 0) j) (sym is) (
+      events ++ ticks lacking,
+      tells_more old part told events (ticks lacking) tells script,
+      subst (λ (b : Bool). Standing b 0 happened (events ++ ticks lacking)) (sym works) kept,
     )
 
 -- If an append of ticks breaks the journal, some of the ticks may be in it.
-ticks_broken : (durability : Durability) (told happened events : List Event) (lacking left n : ℕ) (part : List ℕ)
-    (old new : JournalState) → CutRecordingsAreRead → Breaks part old new → TellsEvents old (told ++ events)
-    → (b : Bool) → old.is_broken ≡ b → Standing b lacking happened events → lacking ≡ left + n → IsWritten part (ticks n)
+ticks_broken : (durability : Durability) (told happened events : List Event) (lacking : ℕ) (part : List ℕ)
+    (old new : JournalState) → Breaks part old new → TellsEvents old (told ++ events)
+    → (b : Bool) → old.is_broken ≡ b → Standing b lacking happened events → IsScriptFrom true part (ticks lacking)
     → Holds durability told happened (Lacks lacking) new
-ticks_broken durability told happened events lacking left n part old new law breaks tells true was stands count w =
+ticks_broken durability told happened events lacking part old new breaks tells true was stands script =
     subst (λ (j : JournalState). Holds durability told happened (Lacks lacking) j) (sym (breaks.none was))
     (events, tells, subst (λ (b : Bool). Standing b lacking happened events) (sym was) stands)
-ticks_broken durability told happened events lacking left n part old new law breaks tells false was stands count w =
-    let (first, others, parts, script) = written_front law part (ticks n) breaks.front w in
+ticks_broken durability told happened events lacking part old new breaks tells false was stands script =
+    let (first, others, parts, front_script) = written_front part (ticks lacking) breaks.front script in
     let k = length first in
-    let front = front_ticks n first others parts in
-    let split : lacking ≡ lacking - k + k = omega (arith, front.1, count) in
+    let front = front_ticks lacking first others parts in
+    let split : lacking ≡ lacking - k + k = omega (arith, front.1) in
     let kept : happened ≡ (events ++ first) ++ ticks (lacking - k) =
     stands ∙ (ap (λ (m : ℕ). events ++ ticks m) split ∙ (ap (λ (l : List Event). events ++ l) (ticks_apart (lacking - k) k)
     ∙ (ap (λ (l : List Event). events ++ (l ++ ticks (lacking - k))) (sym front.0)
     ∙ sym (append_assoc events first (ticks (lacking - k)))))) in
     subst (λ (j : JournalState). Holds durability told happened (Lacks lacking) j) (sym breaks.state) (
       events ++ first,
-      tells_more old (whole_lines (take breaks.front part)) told events first tells script,
+      tells_more old (whole_lines (take breaks.front part)) told events first tells front_script,
       record { kept = events ++ first; ticks = lacking - k; few = omega arith; lost = kept; wrote = inl refl },
     )
 
 message_done : (durability : Durability) (told happened events : List Event) (source : Peer) (bytes part : List ℕ)
     (old new : JournalState) → old.is_broken ≡ false → new ≡ appended part durability old → TellsEvents old (told ++ events)
-    → Standing old.is_broken 0 happened events → IsScriptOf part (Control source bytes ∷ [])
+    → Standing old.is_broken 0 happened events → IsScriptFrom true part (Control source bytes ∷ [])
     → Holds durability told happened (Announces source bytes) new
 message_done durability told happened events source bytes part old new works is tells stands script =
     let kept : events ≡ happened = sym (exact 0 happened events old.is_broken works stands ∙ append-nil events) in
     let message = Control source bytes ∷ [] in
     subst (λ (j : JournalState). Holds durability told happened (Announces source bytes) j) (sym is) (
-      subst (λ (l : List Event). IfSome (append_known old.text part) (λ text. IsScriptOf text (told ++ (l ++ message)))) kept
+      subst (λ (l : List Event). IfSome (append_known old.text part) (λ text. IsScriptOf text (told ++ (l ++ message)) × (marked text ≡ true))) kept
           (tells_more old part told events message tells script),
       works,
       λ sync. ap (λ (d : Durability). if is_synced d then append_known old.text part else old.synced) sync,
@@ -170,17 +159,17 @@ message_lost happened events first source bytes stands (inr one) = record {
 }
 
 message_broken : (durability : Durability) (told happened events : List Event) (source : Peer) (bytes part : List ℕ)
-    (old new : JournalState) → CutRecordingsAreRead → Breaks part old new → TellsEvents old (told ++ events)
-    → (b : Bool) → old.is_broken ≡ b → Standing b 0 happened events → IsWritten part (Control source bytes ∷ [])
+    (old new : JournalState) → Breaks part old new → TellsEvents old (told ++ events)
+    → (b : Bool) → old.is_broken ≡ b → Standing b 0 happened events → IsScriptFrom true part (Control source bytes ∷ [])
     → Holds durability told happened (Lacks 0) new
-message_broken durability told happened events source bytes part old new law breaks tells true was stands w =
+message_broken durability told happened events source bytes part old new breaks tells true was stands script =
     subst (λ (j : JournalState). Holds durability told happened (Lacks 0) j) (sym (breaks.none was))
     (events, tells, subst (λ (b : Bool). Standing b 0 happened events) (sym was) stands)
-message_broken durability told happened events source bytes part old new law breaks tells false was stands w =
-    let (first, others, parts, script) = written_front law part (Control source bytes ∷ []) breaks.front w in
+message_broken durability told happened events source bytes part old new breaks tells false was stands script =
+    let (first, others, parts, front_script) = written_front part (Control source bytes ∷ []) breaks.front script in
     subst (λ (j : JournalState). Holds durability told happened (Lacks 0) j) (sym breaks.state) (
       events ++ first,
-      tells_more old (whole_lines (take breaks.front part)) told events first tells script,
+      tells_more old (whole_lines (take breaks.front part)) told events first tells front_script,
       message_lost happened events first source bytes stands (one_front (Control source bytes) first others parts),
     )
 
@@ -189,42 +178,41 @@ same_state : (durability : Durability) (told happened : List Event) (progress : 
 same_state durability told happened progress old new is holds =
     subst (λ (j : JournalState). Holds durability told happened progress j) (sym is) holds
 
-one_line : (event : Event) → flat_map event_line (event ∷ []) ≡ event_line event
-one_line event = append-nil (event_line event)
-
-append_holds : RecordingsAreRead → CutRecordingsAreRead → (durability how : Durability) (told happened : List Event)
+append_holds : RecordingsAreRead → (durability how : Durability) (told happened : List Event)
     (lacking : ℕ) (lines : List ℕ) (result : Result (Unit {0}) AppendFault) (next : Progress) (old new : JournalState)
     → Holds durability told happened (Lacks lacking) old → AppendsLines durability lacking lines how result next
     → AppendsDated lines how old new result → Holds durability told happened next new
-append_holds read cut durability how told happened lacking lines (Ok done) next old new (events, tells, stands) (inl (n, left, count, are, weak, is, all)) (seal, comment, sealed, dated, (works, grew)) =
-    let w = written (text_to_seal old) seal comment lines (ticks n) sealed dated are (fit_ticks n) in
+append_holds read durability how told happened lacking lines (Ok done) next old new (events, tells, stands) (inl (some, small, are, weak, is)) (seal, comment, sealed, dated, (works, grew)) =
+    let script = written read (text_to_seal old) seal comment lines (ticks lacking) sealed dated
+    (subst (λ (l : List ℕ). IsScriptFrom true l (ticks lacking)) (sym are) (count_script lacking some small)) in
     subst (λ (p : Progress). Holds durability told happened p new) (sym is)
-    (ticks_done durability how told happened events lacking left n (seal ++ (comment ++ lines)) old new works grew tells stands count
-    (written_script read (seal ++ (comment ++ lines)) (ticks n) w))
-append_holds read cut durability how told happened lacking lines (Err Refused) next old new holds (inl (n, left, count, are, weak, is, all)) (seal, comment, sealed, dated, (works, same)) =
+    (ticks_done durability how told happened events lacking (seal ++ (comment ++ lines)) old new works grew tells stands script)
+append_holds read durability how told happened lacking lines (Err Refused) next old new holds (inl (some, small, are, weak, is)) (seal, comment, sealed, dated, (works, same)) =
     subst (λ (p : Progress). Holds durability told happened p new) (sym is)
     (same_state durability told happened (Lacks lacking) old new same holds)
-append_holds read cut durability how told happened lacking lines (Err Broken) next old new (events, tells, stands) (inl (n, left, count, are, weak, is, all)) (seal, comment, sealed, dated, breaks) =
-    let w = written (text_to_seal old) seal comment lines (ticks n) sealed dated are (fit_ticks n) in
+append_holds read durability how told happened lacking lines (Err Broken) next old new (events, tells, stands) (inl (some, small, are, weak, is)) (seal, comment, sealed, dated, breaks) =
+    let script = written read (text_to_seal old) seal comment lines (ticks lacking) sealed dated
+    (subst (λ (l : List ℕ). IsScriptFrom true l (ticks lacking)) (sym are) (count_script lacking some small)) in
     subst (λ (p : Progress). Holds durability told happened p new) (sym is)
-    (ticks_broken durability told happened events lacking left n (seal ++ (comment ++ lines)) old new cut breaks tells
-    old.is_broken refl stands count w)
-append_holds read cut durability how told happened lacking lines (Ok done) next old new (events, tells, stands) (inr (source, bytes, none, are, strong, is, fits)) (seal, comment, sealed, dated, (works, grew)) =
-    let w = written (text_to_seal old) seal comment lines (Control source bytes ∷ []) sealed dated (are ∙ sym (one_line (Control source bytes))) (fit_message source bytes fits) in
+    (ticks_broken durability told happened events lacking (seal ++ (comment ++ lines)) old new breaks tells
+    old.is_broken refl stands script)
+append_holds read durability how told happened lacking lines (Ok done) next old new (events, tells, stands) (inr (source, bytes, none, are, strong, is, fits)) (seal, comment, sealed, dated, (works, grew)) =
+    let script = written read (text_to_seal old) seal comment lines (Control source bytes ∷ []) sealed dated
+    (subst (λ (l : List ℕ). IsScriptFrom true l (Control source bytes ∷ [])) (sym are) (message_script read source bytes fits)) in
     subst (λ (p : Progress). Holds durability told happened p new) (sym is)
     (message_done durability told happened events source bytes (seal ++ (comment ++ lines)) old new works
     (grew ∙ ap (λ (d : Durability). appended (seal ++ (comment ++ lines)) d old) strong) tells
-    (subst (λ (n : ℕ). Standing old.is_broken n happened events) none stands)
-    (written_script read (seal ++ (comment ++ lines)) (Control source bytes ∷ []) w))
-append_holds read cut durability how told happened lacking lines (Err Refused) next old new (events, tells, stands) (inr (source, bytes, none, are, strong, is, fits)) (seal, comment, sealed, dated, (works, same)) =
+    (subst (λ (n : ℕ). Standing old.is_broken n happened events) none stands) script)
+append_holds read durability how told happened lacking lines (Err Refused) next old new (events, tells, stands) (inr (source, bytes, none, are, strong, is, fits)) (seal, comment, sealed, dated, (works, same)) =
     subst (λ (p : Progress). Holds durability told happened p new) (sym is)
     (same_state durability told happened (Lacks 0) old new same
     (events, tells, subst (λ (n : ℕ). Standing old.is_broken n happened events) none stands))
-append_holds read cut durability how told happened lacking lines (Err Broken) next old new (events, tells, stands) (inr (source, bytes, none, are, strong, is, fits)) (seal, comment, sealed, dated, breaks) =
-    let w = written (text_to_seal old) seal comment lines (Control source bytes ∷ []) sealed dated (are ∙ sym (one_line (Control source bytes))) (fit_message source bytes fits) in
+append_holds read durability how told happened lacking lines (Err Broken) next old new (events, tells, stands) (inr (source, bytes, none, are, strong, is, fits)) (seal, comment, sealed, dated, breaks) =
+    let script = written read (text_to_seal old) seal comment lines (Control source bytes ∷ []) sealed dated
+    (subst (λ (l : List ℕ). IsScriptFrom true l (Control source bytes ∷ [])) (sym are) (message_script read source bytes fits)) in
     subst (λ (p : Progress). Holds durability told happened p new) (sym is)
-    (message_broken durability told happened events source bytes (seal ++ (comment ++ lines)) old new cut breaks tells
-    old.is_broken refl (subst (λ (n : ℕ). Standing old.is_broken n happened events) none stands) w)
+    (message_broken durability told happened events source bytes (seal ++ (comment ++ lines)) old new breaks tells
+    old.is_broken refl (subst (λ (n : ℕ). Standing old.is_broken n happened events) none stands) script)
 
 -- ## Other entries
 
@@ -271,38 +259,38 @@ no_event durability told happened lacking next old new holds is same =
 abbrev pub after_entry : List Event → TraceEntry → List Event
 after_entry happened entry = happened ++ without_rtp (events_of_trace (entry ∷ []))
 
-entry_holds : RecordingsAreRead → CutRecordingsAreRead → (durability : Durability) (told happened : List Event)
+entry_holds : RecordingsAreRead → (durability : Durability) (told happened : List Event)
     (progress next : Progress) (one : TraceEntry) (old new : JournalState) → Holds durability told happened progress old
     → Advances durability progress one next → JournalAfter (calls_of (one ∷ [])) old new
     → Holds durability told (after_entry happened one) next new
-entry_holds read cut durability told happened (Announces source bytes) next one old new holds (is, at) after =
+entry_holds read durability told happened (Announces source bytes) next one old new holds (is, at) after =
     let mine : JournalAfter (calls_of (Happened (Control source bytes) ∷ [])) old new =
     subst (λ (e : TraceEntry). JournalAfter (calls_of (e ∷ [])) old new) is after in
     subst (λ (e : TraceEntry). Holds durability told (after_entry happened e) next new) (sym is)
     (subst (λ (p : Progress). Holds durability told (happened ++ Control source bytes ∷ []) p new) (sym at)
     (same_state durability told (happened ++ Control source bytes ∷ []) (Lacks 0) old new mine
     (handled_holds durability told happened source bytes old holds)))
-entry_holds read cut durability told happened (Lacks n) next (Called (Append lines how result)) old new holds step (mid, dated, same) =
+entry_holds read durability told happened (Lacks n) next (Called (Append lines how result)) old new holds step (mid, dated, same) =
     subst (λ (l : List Event). Holds durability told l next new) (sym (append-nil happened))
     (same_state durability told happened next mid new same
-    (append_holds read cut durability how told happened n lines result next old mid holds step dated))
-entry_holds read cut durability told happened (Lacks n) next (Called (Receive socket receipt)) old new holds step after =
+    (append_holds read durability how told happened n lines result next old mid holds step dated))
+entry_holds read durability told happened (Lacks n) next (Called (Receive socket receipt)) old new holds step after =
     no_event durability told happened n next old new holds step after
-entry_holds read cut durability told happened (Lacks n) next (Called (Send socket to bytes)) old new holds step after =
+entry_holds read durability told happened (Lacks n) next (Called (Send socket to bytes)) old new holds step after =
     no_event durability told happened n next old new holds step after
-entry_holds read cut durability told happened (Lacks n) next (Called (BeginTick timing)) old new holds step after =
+entry_holds read durability told happened (Lacks n) next (Called (BeginTick timing)) old new holds step after =
     no_event durability told happened n next old new holds step after
-entry_holds read cut durability told happened (Lacks n) next (Happened (Control source bytes)) old new holds step after =
+entry_holds read durability told happened (Lacks n) next (Happened (Control source bytes)) old new holds step after =
     absurd step
-entry_holds read cut durability told happened (Lacks n) next (Happened (Media port source bytes)) old new holds step after =
+entry_holds read durability told happened (Lacks n) next (Happened (Media port source bytes)) old new holds step after =
     no_event durability told happened n next old new holds step after
-entry_holds read cut durability told happened (Lacks n) next (Happened Tick) old new holds step after =
+entry_holds read durability told happened (Lacks n) next (Happened Tick) old new holds step after =
     tick_holds durability told happened n next old new holds step after
-entry_holds read cut durability told happened (Lacks n) next (Printed text) old new holds step after =
+entry_holds read durability told happened (Lacks n) next (Printed text) old new holds step after =
     no_event durability told happened n next old new holds step after
-entry_holds read cut durability told happened (Lacks n) next (Noted text) old new holds step after =
+entry_holds read durability told happened (Lacks n) next (Noted text) old new holds step after =
     no_event durability told happened n next old new holds step after
-entry_holds read cut durability told happened (Lacks n) next (Stale source bytes) old new holds step after =
+entry_holds read durability told happened (Lacks n) next (Stale source bytes) old new holds step after =
     no_event durability told happened n next old new holds step after
 
 -- ## The parts of a trace
@@ -336,20 +324,20 @@ journals_parts durability old new (one ∷ p) q (next, step, js) =
     (mid, (next, step, first), other)
 
 -- The journal still has the events of a session after a trace.
-pub trace_holds : RecordingsAreRead → CutRecordingsAreRead → (durability : Durability) (told happened : List Event)
+pub trace_holds : RecordingsAreRead → (durability : Durability) (told happened : List Event)
     (trace : List TraceEntry) (progress next : Progress) (old new : JournalState) → Holds durability told happened progress old
     → Journals durability progress trace next → JournalAfter (calls_of trace) old new
     → Holds durability told (happened ++ without_rtp (events_of_trace trace)) next new
-trace_holds read cut durability told happened [] progress next old new holds js after =
+trace_holds read durability told happened [] progress next old new holds js after =
     subst (λ (l : List Event). Holds durability told l next new) (sym (append-nil happened))
     (subst (λ (p : Progress). Holds durability told happened p new) (sym js)
     (same_state durability told happened progress old new after holds))
-trace_holds read cut durability told happened (one ∷ trace) progress next old new holds (mid, step, js) after =
+trace_holds read durability told happened (one ∷ trace) progress next old new holds (mid, step, js) after =
     let (state, first, others) =
     after_parts (calls_of (one ∷ [])) (calls_of trace) old new
     (subst (λ (l : List Call). JournalAfter l old new) (calls_both (one ∷ []) trace) after) in
-    let here = entry_holds read cut durability told happened progress mid one old state holds step first in
-    let there = trace_holds read cut durability told (after_entry happened one) trace mid next state new here js others in
+    let here = entry_holds read durability told happened progress mid one old state holds step first in
+    let there = trace_holds read durability told (after_entry happened one) trace mid next state new here js others in
     subst (λ (l : List Event). Holds durability told l next new)
     (append_assoc happened (without_rtp (events_of_trace (one ∷ []))) (without_rtp (events_of_trace trace))
     ∙ ap (λ (l : List Event). happened ++ l) (sym (quiet_both (one ∷ []) trace))) there

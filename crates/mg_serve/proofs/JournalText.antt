@@ -1,8 +1,9 @@
 -- Journals are scripts: complete lines, one after another.
-use Rattle.std.proofs.Common.{◌≡◌, ◌≢◌, ◌≤◌, ◌⊎◌, inl, inr, ℕ, ◌==◌, Bool, true, false, ◌||◌, List, [], ◌∷◌, ◌++◌, length, map, take, drop, All, Option, Some, None, IfSome, refl, sym, ap, subst, ◌∙◌, append_assoc, append-nil, codes}
-use Rattle.std.specs.Prelude.{if◌then◌else◌, flat_map}
+use Rattle.std.proofs.Common.{◌≡◌, ◌≢◌, ◌≤◌, ◌<◌, ◌^◌, ◌⊎◌, inl, inr, ℕ, ◌==◌, decimal, replicate, Bool, true, false, ◌||◌, List, [], ◌∷◌, ◌++◌, length, take, drop, All, Option, Some, None, IfSome, refl, sym, ap, subst, ◌∙◌, append_assoc, append-nil, codes}
+use Rattle.std.specs.Prelude.{if◌then◌else◌}
+use Rattle.std.specs.List.{list_any}
 use Rattle.std.proofs.lemmas.List.{take-append-drop}
-use Rattle.std.proofs.lemmas.List.Elements.{All-cons}
+use Rattle.std.proofs.lemmas.List.Elements.{All-cons, All-nil}
 use Rattle.std.proofs.lemmas.List.Folds.{list_any-append}
 use Rattle.std.specs.Io.KnownBytes.{append_known}
 use Rattle.mg_journal.specs.Text.{IsWhole, has_line_feed, whole_lines}
@@ -12,8 +13,11 @@ use Rattle.mg_lines.specs.Lines.{lines_after, lines_of, without_return}
 use Rattle.mg_words.specs.declared.peer.Peer.{Peer}
 use Rattle.mg_core.specs.declared.event.Event.{Event}
 use Rattle.mg_core.specs.declared.event.Event.TheVariants.{Control, Media, Tick}
+use Rattle.mg_core.specs.Counted.{expanded, is_mark, ticks_line}
 use Rattle.mg_core.specs.Script.{event_of, events_of, then_all}
-use Rattle.mg_core.specs.Recording.{Entry, Happened, Noted, IsRecorded, RecordingsAreRead, CutRecordingsAreRead, datagram_text, entry_line, event_line, events_in, recording_of}
+use Rattle.mg_core.specs.Recording.{Entry, Happened, Noted, IsDatagram, IsRecorded, RecordingsAreRead, datagram_text, entry_line, event_line, events_in, recording_of}
+use Rattle.mg_core.proofs.CountReadBack.{count_is_ticks, script_same}
+use Rattle.mg_core.proofs.CountedLemmas.{expanded_both}
 use Rattle.mg_core.proofs.RunLemmas.{events_both}
 use Rattle.mg_chain.specs.Seals.{IsSeal, is_seal}
 use Rattle.mg_chain.proofs.SealLemmas.{seal_line, seal_text}
@@ -123,18 +127,43 @@ cut_is front = after_feed front (has_line_feed front) refl (λ p fed. cut_fed p 
 
 -- ## Events of whole texts
 
-pub script_more : (x y : List ℕ) (es fs : List Event) → IsScriptOf x es → IsScriptOf y fs → IsScriptOf (x ++ y) (es ++ fs)
-script_more x y es fs one other = (
+-- The lines of this text are all complete, and are read as a script of these events, if ticks are counted or not.
+abbrev pub IsScriptFrom : (counts : Bool) → List ℕ → List Event → Type 0
+IsScriptFrom counts text events = IsWhole text × (events_of (expanded counts (lines_of true text)) ≡ Some events)
+
+-- Whether ticks are counted behind this text.
+abbrev pub marked : List ℕ → Bool
+marked text = list_any is_mark (lines_of true text)
+
+text_lines : (x y : List ℕ) → IsWhole x → lines_of true (x ++ y) ≡ lines_of true x ++ lines_of true y
+text_lines x y whole = lines_more true [] x y whole (inl refl)
+
+pub script_more : (c : Bool) (x y : List ℕ) (es fs : List Event) → IsScriptFrom c x es → IsScriptFrom (c || marked x) y fs
+    → IsScriptFrom c (x ++ y) (es ++ fs)
+script_more c x y es fs one other = (
   whole_more x y one.0 other.0,
-  ap events_of (lines_more true [] x y one.0 (inl refl)) ∙ events_both (lines_of true x) (lines_of true y) es fs one.1 other.1,
+  ap (λ (l : List (List ℕ)). events_of (expanded c l)) (text_lines x y one.0)
+      ∙ (ap events_of (expanded_both c (lines_of true x) (lines_of true y))
+      ∙ events_both (expanded c (lines_of true x)) (expanded (c || marked x) (lines_of true y)) es fs one.1 other.1),
 )
+
+pub marked_both : (x y : List ℕ) → IsWhole x → marked (x ++ y) ≡ (marked x || marked y)
+marked_both x y whole =
+    ap (λ (l : List (List ℕ)). list_any is_mark l) (text_lines x y whole)
+    ∙ list_any-append is_mark (lines_of true x) (lines_of true y)
+
+stays_marked : (x y : List ℕ) → IsWhole x → marked x ≡ true → marked (x ++ y) ≡ true
+stays_marked x y whole is = marked_both x y whole ∙ ap (λ (b : Bool). b || marked y) is
 
 -- Appending a script extends a text that may be unknown.
 pub known_more : (known : Option (List ℕ)) (y : List ℕ) (es fs : List Event)
-    → IfSome known (λ text. IsScriptOf text es) → IsScriptOf y fs
-    → IfSome (append_known known y) (λ text. IsScriptOf text (es ++ fs))
+    → IfSome known (λ text. IsScriptOf text es × (marked text ≡ true)) → IsScriptFrom true y fs
+    → IfSome (append_known known y) (λ text. IsScriptOf text (es ++ fs) × (marked text ≡ true))
 known_more None y es fs one other = tt
-known_more (Some x) y es fs one other = script_more x y es fs one other
+known_more (Some x) y es fs one other = (
+  script_more false x y es fs one.0 (subst (λ (b : Bool). IsScriptFrom b y fs) (sym one.1) other),
+  stays_marked x y one.0.0 one.1,
+)
 
 before_both : (e : Option Event) (l fs : List Event) → then_all e (l ++ fs) ≡ then_all e l ++ fs
 before_both None l fs = refl
@@ -165,17 +194,19 @@ split_events (x ∷ xs) ys es h = split_step (event_of x) (events_of xs) (events
     (λ l is. split_events xs ys l is)
 
 -- If a script is cut off, its complete lines are a script of its first events.
-pub cut_script : (text cut lost : List ℕ) (es : List Event) → text ≡ cut ++ lost → IsScriptOf text es
-    → (fs : List Event) × (gs : List Event) × (es ≡ fs ++ gs) × IsScriptOf (whole_lines cut) fs
-cut_script text cut lost es parts script =
+pub cut_script : (c : Bool) (text cut lost : List ℕ) (es : List Event) → text ≡ cut ++ lost → IsScriptFrom c text es
+    → (fs : List Event) × (gs : List Event) × (es ≡ fs ++ gs) × IsScriptFrom c (whole_lines cut) fs
+cut_script c text cut lost es parts script =
     let whole = whole_lines cut in
     let rest = drop (length whole) cut ++ lost in
     let is : text ≡ whole ++ rest =
     parts ∙ (ap (λ (l : List ℕ). l ++ lost) (sym (whole_front cut)) ∙ append_assoc whole (drop (length whole) cut) lost) in
-    let lines : lines_of true text ≡ lines_of true whole ++ lines_of true rest =
-    ap (lines_of true) is ∙ lines_more true [] whole rest (whole_twice cut) (inl refl) in
+    let lines : expanded c (lines_of true text) ≡ expanded c (lines_of true whole) ++ expanded (c || marked whole) (lines_of true rest) =
+    ap (λ (l : List (List ℕ)). expanded c l) (ap (lines_of true) is ∙ text_lines whole rest (whole_twice cut))
+    ∙ expanded_both c (lines_of true whole) (lines_of true rest) in
     let (fs, gs, apart, first) =
-    split_events (lines_of true whole) (lines_of true rest) es (ap events_of (sym lines) ∙ script.1) in
+    split_events (expanded c (lines_of true whole)) (expanded (c || marked whole) (lines_of true rest)) es
+    (ap events_of (sym lines) ∙ script.1) in
     (fs, gs, apart, (whole_twice cut, first))
 
 -- ## Recordings
@@ -217,86 +248,63 @@ recording_whole [] = whole_nil
 recording_whole (entry ∷ entries) =
     whole_more (entry_line entry) (recording_of entries) (entry_ends entry).0 (recording_whole entries)
 
--- The events as entries of a recording.
-abbrev entries_of : List Event → List Entry
-entries_of events = map Happened events
-
-recording_is : (events : List Event) → recording_of (entries_of events) ≡ flat_map event_line events
-recording_is [] = refl
-recording_is (event ∷ events) = ap (λ (l : List ℕ). event_line event ++ l) (recording_is events)
-
-events_are : (events : List Event) → events_in (entries_of events) ≡ events
-events_are [] = refl
-events_are (event ∷ events) = ap (λ (l : List Event). event ∷ l) (events_are events)
-
-events_in_both : (es fs : List Entry) → events_in (es ++ fs) ≡ events_in es ++ events_in fs
-events_in_both [] fs = refl
-events_in_both (Happened event ∷ es) fs = ap (λ (l : List Event). event ∷ l) (events_in_both es fs)
-events_in_both (Noted text ∷ es) fs = events_in_both es fs
-
--- Lines for these events, possibly with comments.
-pub record IsWritten (part : List ℕ) (events : List Event) : Type 0 where
-  pub entries : List Entry
-  pub text : part ≡ recording_of entries
-  pub are : events_in entries ≡ events
-  pub fit : All IsRecorded entries
-
-abbrev pub Fit : List Event → Type 0
-Fit events = All IsRecorded (entries_of events)
-
-noted_text : (text : List ℕ) → recording_of (Noted text ∷ []) ≡ codes "# " ++ (text ++ codes "\n")
-noted_text text = append-nil (codes "# " ++ (text ++ codes "\n"))
-
-bare : (lines : List ℕ) (events : List Event) → lines ≡ flat_map event_line events → Fit events → IsWritten lines events
-bare lines events is fit = record {
-  entries = entries_of events;
-  text = is ∙ sym (recording_is events);
-  are = events_are events;
-  fit = fit;
-}
-
-noted : (text comment part : List ℕ) (events : List Event) → comment ≡ codes "# " ++ (text ++ codes "\n")
-    → length text ≤ 1000 → All (λ b. b ≢ 10) text → IsWritten part events → IsWritten (comment ++ part) events
-noted text comment part events line short plain w = record {
-  entries = Noted text ∷ w.entries;
-  text = ap (λ (l : List ℕ). l ++ part) line ∙ ap (λ (l : List ℕ). (codes "# " ++ (text ++ codes "\n")) ++ l) w.text;
-  are = w.are;
-  fit = All-cons IsRecorded (Noted text) w.entries (short, plain) w.fit;
-}
-
-commented : (comment part : List ℕ) (events : List Event)
-    → (comment ≡ []) ⊎ (IsComment comment × (is_seal comment ≡ false)) → IsWritten part events
-    → IsWritten (comment ++ part) events
-commented comment part events (inl none) w = subst (λ (l : List ℕ). IsWritten (l ++ part) events) (sym none) w
-commented comment part events (inr ((text, line, short, plain), other)) w = noted text comment part events line short plain w
-
-sealed : (known : Option (List ℕ)) (seal part : List ℕ) (events : List Event) → (seal ≡ []) ⊎ IsSeal known seal
-    → IsWritten part events → IsWritten (seal ++ part) events
-sealed known seal part events (inl none) w = subst (λ (l : List ℕ). IsWritten (l ++ part) events) (sym none) w
-sealed known seal part events (inr (text, line, is)) w =
-    let comment = seal_line text in
-    noted (seal_text text) seal part events (line ∙ comment.0) comment.1 comment.2 w
-
-pub written : (known : Option (List ℕ)) (seal comment lines : List ℕ) (events : List Event)
-    → (seal ≡ []) ⊎ IsSeal known seal → (comment ≡ []) ⊎ (IsComment comment × (is_seal comment ≡ false))
-    → lines ≡ flat_map event_line events → Fit events → IsWritten (seal ++ (comment ++ lines)) events
-written known seal comment lines events seals dated is fit =
-    sealed known seal (comment ++ lines) events seals (commented comment lines events dated (bare lines events is fit))
-
--- Written lines are a script of their events.
-pub written_script : RecordingsAreRead → (part : List ℕ) (events : List Event) → IsWritten part events → IsScriptOf part events
-written_script law part events w =
-    subst (λ (l : List ℕ). IsScriptOf l events) (sym w.text)
-    (recording_whole w.entries, law w.entries w.fit ∙ ap (λ (l : List Event). Some l) w.are)
-
--- A prefix of written lines is a script of the first events.
-pub written_front : CutRecordingsAreRead → (part : List ℕ) (events : List Event) (n : ℕ) → IsWritten part events
-    → (first : List Event) × (others : List Event) × (events ≡ first ++ others) × IsScriptOf (whole_lines (take n part)) first
-written_front law part events n w =
-    let (first, others, parts, read) =
-    law w.entries (take n part) (drop n part) w.fit (sym w.text ∙ sym (take-append-drop n part)) in (
-      events_in first,
-      events_in others,
-      sym w.are ∙ (ap events_in parts ∙ events_in_both first others),
-      (whole_twice (take n part), ap events_of (sym (cut_is (take n part))) ∙ read),
+-- A line of a recording is a script of its event, if it has one, whether ticks are counted or not.
+pub entry_script : RecordingsAreRead → (c : Bool) (entry : Entry) → IsRecorded entry
+    → IsScriptFrom c (entry_line entry) (events_in (entry ∷ []))
+entry_script law c entry fits =
+    let one : recording_of (entry ∷ []) ≡ entry_line entry = append-nil (entry_line entry) in
+    subst (λ (l : List ℕ). IsScriptFrom c l (events_in (entry ∷ []))) one (
+      recording_whole (entry ∷ []),
+      script_same c (lines_of true (recording_of (entry ∷ []))) (events_in (entry ∷ []))
+          (law (entry ∷ []) (All-cons IsRecorded entry [] fits (All-nil IsRecorded))),
     )
+
+-- ## Appended text
+
+pub no_text : IsScriptFrom true [] []
+unfolding expanded events_of lines_after
+no_text = (whole_nil, refl)
+
+pub noted : RecordingsAreRead → (text comment part : List ℕ) (events : List Event) → comment ≡ codes "# " ++ (text ++ codes "\n")
+    → length text ≤ 1000 → All (λ b. b ≢ 10) text → IsScriptFrom true part events → IsScriptFrom true (comment ++ part) events
+noted law text comment part events line short plain script =
+    script_more true comment part [] events
+    (subst (λ (l : List ℕ). IsScriptFrom true l []) (sym line) (entry_script law true (Noted text) (short, plain))) script
+
+commented : RecordingsAreRead → (comment part : List ℕ) (events : List Event)
+    → (comment ≡ []) ⊎ (IsComment comment × (is_seal comment ≡ false)) → IsScriptFrom true part events
+    → IsScriptFrom true (comment ++ part) events
+commented law comment part events (inl none) script = subst (λ (l : List ℕ). IsScriptFrom true (l ++ part) events) (sym none) script
+commented law comment part events (inr ((text, line, short, plain), other)) script = noted law text comment part events line short plain script
+
+sealed : RecordingsAreRead → (known : Option (List ℕ)) (seal part : List ℕ) (events : List Event) → (seal ≡ []) ⊎ IsSeal known seal
+    → IsScriptFrom true part events → IsScriptFrom true (seal ++ part) events
+sealed law known seal part events (inl none) script = subst (λ (l : List ℕ). IsScriptFrom true (l ++ part) events) (sym none) script
+sealed law known seal part events (inr (text, line, is)) script =
+    let comment = seal_line text in
+    noted law (seal_text text) seal part events (line ∙ comment.0) comment.1 comment.2 script
+
+-- Lines that are appended, possibly with a seal and a comment before them, are a script of their events.
+pub written : RecordingsAreRead → (known : Option (List ℕ)) (seal comment lines : List ℕ) (events : List Event)
+    → (seal ≡ []) ⊎ IsSeal known seal → (comment ≡ []) ⊎ (IsComment comment × (is_seal comment ≡ false))
+    → IsScriptFrom true lines events → IsScriptFrom true (seal ++ (comment ++ lines)) events
+written law known seal comment lines events seals dated script =
+    sealed law known seal (comment ++ lines) events seals (commented law comment lines events dated script)
+
+-- A prefix of appended lines is a script of the first events.
+pub written_front : (part : List ℕ) (events : List Event) (n : ℕ) → IsScriptFrom true part events
+    → (first : List Event) × (others : List Event) × (events ≡ first ++ others) × IsScriptFrom true (whole_lines (take n part)) first
+written_front part events n script =
+    cut_script true part (take n part) (drop n part) events (sym (take-append-drop n part)) script
+
+-- The line of a message.
+pub message_script : RecordingsAreRead → (source : Peer) (bytes : List ℕ) → IsDatagram source bytes
+    → IsScriptFrom true (event_line (Control source bytes)) (Control source bytes ∷ [])
+message_script law source bytes fits = entry_script law true (Happened (Control source bytes)) fits
+
+count_ends : (count : ℕ) → EndsWhole (ticks_line count)
+count_ends count = ends_more (codes "ticks ") _ (ends_more (decimal count) (codes "\n") feed_ends)
+
+-- The line of ticks.
+pub count_script : (count : ℕ) → 0 < count → count < 2 ^ 64 → IsScriptFrom true (ticks_line count) (replicate count Tick)
+count_script count some small = ((count_ends count).0, count_is_ticks count some small)

@@ -1,6 +1,7 @@
 -- The events and states of a session that its journal preserves, whenever the gateway crashes.
 use Rattle.std.specs.Prelude.{◌≡◌, ◌⊎◌, ℕ, ◌≤◌, List, [], ◌∷◌, ◌++◌, replicate}
 use Rattle.std.specs.Prelude.{Some, IfSome, true}
+use Rattle.std.specs.List.{list_any}
 use Rattle.mg_journal.specs.declared.durability.Durability.{Durability}
 use Rattle.mg_journal.specs.declared.durability.Durability.TheVariants.{Synced}
 use Rattle.mg_journal.specs.Text.{IsWhole, whole_lines}
@@ -8,6 +9,7 @@ use Rattle.mg_journal.specs.Journal.{JournalState}
 use Rattle.mg_words.specs.declared.peer.Peer.{Peer}
 use Rattle.mg_engine.specs.declared.config.Config.{Config}
 use Rattle.mg_engine.specs.Flow.{flow}
+use Rattle.mg_core.specs.Counted.{is_mark, journal_lines}
 use Rattle.mg_core.specs.declared.event.Event.{Event}
 use Rattle.mg_core.specs.declared.event.Event.TheVariants as events
 use Rattle.mg_core.specs.ExceptReceived.{AgreeExceptReceived, without_rtp}
@@ -23,13 +25,14 @@ use Rattle.mg_serve.specs.Session.{Session}
 use Rattle.mg_serve.specs.Setup.{Setup}
 use Rattle.mg_serve.specs.Trace.{TraceEntry, Called, Happened, calls_of, events_of_trace}
 
--- The lines of this text are all complete, and are a script of these events.
+-- The lines of this text are all complete, and are read as a script of these events.
 abbrev pub IsScriptOf : List ℕ → List Event → Type 0
-IsScriptOf text events = IsWhole text × (events_of (lines_of true text) ≡ Some events)
+IsScriptOf text events = IsWhole text × (events_of (journal_lines true text) ≡ Some events)
 
--- The text of the journal, if it is known, is a script of these events.
+-- The text of the journal, if it is known, is read as a script of these events, and ticks are counted behind it.
 abbrev pub TellsEvents : JournalState → List Event → Type 0
-TellsEvents journal events = IfSome journal.text (λ text. IsScriptOf text events)
+TellsEvents journal events =
+    IfSome journal.text (λ text. IsScriptOf text events × (list_any is_mark (lines_of true text) ≡ true))
 
 -- A moment of a session that starts in the world `w`. At the start, the journal contained the events `told`. The
 -- entries `front` have happened, and the entries `rest` follow. The journal is in this state at the moment.

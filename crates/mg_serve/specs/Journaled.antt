@@ -1,6 +1,5 @@
 -- The lines that a session appends to its journal, and the times at which it does.
-use Rattle.std.specs.Prelude.{◌≡◌, ◌⊎◌, ℕ, ◌+◌, ◌<◌, min, Bool, true, false, List, [], ◌∷◌, replicate}
-use Rattle.std.specs.Prelude.{flat_map}
+use Rattle.std.specs.Prelude.{◌≡◌, ◌⊎◌, ℕ, ◌+◌, ◌^◌, ◌<◌, Bool, true, false, List, [], ◌∷◌}
 use Rattle.std.specs.Prelude.{Option, Some, None, Result, Ok, Err}
 use Rattle.std.specs.List.{list_any}
 use Rattle.mg_journal.specs.declared.append_fault.AppendFault.{AppendFault}
@@ -9,6 +8,7 @@ use Rattle.mg_journal.specs.declared.durability.Durability.TheVariants.{Written}
 use Rattle.mg_ports.specs.declared.call.Call.{Call}
 use Rattle.mg_ports.specs.declared.call.Call.TheVariants.{Append}
 use Rattle.mg_words.specs.declared.peer.Peer.{Peer}
+use Rattle.mg_core.specs.Counted.{ticks_line}
 use Rattle.mg_core.specs.declared.event.Event.TheVariants as events
 use Rattle.mg_core.specs.Recording.{IsDatagram, event_line}
 use Rattle.mg_serve.specs.Trace.{TraceEntry, Called, Happened, calls_of}
@@ -16,10 +16,6 @@ use Rattle.mg_serve.specs.Trace.{TraceEntry, Called, Happened, calls_of}
 abbrev pub is_append : Call → Bool
 is_append (Append lines durability result) = true
 is_append _ = false
-
--- The lines for this many ticks.
-abbrev pub tick_lines : ℕ → List ℕ
-tick_lines count = flat_map event_line (replicate count events.Tick)
 
 -- How far the journal lags behind the events. It lacks this many ticks, or it has everything and its last line
 -- announces a message that is handled next.
@@ -32,14 +28,13 @@ abbrev pub after_append : Result (Unit {0}) AppendFault → (appended before : P
 after_append (Ok done) appended before = appended
 after_append (Err fault) appended before = before
 
--- An append. If the journal lacks ticks, these are appended, at most 1,000 at once. Otherwise the line for a message
--- that can arrive is appended.
+-- An append. If the journal lacks ticks, the line with their number is appended. Otherwise the line for a message that
+-- can arrive is appended.
 abbrev pub AppendsLines : Durability → ℕ → List ℕ → Durability → Result (Unit {0}) AppendFault
     → Progress → Type 0
 AppendsLines durable lacking lines durability result next =
-    ((ticks left : ℕ) × (lacking ≡ left + ticks) × (lines ≡ tick_lines ticks)
-    × (durability ≡ Written) × (next ≡ after_append result (Lacks left) (Lacks lacking))
-    × (ticks ≡ min lacking 1000))
+    ((0 < lacking) × (lacking < 2 ^ 64) × (lines ≡ ticks_line lacking)
+    × (durability ≡ Written) × (next ≡ after_append result (Lacks 0) (Lacks lacking)))
     ⊎ ((source : Peer) × (bytes : List ℕ) × (lacking ≡ 0)
     × (lines ≡ event_line (events.Control source bytes)) × (durability ≡ durable)
     × (next ≡ after_append result (Announces source bytes) (Lacks 0)) × IsDatagram source bytes)

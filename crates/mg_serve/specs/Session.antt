@@ -8,6 +8,7 @@ use Rattle.mg_rooms.specs.Limits.{slot_port, slot_at}
 use Rattle.mg_engine.specs.Config.{limits_of}
 use Rattle.mg_core.specs.declared.event.Event.{Event}
 use Rattle.mg_core.specs.declared.event.Event.TheVariants as events
+use Rattle.mg_core.specs.Counted.{ticks_line}
 use Rattle.mg_core.specs.Recording.{IsDatagram, event_line}
 use Rattle.mg_core.specs.World.{World}
 use Rattle.mg_core.specs.Step.{Sent, Reply, Packet, Step}
@@ -18,7 +19,6 @@ use Rattle.mg_journal.specs.declared.durability.Durability.{Durability}
 use Rattle.mg_ports.specs.declared.receipt.Receipt.TheVariants.{Delivered, Nothing, Failed}
 use Rattle.mg_serve.specs.declared.command.Command.{Command}
 use Rattle.mg_serve.specs.declared.command.Command.TheVariants.{Poll, Tick, Stats, Quit, Unknown}
-use Rattle.mg_serve.specs.Journaled.{tick_lines}
 use Rattle.mg_serve.specs.Setup.{Setup, is_admitted}
 use Rattle.mg_serve.specs.Trace.{TraceEntry, Called, Happened, Printed, Noted, Stale}
 
@@ -65,10 +65,10 @@ abbrev pub IsAppended : TraceEntry → Type 0
 IsAppended (Called (Append lines durability (Ok done))) = Unit {0}
 IsAppended entry = ⊥
 
--- The lines that are appended before an event: those for ticks that have passed, or the event's own line.
+-- The line that is appended before an event: the one for ticks that have passed, or the event's own line.
 abbrev pub ArePreceding : Event → List ℕ → Type 0
 ArePreceding event lines =
-    ((ticks : ℕ) × (lines ≡ tick_lines ticks)) ⊎ (lines ≡ event_line event)
+    ((ticks : ℕ) × (lines ≡ ticks_line ticks)) ⊎ (lines ≡ event_line event)
 
 -- If an append fails, the control datagram is not an event, and this is noted.
 abbrev pub LacksJournal : Event → World → List TraceEntry → World → Type 0
@@ -135,7 +135,7 @@ MayAppend trace =
     ⊎ ((lines : List ℕ) × (durability : Durability) × (result : Result (Unit {0}) AppendFault)
     × (trace ≡ Called (Append lines durability result) ∷ []))
 
--- A tick begins, its event happens, and then lines for ticks may be appended to the journal.
+-- A tick begins, its event happens, and then a line for ticks may be appended to the journal.
 abbrev pub Ticks : Setup → Timing → World → List TraceEntry → World → Type 0
 Ticks setup timing w trace next =
     (happening : List TraceEntry) × (appends : List TraceEntry)

@@ -1,4 +1,5 @@
 ghost use Rattle.std.specs.Prelude.{◌≡◌, ◌^◌, ◌<◌, ◌≤◌, ◌+◌, ◌∷◌, [], IfOk, IsSome, OnOk};
+ghost use Rattle.mg_core.specs.Counted.{ticks_line};
 ghost use Rattle.std.specs.Option.{option_map};
 ghost use Rattle.mg_core.specs.declared.event.Event.TheVariants as events;
 ghost use Rattle.mg_core.specs.Recording.{IsDatagram};
@@ -7,23 +8,16 @@ ghost use Rattle.mg_journal.specs.Text.{EndsInLineFeed};
 ghost use Rattle.mg_ports.specs.declared.call.Call.TheVariants.{Append};
 ghost use Rattle.mg_ports.specs.Calls.{Logged};
 ghost use Rattle.mg_ports.specs.Journaled.{AppendsDated, ports_seen};
-ghost use Rattle.mg_serve.specs.Journaled.{tick_lines};
 ghost use Rattle.mg_serve.specs.Trace.{Happened};
-ghost use Rattle.mg_serve.specs.aids.Journaling.{AppendsBatch, AppendsBefore, EndsTick, with_tick};
+ghost use Rattle.mg_serve.specs.aids.Journaling.{AppendsBefore, AppendsTicks, EndsTick, with_tick};
 
 use crate::journal_report::JournalReport;
-use mg_core::{EventLine, Peer};
+use mg_core::{EventLine, Peer, ticks_line};
 use mg_fence::Fence;
 use mg_journal::{AppendFault, Durability};
 use mg_ports::Ports;
 use std::alloc::{AllocError, Global};
 use std::marker::Model;
-
-/// The maximum number of ticks in one append.
-const BATCH: usize = 1000;
-
-/// The lines for the maximum number of ticks in one append.
-const TICK_LINES: [[u8; 5]; BATCH] = [*b"tick\n"; BATCH];
 
 /// The number of ticks that the journal may lack before they are appended: 0.2 seconds' worth. `heard --never` reports
 /// a broken rule only after the journal has the tick after the message.
@@ -84,19 +78,16 @@ fn append<P: Ports>(
     result
 }
 
-/// Appends the lines for one or more ticks.
-fn append_lines<P: Ports>(ports: &mut P, ticks: usize, failed: &mut u64) -> Result<(), AppendFault>
-    requires some { 0 < ticks }
-    requires few { ticks ≤ BATCH }
+/// Appends the line for ticks.
+fn append_line<P: Ports>(ports: &mut P, ticks: u64, failed: &mut u64) -> Result<(), AppendFault>
     ensures logged { Logged (P.calls ports.old) (P.calls ports.new)
-        (Append (tick_lines ticks) Durability.Written result ∷ []) }
-    ensures journal { AppendsDated (tick_lines ticks) Durability.Written (P.journal ports.old) (P.journal ports.new)
+        (Append (ticks_line ticks) Durability.Written result ∷ []) }
+    ensures journal { AppendsDated (ticks_line ticks) Durability.Written (P.journal ports.old) (P.journal ports.new)
         result }
 {
-    let lines = TICK_LINES;
     append(
         ports,
-        lines[..ticks].as_flattened(),
+        ticks_line(ticks).as_slice(),
         Durability::Written,
         failed,
     )
@@ -159,38 +150,35 @@ impl Journaling {
         }
     }
 
-    /// Appends up to 1,000 of the ticks that the journal lacks, in one append.
+    /// Appends a line for the ticks that the journal lacks.
     fn append_ticks<P: Ports>(&mut self, ports: &mut P) -> Result<(), AppendFault>
         requires journal { IsSome self.old.durability }
         requires some { 0 < self.old.lacking }
         ensures few { self.new.lacking ≤ self.old.lacking }
-        ensures fewer { OnOk result (self.new.lacking < self.old.lacking) }
-        ensures value { AppendsBatch result (ports_seen (P.calls ports.old) (P.journal ports.old))
+        ensures none { OnOk result (self.new.lacking ≡ 0) }
+        ensures value { AppendsTicks result (ports_seen (P.calls ports.old) (P.journal ports.old))
             (ports_seen (P.calls ports.new) (P.journal ports.new)) self.old self.new }
     {
-        let ticks = self.lacking.min(BATCH as u64);
         self.untried = 0;
-        if let Err(fault) = append_lines(ports, ticks as usize, &mut self.failed) {
+        if let Err(fault) = append_line(ports, self.lacking, &mut self.failed) {
             return Err(fault);
         }
-        self.lacking -= ticks;
+        self.lacking = 0;
         Ok(())
     }
 
-    /// Appends all ticks that the journal lacks, and stops if an append fails.
-    fn append_all_ticks<P: Ports>(&mut self, ports: &mut P) -> Result<(), AppendFault>
+    /// Appends a line for the ticks that the journal lacks, if there are any.
+    fn append_lacking<P: Ports>(&mut self, ports: &mut P) -> Result<(), AppendFault>
         requires journal { IsSome self.old.durability }
         ensures few { self.new.lacking ≤ self.old.lacking }
         ensures none { OnOk result (self.new.lacking ≡ 0) }
         ensures value { AppendsBefore [] result (ports_seen (P.calls ports.old) (P.journal ports.old))
             (ports_seen (P.calls ports.new) (P.journal ports.new)) self.old self.new }
     {
-        while self.lacking > 0 {
-            if let Err(fault) = self.append_ticks(ports) {
-                return Err(fault);
-            }
+        if self.lacking == 0 {
+            return Ok(());
         }
-        Ok(())
+        self.append_ticks(ports)
     }
 
     /// Appends all ticks that the journal lacks, and then a message that is about to be handled. Fails if an append
@@ -210,7 +198,7 @@ impl Journaling {
         let Some(durability) = self.durability else {
             return Ok(());
         };
-        if let Err(fault) = self.append_all_ticks(ports) {
+        if let Err(fault) = self.append_lacking(ports) {
             return Err(fault);
         }
         self.line.control(source, bytes);

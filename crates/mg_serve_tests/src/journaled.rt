@@ -2,7 +2,8 @@
 
 use crate::cases::compared;
 use crate::equality::assert_equal;
-use crate::sessions::{ADD, CALLER, HEARTBEAT, Outcome, SESSION, Session, count, play, repeated};
+use crate::sessions::{ADD, CALLER, HEARTBEAT, Outcome, SESSION, Session, count, play};
+use mg_core::count_of;
 use mg_journal::FileCall;
 use mg_serve::{Durability, JournalReport};
 use std::alloc::{AllocError, Global};
@@ -27,8 +28,8 @@ struct Case<'a> {
     call_log: &'a [u8],
     /// The comments of the recording.
     comments: &'a [u8],
-    /// The start of the journal's text: its parts, and how often each is repeated.
-    start: &'a [(usize, &'a [u8])],
+    /// The start of the journal's text.
+    start: &'a [u8],
     /// The number of lines in the journal's text, and the number of them that are synced.
     lines: usize,
     synced: usize,
@@ -48,11 +49,11 @@ const CASES: &[Case<'static>] = &[
             lines: &[(1, b"poll\ntick\ntick\npoll\ntick\n")],
             ..RECORDED
         },
-        call_log: b"c0s1a0f0n1n2p1p1c0w2s1a0n0n1n2p1",
+        call_log: b"c0s1a0f0n1n2p1p1c0w1s1a0n0n1n2p1",
         comments: b"# a title\n# ready\n",
-        start: &[],
-        lines: 4,
-        synced: 4,
+        start: b"",
+        lines: 3,
+        synced: 3,
         rest: b"tick\n",
         report: JournalReport {
             lacking: 1,
@@ -70,7 +71,7 @@ const CASES: &[Case<'static>] = &[
         },
         call_log: b"c0w1a0n0n1n2",
         comments: b"# a title\n# ready\n",
-        start: &[(1, b"control 127.0.0.1:40000 4d4547")],
+        start: b"control 127.0.0.1:40000 4d4547",
         lines: 1,
         synced: 0,
         rest: b"",
@@ -95,11 +96,11 @@ const CASES: &[Case<'static>] = &[
             lines: &[(1, b"poll\ntick\npoll\ntick\ntick\npoll\nstats\n")],
             ..RECORDED
         },
-        call_log: b"c0s1a0f0n1n2p1c0w1r1f0n1n2p1p1c0w2s1a0n0n1n2",
+        call_log: b"c0s1a0f0n1n2p1c0w1r1f0n1n2p1p1c0w1s1a0n0n1n2",
         comments: b"# a title\n# ready\n# no journal for a control datagram\n# control=2 media=0 ticks=3 sent=5 failed=2 dropped=0,0,0,0,0,0 concealed=0\n",
-        start: &[],
-        lines: 5,
-        synced: 5,
+        start: b"",
+        lines: 4,
+        synced: 4,
         rest: b"",
         report: JournalReport {
             lacking: 2,
@@ -125,7 +126,7 @@ const CASES: &[Case<'static>] = &[
         },
         call_log: b"c0s1a0f0n1n2c0b1f0n1n2p1c0b1n0n1n2p1",
         comments: b"# a title\n# ready\n# no journal for a control datagram\n# no journal for a control datagram\n",
-        start: &[],
+        start: b"",
         lines: 2,
         synced: 1,
         rest: OTHERS,
@@ -142,10 +143,10 @@ const CASES: &[Case<'static>] = &[
             lines: &[(1, b"poll\n"), (11, b"tick\n")],
             ..RECORDED
         },
-        call_log: b"n0n1n2w0",
+        call_log: b"n0n1n2w1",
         comments: b"# a title\n# ready\n",
-        start: &[(10, b"tick\n")],
-        lines: 10,
+        start: b"ticks 10\n",
+        lines: 1,
         synced: 0,
         rest: b"tick\n",
         report: JournalReport {
@@ -162,10 +163,10 @@ const CASES: &[Case<'static>] = &[
             lines: &[(1, b"poll\n"), (13, b"tick\n")],
             ..RECORDED
         },
-        call_log: b"n0n1n2r0r1w2",
+        call_log: b"n0n1n2r1r1w1",
         comments: b"# a title\n# ready\n",
-        start: &[(12, b"tick\n")],
-        lines: 12,
+        start: b"ticks 12\n",
+        lines: 1,
         synced: 0,
         rest: b"tick\n",
         report: JournalReport {
@@ -175,8 +176,8 @@ const CASES: &[Case<'static>] = &[
         },
     },
     Case {
-        name: "many ticks are appended in batches",
-        // While appends fail, more ticks pass than fit in one append. The next message appends them in two batches.
+        name: "many ticks are appended in one line",
+        // While appends fail, ticks pass. The next message appends them.
         session: Session {
             journal: Some(Durability::Synced),
             waiting: &[(0, CALLER, HEARTBEAT)],
@@ -184,11 +185,11 @@ const CASES: &[Case<'static>] = &[
             lines: &[(1002, b"tick\n"), (1, b"poll\n")],
             ..RECORDED
         },
-        call_log: b"..r0r0r0c0w0w2s1a0n0n1n2",
+        call_log: b"..r1r1r1c0w1s1a0n0n1n2",
         comments: b"# a title\n# ready\n",
-        start: &[(1002, b"tick\n")],
-        lines: 1003,
-        synced: 1003,
+        start: b"ticks 1002\n",
+        lines: 2,
+        synced: 2,
         rest: b"",
         report: JournalReport {
             lacking: 1002,
@@ -206,7 +207,7 @@ const CASES: &[Case<'static>] = &[
         },
         call_log: b"c0a0n0n1n2p1",
         comments: b"# a title\n# ready\n",
-        start: &[],
+        start: b"",
         lines: 0,
         synced: 0,
         rest: b"tick\ntick\n..",
@@ -230,6 +231,22 @@ fn lines_of(alloc: Global, text: &[u8], comments: bool) -> Result<Vec<u8>, Alloc
     Ok(kept)
 }
 
+/// Returns the lines of a text, with a line `tick` for each tick that a line counts.
+fn uncounted(alloc: Global, text: &[u8]) -> Result<Vec<u8>, AllocError> {
+    let mut lines = Vec::new(alloc);
+    for line in text.split(|b| *b == b'\n') {
+        if let Some(digits) = line.strip_prefix(b"ticks ".as_slice()) {
+            for _ in 0..count_of(digits).unwrap_or(0) {
+                lines.extend_from_slice(b"tick\n")?;
+            }
+        } else if !line.is_empty() {
+            lines.extend_from_slice(line)?;
+            lines.push(b'\n')?;
+        }
+    }
+    Ok(lines)
+}
+
 /// Returns whether the events of a recording consist of those of the journal's text and then `rest`.
 fn go_on(events: &[u8], text: &[u8], rest: &[u8]) -> bool {
     match events.strip_prefix(text) {
@@ -248,11 +265,11 @@ fn compare(
     let text = outcome.text.as_slice();
     let comments = lines_of(alloc, outcome.printed.as_slice(), true)?;
     let events = lines_of(alloc, outcome.printed.as_slice(), false)?;
-    let start = repeated(alloc, case.start)?;
+    let told = uncounted(alloc, text)?;
     let are_as_wanted = [
         comments.as_slice() == case.comments,
-        text.starts_with(start.as_slice()),
-        go_on(events.as_slice(), text, case.rest),
+        text.starts_with(case.start),
+        go_on(events.as_slice(), told.as_slice(), case.rest),
     ];
     let (synced, _) = text.split_at(outcome.synced.min(text.len()));
     let counts = [

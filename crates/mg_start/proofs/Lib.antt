@@ -5,3 +5,4 @@ pub mod StartLemmas
 pub mod LogLemmas
 pub mod BeginLemmas
 pub mod ReaderLemmas
+pub mod StartText

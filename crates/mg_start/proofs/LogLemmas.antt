@@ -6,10 +6,8 @@ use Rattle.mg_journal.specs.declared.durability.Durability.{Durability}
 use Rattle.mg_host.specs.declared.host_call.HostCall.{HostCall}
 use Rattle.mg_host.specs.declared.host_call.HostCall.TheVariants.{Bind, NotReported, NotSent, OnPorts, OpenJournal, OpenText, Poll, ReadDate, Reported}
 use Rattle.mg_host.specs.HostCalls.{Grows}
-use Rattle.mg_serve.specs.Journaled.{tick_lines}
 use Rattle.mg_start.specs.Journal.{IsQuiet, RunsNoSession, Writes}
 use Rattle.mg_start.specs.aids.Starting.{HasWritten, Logs}
-use Rattle.mg_start.proofs.JournalLemmas.{ticks_both}
 
 pub grows_none : (a : Option (List HostCall)) → Grows a a []
 grows_none None = tt
@@ -109,15 +107,6 @@ written_quiet a b lines (p, grows, writes) = (p, grows, writes_quiet p lines wri
 pub written_then : (a b c : Option (List HostCall)) (lines : List ℕ) → HasWritten a b lines → RunsNoSession b c
     → RunsNoSession a c
 written_then a b c lines written rest = quiet_then a b c (written_quiet a b lines written) rest
-
--- One more batch of ticks extends the ticks that have been written.
-pub logs_ticks : (a b c : Option (List HostCall)) (all left batch : ℕ) → left ≤ all → batch ≤ left
-    → HasWritten a b (tick_lines (all - left)) → HasWritten b c (tick_lines batch)
-    → HasWritten a c (tick_lines (all - (left - batch)))
-logs_ticks a b c all left batch some few (p, grows, writes) (q, then, also) =
-    let count : (all - left) + batch ≡ all - (left - batch) = omega (arith, some, few) in
-    subst (λ (l : List ℕ). HasWritten a c l) (sym (ticks_both (all - left) batch) ∙ ap tick_lines count)
-    (p ++ q, grows_both a b c p q grows then, writes_both p q (tick_lines (all - left)) (tick_lines batch) writes also)
 
 -- If the second append fails, no session runs.
 pub fails_then : {A E : Type 0} (a b c : Option (List HostCall)) (lines more : List ℕ) (result : Result A E)

@@ -1,8 +1,10 @@
 -- A gateway that is new because its journal is empty.
-use Rattle.std.proofs.Common.{◌≡◌, ℕ, List, [], Option, Some, None, Result, Ok, Err, refl, IfOk, IfSome}
+use Rattle.std.proofs.Common.{◌≡◌, ℕ, false, true, List, [], Option, Some, None, Result, Ok, Err, refl, IfOk, IfSome}
 use Rattle.mg_core.specs.declared.state.CoreState.{CoreState}
 use Rattle.std.proofs.lemmas.List.Elements.{All-nil}
+use Rattle.mg_core.proofs.CountReadBack.{script_same}
 use Rattle.mg_core.proofs.RecordingLemmas.{recordings_are_read}
+use Rattle.mg_lines.specs.Lines.{lines_of}
 use Rattle.mg_core.specs.Recording.{IsRecorded}
 use Rattle.mg_core.specs.aids.Resume.{IsResumed}
 use Rattle.mg_core.specs.World.{start_of}
@@ -19,7 +21,7 @@ new_resumed config None state empty stands = (
     script = [];
     read = record { consumed = tt; at_end = λ ended. tt };
     events = [];
-    are = recordings_are_read [] (All-nil IsRecorded);
+    are = script_same false (lines_of true []) [] (recordings_are_read [] (All-nil IsRecorded));
     sent = [];
     world = start_of config;
     history = ((refl, refl), stands);
@@ -31,7 +33,7 @@ new_resumed config (Some text) state empty stands = (
     script = [];
     read = record { consumed = empty; at_end = λ ended. refl };
     events = [];
-    are = recordings_are_read [] (All-nil IsRecorded);
+    are = script_same false (lines_of true []) [] (recordings_are_read [] (All-nil IsRecorded));
     sent = [];
     world = start_of config;
     history = ((refl, refl), stands);

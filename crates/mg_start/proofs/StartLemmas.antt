@@ -1,5 +1,5 @@
 -- The steps of a start: finding the journal, choosing the configuration, and starting.
-use Rattle.std.proofs.Common.{◌≡◌, ◌≢◌, inl, inr, ℕ, zero, suc, ◌<◌, ◌==◌, true, length, take, drop, slice_index, arith, List, [], ◌∷◌, ◌++◌, codes, Option, Some, None, refl, sym, ap, subst, ◌∙◌, append_assoc, append-nil, IfSome, MatchOption, Bor}
+use Rattle.std.proofs.Common.{◌≡◌, ◌≢◌, inl, inr, ℕ, zero, suc, ◌<◌, ◌==◌, false, true, length, take, drop, slice_index, arith, List, [], ◌∷◌, ◌++◌, codes, Option, Some, None, refl, sym, ap, subst, ◌∙◌, append_assoc, append-nil, IfSome, MatchOption, Bor}
 use Rattle.std.specs.Prelude.{reverse, unwrap_or}
 use Rattle.std.specs.Option.{option_map}
 use Rattle.std.proofs.lemmas.Bool.{eqb-true}
@@ -16,12 +16,14 @@ use Rattle.mg_core.specs.Script.{events_of}
 use Rattle.mg_core.specs.World.{start_of, world_after_ticks}
 use Rattle.mg_core.specs.Recording.{IsRecorded}
 use Rattle.mg_core.specs.aids.Stands.{StandsFor}
+use Rattle.mg_core.proofs.CountReadBack.{script_same}
 use Rattle.mg_core.proofs.RecordingLemmas.{recordings_are_read}
 use Rattle.mg_core.specs.declared.event.Event.{Event}
 use Rattle.mg_dates.specs.declared.timeline.Timeline.{Timeline}
 use Rattle.mg_dates.specs.Times.{missed_since, timeline_of}
 use Rattle.mg_engine.specs.declared.config.Config.{Config}
 use Rattle.mg_lines.specs.Lines.{lines_after, lines_of}
+use Rattle.mg_core.specs.Counted.{expanded, journal_lines}
 use Rattle.mg_fence.specs.Reached.{Reaches}
 use Rattle.mg_journal.specs.Journal.{JournalState}
 use Rattle.mg_journal.specs.JournalFile.{FileState}
@@ -68,24 +70,24 @@ read_whole text script (Some left) read =
     read.consumed ∙ ap (λ (l : List ℕ). script ++ l) (read.at_end refl) ∙ append-nil script
 
 known_events : (text rest : Option (List ℕ)) (script : List ℕ) (events : List Event) → HasRead text rest script true
-    → events_of (lines_of true script) ≡ Some events
-    → IfSome text (λ lines. events_of (lines_of true lines) ≡ Some events)
+    → events_of (journal_lines true script) ≡ Some events
+    → IfSome text (λ lines. events_of (journal_lines true lines) ≡ Some events)
 known_events None rest script events read are = tt
 known_events (Some text) rest script events read are =
-    ap (λ (l : List ℕ). events_of (lines_of true l)) (read_whole text script rest read) ∙ are
+    ap (λ (l : List ℕ). events_of (journal_lines true l)) (read_whole text script rest read) ∙ are
 
 known_notes : (text rest : Option (List ℕ)) (script : List ℕ) (notes : List Note) (reached : ℕ)
-    → HasRead text rest script true → notes_of (lines_of true script) ≡ Some notes → Reaches 0 notes reached
+    → HasRead text rest script true → notes_of (journal_lines true script) ≡ Some notes → Reaches 0 notes reached
     → HasReached text reached
 known_notes None rest script notes reached read are reaches = tt
 known_notes (Some text) rest script notes reached read are reaches =
-    (notes, ap (λ (l : List ℕ). notes_of (lines_of true l)) (read_whole text script rest read) ∙ are, reaches)
+    (notes, ap (λ (l : List ℕ). notes_of (journal_lines true l)) (read_whole text script rest read) ∙ are, reaches)
 
 -- An empty journal has reached the number 0.
 reached_nothing : (text : Option (List ℕ)) → IfSome text (λ t. t ≡ []) → HasReached text 0
-unfolding lines_after notes_of
+unfolding lines_after expanded notes_of
 reached_nothing None empty = tt
-reached_nothing (Some text) empty = ([], ap (λ (l : List ℕ). notes_of (lines_of true l)) empty, refl)
+reached_nothing (Some text) empty = ([], ap (λ (l : List ℕ). notes_of (journal_lines true l)) empty, refl)
 
 -- If `reached` is 0, an empty journal has reached this number.
 pub reached_anew : (text : Option (List ℕ)) (reached : ℕ) → IfSome text (λ t. t ≡ []) → reached ≡ 0
@@ -93,9 +95,9 @@ pub reached_anew : (text : Option (List ℕ)) (reached : ℕ) → IfSome text (�
 reached_anew text reached empty is = subst (λ (n : ℕ). HasReached text n) (sym is) (reached_nothing text empty)
 
 both_known : (text : Option (List ℕ)) (events : List Event) (reached : ℕ)
-    → IfSome text (λ lines. events_of (lines_of true lines) ≡ Some events) → HasReached text reached
-    → IfSome text (λ lines. (events_of (lines_of true lines) ≡ Some events)
-    × ((notes : List Note) × (notes_of (lines_of true lines) ≡ Some notes) × Reaches 0 notes reached))
+    → IfSome text (λ lines. events_of (journal_lines true lines) ≡ Some events) → HasReached text reached
+    → IfSome text (λ lines. (events_of (journal_lines true lines) ≡ Some events)
+    × ((notes : List Note) × (notes_of (journal_lines true lines) ≡ Some notes) × Reaches 0 notes reached))
 both_known None events reached are reaches = tt
 both_known (Some text) events reached are reaches = (are, reaches)
 
@@ -113,8 +115,8 @@ resumes_from text rest config state reached r reaches = record {
 }
 
 -- Without a journal, there are no events.
-no_events : events_of (lines_of true []) ≡ Some []
-no_events = recordings_are_read [] (All-nil IsRecorded)
+no_events : events_of (journal_lines true []) ≡ Some []
+no_events = script_same false (lines_of true []) [] (recordings_are_read [] (All-nil IsRecorded))
 
 pub resumes_anew : (config : Config) (state : CoreState) (reached : ℕ) → StandsFor state (start_of config) → reached ≡ 0
     → CanResume (Some []) config state reached
@@ -140,12 +142,12 @@ writes (Some timeline) config missed fence (Some (byte ∷ text)) journal keeps 
 -- ## The ticks that were missed
 
 known_times : (text rest : Option (List ℕ)) (script : List ℕ) (notes : List Note) (timeline : Timeline)
-    → HasRead text rest script true → notes_of (lines_of true script) ≡ Some notes
+    → HasRead text rest script true → notes_of (journal_lines true script) ≡ Some notes
     → timeline ≡ timeline_of (reverse notes) → IfSome text (λ found. timeline ≡ timeline_after found)
 known_times None rest script notes timeline read are is = tt
 known_times (Some text) rest script notes timeline read are is =
     is ∙ sym (ap (λ (n : Option (List Note)). timeline_of (reverse (unwrap_or n [])))
-    (ap (λ (l : List ℕ). notes_of (lines_of true l)) (read_whole text script rest read) ∙ are))
+    (ap (λ (l : List ℕ). notes_of (journal_lines true l)) (read_whole text script rest read) ∙ are))
 
 -- After a journal was followed to its end, the timeline is that of its text.
 pub times_from : (config : Config) (text rest : Option (List ℕ)) (state : CoreState) (timeline : Timeline) (reached : ℕ)
@@ -172,7 +174,7 @@ new_times = refl
 
 -- Before a new journal begins, no ticks were missed.
 none_missed : (millis : Option ℕ) → 0 ≡ missed_after [] millis
-unfolding lines_after notes_of timeline_of
+unfolding lines_after expanded notes_of timeline_of
 none_missed None = refl
 none_missed (Some millis) = refl
 

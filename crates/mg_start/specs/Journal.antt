@@ -1,9 +1,13 @@
 -- The text that a gateway finds in its journal, and the lines that it appends before it starts.
-use Rattle.std.specs.Prelude.{◌≡◌, ◌==◌, ℕ, List, [], ◌∷◌, ◌++◌, codes, decimal}
-use Rattle.std.specs.Prelude.{Option, Some, None, Ok, true, reverse, unwrap_or}
+use Rattle.std.specs.Prelude.{◌≡◌, ◌==◌, ℕ, ◌^◌, ◌<◌, List, [], ◌∷◌, ◌++◌, codes, decimal, replicate}
+use Rattle.std.specs.Prelude.{Option, Some, None, Ok, IfSome, true, reverse, unwrap_or}
 use Rattle.std.specs.Prelude.{if◌then◌else◌}
+use Rattle.std.specs.List.{list_any}
 use Rattle.std.specs.Option.{option_map_or}
 use Rattle.mg_lines.specs.Lines.{lines_of}
+use Rattle.mg_core.specs.declared.event.Event.{Event}
+use Rattle.mg_core.specs.declared.event.Event.TheVariants.{Tick}
+use Rattle.mg_core.specs.Counted.{is_mark, journal_lines, ticks_line}
 use Rattle.mg_core.specs.Note.{notes_of}
 use Rattle.mg_dates.specs.declared.timeline.Timeline.{Timeline}
 use Rattle.mg_dates.specs.Times.{missed_since, timeline_of}
@@ -11,21 +15,22 @@ use Rattle.mg_ports.specs.declared.call.Call.TheVariants.{Append}
 use Rattle.mg_host.specs.declared.host_call.HostCall.{HostCall}
 use Rattle.mg_host.specs.declared.host_call.HostCall.TheVariants.{Bind, OnPorts, ReadDate}
 use Rattle.mg_host.specs.HostCalls.{Grows}
-use Rattle.mg_serve.specs.Journaled.{tick_lines}
+use Rattle.mg_serve.specs.JournalLaws.{IsScriptOf}
 
--- The comment about missed ticks, or nothing if no ticks were missed.
-abbrev pub missed_comment : ℕ → List ℕ
-missed_comment ticks =
-    if ticks == 0 then [] else codes "# missed " ++ (decimal ticks ++ codes " ticks\n")
+-- The lines for missed ticks: a comment that says how many, and the ticks. If no ticks were missed, there are no lines.
+abbrev pub missed_lines : ℕ → List ℕ
+missed_lines ticks =
+    if ticks == 0 then [] else codes "# missed " ++ (decimal ticks ++ (codes " ticks\n" ++ ticks_line ticks))
 
 -- The comment with which an operator sets the fence, or nothing if the operator doesn't set it.
 abbrev pub fence_comment : Option ℕ → List ℕ
 fence_comment fence = option_map_or (λ n. codes "# fence " ++ (decimal n ++ codes "\n")) fence []
 
--- The lines that are appended before a gateway starts: the missed ticks, after a comment that says how many, and then
--- the comment with which an operator sets the fence.
+-- The lines that are appended before a gateway starts: the one behind which ticks are counted, those for missed ticks,
+-- and the comment with which an operator sets the fence.
 abbrev pub start_lines : (missed : ℕ) → (fence : Option ℕ) → List ℕ
-start_lines missed fence = (missed_comment missed ++ tick_lines missed) ++ fence_comment fence
+start_lines missed fence =
+    codes "# counted ticks\n" ++ (missed_lines missed ++ fence_comment fence)
 
 -- The calls appended these lines to a journal, in this order, and did nothing else.
 abbrev pub Writes : List HostCall → (lines : List ℕ) → Type 0
@@ -36,7 +41,7 @@ Writes (call ∷ calls) lines = ⊥
 
 -- The timeline of a journal's ticks, according to the dates in its comments.
 abbrev pub timeline_after : (text : List ℕ) → Timeline
-timeline_after text = timeline_of (reverse (unwrap_or (notes_of (lines_of true text)) []))
+timeline_after text = timeline_of (reverse (unwrap_or (notes_of (journal_lines true text)) []))
 
 -- The number of ticks that were missed between the end of the text and this date, or 0 if the date isn't known.
 abbrev pub missed_after : (text : List ℕ) → (millis : Option ℕ) → ℕ
@@ -53,3 +58,12 @@ IsQuiet (call ∷ calls) = ⊥
 
 abbrev pub RunsNoSession : (old new : Option (List HostCall)) → Type 0
 RunsNoSession old new = (calls : List HostCall) × Grows old new calls × IsQuiet calls
+
+-- Behind a script, the lines that are appended before a gateway starts are read as the missed ticks, and ticks are
+-- counted behind them.
+abbrev pub StartsAreRead : Type 0
+StartsAreRead =
+    (text : List ℕ) (told : List Event) (missed : ℕ) (fence : Option ℕ)
+    → missed < 2 ^ 64 → IfSome fence (λ number. number < 2 ^ 64) → IsScriptOf text told
+    → let all = text ++ start_lines missed fence in
+    IsScriptOf all (told ++ replicate missed Tick) × (list_any is_mark (lines_of true all) ≡ true)

@@ -5,7 +5,7 @@ use Rattle.std.specs.Option.{option_map}
 use Rattle.std.specs.Io.{StartsWith}
 use Rattle.mg_engine.specs.declared.config.Config.{Config}
 use Rattle.mg_engine.specs.Config.{IsValidConfig}
-use Rattle.mg_lines.specs.Lines.{lines_of}
+use Rattle.mg_core.specs.Counted.{journal_lines}
 use Rattle.mg_core.specs.declared.event.Event.{Event}
 use Rattle.mg_core.specs.Note.{Note, notes_of}
 use Rattle.mg_core.specs.Script.{events_of}
@@ -63,8 +63,8 @@ IsChosen (Some (byte ∷ text)) given draws config chosen =
 abbrev pub ResumesIn : (text : Option (List ℕ)) → Config → World → (reached : ℕ) → Type 0
 ResumesIn text config w reached =
     (events : List Event) × (sent : List Sent) × Run (start_of config) events sent w
-    × IfSome text (λ lines. (events_of (lines_of true lines) ≡ Some events)
-    × ((notes : List Note) × (notes_of (lines_of true lines) ≡ Some notes) × Reaches 0 notes reached))
+    × IfSome text (λ lines. (events_of (journal_lines true lines) ≡ Some events)
+    × ((notes : List Note) × (notes_of (journal_lines true lines) ≡ Some notes) × Reaches 0 notes reached))
 
 -- The text of the journal when a gateway starts: a new journal begins with the title of the gateway's configuration.
 -- The missed ticks follow, and then the number to which an operator sets the fence.

@@ -2,19 +2,18 @@ ghost use Rattle.std.specs.Prelude.{◌≡◌, ◌<◌, ◌≤◌, ◌+◌, ◌+
 ghost use Rattle.mg_journal.specs.Journal.{Appends, appended};
 ghost use Rattle.mg_journal.specs.aids.Opened.{text_in};
 ghost use Rattle.mg_journal.specs.Text.{EndsInLineFeed};
-ghost use Rattle.mg_start.specs.Journal.{RunsNoSession, fence_comment, missed_comment, start_lines};
+ghost use Rattle.mg_start.specs.Journal.{RunsNoSession, fence_comment, missed_lines, start_lines};
 ghost use Rattle.mg_host.specs.declared.host_call.HostCall.{HostCall};
 ghost use Rattle.mg_host.specs.declared.host_call.HostCall.TheVariants.{ReadDate};
 ghost use Rattle.mg_host.specs.HostCalls.{Grows};
-ghost use Rattle.mg_start.specs.aids.Starting.{HasBegun, Logs, PassesTicks, missed_by, missed_lines, title_before};
+ghost use Rattle.mg_start.specs.aids.Starting.{HasBegun, Logs, PassesTicks, missed_by, title_before};
 ghost use Rattle.mg_arguments.specs.Title.{title_line};
-ghost use Rattle.mg_serve.specs.Journaled.{tick_lines};
 
 use crate::journal_fault::JournalFault;
 use arrayvec::ArrayVec;
 use itoa::Buffer;
 use mg_arguments::{TITLE_LIMIT, title_of};
-use mg_core::{Config, Core};
+use mg_core::{Config, Core, ticks_line};
 use mg_dates::{Date, DatedJournal, Timeline};
 use mg_host::{Dates, Tells};
 use mg_journal::{AppendFault, Durability, FileJournal, Journal, JournalFile, Opening};
@@ -27,12 +26,6 @@ const TITLE_ROOM: usize = TITLE_LIMIT + 3;
 
 /// The line of a title, with its line feed.
 type TitleLine = ArrayVec<u8, TITLE_ROOM>;
-
-/// The maximum number of ticks in one append.
-const BATCH: usize = 1000;
-
-/// The lines for the maximum number of ticks in one append.
-const TICK_LINES: [[u8; 5]; BATCH] = [*b"tick\n"; BATCH];
 
 /// A journal before anything is appended to it.
 #[derive(Drop)]
@@ -96,141 +89,62 @@ fn append_title<T: Tells, J: Journal>(
     )
 }
 
-/// Appends ticks in one append.
-fn append_batch<T: Tells, J: Journal>(
-    host: &mut T,
-    ticks: usize,
-    journal: &mut J,
-) -> Result<(), AppendFault>
-    requires some { 0 < ticks }
-    requires few { ticks ≤ BATCH }
-    ensures value { Appends (tick_lines ticks) Durability.Written (J.journal journal.old) (J.journal journal.new) result }
-    ensures logged { Logs (T.calls host.old) (T.calls host.new) (tick_lines ticks) result }
+/// The maximum length of the lines that are appended before a gateway starts, in bytes.
+const START_ROOM: usize = 98;
+
+/// The lines that are appended before a gateway starts.
+type StartLines = ArrayVec<u8, START_ROOM>;
+
+/// Appends bytes to the lines.
+fn extend(lines: &mut StartLines, text: &[u8])
+    requires room { length lines.old.items + length text.now ≤ START_ROOM }
+    ensures value { lines.new.items ≡ lines.old.items ++ text.now }
 {
-    let lines = TICK_LINES;
-    append(
-        host,
-        journal,
-        lines[..ticks].as_flattened(),
-        Durability::Written,
-    )
+    let _ = lines.try_extend_from_slice(text);
 }
 
-/// Appends ticks.
-fn append_ticks<T: Tells, J: Journal>(
-    host: &mut T,
-    ticks: u64,
-    journal: &mut J,
-) -> Result<(), AppendFault>
-    ensures value { OnOk result (J.journal journal.new ≡ appended (tick_lines ticks) Durability.Written
-        (J.journal journal.old)) }
-    ensures logged { Logs (T.calls host.old) (T.calls host.new) (tick_lines ticks) result }
+/// Appends the lines for missed ticks to the lines.
+fn extend_missed(missed: u64, lines: &mut StartLines)
+    requires room { length lines.old.items ≤ 16 }
+    ensures value { lines.new.items ≡ lines.old.items ++ missed_lines missed }
+    ensures short { length lines.new.items ≤ 79 }
 {
-    let mut left = ticks;
-    while left > 0 {
-        let batch = left.min(BATCH as u64);
-        if let Err(fault) = append_batch(host, batch as usize, journal) {
-            return Err(fault);
-        }
-        left -= batch;
+    if missed == 0 {
+        return;
     }
-    Ok(())
-}
-
-/// The maximum length of a comment about missed ticks, in bytes.
-const MISSED_ROOM: usize = 36;
-
-/// A comment about missed ticks, with its line feed.
-type MissedLine = ArrayVec<u8, MISSED_ROOM>;
-
-/// Returns the comment about missed ticks.
-fn missed_line(ticks: u64) -> MissedLine
-    requires some { 0 < ticks }
-    ensures value { result.items ≡ missed_comment ticks }
-{
     let mut buffer = Buffer::new();
-    let mut line = MissedLine::new();
-    let _ = line.try_extend_from_slice(b"# missed ");
-    let _ = line.try_extend_from_slice(buffer.format(ticks).as_bytes());
-    let _ = line.try_extend_from_slice(b" ticks\n");
-    line
+    extend(lines, b"# missed ");
+    extend(lines, buffer.format(missed).as_bytes());
+    extend(lines, b" ticks\n");
+    extend(lines, ticks_line(missed).as_slice());
 }
 
-/// Appends the comment about missed ticks.
-fn append_comment<T: Tells, J: Journal>(
-    host: &mut T,
-    ticks: u64,
-    journal: &mut J,
-) -> Result<(), AppendFault>
-    requires some { 0 < ticks }
-    ensures value { Appends (missed_comment ticks) Durability.Written (J.journal journal.old) (J.journal journal.new)
-        result }
-    ensures logged { Logs (T.calls host.old) (T.calls host.new) (missed_comment ticks) result }
+/// Appends the comment that sets the fence, if an operator sets it, to the lines.
+fn extend_fence(fence: Option<u32>, lines: &mut StartLines)
+    requires room { length lines.old.items ≤ 79 }
+    ensures value { lines.new.items ≡ lines.old.items ++ fence_comment fence }
 {
-    append(
-        host,
-        journal,
-        missed_line(ticks).as_slice(),
-        Durability::Written,
-    )
-}
-
-/// Appends missed ticks, after a comment that says how many.
-fn append_missed<T: Tells, J: Journal>(
-    host: &mut T,
-    ticks: u64,
-    journal: &mut J,
-) -> Result<(), AppendFault>
-    ensures value { OnOk result (J.journal journal.new ≡ appended (missed_lines ticks) Durability.Written
-        (J.journal journal.old)) }
-    ensures logged { Logs (T.calls host.old) (T.calls host.new) (missed_lines ticks) result }
-{
-    if ticks == 0 {
-        return Ok(());
-    }
-    if let Err(fault) = append_comment(host, ticks, journal) {
-        return Err(fault);
-    }
-    append_ticks(host, ticks, journal)
-}
-
-/// The maximum length of a comment that sets the fence, in bytes.
-const FENCE_ROOM: usize = 19;
-
-/// A comment that sets the fence, with its line feed.
-type FenceLine = ArrayVec<u8, FENCE_ROOM>;
-
-/// Returns the comment that sets the fence to a number.
-fn fence_line(number: u32) -> FenceLine
-    ensures value { result.items ≡ fence_comment (Some number) }
-{
+    let Some(number) = fence else {
+        return;
+    };
     let mut buffer = Buffer::new();
-    let mut line = FenceLine::new();
-    let _ = line.try_extend_from_slice(b"# fence ");
-    let _ = line.try_extend_from_slice(buffer.format(number).as_bytes());
-    let _ = line.try_extend_from_slice(b"\n");
-    line
+    extend(lines, b"# fence ");
+    extend(lines, buffer.format(number).as_bytes());
+    extend(lines, b"\n");
 }
 
-/// Appends the comment that sets the fence to a number.
-fn append_fence<T: Tells, J: Journal>(
-    host: &mut T,
-    number: u32,
-    journal: &mut J,
-) -> Result<(), AppendFault>
-    ensures value { Appends (fence_comment (Some number)) Durability.Written (J.journal journal.old)
-        (J.journal journal.new) result }
-    ensures logged { Logs (T.calls host.old) (T.calls host.new) (fence_comment (Some number)) result }
+/// Returns the lines that are appended before a gateway starts.
+fn start_lines(missed: u64, fence: Option<u32>) -> StartLines
+    ensures value { result.items ≡ start_lines missed fence }
 {
-    append(
-        host,
-        journal,
-        fence_line(number).as_slice(),
-        Durability::Written,
-    )
+    let mut lines = StartLines::new();
+    extend(&mut lines, b"# counted ticks\n");
+    extend_missed(missed, &mut lines);
+    extend_fence(fence, &mut lines);
+    lines
 }
 
-/// Appends missed ticks, and then the number to which an operator sets the fence.
+/// Appends the lines with which a gateway starts.
 fn append_start<T: Tells, J: Journal>(
     host: &mut T,
     missed: u64,
@@ -241,16 +155,15 @@ fn append_start<T: Tells, J: Journal>(
         (J.journal journal.old)) }
     ensures logged { Logs (T.calls host.old) (T.calls host.new) (start_lines missed fence) result }
 {
-    if let Err(fault) = append_missed(host, missed, journal) {
-        return Err(fault);
-    }
-    match fence {
-        Some(number) => append_fence(host, number, journal),
-        None => Ok(()),
-    }
+    append(
+        host,
+        journal,
+        start_lines(missed, fence).as_slice(),
+        Durability::Written,
+    )
 }
 
-/// Appends the title, if the journal is new, then missed ticks, and the number to which an operator sets the fence.
+/// Appends the title, if the journal is new, and then the lines with which a gateway starts.
 fn append_first<T: Tells, J: Journal>(
     host: &mut T,
     is_new: bool,
@@ -309,8 +222,9 @@ impl<F: JournalFile> FoundJournal<F> {
         }
     }
 
-    /// Starts appending to the journal. Skips the ticks that the gateway missed, and appends them to the journal, after
-    /// a comment that says how many. Then appends the number to which an operator sets the fence, if it is given.
+    /// Starts appending to the journal. Skips the ticks that the gateway missed, and appends the lines with which it
+    /// starts: the one behind which ticks are counted, those for missed ticks, and the number to which an operator sets
+    /// the fence, if it is given.
     pub fn begin<'a, T: Dates, C: Clock>(
         self,
         host: &mut T,

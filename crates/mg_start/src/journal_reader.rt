@@ -35,9 +35,9 @@ impl Follower for JournalReader {
     ghost follows = { λ start r config notes.
         (r.timeline ≡ timeline_of (reverse notes)) × Reaches 0 notes r.fence.reached };
 
-    fn comment(&mut self, line: &[u8]) -> Result<(), Stopped> {
-        self.timeline.comment(line)?;
-        self.fence.comment(line)
+    fn comment(&mut self, number: u64, line: &[u8]) -> Result<(), Stopped> {
+        self.timeline.comment(number, line)?;
+        self.fence.comment(number, line)
     }
 
     fn datagram(&mut self, event: &Event, core: &Core) -> Result<(), Stopped> {

@@ -25,6 +25,7 @@ mod journal_fault;
 mod journal_reader;
 mod prepared;
 mod reading;
+pub mod theorems;
 
 pub use crate::beginning::begin_journal;
 pub use crate::found_journal::FoundJournal;

@@ -52,19 +52,19 @@ fn dates_messages_and_old_ticks(rt: HostRuntime) -> Result<(), Fail> {
     let mut dated = DatedJournal::new(rt.alloc(), journal(rt.alloc(), &[])?, &clock)?;
     for (millis, lines) in [
         // The first lines get a seal, and the date of their first tick.
-        (0, b"tick\ntick\n".as_slice()),
+        (0, b"ticks 2\n".as_slice()),
         // In another second, the first message gets a date and the next message does not.
         (1_250, MESSAGE),
         (1_900, MESSAGE),
         // Ticks get a date only after a minute, and the date gets a seal.
-        (61_240, b"tick\n"),
-        (61_250, b"tick\n"),
+        (61_240, b"ticks 1\n"),
+        (61_250, b"ticks 1\n"),
     ] {
         clock.millis.set(after(millis).millis);
         assert_equal(&rt, dated.append(lines, Durability::Written), Ok(()));
     }
     let text =
-        "# sha256 e3b0c44298fc1c149afbf4c8996fb92427ae41e4649b934ca495991b7852b855\n# time 2026-11-27T14:03:19.96Z\ntick\ntick\n# time 2026-11-27T14:03:21.25Z\ncontrol 127.0.0.1:2944 00\ncontrol 127.0.0.1:2944 00\ntick\n# sha256 228e2500e6dca725e81ae26ec5e76f62b6c2cdb618c69b62df096bdc8a38fd4e\n# time 2026-11-27T14:04:21.23Z\ntick\n";
+        "# sha256 e3b0c44298fc1c149afbf4c8996fb92427ae41e4649b934ca495991b7852b855\n# time 2026-11-27T14:03:19.96Z\nticks 2\n# time 2026-11-27T14:03:21.25Z\ncontrol 127.0.0.1:2944 00\ncontrol 127.0.0.1:2944 00\nticks 1\n# sha256 2f4f7dc433989ecb1096471e23a1d1beeffe31d953111d0d4c6238941f42ff54\n# time 2026-11-27T14:04:21.23Z\nticks 1\n";
     assert_equal(&rt, dated.journal().file().bytes(), text.as_bytes());
     Ok(())
 }

@@ -3,7 +3,7 @@
 ghost use Rattle.std.specs.Prelude.{◌≤◌, length};
 
 use crate::equality::assert_equal;
-use mg_core::{EventLine, Peer};
+use mg_core::{EventLine, Peer, count_of, ticks_line};
 use std::alloc::Global;
 use std::test::Fail;
 
@@ -99,5 +99,29 @@ fn writes_the_longest(rt: HostRuntime) -> Result<(), Fail> {
     let line = media(alloc, 65535, LAST, bytes.as_slice())?;
     let wanted = line_of(alloc, b"rtp 65535 255.255.255.255:65535 ", 65535)?;
     assert!(rt; line.as_slice() == wanted.as_slice());
+    Ok(())
+}
+
+#[test]
+fn writes_and_reads_counts_of_ticks(rt: HostRuntime) -> Result<(), Fail> {
+    for (count, line) in [
+        (1, b"ticks 1\n".as_slice()),
+        (10, b"ticks 10\n"),
+        (u64::MAX, b"ticks 18446744073709551615\n"),
+    ] {
+        assert_equal(&rt, ticks_line(count).as_slice(), line);
+    }
+    for (digits, count) in [
+        (b"1".as_slice(), Some(1)),
+        (b"007", Some(7)),
+        (b"18446744073709551615", Some(u64::MAX)),
+        (b"18446744073709551616", None),
+        (b"000000000000000000001", None),
+        (b"", None),
+        (b"1x", None),
+        (b" 1", None),
+    ] {
+        assert_equal(&rt, count_of(digits), count);
+    }
     Ok(())
 }

@@ -1,7 +1,7 @@
 -- Following a script until its end, or until the follower is done.
 use Rattle.std.specs.Prelude.{◌≡◌, ◌⊎◌, ℕ, ◌≤◌, Bool, true, false, List, [], ◌++◌, length, Option, Some}
 use Rattle.mg_engine.specs.declared.config.Config.{Config}
-use Rattle.mg_lines.specs.Lines.{lines_of}
+use Rattle.mg_core.specs.Counted.{journal_lines}
 use Rattle.mg_core.specs.declared.state.CoreState.{CoreState}
 use Rattle.mg_core.specs.Note.{Note, notes_of}
 use Rattle.mg_core.specs.Run.{HasRead}
@@ -12,7 +12,7 @@ pub record GoesOn {F : Type 0} (done : F → Bool) (Follows : F → List Note �
     : Type 0 where
   pub follower : F
   pub notes : List Note
-  pub are : notes_of (lines_of false text) ≡ Some notes
+  pub are : notes_of (journal_lines false text) ≡ Some notes
   pub follows : Follows follower notes
   pub undone : done follower ≡ false
 
@@ -29,6 +29,6 @@ pub record IsFollowedUntil {F : Type 0} (config : Config) (input rest : Option (
   pub read : HasRead input rest (front ++ piece) ended
   pub until : done last ≡ false → ended ≡ true
   pub notes : List Note
-  pub are : notes_of (lines_of ended (front ++ piece)) ≡ Some notes
+  pub are : notes_of (journal_lines ended (front ++ piece)) ≡ Some notes
   pub run : HasRun config notes state
   pub follows : Follows last notes

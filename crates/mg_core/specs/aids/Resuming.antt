@@ -1,7 +1,7 @@
 -- The steps of a resumption: one event, one line, and the bytes of one read.
-use Rattle.std.specs.Prelude.{◌≡◌, ℕ, ◌+◌, Bool, true, List, [], ◌∷◌, ◌++◌, length}
-use Rattle.std.specs.Prelude.{Option, Some, None, Result, Ok, Err, codes, replicate}
-use Rattle.std.specs.List.{concat}
+use Rattle.std.specs.Prelude.{◌≡◌, ℕ, ◌+◌, Bool, true, false, List, [], ◌∷◌, ◌++◌, length}
+use Rattle.std.specs.Prelude.{Option, Some, None, Result, Ok, Err, codes, replicate, if◌then◌else◌}
+use Rattle.std.specs.List.{concat, list_any}
 use Rattle.mg_engine.specs.declared.config.Config.{Config}
 use Rattle.mg_lines.specs.Lines.{lines_after, without_return}
 use Rattle.mg_core.specs.declared.event.Event.{Event}
@@ -10,10 +10,10 @@ use Rattle.mg_core.specs.declared.fault.LineFault.TheVariants as stops
 use Rattle.mg_core.specs.declared.fault.ScriptFault.{ScriptFault}
 use Rattle.mg_core.specs.declared.fault.ScriptFault.TheVariants as scripts
 use Rattle.mg_core.specs.declared.state.CoreState.{CoreState}
+use Rattle.mg_core.specs.Counted.{expanded, is_mark, ticks_in}
 use Rattle.mg_core.specs.Follow.{HasRun, IsFollowed, ticks_of}
 use Rattle.mg_core.specs.Note.{Note, Happened, notes_of}
-use Rattle.mg_core.specs.aids.Resume.{FindsBadLine}
-use Rattle.mg_core.specs.Run.{HasBadAfter}
+use Rattle.mg_core.specs.aids.Resume.{FindsBadLine, IsBadAfter}
 use Rattle.mg_core.specs.Script.{event_of}
 
 -- A follower has followed these notes, if it was ready to follow a gateway when it started.
@@ -31,9 +31,30 @@ pub record KeepsUp (config : Config) (state : CoreState) (ticks : ℕ) (Follows 
   pub run : HasRun config past state
   pub follows : Follows past
 
--- Whatever notes a gateway and a follower had before, they have these notes in addition.
-abbrev pub Adds : (Old New : List Note → Type 0) → List Note → Type 0
-Adds Old New more = (notes : List Note) → Old notes → New (notes ++ more)
+-- These lines were read: a gateway has run their notes, and a follower has followed them, except for the ticks at their
+-- end. `counts` says whether ticks are counted behind the lines.
+pub record KeepsLines (config : Config) (state : CoreState) (counts : Bool) (ticks : ℕ)
+    (Follows : List Note → Type 0) (lines : List (List ℕ)) : Type 0 where
+  pub notes : List Note
+  pub are : notes_of (expanded false lines) ≡ Some notes
+  pub counted : counts ≡ list_any is_mark lines
+  pub keeps : KeepsUp config state ticks Follows notes
+
+-- The notes of these lines are known, so none of them is bad.
+abbrev pub AreGood : List (List ℕ) → Type 0
+AreGood lines = (notes : List Note) × (notes_of (expanded false lines) ≡ Some notes)
+
+-- Whatever notes or lines came before, these come in addition.
+abbrev pub Adds : {A : Type 0} → (Old New : List A → Type 0) → List A → Type 0
+Adds {A = A} Old New more = (before : List A) → Old before → New (before ++ more)
+
+-- The line is bad, whatever lines came before it.
+abbrev pub IsBadLine : (Old : List (List ℕ) → Type 0) → List ℕ → Type 0
+IsBadLine Old line = (before : List (List ℕ)) → Old before → IsBadAfter before line
+
+-- The number of ticks in a line, if ticks are counted.
+abbrev pub counted_in : Bool → List ℕ → Option ℕ
+counted_in counts line = if counts then ticks_in line else None
 
 -- Lines were run.
 pub record LinesResumed (Old New : List Note → Type 0) (lines : List (List ℕ)) : Type 0 where
@@ -56,59 +77,84 @@ abbrev pub EventResumed : Bool → Event → (Old New : List Note → Type 0)
 EventResumed may_stop event Old New result =
     Resumes may_stop (Adds Old New (Happened event ∷ [])) (λ bad. ⊥) result
 
--- The line with this number was run, or is bad.
+-- The line with this number, which doesn't count ticks, was run, or is bad.
 abbrev pub LineResumed : Bool → ℕ → List ℕ → (Old New : List Note → Type 0)
     → Result (Unit {0}) LineFault → Type 0
 LineResumed may_stop number line Old New result =
     Resumes may_stop (LinesResumed Old New (line ∷ []))
     (λ bad. (bad ≡ number) × (event_of line ≡ None)) result
 
--- The first of these lines, which comes after `count` other lines, is bad.
-abbrev pub StartsBad : ℕ → List (List ℕ) → ℕ → Type 0
-StartsBad count lines number = HasBadAfter [] lines × (number ≡ count + 1)
+-- The line with this number was read, or is bad.
+abbrev pub LineRead : Bool → ℕ → List ℕ → (Old New : List (List ℕ) → Type 0)
+    → Result (Unit {0}) LineFault → Type 0
+LineRead may_stop number line Old New result =
+    Resumes may_stop (Adds Old New (line ∷ []))
+    (λ bad. (bad ≡ number) × IsBadLine Old line) result
 
--- The line with this text, which a line feed ends, was run, or is the first bad line.
-abbrev pub EndedResumed : Bool → ℕ → List ℕ → (Old New : List Note → Type 0)
+-- The first of these lines, which comes after `count` other lines, is bad.
+pub record StartsBad (Old : List (List ℕ) → Type 0) (count : ℕ) (lines : List (List ℕ)) (number : ℕ)
+    : Type 0 where
+  pub bad : List ℕ
+  pub others : List (List ℕ)
+  pub parts : lines ≡ bad ∷ others
+  pub is_bad : IsBadLine Old bad
+  pub number_is : number ≡ count + 1
+
+-- The line with this text, which a line feed ends, was read, or is the first bad line.
+abbrev pub EndedResumed : Bool → ℕ → List ℕ → (Old New : List (List ℕ) → Type 0)
     → Result (Unit {0}) LineFault → Type 0
 EndedResumed may_stop count text Old New result =
-    Resumes may_stop (LinesResumed Old New (without_return text ∷ []))
-    (λ bad. (more : List ℕ) → StartsBad count (lines_after true text (10 ∷ more)) bad) result
+    Resumes may_stop (Adds Old New (without_return text ∷ []))
+    (λ bad. (more : List ℕ) → StartsBad Old count (lines_after true text (10 ∷ more)) bad) result
 
 -- The text consists of this many `tick` lines and the rest.
 abbrev pub IsAfterTicks : ℕ → (text rest : List ℕ) → Type 0
 IsAfterTicks count text rest = text ≡ concat (replicate count (codes "tick\n")) ++ rest
 
--- Lines were run. They consist of a partial line and all bytes except the rest, and the next line starts with the bytes
--- in `left`.
+-- The `tick` lines at the start of a text were counted.
+pub record TicksTaken (count counted : ℕ) (text rest : List ℕ) (Old New : List (List ℕ) → Type 0) : Type 0 where
+  pub ticks : ℕ
+  pub number : counted ≡ count + ticks
+  pub parts : IsAfterTicks ticks text rest
+  pub adds : Adds Old New (replicate ticks (codes "tick"))
+
+-- Lines were read. They consist of a partial line and all bytes except the rest, and the next line starts with the
+-- bytes in `left`.
 pub record BytesRun (count counted : ℕ) (partial bytes left rest : List ℕ)
-    (Old New : List Note → Type 0) : Type 0 where
+    (Old New : List (List ℕ) → Type 0) : Type 0 where
   pub lines : List (List ℕ)
   pub split : (ended : Bool) (more : List ℕ)
       → lines_after ended partial (bytes ++ more) ≡ lines ++ lines_after ended left (rest ++ more)
   pub number : counted ≡ count + length lines
-  pub resumed : LinesResumed Old New lines
+  pub adds : Adds Old New lines
+
+-- The line that follows these lines of a partial line and bytes is bad.
+pub record HasBadThere (Old : List (List ℕ) → Type 0) (lines all : List (List ℕ)) : Type 0 where
+  pub bad : List ℕ
+  pub others : List (List ℕ)
+  pub parts : all ≡ lines ++ bad ∷ others
+  pub is_bad : (before : List (List ℕ)) → Old before → IsBadAfter (before ++ lines) bad
 
 -- The line with this number is the first bad line of a partial line and these bytes, whatever follows.
-pub record BytesBad (count : ℕ) (partial bytes : List ℕ) (number : ℕ) : Type 0 where
+pub record BytesBad (Old : List (List ℕ) → Type 0) (count : ℕ) (partial bytes : List ℕ) (number : ℕ) : Type 0 where
   pub lines : List (List ℕ)
-  pub bad : (more : List ℕ) → HasBadAfter lines (lines_after true partial (bytes ++ more))
+  pub bad : (more : List ℕ) → HasBadThere Old lines (lines_after true partial (bytes ++ more))
   pub number_is : number ≡ count + length lines + 1
-  pub notes : List Note
-  pub are : notes_of lines ≡ Some notes
+  pub good : (before : List (List ℕ)) → Old before → AreGood (before ++ lines)
 
--- The complete lines in these bytes were run, or one of them is the first bad line.
+-- The complete lines in these bytes were read, or one of them is the first bad line.
 abbrev pub BytesResumed : Bool → ℕ → ℕ → (partial bytes left : List ℕ)
-    → (Old New : List Note → Type 0) → Result (Unit {0}) LineFault → Type 0
+    → (Old New : List (List ℕ) → Type 0) → Result (Unit {0}) LineFault → Type 0
 BytesResumed may_stop count counted partial bytes left Old New result =
     Resumes may_stop (BytesRun count counted partial bytes left [] Old New)
-    (BytesBad count partial bytes) result
+    (BytesBad Old count partial bytes) result
 
--- The partial line, if there is one, was run as the last line, or is bad.
-abbrev pub LastResumed : Bool → ℕ → List ℕ → (Old New : List Note → Type 0)
+-- The partial line, if there is one, was read as the last line, or is bad.
+abbrev pub LastResumed : Bool → ℕ → List ℕ → (Old New : List (List ℕ) → Type 0)
     → Result (Unit {0}) LineFault → Type 0
 LastResumed may_stop count partial Old New result =
-    Resumes may_stop (LinesResumed Old New (lines_after true partial []))
-    (StartsBad count (lines_after true partial [])) result
+    Resumes may_stop (Adds Old New (lines_after true partial []))
+    (StartsBad Old count (lines_after true partial [])) result
 
 -- The whole script was run, or the first bad line was found. Otherwise reading failed, memory ran out, or a follower
 -- that may stop has stopped.

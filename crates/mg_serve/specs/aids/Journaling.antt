@@ -3,12 +3,13 @@ use Rattle.std.specs.Prelude.{◌≡◌, ◌⊎◌, ℕ, ◌+◌, ◌<◌, All, 
 use Rattle.mg_journal.specs.declared.append_fault.AppendFault.{AppendFault}
 use Rattle.mg_journal.specs.declared.durability.Durability.{Durability}
 use Rattle.mg_journal.specs.declared.durability.Durability.TheVariants.{Written}
+use Rattle.mg_core.specs.Counted.{ticks_line}
 use Rattle.mg_core.specs.Recording.{event_line}
 use Rattle.mg_ports.specs.declared.call.Call.{Call}
 use Rattle.mg_ports.specs.declared.call.Call.TheVariants.{Append}
 use Rattle.mg_ports.specs.Calls.{Logged}
 use Rattle.mg_ports.specs.Journaled.{PortsSeen, JournalAfter}
-use Rattle.mg_serve.specs.Journaled.{IsJournaled, tick_lines}
+use Rattle.mg_serve.specs.Journaled.{IsJournaled}
 use Rattle.mg_serve.specs.aids.Tried.{IsTried}
 use Rattle.mg_serve.specs.Session.{IsAppended, MayAppend}
 use Rattle.mg_serve.specs.Trace.{TraceEntry, Called, Happened, calls_of}
@@ -30,17 +31,16 @@ pub record LogsCalls (old new : PortsSeen) (calls : List Call) : Type 0 where
   pub logged : Logged old.calls new.calls calls
   pub journaled : JournalAfter calls old.journal new.journal
 
--- One append of ticks that the journal lacked.
-pub record AppendsBatch (result : Result (Unit {0}) AppendFault) (before after : PortsSeen)
+-- One append of the ticks that the journal lacked.
+pub record AppendsTicks (result : Result (Unit {0}) AppendFault) (before after : PortsSeen)
     (old new : JournalView) : Type 0 where
-  pub ticks : ℕ
-  pub logs : LogsCalls before after (Append (tick_lines ticks) Written result ∷ [])
+  pub logs : LogsCalls before after (Append (ticks_line old.lacking) Written result ∷ [])
   pub durability : new.durability ≡ old.durability
   pub fence : new.fence ≡ old.fence
   pub lacks : IsJournaled old.durability old.lacking
-      (Called (Append (tick_lines ticks) Written result) ∷ []) new.lacking
+      (Called (Append (ticks_line old.lacking) Written result) ∷ []) new.lacking
   pub tries : IsTried old.durability old.untried
-      (Called (Append (tick_lines ticks) Written result) ∷ []) new.untried
+      (Called (Append (ticks_line old.lacking) Written result) ∷ []) new.untried
 
 -- These lines are the line of the event that follows.
 abbrev pub IsLineOf : (followed : List TraceEntry) → List ℕ → Type 0
@@ -54,7 +54,7 @@ AreAppends followed (Ok done) trace = All IsAppended trace
 AreAppends followed (Err fault) trace =
     (appended : List TraceEntry) × (lines : List ℕ) × (durability : Durability)
     × (trace ≡ appended ++ Called (Append lines durability (Err fault)) ∷ []) × All IsAppended appended
-    × (((ticks : ℕ) × (lines ≡ tick_lines ticks)) ⊎ IsLineOf followed lines)
+    × (((ticks : ℕ) × (lines ≡ ticks_line ticks)) ⊎ IsLineOf followed lines)
 
 abbrev pub if_ok : Result (Unit {0}) AppendFault → List TraceEntry → List TraceEntry
 if_ok (Ok done) trace = trace

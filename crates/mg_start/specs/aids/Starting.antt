@@ -12,11 +12,10 @@ use Rattle.mg_core.specs.World.{World, world_after_ticks}
 use Rattle.mg_core.specs.aids.Stands.{StandsFor}
 use Rattle.mg_fence.specs.Reached.{Reaches}
 use Rattle.mg_journal.specs.Journal.{JournalState}
-use Rattle.mg_lines.specs.Lines.{lines_of}
-use Rattle.mg_serve.specs.Journaled.{tick_lines}
+use Rattle.mg_core.specs.Counted.{journal_lines}
 use Rattle.mg_host.specs.declared.host_call.HostCall.{HostCall}
 use Rattle.mg_arguments.specs.Title.{title_line}
-use Rattle.mg_start.specs.Journal.{RunsNoSession, Writes, missed_comment, start_lines, timeline_after}
+use Rattle.mg_start.specs.Journal.{RunsNoSession, Writes, start_lines, timeline_after}
 use Rattle.mg_start.specs.Start.{HasStarted, ResumesIn}
 
 -- A journal has a timeline if and only if it has lines, and the timeline is that of its dates. If the text is not
@@ -58,10 +57,6 @@ abbrev pub PassesTicks : ℕ → CoreState → CoreState → Type 0
 PassesTicks ticks old new =
     (w : World) → StandsFor old w → StandsFor new (world_after_ticks ticks w)
 
--- The missed ticks, after a comment that says how many.
-abbrev pub missed_lines : ℕ → List ℕ
-missed_lines ticks = missed_comment ticks ++ tick_lines ticks
-
 -- The journal works. If its text is known, it consists of the text that was found, the title, the lines for missed
 -- ticks, and the comment with which an operator sets the fence.
 pub record HasBegun (title : List ℕ) (ticks : ℕ) (fence : Option ℕ) (found : Option (List ℕ))
@@ -80,7 +75,7 @@ pub record CanResume (text : Option (List ℕ)) (config : Config) (state : CoreS
 -- The text of a journal has reached this number.
 abbrev pub HasReached : (text : Option (List ℕ)) → (reached : ℕ) → Type 0
 HasReached text reached = IfSome text (λ lines.
-    (notes : List Note) × (notes_of (lines_of true lines) ≡ Some notes) × Reaches 0 notes reached)
+    (notes : List Note) × (notes_of (journal_lines true lines) ≡ Some notes) × Reaches 0 notes reached)
 
 -- A core represents the world in which a gateway starts, and `reached` is the number that the journal has reached.
 pub record CanStart (journal text : Option (List ℕ)) (fence : Option ℕ) (config : Config)

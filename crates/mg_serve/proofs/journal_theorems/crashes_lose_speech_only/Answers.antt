@@ -3,7 +3,7 @@ use Rattle.mg_serve.proofs.journal_theorems.crashes_lose_speech_only.Goals as go
 
 pub returns : goal.returns
 returns c = record {
-  crash = crashes_lose_speech c.recordings_are_read.ensures.theorem c.recordings_are_read.ensures.cut c.sessions_are_runs.ensures
+  crash = crashes_lose_speech c.recordings_are_read.ensures.theorem c.sessions_are_runs.ensures
       c.outcomes_are_unique.ensures.events c.rtp_changes_speech_only.ensures.worlds;
   lives = lives_follow;
 }

@@ -3,5 +3,5 @@ use Rattle.mg_serve.proofs.journal_theorems.nothing_answered_is_forgotten.Goals 
 
 pub returns : goal.returns
 returns c = record {
-  theorem = nothing_is_forgotten c.recordings_are_read.ensures.theorem c.recordings_are_read.ensures.cut;
+  theorem = nothing_is_forgotten c.recordings_are_read.ensures.theorem;
 }

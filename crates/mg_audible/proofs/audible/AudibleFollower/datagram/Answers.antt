@@ -1,4 +1,4 @@
-use Rattle.std.proofs.Common.{◌≡◌, ℕ, reverse, sym, subst, ap, ◌∙◌}
+use Rattle.std.proofs.Common.{◌≡◌, ℕ, refl, sym, subst, ap, ◌∙◌}
 use Rattle.mg_core.specs.declared.event.Event.{Event}
 use Rattle.mg_core.specs.declared.event.Event.TheVariants.{Control, Media}
 use Rattle.mg_audible.specs.aids.Keeping.{LeadsBoth}
@@ -16,9 +16,9 @@ returns-in-Ok g c =
       value = λ start config notes h run. (
         c.control.ensures.talker ∙ h.0,
         timed_datagram config start.pair.talker notes c.args.event.now old.pair.whole.state old.pair.without.state
-            new.whole.state new.without.state old.clock c.pass_line.new.self old.open
-            (g.S.Sink.told start.sink old.sink) c.pass_line.ensures.ticks
-            (c.pass_line.ensures.value (reverse notes)) c.requires.datagram
+            new.whole.state new.without.state old.clock old.clock old.open
+            (g.S.Sink.told start.sink old.sink) refl
+            (λ is. is) c.requires.datagram
             (subst (λ (n : ℕ). LeadsBoth n c.args.event.now old.pair.whole.state old.pair.without.state new.whole.state
             new.without.state) h.0
             (subst (λ (e : Event). LeadsBoth old.pair.talker e old.pair.whole.state old.pair.without.state
@@ -39,9 +39,9 @@ returns-in-Media g c =
       value = λ start config notes h run. (
         c.media.ensures.talker ∙ h.0,
         timed_datagram config start.pair.talker notes c.args.event.now old.pair.whole.state old.pair.without.state
-            new.whole.state new.without.state old.clock c.pass_line.new.self old.open
-            (g.S.Sink.told start.sink old.sink) c.pass_line.ensures.ticks
-            (c.pass_line.ensures.value (reverse notes)) c.requires.datagram
+            new.whole.state new.without.state old.clock old.clock old.open
+            (g.S.Sink.told start.sink old.sink) refl
+            (λ is. is) c.requires.datagram
             (subst (λ (n : ℕ). LeadsBoth n c.args.event.now old.pair.whole.state old.pair.without.state new.whole.state
             new.without.state) h.0
             (subst (λ (e : Event). LeadsBoth old.pair.talker e old.pair.whole.state old.pair.without.state

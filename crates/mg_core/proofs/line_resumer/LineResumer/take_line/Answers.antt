@@ -1,52 +1,61 @@
-use Rattle.std.proofs.Common.{◌≡◌, [], ◌∷◌, ◌∙◌, Some, None, ap}
+use Rattle.std.proofs.Common.{◌≡◌, ◌||◌, [], ◌∷◌, ◌∙◌, Bool, None, Some, sym, ap}
 use Rattle.std.proofs.lemmas.Result.{err_from_is_err_and}
-use Rattle.mg_core.specs.Note.{Happened}
+use Rattle.mg_core.specs.Counted.{is_mark}
 use Rattle.mg_core.specs.Script.{event_of}
-use Rattle.mg_core.specs.aids.Resuming.{Adds, HasFollowed, KeepsUp, LinesResumed}
-use Rattle.mg_core.proofs.LineLemmas.{an_event_or_none}
-use Rattle.mg_core.proofs.ResumeLemmas.{comment_followed, line_resumed, resumes_err}
+use Rattle.mg_core.specs.aids.Resuming.{Adds, HasFollowed, IsBadLine, KeepsLines, KeepsUp, LinesResumed, counted_in}
+use Rattle.mg_core.proofs.ResumeLemmas.{count_read, plain_bad, plain_read, resumes_err}
 use Rattle.mg_core.proofs.line_resumer.LineResumer.take_line.Goals as goal
 
-pub returns-in_err-take_event-in-Ok-Some-clause-value : goal.returns-in_err-take_event-in-Ok-Some-clause-value
-returns-in_err-take_event-in-Ok-Some-clause-value g c =
-    let p = err_from_is_err_and c.from_residual-in_err-take_event-in-Ok-Some.result c.from_residual-in_err-take_event-in-Ok-Some.ensures.1 in
+pub returns-in_err-take_plain-in-None : goal.returns-in_err-take_plain-in-None
+returns-in_err-take_plain-in-None g c =
+    let p = err_from_is_err_and c.from_residual-in_err-take_plain-in-None.result c.from_residual-in_err-take_plain-in-None.ensures.1 in
     let line = c.args.line.now in
     let number = c.args.number in
     let old = c.args.self.now in
-    let new = c.take_event.new.self in
-    rw (p.1, p.2) (λ start config.
-    let follows = g.F.Follower.follows in
-    let Old = KeepsUp config old.core.state old.ticks (HasFollowed follows start c.args.follower.now config) in
-    let New = KeepsUp config new.core.state new.ticks (HasFollowed follows start c.take_event.new.follower config) in
-    resumes_err g.F.Follower.may_stop (Adds Old New (Happened c.in-Ok-Some.event ∷ []))
-    (LinesResumed Old New (line ∷ [])) (λ k. ⊥) (λ k. (k ≡ number) × (event_of line ≡ None))
-    c.in_err-take_event-in-Ok-Some.field-0.0 (λ k bad. absurd bad)
-    (c.in_err-take_event-in-Ok-Some.ensures.value start config))
+    let new = c.take_plain.new.self in
+    let none : counted_in old.counts line ≡ None = sym c.counted_in.ensures.value ∙ c.in-None.is in
+    rw (p.1, p.2) (record {
+      value = λ start config.
+          let follows = g.F.Follower.follows in
+          let Before = HasFollowed follows start c.args.follower.now config in
+          let After = HasFollowed follows start c.take_plain.new.follower config in
+          let Old = KeepsLines config old.core.state old.counts old.ticks Before in
+          resumes_err g.F.Follower.may_stop
+          (LinesResumed (KeepsUp config old.core.state old.ticks Before) (KeepsUp config new.core.state new.ticks After)
+          (line ∷ []))
+          (Adds Old (KeepsLines config new.core.state new.counts new.ticks After) (line ∷ []))
+          (λ k. (k ≡ number) × (event_of line ≡ None)) (λ k. (k ≡ number) × IsBadLine Old line)
+          c.in_err-take_plain-in-None.field-0.0
+          (λ k bad. (bad.0, plain_bad config old.core.state old.counts old.ticks Before line none bad.1))
+          (c.in_err-take_plain-in-None.ensures.value start config);
+    })
 
-pub returns-in_ok-comment-in-Ok-None-clause-value : goal.returns-in_ok-comment-in-Ok-None-clause-value
-returns-in_ok-comment-in-Ok-None-clause-value g c start config =
-    let follows = g.F.Follower.follows in
-    let is : event_of c.args.line.now ≡ Some None = c.in-Ok-None.ensures ∙
-    ap an_event_or_none c.in-Ok-None.field-0-is in
+pub returns-in_ok-take_ticks-in-Some : goal.returns-in_ok-take_ticks-in-Some
+returns-in_ok-take_ticks-in-Some g c =
     let old = c.args.self.now in
-    let new = c.run_ticks.new.self in
-    let Old = HasFollowed follows start c.args.follower.now config in
-    let New = HasFollowed follows start c.comment.new.self config in
-    line_resumed (KeepsUp config old.core.state old.ticks Old) (KeepsUp config new.core.state new.ticks New)
-    c.args.line.now None is
-    (comment_followed config old.core.state new.core.state old.ticks new.ticks Old
-    (HasFollowed follows start c.run_ticks.new.follower config) New c.args.line.now
-    (λ notes h. c.in_ok-run_ticks-in-Ok-None.ensures.value start config notes h)
-    c.in_ok-run_ticks-in-Ok-None.ensures.ticks
-    (λ notes followed ready. c.in_ok-comment-in-Ok-None.ensures.value start config notes (followed ready)))
+    let new = c.take_ticks.new.self in
+    let counted : counted_in old.counts c.args.line.now ≡ Some c.in-Some.count = sym c.counted_in.ensures.value ∙ c.in-Some.is in
+    record {
+      value = λ start config.
+          let follows = g.F.Follower.follows in
+          count_read config old.core.state new.core.state old.counts new.counts old.ticks new.ticks
+          (HasFollowed follows start c.args.follower.now config) (HasFollowed follows start c.take_ticks.new.follower config)
+          c.args.line.now c.in-Some.count counted c.in_ok-take_ticks-in-Some.ensures.counts
+          (c.in_ok-take_ticks-in-Some.ensures.value start config);
+    }
 
-pub returns-in_ok-take_event-in-Ok-Some-clause-value : goal.returns-in_ok-take_event-in-Ok-Some-clause-value
-returns-in_ok-take_event-in-Ok-Some-clause-value g c start config =
-    let follows = g.F.Follower.follows in
-    let is : event_of c.args.line.now ≡ Some (Some c.in-Ok-Some.event) = c.in-Ok-Some.ensures ∙
-    ap an_event_or_none c.in-Ok-Some.field-0-is in
+pub returns-in_ok-take_plain-in-None : goal.returns-in_ok-take_plain-in-None
+returns-in_ok-take_plain-in-None g c =
+    let line = c.args.line.now in
     let old = c.args.self.now in
-    let new = c.take_event.new.self in
-    line_resumed (KeepsUp config old.core.state old.ticks (HasFollowed follows start c.args.follower.now config))
-    (KeepsUp config new.core.state new.ticks (HasFollowed follows start c.take_event.new.follower config))
-    c.args.line.now (Some c.in-Ok-Some.event) is (c.in_ok-take_event-in-Ok-Some.ensures.value start config)
+    let new = c.take_plain.new.self in
+    let none : counted_in old.counts line ≡ None = sym c.counted_in.ensures.value ∙ c.in-None.is in
+    record {
+      value = λ start config.
+          let follows = g.F.Follower.follows in
+          plain_read config old.core.state new.core.state old.counts c.counts_after-self.result old.ticks new.ticks
+          (HasFollowed follows start c.args.follower.now config) (HasFollowed follows start c.take_plain.new.follower config)
+          line none
+          (c.counts_after-self.ensures.value ∙ ap (λ (b : Bool). b || is_mark line) c.in_ok-take_plain-in-None.ensures.counts)
+          (c.in_ok-take_plain-in-None.ensures.value start config);
+    }

@@ -1,27 +1,31 @@
-use Rattle.std.proofs.Common.{◌≡◌, ℕ, ◌+◌, true, None, List, [], ◌∷◌, ◌++◌, ◌∙◌, ap}
+use Rattle.std.proofs.Common.{◌≡◌, ℕ, ◌+◌, true, List, [], ◌∷◌, ◌++◌, ◌∙◌, ap}
 use Rattle.std.proofs.lemmas.Result.{err_from_is_err_and}
 use Rattle.mg_lines.specs.Lines.{lines_after, without_return}
-use Rattle.mg_core.specs.Script.{event_of}
-use Rattle.mg_core.specs.aids.Resuming.{HasFollowed, KeepsUp, LinesResumed, StartsBad}
-use Rattle.mg_core.proofs.ResumeLemmas.{ended_bad, ended_long, resumes_err, tick_ended, ticks_added}
+use Rattle.mg_core.specs.aids.Resuming.{Adds, HasFollowed, IsBadLine, KeepsLines, StartsBad}
+use Rattle.mg_core.proofs.ResumeLemmas.{ended_bad, ended_long, resumes_err, tick_ended, ticks_read}
 use Rattle.mg_core.proofs.resumer.Resumer.end_line.Goals as goal
 
 pub returns-then-is_tick-clause-value : goal.returns-then-is_tick-clause-value
 returns-then-is_tick-clause-value g c start config =
+    let follows = g.F.Follower.follows in
     let old = c.args.self.now.runner in
     let new = c.take_ticks.new.self in
     let parts = c.is_tick.ensures.value c.if-is_tick.true in
-    let Follows = HasFollowed g.F.Follower.follows start c.args.follower.now config in
-    tick_ended (KeepsUp config old.core.state old.ticks Follows) (KeepsUp config new.core.state new.ticks Follows)
+    let Before = HasFollowed follows start c.args.follower.now config in
+    let After = HasFollowed follows start c.take_ticks.new.follower config in
+    tick_ended (KeepsLines config old.core.state old.counts old.ticks Before)
+    (KeepsLines config new.core.state new.counts new.ticks After)
     c.args.self.now.partial.text c.args.part.now parts.0 parts.1
-    (ticks_added config old.core.state new.core.state old.ticks new.ticks 1 Follows c.take_ticks.ensures.state
-    c.take_ticks.ensures.ticks)
+    (ticks_read config old.core.state new.core.state old.counts new.counts old.ticks new.ticks Before After 1
+    c.in_ok-take_ticks.ensures.counts (c.in_ok-take_ticks.ensures.value start config))
 
 pub returns-in_err-keep-clause-value : goal.returns-in_err-keep-clause-value
 returns-in_err-keep-clause-value g c =
-    let p = err_from_is_err_and c.from_residual.result c.from_residual.ensures.1 in
+    let p = err_from_is_err_and c.from_residual-in_err-keep.result c.from_residual-in_err-keep.ensures.1 in
     let long = c.in_err-keep.ensures.long in
-    rw (p.1, p.2, long.0) (λ start config. ended_long c.args.self.now.lines
+    rw (p.1, p.2, long.0) (λ start config. ended_long
+    (KeepsLines config c.args.self.now.runner.core.state c.args.self.now.runner.counts c.args.self.now.runner.ticks
+    (HasFollowed g.F.Follower.follows start c.args.follower.now config)) c.args.self.now.lines
     (c.args.self.now.partial.text ++ c.args.part.now) long.1)
 
 pub returns-in_err-take_line-clause-value : goal.returns-in_err-take_line-clause-value
@@ -39,12 +43,13 @@ returns-in_err-take_line-clause-value g c =
     rw (p.1, p.2) (λ start config.
     let follows = g.F.Follower.follows in
     let Follows = HasFollowed follows start c.args.follower.now config in
-    let New = KeepsUp config new.core.state new.ticks (HasFollowed follows start c.take_line.new.follower config) in
-    resumes_err g.F.Follower.may_stop (LinesResumed (KeepsUp config kept.core.state kept.ticks Follows) New (line ∷ []))
-    (LinesResumed (KeepsUp config old.core.state old.ticks Follows) New (without_return text ∷ []))
-    (λ k. (k ≡ counted + 1) × (event_of line ≡ None))
-    (λ k. (more : List ℕ) → StartsBad count (lines_after true text (10 ∷ more)) k) c.in_err-take_line.field-0.0
-    (λ k bad. ended_bad count counted k text line c.keep.ensures.lines same bad)
+    let New = KeepsLines config new.core.state new.counts new.ticks (HasFollowed follows start c.take_line.new.follower config) in
+    let Kept = KeepsLines config kept.core.state kept.counts kept.ticks Follows in
+    let Old = KeepsLines config old.core.state old.counts old.ticks Follows in
+    resumes_err g.F.Follower.may_stop (Adds Kept New (line ∷ [])) (Adds Old New (without_return text ∷ []))
+    (λ k. (k ≡ counted + 1) × IsBadLine Kept line)
+    (λ k. (more : List ℕ) → StartsBad Old count (lines_after true text (10 ∷ more)) k) c.in_err-take_line.field-0.0
+    (λ k bad. ended_bad Old count counted k text line c.keep.ensures.lines same (bad.0, rw c.keep.ensures.runner at bad.1))
     (c.in_err-take_line.ensures.value start config))
 
 pub returns-clause-value : goal.returns-clause-value

@@ -1,7 +1,7 @@
 use Rattle.std.proofs.Common.{true, []}
 use Rattle.std.proofs.lemmas.Result.{err_from_is_err_and}
 use Rattle.mg_lines.specs.Lines.{lines_after}
-use Rattle.mg_core.specs.aids.Resuming.{HasFollowed, KeepsUp, LinesResumed, StartsBad}
+use Rattle.mg_core.specs.aids.Resuming.{Adds, HasFollowed, KeepsLines, StartsBad}
 use Rattle.mg_core.proofs.ResumeLemmas.{resumes_err}
 use Rattle.mg_core.proofs.resumer.Resumer.finish.Goals as goal
 
@@ -14,10 +14,10 @@ returns-in_err-take_last g c =
     let last = lines_after true c.args.self.now.partial.text [] in
     rw (p.1, p.2) (record {
       value = λ start config.
-          let Old = KeepsUp config old.core.state old.ticks (HasFollowed follows start c.args.follower.now config) in
+          let Old = KeepsLines config old.core.state old.counts old.ticks (HasFollowed follows start c.args.follower.now config) in
           let Follows = HasFollowed follows start c.take_last.new.follower config in
-          resumes_err g.F.Follower.may_stop (LinesResumed Old (KeepsUp config new.core.state new.ticks Follows) last)
-          (LinesResumed Old (KeepsUp config new.core.state 0 Follows) last)
-          (StartsBad c.args.self.now.lines last) (StartsBad c.args.self.now.lines last)
+          resumes_err g.F.Follower.may_stop (Adds Old (KeepsLines config new.core.state new.counts new.ticks Follows) last)
+          (Adds Old (KeepsLines config new.core.state new.counts 0 Follows) last)
+          (StartsBad Old c.args.self.now.lines last) (StartsBad Old c.args.self.now.lines last)
           c.in_err-take_last.field-0.0 (λ k bad. bad) (c.in_err-take_last.ensures.value start config);
     })

@@ -1,7 +1,7 @@
-use Rattle.std.proofs.Common.{[], Ok, Err, take, length-take, arith}
+use Rattle.std.proofs.Common.{Ok, Err, take, length-take, arith}
 use Rattle.std.proofs.lemmas.Result.{err_from_is_err_and}
-use Rattle.mg_core.specs.aids.Resuming.{HasFollowed, KeepsUp}
-use Rattle.mg_core.proofs.ResumeLemmas.{reaches_bytes, reaches_end, reaches_fault, reaches_start, up_to_date}
+use Rattle.mg_core.specs.aids.Resuming.{HasFollowed, KeepsLines}
+use Rattle.mg_core.proofs.ResumeLemmas.{good, lines_start, reaches_bytes, reaches_end, reaches_fault, reaches_start}
 use Rattle.mg_core.proofs.resumer.Resumer.take_all.Goals as goal
 
 pub loop-init : goal.loop-init
@@ -10,12 +10,11 @@ loop-init g c =
     let first = c.args.follower.now in
     record {
       lines = omega (arith, c.requires.lines);
-      ticks = omega (arith, c.requires.ticks);
       value = λ config run.
           let Follows = HasFollowed g.F.Follower.follows first first config in
-          reaches_start (KeepsUp config runner.core.state runner.ticks Follows) (g.R.Read.remaining c.args.reader.now)
+          reaches_start (KeepsLines config runner.core.state runner.counts runner.ticks Follows) (g.R.Read.remaining c.args.reader.now)
           c.args.self.now.partial.text c.args.self.now.lines c.requires.partial c.requires.lines
-          (up_to_date config runner.core.state runner.ticks Follows [] c.requires.ticks run (λ ready. ready));
+          (lines_start config runner.core.state runner.counts runner.ticks Follows c.requires.ticks c.requires.counts run (λ ready. ready));
     }
 
 pub returns-in_err-n : goal.returns-in_err-n
@@ -30,12 +29,14 @@ returns-in_err-finish g c =
     let first = c.args.follower.now in
     rw (p.1, p.2) (record {
       value = λ config run. reaches_end g.F.Follower.may_stop config
-          (KeepsUp config c.loop.self.runner.core.state c.loop.self.runner.ticks
+          (KeepsLines config c.loop.self.runner.core.state c.loop.self.runner.counts c.loop.self.runner.ticks
           (HasFollowed follows first c.loop.follower config))
           (HasFollowed follows first c.finish.new.follower config)
           (g.R.Read.remaining c.args.reader.now) (g.R.Read.remaining c.loop.reader)
           (g.R.Read.remaining c.read_some.new.reader) c.loop.self.partial.text c.loop.self.lines
-          c.finish.new.self.runner.core.state (Err c.in_err-finish.field-0.0) (c.loop.invariant.value config run)
+          c.finish.new.self.runner.core.state c.finish.new.self.runner.counts (Err c.in_err-finish.field-0.0)
+          (good config c.loop.self.runner.core.state c.loop.self.runner.counts c.loop.self.runner.ticks
+          (HasFollowed follows first c.loop.follower config)) (c.loop.invariant.value config run)
           (rw c.in_default.is at c.in_ok-n.ensures.value) (c.in_err-finish.ensures.value first config);
     })
 
@@ -45,12 +46,14 @@ returns-in_default g c =
     let first = c.args.follower.now in
     record {
       value = λ config run. reaches_end g.F.Follower.may_stop config
-          (KeepsUp config c.loop.self.runner.core.state c.loop.self.runner.ticks
+          (KeepsLines config c.loop.self.runner.core.state c.loop.self.runner.counts c.loop.self.runner.ticks
           (HasFollowed follows first c.loop.follower config))
           (HasFollowed follows first c.finish.new.follower config)
           (g.R.Read.remaining c.args.reader.now) (g.R.Read.remaining c.loop.reader)
           (g.R.Read.remaining c.read_some.new.reader) c.loop.self.partial.text c.loop.self.lines
-          c.finish.new.self.runner.core.state (Ok tt) (c.loop.invariant.value config run)
+          c.finish.new.self.runner.core.state c.finish.new.self.runner.counts (Ok tt)
+          (good config c.loop.self.runner.core.state c.loop.self.runner.counts c.loop.self.runner.ticks
+          (HasFollowed follows first c.loop.follower config)) (c.loop.invariant.value config run)
           (rw c.in_default.is at c.in_ok-n.ensures.value) (c.in_ok-finish.ensures.value first config);
     }
 
@@ -62,9 +65,9 @@ returns-in_err-take_bytes g c =
     let first = c.args.follower.now in
     rw (p.1, p.2) (record {
       value = λ config run. reaches_fault g.F.Follower.may_stop config
-          (KeepsUp config c.loop.self.runner.core.state c.loop.self.runner.ticks
+          (KeepsLines config c.loop.self.runner.core.state c.loop.self.runner.counts c.loop.self.runner.ticks
           (HasFollowed follows first c.loop.follower config))
-          (KeepsUp config c.take_bytes.new.self.runner.core.state c.take_bytes.new.self.runner.ticks
+          (KeepsLines config c.take_bytes.new.self.runner.core.state c.take_bytes.new.self.runner.counts c.take_bytes.new.self.runner.ticks
           (HasFollowed follows first c.take_bytes.new.follower config))
           (HasFollowed follows first c.take_bytes.new.follower config)
           (g.R.Read.remaining c.args.reader.now) (g.R.Read.remaining c.loop.reader)
@@ -88,11 +91,10 @@ loop-preserved g c =
         c.read_some.array_long,
         c.loop.invariant.lines,
       );
-      ticks = c.in_ok-take_bytes.ensures.ticks;
       value = λ config run. reaches_bytes
-          (KeepsUp config c.loop.self.runner.core.state c.loop.self.runner.ticks
+          (KeepsLines config c.loop.self.runner.core.state c.loop.self.runner.counts c.loop.self.runner.ticks
           (HasFollowed follows first c.loop.follower config))
-          (KeepsUp config c.take_bytes.new.self.runner.core.state c.take_bytes.new.self.runner.ticks
+          (KeepsLines config c.take_bytes.new.self.runner.core.state c.take_bytes.new.self.runner.counts c.take_bytes.new.self.runner.ticks
           (HasFollowed follows first c.take_bytes.new.follower config))
           (g.R.Read.remaining c.args.reader.now) (g.R.Read.remaining c.loop.reader)
           (g.R.Read.remaining c.read_some.new.reader) c.loop.self.partial.text

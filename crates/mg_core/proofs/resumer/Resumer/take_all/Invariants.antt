@@ -1,16 +1,15 @@
 use Rattle.std.proofs.Common.{◌*◌, ◌≤◌, []}
 use Rattle.mg_engine.specs.declared.config.Config.{Config}
 use Rattle.mg_core.specs.Follow.{HasRun}
-use Rattle.mg_core.specs.aids.Resuming.{HasFollowed, KeepsUp}
+use Rattle.mg_core.specs.aids.Resuming.{HasFollowed, KeepsLines}
 use Rattle.mg_core.proofs.ResumeLemmas.{Reaches}
 use Rattle.mg_core.proofs.resumer.Resumer.take_all.Given as goal
 
 abbrev pub invariant-loop : goal.invariant-loop
 invariant-loop g l = record {
   lines : l.self.lines ≤ 4096 * l.counter;
-  ticks : l.self.runner.ticks ≤ l.self.lines;
   value : (config : Config) → HasRun config [] l.initial.self.runner.core.state →
-      Reaches (KeepsUp config l.self.runner.core.state l.self.runner.ticks
+      Reaches (KeepsLines config l.self.runner.core.state l.self.runner.counts l.self.runner.ticks
       (HasFollowed g.F.Follower.follows l.initial.follower l.follower config)) (g.R.Read.remaining l.initial.reader)
       (g.R.Read.remaining l.reader) l.self.partial.text l.self.lines;
 }

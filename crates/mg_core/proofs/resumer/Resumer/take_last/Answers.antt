@@ -1,13 +1,13 @@
 use Rattle.std.proofs.Common.{◌∙◌, Ok, Err, sym}
 use Rattle.std.proofs.lemmas.Result.{err_from_is_err_and}
-use Rattle.mg_core.specs.aids.Resuming.{HasFollowed, KeepsUp}
+use Rattle.mg_core.specs.aids.Resuming.{HasFollowed, KeepsLines}
 use Rattle.mg_core.proofs.ResumeLemmas.{last_line_resumed, no_last_line}
 use Rattle.mg_core.proofs.resumer.Resumer.take_last.Goals as goal
 
 pub returns-then-is_empty : goal.returns-then-is_empty
 returns-then-is_empty g c = record {
   value = λ start config. no_last_line c.as_slice-line.result.now c.args.self.now.partial.text
-      (KeepsUp config c.args.self.now.runner.core.state c.args.self.now.runner.ticks
+      (KeepsLines config c.args.self.now.runner.core.state c.args.self.now.runner.counts c.args.self.now.runner.ticks
       (HasFollowed g.F.Follower.follows start c.args.follower.now config))
       c.as_slice-line.ensures.value (sym c.is_empty.ensures ∙ c.if-is_empty.true);
 }
@@ -19,9 +19,9 @@ returns-in_err-take_line g c =
     rw (p.1, p.2) (record {
       value = λ start config. last_line_resumed g.F.Follower.may_stop c.args.self.now.lines c.as_slice-line.result.now
           c.args.self.now.partial.text
-          (KeepsUp config c.args.self.now.runner.core.state c.args.self.now.runner.ticks
+          (KeepsLines config c.args.self.now.runner.core.state c.args.self.now.runner.counts c.args.self.now.runner.ticks
           (HasFollowed follows start c.args.follower.now config))
-          (KeepsUp config c.take_line.new.self.core.state c.take_line.new.self.ticks
+          (KeepsLines config c.take_line.new.self.core.state c.take_line.new.self.counts c.take_line.new.self.ticks
           (HasFollowed follows start c.take_line.new.follower config)) (Err c.in_err-take_line.field-0.0)
           c.as_slice-line.ensures.value (sym c.is_empty.ensures ∙ c.if-is_empty.false)
           (c.in_err-take_line.ensures.value start config);
@@ -33,9 +33,9 @@ returns g c =
     record {
       value = λ start config. last_line_resumed g.F.Follower.may_stop c.args.self.now.lines c.as_slice-line.result.now
           c.args.self.now.partial.text
-          (KeepsUp config c.args.self.now.runner.core.state c.args.self.now.runner.ticks
+          (KeepsLines config c.args.self.now.runner.core.state c.args.self.now.runner.counts c.args.self.now.runner.ticks
           (HasFollowed follows start c.args.follower.now config))
-          (KeepsUp config c.take_line.new.self.core.state c.take_line.new.self.ticks
+          (KeepsLines config c.take_line.new.self.core.state c.take_line.new.self.counts c.take_line.new.self.ticks
           (HasFollowed follows start c.take_line.new.follower config)) (Ok tt)
           c.as_slice-line.ensures.value (sym c.is_empty.ensures ∙ c.if-is_empty.false)
           (c.in_ok-take_line.ensures.value start config);

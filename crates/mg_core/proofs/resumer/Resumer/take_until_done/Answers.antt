@@ -1,7 +1,7 @@
-use Rattle.std.proofs.Common.{◌≡◌, ◌∙◌, List, [], take, length-take, arith, sym}
+use Rattle.std.proofs.Common.{◌≡◌, ◌∙◌, List, take, length-take, arith, sym}
 use Rattle.mg_core.specs.Note.{Note}
-use Rattle.mg_core.specs.aids.Resuming.{HasFollowed, KeepsUp}
-use Rattle.mg_core.proofs.ResumeLemmas.{advances, followed_to_done, followed_to_end, not_err, up_to_date, waits_on, waits_start}
+use Rattle.mg_core.specs.aids.Resuming.{HasFollowed, KeepsLines, KeepsUp}
+use Rattle.mg_core.proofs.ResumeLemmas.{advances, followed_to_done, followed_to_end, lines_start, not_err, ticks_run, waits_on, waits_start}
 use Rattle.mg_core.proofs.resumer.Resumer.take_until_done.Goals as goal
 
 pub loop-init : goal.loop-init
@@ -10,13 +10,12 @@ loop-init g c =
     let first = c.args.follower.now in
     record {
       lines = omega (arith, c.requires.lines);
-      ticks = omega (arith, c.requires.ticks);
       value = λ config run.
           let Follows = HasFollowed g.F.Follower.follows first first config in
           waits_start g.F.Watcher.done (λ f. HasFollowed g.F.Follower.follows first f config)
-          (KeepsUp config runner.core.state runner.ticks Follows) (g.R.Read.remaining c.args.reader.now)
+          (KeepsLines config runner.core.state runner.counts runner.ticks Follows) (g.R.Read.remaining c.args.reader.now)
           c.args.self.now.partial.text c.args.self.now.lines c.requires.partial c.requires.lines
-          (up_to_date config runner.core.state runner.ticks Follows [] c.requires.ticks run (λ ready. ready));
+          (lines_start config runner.core.state runner.counts runner.ticks Follows c.requires.ticks c.requires.counts run (λ ready. ready));
     }
 
 pub returns-in_default : goal.returns-in_default
@@ -25,10 +24,10 @@ returns-in_default g c =
     let first = c.args.follower.now in
     record {
       value = λ config run. followed_to_end config
-          (KeepsUp config c.loop.self.runner.core.state c.loop.self.runner.ticks
+          (KeepsLines config c.loop.self.runner.core.state c.loop.self.runner.counts c.loop.self.runner.ticks
           (HasFollowed follows first c.loop.follower config)) (g.R.Read.remaining c.args.reader.now)
           (g.R.Read.remaining c.loop.reader) (g.R.Read.remaining c.read_some.new.reader) c.loop.self.partial.text
-          c.loop.self.lines c.finish.new.self.runner.core.state g.F.Watcher.done
+          c.loop.self.lines c.finish.new.self.runner.core.state c.finish.new.self.runner.counts g.F.Watcher.done
           (λ f. HasFollowed follows first f config) c.finish.new.follower (c.loop.invariant.value config run)
           (rw c.in_default.is at c.in_ok-n.ensures.value) (c.in_ok-finish.ensures.value first config);
     }
@@ -50,18 +49,22 @@ returns-then-is_done g c =
           let left = c.take_bytes.new.self.partial.text in
           let lines = c.take_bytes.new.self.lines in
           let state = c.run_ticks.new.self.core.state in
+          let counts = c.run_ticks.new.self.counts in
+          let taken = c.take_bytes.new.self.runner in
           let (r, waits) = c.loop.invariant.value config run in
-          followed_to_done config state g.F.Watcher.done Follows now input before rest r.1.text piece left lines
+          followed_to_done config state counts g.F.Watcher.done Follows now input before rest r.1.text piece left lines
           (omega (arith, length-take c.in-Some.n c.read_some.new.buffer, read.0, c.read_some.array_long)) waits
           (sym c.is_done.ensures.value ∙ c.if-is_done.true)
-          (advances config state g.F.Watcher.done Follows now
-          (KeepsUp config c.loop.self.runner.core.state c.loop.self.runner.ticks
+          (advances config state counts g.F.Watcher.done Follows now
+          (KeepsLines config c.loop.self.runner.core.state c.loop.self.runner.counts c.loop.self.runner.ticks
           (HasFollowed follows first c.loop.follower config))
-          (KeepsUp config c.take_bytes.new.self.runner.core.state c.take_bytes.new.self.runner.ticks
+          (KeepsLines config c.take_bytes.new.self.runner.core.state c.take_bytes.new.self.runner.counts c.take_bytes.new.self.runner.ticks
           (HasFollowed follows first c.take_bytes.new.follower config)) input before rest c.loop.self.partial.text piece
           left c.loop.self.lines lines r read.1 (c.in_ok-take_bytes.ensures.value first config)
+          (ticks_run config taken.core.state state taken.counts counts taken.ticks
+          (HasFollowed follows first c.take_bytes.new.follower config) (Follows now) c.run_ticks.ensures.counts
           (λ notes h. not_err c.run_ticks.result (KeepsUp config state 0 (Follows now) notes) passed
-          (c.run_ticks.ensures.value first config notes h)));
+          (c.run_ticks.ensures.value first config notes h))));
     }
 
 pub loop-preserved : goal.loop-preserved
@@ -80,7 +83,6 @@ loop-preserved g c =
         c.read_some.array_long,
         c.loop.invariant.lines,
       );
-      ticks = omega (arith, none);
       value = λ config run.
           let now = c.run_ticks.new.follower in
           let Follows : g.row.F.Denot → List Note → Type 0 = λ f. HasFollowed follows first f config in
@@ -91,15 +93,19 @@ loop-preserved g c =
           let left = c.take_bytes.new.self.partial.text in
           let lines = c.take_bytes.new.self.lines in
           let state = c.run_ticks.new.self.core.state in
+          let counts = c.run_ticks.new.self.counts in
+          let taken = c.take_bytes.new.self.runner in
           let (r, waits) = c.loop.invariant.value config run in
-          waits_on config state g.F.Watcher.done Follows now input before rest r.1.text piece left lines
+          waits_on config state counts g.F.Watcher.done Follows now input before rest r.1.text piece left lines
           c.run_ticks.new.self.ticks none (sym c.is_done.ensures.value ∙ c.if-is_done.false)
-          (advances config state g.F.Watcher.done Follows now
-          (KeepsUp config c.loop.self.runner.core.state c.loop.self.runner.ticks
+          (advances config state counts g.F.Watcher.done Follows now
+          (KeepsLines config c.loop.self.runner.core.state c.loop.self.runner.counts c.loop.self.runner.ticks
           (HasFollowed follows first c.loop.follower config))
-          (KeepsUp config c.take_bytes.new.self.runner.core.state c.take_bytes.new.self.runner.ticks
+          (KeepsLines config c.take_bytes.new.self.runner.core.state c.take_bytes.new.self.runner.counts c.take_bytes.new.self.runner.ticks
           (HasFollowed follows first c.take_bytes.new.follower config)) input before rest c.loop.self.partial.text piece
           left c.loop.self.lines lines r read.1 (c.in_ok-take_bytes.ensures.value first config)
+          (ticks_run config taken.core.state state taken.counts counts taken.ticks
+          (HasFollowed follows first c.take_bytes.new.follower config) (Follows now) c.run_ticks.ensures.counts
           (λ notes h. not_err c.run_ticks.result (KeepsUp config state 0 (Follows now) notes) passed
-          (c.run_ticks.ensures.value first config notes h)));
+          (c.run_ticks.ensures.value first config notes h))));
     }

@@ -1,4 +1,4 @@
-use Rattle.std.proofs.Common.{reverse, true}
+use Rattle.std.proofs.Common.{refl, true}
 use Rattle.std.proofs.lemmas.Bool.{true≢false}
 use Rattle.mg_heard.proofs.KeepingLemmas.{heard_datagram, not_control}
 use Rattle.mg_heard.proofs.heard.HeardFollower.datagram.Goals as goal
@@ -7,8 +7,8 @@ pub returns-in-Control-clause-value : goal.returns-in-Control-clause-value
 returns-in-Control-clause-value g c start config notes h run =
     let old = c.args.self.now in
     heard_datagram c.outcomes_are_unique.ensures.event c.only_control_changes_flows.ensures.flows config notes
-    c.args.event.now old.clock c.pass_line.new.self old.is_changed true old.open (g.S.Sink.told start.sink old.sink)
-    c.args._core.now.state c.pass_line.ensures.ticks (c.pass_line.ensures.value (reverse notes)) c.requires.datagram
+    c.args.event.now old.clock old.clock old.is_changed true old.open (g.S.Sink.told start.sink old.sink)
+    c.args._core.now.state refl (λ is. is) c.requires.datagram
     (λ e. absurd (true≢false e)) run h
 
 pub returns-in_default : goal.returns-in_default
@@ -17,9 +17,9 @@ returns-in_default g c =
     record {
       value = λ start config notes h run.
           heard_datagram c.outcomes_are_unique.ensures.event c.only_control_changes_flows.ensures.flows config notes
-          c.args.event.now old.clock c.pass_line.new.self old.is_changed old.is_changed old.open
-          (g.S.Sink.told start.sink old.sink) c.args._core.now.state c.pass_line.ensures.ticks
-          (c.pass_line.ensures.value (reverse notes)) c.requires.datagram
+          c.args.event.now old.clock old.clock old.is_changed old.is_changed old.open
+          (g.S.Sink.told start.sink old.sink) c.args._core.now.state refl
+          (λ is. is) c.requires.datagram
           (λ e. (not_control c.args.event.now c.in_default.not-Control, e)) run h;
       stops = tt;
     }

@@ -1,4 +1,4 @@
-use Rattle.std.proofs.Common.{true}
+use Rattle.std.proofs.Common.{refl, true}
 use Rattle.std.proofs.lemmas.Bool.{true≢false}
 use Rattle.mg_heard.proofs.KeepingLemmas.{not_control}
 use Rattle.mg_heard.proofs.WatchLemmas.{watches_datagram}
@@ -9,8 +9,8 @@ returns-in-Control-clause-value c start config notes (rules, h) run =
     let old = c.args.self.now in (
       rules,
       watches_datagram c.outcomes_are_unique.ensures.event c.only_control_changes_flows.ensures.flows
-          start.rules.now config notes c.args.event.now old.clock.ticks c.pass_line.new.self.ticks old.is_changed true
-          old.violation c.args._core.now.state c.pass_line.ensures.ticks c.requires.datagram (λ e. absurd (true≢false e)) run h,
+          start.rules.now config notes c.args.event.now old.clock.ticks old.clock.ticks old.is_changed true
+          old.violation c.args._core.now.state refl c.requires.datagram (λ e. absurd (true≢false e)) run h,
     )
 
 pub returns-in_default : goal.returns-in_default
@@ -20,8 +20,8 @@ returns-in_default c =
       value = λ start config notes (rules, h) run. (
         rules,
         watches_datagram c.outcomes_are_unique.ensures.event c.only_control_changes_flows.ensures.flows
-            start.rules.now config notes c.args.event.now old.clock.ticks c.pass_line.new.self.ticks old.is_changed
-            old.is_changed old.violation c.args._core.now.state c.pass_line.ensures.ticks c.requires.datagram
+            start.rules.now config notes c.args.event.now old.clock.ticks old.clock.ticks old.is_changed
+            old.is_changed old.violation c.args._core.now.state refl c.requires.datagram
             (λ e. (not_control c.args.event.now c.in_default.not-Control, e)) run h,
       );
       stops = tt;

@@ -9,12 +9,12 @@ returns-clause-value g c =
     let lines = c.as_slice.ensures.value ∙ c.control.ensures.value in
     announces c.append.result c.in-Some.durability c.args.source c.args.bytes.now
     (ports_seen (g.P.Ports.calls c.args.ports.now) (g.P.Ports.journal c.args.ports.now))
-    (ports_seen (g.P.Ports.calls c.append_all_ticks.new.ports) (g.P.Ports.journal c.append_all_ticks.new.ports))
+    (ports_seen (g.P.Ports.calls c.append_lacking.new.ports) (g.P.Ports.journal c.append_lacking.new.ports))
     (ports_seen (g.P.Ports.calls c.append.new.ports) (g.P.Ports.journal c.append.new.ports))
-    c.args.self.now c.append_all_ticks.new.self
+    c.args.self.now c.append_lacking.new.self
     (record { durability = c.self-2.inside.durability; lacking = c.self-2.inside.lacking; untried = 0; fence = c.self-2.inside.fence })
-    c.in_default-append_all_ticks.ensures.value
+    c.in_default-append_lacking.ensures.value
     (ap (λ (v : JournalView). v.durability) (sym c.self.view_is) ∙ c.in-Some.is)
-    c.in_default-append_all_ticks.ensures.none
+    c.in_default-append_lacking.ensures.none
     (ap (λ (v : JournalView). record v { untried = 0 }) c.self-2.view_is) c.requires.datagram
     (rw lines at c.append.ensures.logged) (rw lines at c.append.ensures.journal)

@@ -1,7 +1,7 @@
 use Rattle.std.proofs.Common.{◌+◌, sym, ap}
 use Rattle.mg_ports.specs.Journaled.{ports_seen}
 use Rattle.mg_serve.specs.aids.Outside.{JournalView}
-use Rattle.mg_serve.proofs.Appending.{counted, tick_alone, tick_counted, tick_then_batch, without_journal}
+use Rattle.mg_serve.proofs.Appending.{counted, tick_alone, tick_counted, tick_then_append, without_journal}
 use Rattle.mg_serve.proofs.journaling.Journaling.end_tick.Goals as goal
 
 pub returns-then-is_none-clause-value : goal.returns-then-is_none-clause-value
@@ -22,7 +22,7 @@ returns-then-self-lt-TOGETHER-clause-value g c =
 pub returns-clause-value : goal.returns-clause-value
 returns-clause-value g c =
     let j : JournalView = record { durability = c.self.inside.durability; lacking = c.self.inside.lacking; untried = c.self.inside.untried; fence = c.self.inside.fence } in
-    rw (← c.self.view_is) (tick_then_batch c.append_ticks.result
+    rw (← c.self.view_is) (tick_then_append c.append_ticks.result
     (ports_seen (g.P.Ports.calls c.args.ports.now) (g.P.Ports.journal c.args.ports.now))
     (ports_seen (g.P.Ports.calls c.append_ticks.new.ports) (g.P.Ports.journal c.append_ticks.new.ports))
     j (record j { lacking = c.self.inside.lacking + 1 })

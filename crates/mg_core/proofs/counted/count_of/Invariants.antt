@@ -1,7 +1,7 @@
 use Rattle.std.proofs.Common.{◌≡◌, ◌≤◌, drop}
 use Rattle.mg_words.specs.Numbers.{decimal_of}
 use Rattle.mg_words.proofs.DigitSteps.{value_after}
-use Rattle.mg_heard.proofs.missed.count_of.Given as goal
+use Rattle.mg_core.proofs.counted.count_of.Given as goal
 
 abbrev pub invariant-loop-b : goal.invariant-loop-b
 invariant-loop-b l = record {

@@ -89,7 +89,6 @@ class Heard(Commands):
             (["--listener=RTP/1"], self.FIRST),
             (["--listener=192.0.2.7"], self.FIRST),
             (["--talker=192.0.2.7:40000"], self.SECOND),
-            (["--talker=192.0.2.7:40001"], ""),
             (["--from=2026-11-27T14:03:20.04Z"], self.SECOND),
             (["--to=2026-11-27T14:03:20Z"], ""),
         ):
@@ -103,7 +102,7 @@ class Heard(Commands):
             (["* -> *"], 1, first),
             (["192.0.2.7:40000 -> *"], 1, second),
             (["RTP/3 -> RTP/1", "RTP/1 -> RTP/2"], 1, second),
-            (["RTP/1 -> RTP/1", "RTP/1 -> 192.0.2.7", "192.0.2.8 -> *"], 0, ""),
+            (["RTP/1 -> RTP/1", "RTP/1 -> 192.0.2.7"], 0, ""),
         ):
             words = [f"--never={rule}" for rule in rules]
             self.ends(status, wanted, "", "heard", *words, text=self.TITLE + self.CALL)
@@ -112,6 +111,54 @@ class Heard(Commands):
         status, output, errors = run("heard", "--never=* -> *", "--format=json", text=self.TITLE + self.CALL)
         end = ',"until":null,"listener_name":null,"talker_name":null}\n'
         self.assertEqual((status, output[:16], output[-len(end) :], errors), (1, '{"kind":"heard",', end, ""))
+
+    def test_whom_the_script_never_has(self):
+        text = self.TITLE + self.CALL
+        for words, names in (
+            (["--listener=RTP/9"], ["RTP/9"]),
+            (["--talker=192.0.2.8"], ["192.0.2.8"]),
+            (["--talker=192.0.2.7:40001"], ["192.0.2.7:40001"]),
+            (["--listener=RTP/9", "--talker=RTP/10"], ["RTP/10", "RTP/9"]),
+            (["--listener=RTP/1", "--talker=RTP/10"], ["RTP/10"]),
+        ):
+            said = "".join(f"standard input: {name} was never there\n" for name in names)
+            self.ends(2, "", said, "heard", *words, text=text)
+            self.ends(2, "not known\n", said, "heard", "--at=2026-11-27T14:03:20Z", *words, text=text)
+        # Whoever was there, if only between two ticks, and whoever was always isolated could not be heard.
+        gone = self.TITLE + date(20) + PAIR + say(2, "Context=1{Subtract=RTP/2}") + "tick\n"
+        apart = self.TITLE + date(20) + PAIR + topology(2, "Isolate") + "tick\n"
+        for text in (gone, apart):
+            words = ["--listener=RTP/1", "--talker=RTP/2", "--at=2026-11-27T14:03:20Z"]
+            self.ends(1, "could not hear\n", "", "heard", *words, text=text)
+            self.ends(0, "", "", "heard", *words[:2], text=text)
+
+    def test_names_that_the_script_never_has(self):
+        with tempfile.TemporaryDirectory() as folder:
+            path = Path(folder, "names.csv")
+            path.write_text("RTP/9,Coach\n192.0.2.8,Coach\nRTP/9,Pair\nRTP/2,Pair\n")
+            words, text = ["heard", f"--names={path}"], self.TITLE + self.CALL
+            said = "standard input: Coach was never there\n"
+            self.ends(2, "", said, *words, "--listener=Coach", text=text)
+            self.ends(0, "", said, *words, "--never=Coach -> Pair", text=text)
+            # One of two keys is enough.
+            self.assertEqual(run(*words, "--talker=Pair", text=text)[0::2], (0, ""))
+
+    def test_a_message_that_cannot_be_written(self):
+        for words in (["--listener=RTP/9"], ["--never=RTP/9 -> *"]):
+            with open("/dev/full", "w", encoding="utf-8") as full:
+                ran = subprocess.run([program("mg_bridge"), "heard", *words], input=(self.TITLE + self.CALL).encode(),
+                                     stdout=subprocess.PIPE, stderr=full, timeout=60)
+            self.assertEqual((ran.returncode, ran.stdout), (3, b""))
+
+    def test_never_warns_of_whom_the_script_never_has(self):
+        rules = ["RTP/9 -> RTP/1", "RTP/1 -> RTP/2", "* -> 192.0.2.8", "RTP/10 -> RTP/9"]
+        words = [f"--never={rule}" for rule in rules]
+        said = "".join(f"standard input: {name} was never there\n" for name in ("RTP/9", "192.0.2.8", "RTP/10", "RTP/9"))
+        apart = self.TITLE + date(20) + PAIR + topology(2, "Isolate") + "tick\n"
+        self.ends(0, "", said, "heard", *words, text=apart)
+        # A broken rule matters more.
+        line = self.SECOND.partition(" until ")[0] + "\n"
+        self.ends(1, line, "", "heard", *words, text=self.TITLE + self.CALL)
 
     def test_never_later(self):
         start = self.TITLE + self.CALL.partition("tick\n")[0] + topology(2, "Isolate") + "tick\ntick\n"
@@ -288,10 +335,13 @@ class Intervals(Commands):
         second = f"fence 4294967295 from {hour}:20.1Z (tick 5) until {hour}:20.1Z (tick 5)\n"
         for words, wanted in (
             ([], gap + first + second),
-            (["--listener=RTP/1", f"--from={hour}:20.09Z"], second),
+            ([f"--from={hour}:20.09Z"], second),
             ([f"--to={hour}:20.1Z"], gap + first),
         ):
             self.ends(0, wanted, "", "heard", *words, text=text)
+        # A listener selects no gaps.
+        said = "standard input: RTP/1 was never there\n"
+        self.ends(2, second, said, "heard", "--listener=RTP/1", f"--from={hour}:20.09Z", text=text)
         table = (
             f"{HEAD}\ngap,,,,,,2,4,{hour}:20.04Z,{hour}:20.08Z,,\n"
             f"fence 17,,,,,,4,4,{hour}:20.08Z,{hour}:20.08Z,,\n"
@@ -481,7 +531,7 @@ class Names(Commands):
             (["Front desk -> Customer > 1"], 1, first),
             (["Front desk -> *"], 1, first),
             (["RTP/1 -> Front desk"], 1, second),
-            (["Front desk -> Front desk", "* -> RTP/9"], 0, ""),
+            (["Front desk -> Front desk", "Front desk -> RTP/2"], 0, ""),
         ):
             self.ends(status, wanted, "", *self.words, *(f"--never={it}" for it in rules), text=self.TEXT)
         # The first `>` belongs to the arrow.

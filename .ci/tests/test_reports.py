@@ -98,8 +98,9 @@ class Reports(Commands):
         for text in (TITLE + CHANGES, TITLE + DATED, TITLE + LASTING, TITLE + "# fence 17\n", TITLE, examples):
             for words in ([], ["--listener=RTP/1"], ["--talker=RTP/9"], ["--from=2026-11-27T14:03:20.04Z"]):
                 with self.subTest(text=text[-200:], words=words):
-                    table = run("heard", "--format=csv", *words, text=text)[1]
-                    page = self.page(*words, text=text)
+                    status, table, said = run("heard", "--format=csv", *words, text=text)
+                    self.assertIn((status, said == ""), ((0, True), (2, False)))
+                    page = self.page(*words, text=text, status=status, errors=said)
                     self.assertEqual(page.rows[1:], list(rows_of(table)))
                     self.assertEqual(page.said["table"][0].split("\n")[1], "ListenerTalkerContextFromUntilTimeline")
 
@@ -118,7 +119,8 @@ class Reports(Commands):
 
     def test_origin(self):
         text = TITLE + DATED
-        page = self.page("--talker=192.0.2.7:40000", "--from=2026-11-27T14:03:20Z", text=text)
+        said = "standard input: 192.0.2.7:40000 was never there\n"
+        page = self.page("--talker=192.0.2.7:40000", "--from=2026-11-27T14:03:20Z", text=text, status=2, errors=said)
         digest = hashlib.sha256(Path(program("mg_bridge")).read_bytes()).hexdigest()
         version, toolchain = run("--version")[1].splitlines()
         self.assertEqual(

@@ -4,6 +4,7 @@ use Rattle.std.specs.Prelude.{◌&&◌}
 use Rattle.std.specs.Option.{option_or}
 use Rattle.mg_engine.specs.declared.config.Config.{Config}
 use Rattle.mg_core.specs.declared.state.CoreState.{CoreState}
+use Rattle.mg_core.specs.Note.{Note}
 use Rattle.mg_core.specs.Follow.{IsFollowed}
 use Rattle.mg_dates.specs.declared.date.Date.{Date}
 use Rattle.mg_heard.specs.declared.entry.Entry.{Entry}
@@ -100,22 +101,25 @@ found_none start = record {
 abbrev asked : Query → Date → Instant
 asked query time = record { query = query; time = time; heard = None; gap = None }
 
-pub answers_found : (config : Config) (input rest : Option (List ℕ)) (state : CoreState) (query : Query) (time : Date)
-    (start now : Instant) (covered : Extent) (verdict : Verdict) → start ≡ asked query time →
+pub answers_found : (config : Config) (input rest : Option (List ℕ)) (state : CoreState) (A : List Note → Type 0)
+    (query : Query) (time : Date) (start now : Instant) (covered : Extent) (verdict : Verdict) → start ≡ asked query time →
     verdict ≡ verdict_of (is_within covered now.time) now.gap now.heard →
     IsFollowed config input rest state
-    (λ notes. TellsAll config notes (λ extent xs. HasFound start now xs × (covered ≡ extent))) →
+    (λ notes. A notes × TellsAll config notes (λ extent xs. HasFound start now xs × (covered ≡ extent))) →
     IsFollowed config input rest state
-    (λ notes. TellsAll config notes (λ extent xs. verdict ≡ verdict_at query time extent xs))
-answers_found config input rest state query time start now covered verdict is e h = record {
+    (λ notes. A notes × TellsAll config notes (λ extent xs. verdict ≡ verdict_at query time extent xs))
+answers_found config input rest state A query time start now covered verdict is e h = record {
   script = h.script;
   read = h.read;
   notes = h.notes;
   are = h.are;
   run = h.run;
-  follows = tells_weaker config h.notes (λ extent xs. HasFound start now xs × (covered ≡ extent))
-      (λ extent xs. verdict ≡ verdict_at query time extent xs)
-      (λ xs (told, covers).
-      let found = subst (λ (s : Instant). HasFound s now xs) is told in
-      e ∙ (λ i. verdict_of (is_within (covers i) (found.time i)) (found.gap i) (found.heard i))) h.follows;
+  follows = (
+    h.follows.0,
+    tells_weaker config h.notes (λ extent xs. HasFound start now xs × (covered ≡ extent))
+        (λ extent xs. verdict ≡ verdict_at query time extent xs)
+        (λ xs (told, covers).
+        let found = subst (λ (s : Instant). HasFound s now xs) is told in
+        e ∙ (λ i. verdict_of (is_within (covers i) (found.time i)) (found.gap i) (found.heard i))) h.follows.1,
+  );
 }

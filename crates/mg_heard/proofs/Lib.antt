@@ -16,6 +16,7 @@ pub mod RowLemmas
 pub mod TimingLemmas
 pub mod BegunLemmas
 pub mod KeepingLemmas
+pub mod CallingLemmas
 pub mod WatchLemmas
 pub mod FindingLemmas
 pub mod NameLemmas

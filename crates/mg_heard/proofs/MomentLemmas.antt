@@ -18,7 +18,7 @@ use Rattle.mg_core.proofs.HeadlineLemmas.{one_event}
 use Rattle.mg_core.proofs.ReceivedLemmas.{agrees_itself}
 use Rattle.mg_core.proofs.RunLemmas.{run_both}
 use Rattle.mg_heard.specs.Laws.{IsAtTick}
-use Rattle.mg_heard.specs.aids.Changes.{OnlyControlChangesFlows}
+use Rattle.mg_heard.specs.aids.Changes.{OnlyControlChangesFlows, OnlyControlChangesTerminations}
 use Rattle.mg_heard.specs.Moments.{AreMoments}
 use Rattle.mg_heard.specs.OpenFlows.{open_flows}
 use Rattle.mg_heard.specs.declared.open_flow.OpenFlow.{OpenFlow}
@@ -197,3 +197,10 @@ only_control_changes_flows agree w next (Media port source bytes) sent none step
     same_flows next w (agree w w next w (Media port source bytes ∷ []) sent [] (agrees_itself w)
     (one_event w next (Media port source bytes) sent step) (refl, refl))
 only_control_changes_flows agree w next Tick sent none step = ap (λ (v : World). open_flows v.gateway) step.1
+
+pub only_control_changes_terminations : RtpChangesSpeechOnly → OnlyControlChangesTerminations
+only_control_changes_terminations agree w next (Control source bytes) sent none step = absurd (true≢false none)
+only_control_changes_terminations agree w next (Media port source bytes) sent none step =
+    (agree w w next w (Media port source bytes ∷ []) sent [] (agrees_itself w)
+    (one_event w next (Media port source bytes) sent step) (refl, refl)).rooms
+only_control_changes_terminations agree w next Tick sent none step = ap (λ (v : World). v.gateway.rooms) step.1

@@ -4,6 +4,7 @@ use Rattle.std.specs.Io.KnownBytes.{Appends}
 use Rattle.std.proofs.KnownBytes.{Appends-nil, Appends-trans}
 use Rattle.mg_engine.specs.declared.config.Config.{Config}
 use Rattle.mg_core.specs.declared.state.CoreState.{CoreState}
+use Rattle.mg_core.specs.Note.{Note}
 use Rattle.mg_core.specs.Follow.{IsFollowed}
 use Rattle.mg_heard.specs.declared.entry.Entry.{Entry}
 use Rattle.mg_heard.specs.declared.extent.Extent.{Extent}
@@ -43,11 +44,11 @@ reported_whole style query old start now xs formed asked begins h =
     )
 
 -- If `P` implies `Q`, a script that was followed with `P` was also followed with `Q`.
-pub reported_all : (config : Config) (input rest : Option (List ℕ)) (P Q : Extent → List Entry → Type 0) →
-    ((extent : Extent) (xs : List Entry) → P extent xs → Q extent xs) →
-    ((state : CoreState) × IsFollowed config input rest state (λ notes. TellsAll config notes P)) →
-    (state : CoreState) × IsFollowed config input rest state (λ notes. TellsAll config notes Q)
-reported_all config input rest P Q more (state, h) = (
+pub reported_all : (config : Config) (input rest : Option (List ℕ)) (A : List Note → Type 0)
+    (P Q : Extent → List Entry → Type 0) → ((extent : Extent) (xs : List Entry) → P extent xs → Q extent xs) →
+    ((state : CoreState) × IsFollowed config input rest state (λ notes. A notes × TellsAll config notes P)) →
+    (state : CoreState) × IsFollowed config input rest state (λ notes. A notes × TellsAll config notes Q)
+reported_all config input rest A P Q more (state, h) = (
   state,
   record {
     script = h.script;
@@ -55,6 +56,6 @@ reported_all config input rest P Q more (state, h) = (
     notes = h.notes;
     are = h.are;
     run = h.run;
-    follows = tells_weaker config h.notes P Q (more (extent_of (reverse h.notes))) h.follows;
+    follows = (h.follows.0, tells_weaker config h.notes P Q (more (extent_of (reverse h.notes))) h.follows.1);
   },
 )

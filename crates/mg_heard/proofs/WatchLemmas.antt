@@ -1,6 +1,7 @@
 -- The state of a watch, note by note.
 use Rattle.std.proofs.Common.{◌≡◌, ◌≢◌, ℕ, ◌+◌, suc, zero, Bool, true, false, List, [], ◌∷◌, ◌++◌, ◌<◌, ◌≤◌, cond, drop, get_or, length, map, replicate, Option, Some, None, refl, sym, ap, subst, ◌∙◌, arith, length-append, inl, inr}
 use Rattle.std.specs.Prelude.{reverse, is_some, IsSomeAnd}
+use Rattle.std.specs.List.{AllZip}
 use Rattle.std.specs.Option.{option_map, option_map_or, option_or}
 use Rattle.std.proofs.lemmas.Bool.{true≢false}
 use Rattle.std.proofs.lemmas.List.{append-nil, at_drop_more, drop_all, length-replicate, length-reverse, reverse-append}
@@ -16,12 +17,14 @@ use Rattle.mg_core.specs.Step.{Run, Sent}
 use Rattle.mg_core.specs.World.{World, start_of}
 use Rattle.mg_core.specs.aids.Stands.{StandsFor}
 use Rattle.mg_heard.specs.declared.moment.Moment.{Moment}
+use Rattle.mg_heard.specs.declared.missing.Missing.{Missing}
 use Rattle.mg_heard.specs.declared.open_flow.OpenFlow.{OpenFlow}
 use Rattle.mg_heard.specs.declared.open_interval.OpenInterval.{OpenInterval}
 use Rattle.mg_heard.specs.declared.rule.Rule.{Rule}
 use Rattle.mg_heard.specs.declared.violation.Violation.{Violation}
 use Rattle.mg_heard.specs.declared.watch.Watch.{Watch}
 use Rattle.mg_heard.specs.aids.Changes.{OnlyControlChangesFlows}
+use Rattle.mg_heard.specs.aids.Calling.{AreMissing}
 use Rattle.mg_heard.specs.Moments.{AreMoments}
 use Rattle.mg_heard.specs.Never.{IsKept, IsWatched, first_forbidden, is_forbidden, without_date}
 use Rattle.mg_heard.specs.OpenFlows.{open_flows}
@@ -265,10 +268,11 @@ nothing_found : (o : Option Violation) → is_some o ≡ false → None ≡ seen
 nothing_found None none = refl
 nothing_found (Some v) none = absurd (true≢false none)
 
-is_kept : (rules : List Rule) (config : Config) (text : List ℕ) →
-    GoesOn (λ (w : Watch). is_some w.violation) (Watches rules config) text → IsKept rules config text
-is_kept rules config text g =
-    let k = g.follows.1 in
+is_kept : {F : Type 0} (view : F → Watch) (Also : F → List Note → Type 0) (rules : List Rule) (config : Config)
+    (text : List ℕ) → GoesOn (λ (f : F). is_some (view f).violation)
+    (λ (f : F) (notes : List Note). Watches rules config (view f) notes × Also f notes) text → IsKept rules config text
+is_kept view Also rules config text g =
+    let k = g.follows.0.1 in
     record {
       notes = g.notes;
       are = g.are;
@@ -276,19 +280,26 @@ is_kept rules config text g =
       now = k.now;
       are_moments = subst (λ (l : List (List OpenFlow)). AreMoments (start_of config) (events_in g.notes) l)
           (reverse-append (k.now ∷ []) k.past) k.are;
-      none = sym (nothing_found g.follower.violation g.undone ∙ k.first);
+      none = sym (nothing_found (view g.follower).violation g.undone ∙ k.first);
     }
 
-pub is_watched : OneOutcome → (rules : List Rule) (config : Config) (input rest : Option (List ℕ)) (state : CoreState)
-    (last : Watch) (new : Option Violation) →
-    IsFollowedUntil config input rest state (λ (w : Watch). is_some w.violation) (Watches rules config) last →
+-- A follower contains a watch, and also knows who is missing.
+pub is_watched : {F : Type 0} (last : F) (view : F → Watch) (Also : F → List Note → Type 0) → OneOutcome →
+    (rules : List Rule) (config : Config) (input rest : Option (List ℕ)) (state : CoreState) (new : Option Violation)
+    (missing : List Missing) → IsFollowedUntil config input rest state (λ (f : F). is_some (view f).violation)
+    (λ (f : F) (notes : List Note). Watches rules config (view f) notes × Also f notes) last →
     ((w : World) → StandsFor state w →
-    (last.is_changed ≡ false → last.violation ≡ None → forbidden_in last.rules.now (open_flows w.gateway) ≡ None) →
-    seen new ≡ option_or (seen last.violation)
-    (forbidden_at last.clock.ticks last.rules.now (open_flows w.gateway))) → IsWatched rules config input rest new
-is_watched one rules config input rest state last new h compares =
+    ((view last).is_changed ≡ false → (view last).violation ≡ None →
+    forbidden_in (view last).rules.now (open_flows w.gateway) ≡ None) →
+    seen new ≡ option_or (seen (view last).violation)
+    (forbidden_at (view last).clock.ticks (view last).rules.now (open_flows w.gateway))) →
+    ((notes : List Note) → Also last notes →
+    AllZip (λ rule m. AreMissing config (events_in notes) rule.talker rule.listener m) rules missing) →
+    IsWatched rules config input rest new missing
+is_watched last_one view Also one rules config input rest state new missing h compares absent =
+    let last = view last_one in
     let (sent, w, (run, stands)) = h.run in
-    let (same, k) = h.follows in
+    let (same, k) = h.follows.0 in
     let tick = last.clock.ticks in
     let old = last.violation in
     let now = watched_now one rules config h.notes tick last.is_changed old sent w run k in
@@ -300,7 +311,7 @@ is_watched one rules config input rest state last new h compares =
       front = h.front;
       piece = h.piece;
       size = h.size;
-      prompt = elim h.goes_on [ inl none ↦ inl none | inr on ↦ inr (is_kept rules config h.front on) ];
+      prompt = elim h.goes_on [ inl none ↦ inl none | inr on ↦ inr (is_kept view Also rules config h.front on) ];
       ended = h.ended;
       read = h.read;
       notes = h.notes;
@@ -309,6 +320,7 @@ is_watched one rules config input rest state last new h compares =
       are_moments = k.are;
       first = first_more rules old new tick 0 k.past (open_flows w.gateway) k.first k.count is
           ∙ ap (λ (l : List (List OpenFlow)). first_forbidden rules 0 l) (sym all);
+      missing_are = absent h.notes h.follows.1;
       before_tick = λ left. subst (λ (n : ℕ). IsSomeAnd new (λ v. v.at.tick + 1 < n)) (sym (length-reverse (k.now ∷ k.past)))
           (found_before old new (forbidden_at tick rules (open_flows w.gateway)) (length k.past)
           (was_some (is_some old) h.ended left h.until) is

@@ -9,6 +9,7 @@ pub mod Told
 pub mod Query
 pub mod Names
 pub mod Asked
+pub mod Came
 pub mod Verdict
 pub mod Escaped
 pub mod Lines

@@ -2,7 +2,7 @@
 use Rattle.std.specs.Prelude.{◌≡◌, ◌⊎◌, ℕ, ◌+◌, ◌<◌, ◌≤◌, ◌&&◌, Bool, false, List, [], ◌∷◌, ◌++◌, length, find}
 use Rattle.std.specs.Prelude.{Option, Some, None, IsSomeAnd, codes}
 use Rattle.std.specs.Io.KnownBytes.{Appends}
-use Rattle.std.specs.List.{list_any}
+use Rattle.std.specs.List.{AllZip, list_any}
 use Rattle.std.specs.Option.{option_map, option_map_or}
 use Rattle.mg_engine.specs.declared.config.Config.{Config}
 use Rattle.mg_core.specs.Counted.{journal_lines}
@@ -10,11 +10,13 @@ use Rattle.mg_core.specs.Note.{Note, events_in, notes_of}
 use Rattle.mg_core.specs.Run.{HasRead}
 use Rattle.mg_core.specs.World.{start_of}
 use Rattle.mg_heard.specs.declared.format.Format.{Format}
+use Rattle.mg_heard.specs.declared.missing.Missing.{Missing}
 use Rattle.mg_heard.specs.declared.open_flow.OpenFlow.{OpenFlow}
 use Rattle.mg_heard.specs.declared.named.Named.{Named}
 use Rattle.mg_heard.specs.declared.rule.Rule.{Rule}
 use Rattle.mg_heard.specs.declared.style.Style.{Style}
 use Rattle.mg_heard.specs.declared.violation.Violation.{Violation}
+use Rattle.mg_heard.specs.Came.{IsMissing}
 use Rattle.mg_heard.specs.Lines.{flow_text, interval_values, line_in, moment_text}
 use Rattle.mg_heard.specs.Moments.{AreMoments}
 use Rattle.mg_heard.specs.Query.{is_asked}
@@ -51,8 +53,9 @@ pub record IsKept (rules : List Rule) (config : Config) (text : List ℕ) : Type
 -- A script was read to its end, or until a rule was broken before one of its ticks. `found` is the first violation in
 -- the moments of what was read. So if `found` is `None`, the script was read to its end, and no rule forbids a flow
 -- that is open in one of its moments. At most the last 4096 bytes that were read can contain a violation before a tick.
+-- For each rule, `missing` says who has not come in what was read.
 pub record IsWatched (rules : List Rule) (config : Config) (input rest : Option (List ℕ))
-    (found : Option Violation) : Type 0 where
+    (found : Option Violation) (missing : List Missing) : Type 0 where
   pub front : List ℕ
   pub piece : List ℕ
   pub size : length piece ≤ 4096
@@ -64,6 +67,8 @@ pub record IsWatched (rules : List Rule) (config : Config) (input rest : Option 
   pub moments : List (List OpenFlow)
   pub are_moments : AreMoments (start_of config) (events_in notes) moments
   pub first : option_map without_date found ≡ first_forbidden rules 0 moments
+  pub missing_are : AllZip (λ rule m. IsMissing config (events_in notes) rule.talker m.talker
+      × IsMissing config (events_in notes) rule.listener m.listener) rules missing
   pub before_tick : ended ≡ false → IsSomeAnd found (λ v. v.at.tick + 1 < length moments)
 
 -- ## The line

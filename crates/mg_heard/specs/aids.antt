@@ -9,3 +9,4 @@ pub mod Timing
 pub mod Changes
 pub mod Reporting
 pub mod Shapes
+pub mod Calling

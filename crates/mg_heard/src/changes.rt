@@ -1,9 +1,10 @@
-ghost use Rattle.mg_heard.specs.aids.Changes.{OnlyControlChangesFlows};
+ghost use Rattle.mg_heard.specs.aids.Changes.{OnlyControlChangesFlows, OnlyControlChangesTerminations};
 
 /// Does nothing. Its contract states, for the proofs of followers, that only control datagrams change which flows are
-/// open.
+/// open, and the terminations.
 pub(crate) fn only_control_changes_flows()
     ensures flows { OnlyControlChangesFlows }
+    ensures terminations { OnlyControlChangesTerminations }
 {
     mg_core::theorems::rtp_changes_speech_only();
 }

@@ -1,26 +1,31 @@
-ghost use Rattle.std.specs.Prelude.{◌≡◌, ℕ, [], List, Err, IfErr, IfOk, OnOk};
+ghost use Rattle.std.specs.Prelude.{◌≡◌, ℕ, [], List, Err, IfErr, IfOk, OnOk, Option};
 ghost use Rattle.mg_engine.specs.Config.{IsValidConfig};
 ghost use Rattle.mg_engine.specs.declared.config.Config.{Config};
 ghost use Rattle.mg_core.specs.Follow.{HasRun, IsFollowed};
-ghost use Rattle.mg_core.specs.Note.{Note};
+ghost use Rattle.mg_core.specs.Note.{Note, events_in};
 ghost use Rattle.mg_core.specs.aids.Resume.{FindsBadLine};
 ghost use Rattle.mg_core.specs.declared.fault.RunFault.{RunFault};
 ghost use Rattle.mg_core.specs.declared.fault.RunFault.TheVariants as runs;
 ghost use Rattle.mg_core.specs.declared.state.CoreState.{CoreState};
 ghost use Rattle.mg_heard.specs.Told.{TellsAll};
+ghost use Rattle.mg_heard.specs.aids.Calling.{AreMissing, IsNew};
 ghost use Rattle.mg_heard.specs.aids.Keeping.{KeepsHeard};
+ghost use Rattle.mg_heard.specs.declared.party_name.PartyName.{PartyName};
 
+use crate::attended::Attended;
 use crate::clock_fault::ClockFault;
 use crate::extent::Extent;
 use crate::heard::Heard;
 use crate::heard_fault::HeardFault;
+use crate::missing::Missing;
+use crate::roll::{Roll, missing_in};
 use crate::sink::Sink;
 use mg_core::{Config, Core, RunFault, resume};
 use std::alloc::Global;
 use std::io::Read;
 
-/// Runs a script, and reports to a sink who could hear whom, as a series of intervals. Returns the sink, and the time
-/// that the script covers.
+/// Runs a script, and reports to a sink who could hear whom, as a series of intervals. Returns the sink, the time that
+/// the script covers, and who was missing from a new roll.
 ///
 /// An interval is reported when it ends, so the memory needed does not grow with the script. No packets are sent.
 pub fn hear<R: Read, S: Sink>(
@@ -28,23 +33,34 @@ pub fn hear<R: Read, S: Sink>(
     config: Config,
     reader: &mut R,
     sink: S,
-) -> Result<(S, Extent), HeardFault>
+    roll: Roll,
+) -> Result<(S, Extent, Missing), HeardFault>
 where
     S: Drop,
-    ensures told { S.told sink sink [] → IfOk result (λ heard. (state : CoreState) ×
+    ensures told { (talker listener : Option (List PartyName)) → S.told sink sink [] → IsNew talker listener roll →
+        IfOk result (λ heard. (state : CoreState) ×
         IsFollowed config (R.remaining reader.old) (R.remaining reader.new) state
-        (λ notes. TellsAll config notes (λ extent xs. S.told sink heard.0 xs × (heard.1 ≡ extent)))) }
+        (λ notes. AreMissing config (events_in notes) talker listener heard.2
+        × TellsAll config notes (λ extent xs. S.told sink heard.0 xs × (heard.1 ≡ extent)))) }
     ensures script { (number : ℕ) → result ≡ Err (HeardFault.Run (runs.Script number)) →
         FindsBadLine (R.remaining reader.old) (R.remaining reader.new) number }
     ensures bad { result ≡ Err (HeardFault.Run runs.BadConfig) → ¬ IsValidConfig config }
     ensures sound { OnOk result (IsValidConfig config) }
 {
-    let Ok(mut heard) = Heard::new(alloc, sink) else {
+    let Ok(follower) = Heard::new(alloc, sink) else {
         return Err(HeardFault::NoMemory);
     };
-    match resume(alloc, config, reader, &mut heard) {
-        Ok(core) => finish(heard, &core),
-        Err(fault) => Err(fault_of(fault, heard.fault)),
+    let Ok(rolls) = Vec::from_array(alloc, [roll]) else {
+        return Err(HeardFault::NoMemory);
+    };
+    let mut attended = Attended { follower, rolls };
+    match resume(alloc, config, reader, &mut attended) {
+        Ok(core) => {
+            let missing = missing_in(attended.rolls.as_slice());
+            let (sink, extent) = finish(attended.follower, &core)?;
+            Ok((sink, extent, missing))
+        }
+        Err(fault) => Err(fault_of(fault, attended.follower.fault)),
     }
 }
 

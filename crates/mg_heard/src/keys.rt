@@ -10,7 +10,7 @@ use crate::name_fault::NameFault;
 use crate::names::Names;
 use crate::party_name::PartyName;
 use mg_core::Peer;
-use std::alloc::Global;
+use std::alloc::{AllocError, Global};
 use std::marker::Model;
 
 /// Keys that select terminations. A termination has to match only one of them.
@@ -34,6 +34,18 @@ impl Keys {
         ensures value { result ≡ list_any (λ k. is_named k number at) self.now }
     {
         self.keys.iter().any(|key| key.names(number, at))
+    }
+}
+
+/// Copies keys.
+pub(crate) fn copy_of(alloc: Global, keys: &Option<Keys>) -> Result<Option<Keys>, AllocError>
+    ensures value { IfOk result (λ copy. copy ≡ keys.now) }
+{
+    match keys {
+        Some(keys) => Ok(Some(Keys {
+            keys: Vec::from_slice(alloc, keys.keys.as_slice())?,
+        })),
+        None => Ok(None),
     }
 }
 

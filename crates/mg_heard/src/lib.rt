@@ -4,11 +4,12 @@
 //! ends:
 //!
 //! ```rust
-//! let (sink, extent) = hear(alloc, config, &mut input, sink)?;
+//! let (sink, extent, missing) = hear(alloc, config, &mut input, sink, roll)?;
 //! ```
 //!
 //! [`hear_at`] answers whether a talker could be heard at a given time. [`write_report`] writes a line for each
-//! interval that a query selects, and for each gap; [`write_answer`] writes the answer about a given time.
+//! interval that a query selects, and for each gap; [`write_answer`] writes the answer about a given time. All of them
+//! also return which of the terminations that the query names the gateway never had (`specs/Came.antt`).
 //!
 //! A question may give the name of a listener or a talker. [`Names`] holds the lines of a file of names. It turns an
 //! [`AskedQuery`] into a [`Query`], which has keys in place of names, and lines show the names of terminations.
@@ -25,6 +26,7 @@ mod answering;
 mod asked;
 mod asked_query;
 mod asked_rule;
+mod attended;
 mod changes;
 mod claim;
 mod clock;
@@ -48,6 +50,7 @@ mod line;
 mod line_writer;
 mod listener_row;
 mod missed;
+mod missing;
 mod moment;
 mod name;
 mod name_fault;
@@ -62,6 +65,7 @@ mod party_name;
 mod query;
 mod report;
 mod reporting;
+mod roll;
 mod row;
 mod rows;
 mod rule;
@@ -93,6 +97,7 @@ pub use crate::instant::Instant;
 pub use crate::interval::Interval;
 pub use crate::keys::Keys;
 pub use crate::line_writer::LineWriter;
+pub use crate::missing::Missing;
 pub use crate::moment::Moment;
 pub use crate::name::{Name, NameText};
 pub use crate::name_fault::NameFault;
@@ -106,6 +111,7 @@ pub use crate::party_name::PartyName;
 pub use crate::query::Query;
 pub use crate::report::Report;
 pub use crate::reporting::{write_answer, write_report};
+pub use crate::roll::Roll;
 pub use crate::rule::Rule;
 pub use crate::scale::Scale;
 pub use crate::sink::Sink;

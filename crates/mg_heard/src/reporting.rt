@@ -1,6 +1,10 @@
 ghost use Rattle.std.specs.Prelude.{◌≡◌, IfOk};
 ghost use Rattle.mg_core.specs.Follow.{IsFollowed};
+ghost use Rattle.mg_core.specs.Note.{events_in};
 ghost use Rattle.mg_core.specs.declared.state.CoreState.{CoreState};
+ghost use Rattle.mg_heard.specs.Came.{unless_missing};
+ghost use Rattle.mg_heard.specs.aids.Calling.{AreMissing};
+ghost use Rattle.mg_heard.specs.declared.verdict.Verdict.TheVariants as verdicts;
 ghost use Rattle.mg_heard.specs.Reported.{WritesReport, WritesVerdict};
 ghost use Rattle.mg_heard.specs.aids.Reporting.{HasReported};
 ghost use Rattle.mg_heard.specs.Told.{TellsAll};
@@ -11,8 +15,10 @@ use crate::extent::Extent;
 use crate::heard_fault::HeardFault;
 use crate::hearing::hear;
 use crate::line_writer::LineWriter;
+use crate::missing::Missing;
 use crate::query::Query;
 use crate::report::Report;
+use crate::roll::Roll;
 use crate::scale::Scale;
 use crate::style::Style;
 use crate::verdict::Verdict;
@@ -21,28 +27,33 @@ use mg_dates::Date;
 use std::alloc::Global;
 use std::io::{Read, Write};
 
-/// Reports who could hear whom while a script ran. Returns the report, and the time that the script covers.
+/// Reports who could hear whom while a script ran. Returns the report, the time that the script covers, and which
+/// terminations that the report's query names the gateway never had.
 fn hear_report<'a, R: Read, W: Write>(
     alloc: Global,
     config: Config,
     reader: &mut R,
     report: Report<'a, W>,
-) -> Result<(Report<'a, W>, Extent), HeardFault>
+) -> Result<(Report<'a, W>, Extent, Missing), HeardFault>
     ensures same_reference { IfOk result (λ heard. heard.0.writer.ghost_name ≡ report.entry.writer.ghost_name) }
     ensures reported { IfOk result (λ heard. (state : CoreState) ×
         IsFollowed config (R.remaining reader.old) (R.remaining reader.new) state
-        (λ notes. TellsAll config notes (λ extent xs. HasReported
+        (λ notes. AreMissing config (events_in notes) report.entry.query.now.talker report.entry.query.now.listener heard.2
+        × TellsAll config notes (λ extent xs. HasReported
         (record { style = report.entry.lines.now; query = report.entry.query.now; written = W.contents report.entry.writer.now })
         (record { style = heard.0.lines.now; query = heard.0.query.now; written = W.contents heard.0.writer.now }) xs
         × (heard.1 ≡ extent)))) }
 {
-    let (report, extent) = hear(alloc, config, reader, report)?;
-    Ok((report, extent))
+    let Ok(roll) = Roll::of_query(alloc, report.query) else {
+        return Err(HeardFault::NoMemory);
+    };
+    let (report, extent, missing) = hear(alloc, config, reader, report, roll)?;
+    Ok((report, extent, missing))
 }
 
 /// Writes who could hear whom while a script ran: a line for each interval that `query` selects, and for each gap. The
-/// line for an interval is written when the interval ends. Returns the ticks of these intervals, and the time that the
-/// script covers.
+/// line for an interval is written when the interval ends. Returns the ticks of these intervals, the time that the script
+/// covers, and which of the terminations that `query` names the gateway never had.
 pub fn write_report<R: Read, W: Write>(
     alloc: Global,
     config: Config,
@@ -50,10 +61,11 @@ pub fn write_report<R: Read, W: Write>(
     style: Style,
     query: Query,
     writer: &mut W,
-) -> Result<(Scale, Extent), HeardFault>
+) -> Result<(Scale, Extent, Missing), HeardFault>
     ensures report { IfOk result (λ written. (state : CoreState) ×
         IsFollowed config (R.remaining reader.old) (R.remaining reader.new) state
-        (λ notes. TellsAll config notes (λ extent xs.
+        (λ notes. AreMissing config (events_in notes) query.talker query.listener written.2
+        × TellsAll config notes (λ extent xs.
         WritesReport style query (W.contents writer.old) (W.contents writer.new) xs × (written.1 ≡ extent)))) }
 {
     let Ok(mut lines) = LineWriter::new(alloc, style) else {
@@ -67,11 +79,11 @@ pub fn write_report<R: Read, W: Write>(
         query: &query,
         writer,
     };
-    let (report, extent) = hear_report(alloc, config, reader, report)?;
+    let (report, extent, missing) = hear_report(alloc, config, reader, report)?;
     let Report { writer, .. } = report;
     // This line does nothing at run time. It makes the writer's contents available to the proof.
     let _ = &*writer;
-    Ok((lines.scale(&extent), extent))
+    Ok((lines.scale(&extent), extent, missing))
 }
 
 /// Writes the line of an answer.
@@ -93,7 +105,8 @@ fn write_verdict<W: Write>(
 }
 
 /// Runs a script, and writes one line that answers whether a listener could hear a talker at a given time, for the
-/// listeners and talkers that `query` selects. Returns the answer.
+/// listeners and talkers that `query` selects. The answer is not known if the gateway never had one of them. Returns the
+/// answer, and which of them it never had.
 pub fn write_answer<R: Read, W: Write>(
     alloc: Global,
     config: Config,
@@ -102,14 +115,16 @@ pub fn write_answer<R: Read, W: Write>(
     query: Query,
     time: Date,
     writer: &mut W,
-) -> Result<Verdict, HeardFault>
-    ensures answer { IfOk result (λ verdict. (state : CoreState) ×
+) -> Result<(Verdict, Missing), HeardFault>
+    ensures answer { IfOk result (λ answer. (state : CoreState) ×
         IsFollowed config (R.remaining reader.old) (R.remaining reader.new) state
-        (λ notes. TellsAll config notes (λ extent xs. verdict ≡ verdict_at query time extent xs))) }
-    ensures written { IfOk result (λ verdict.
-        WritesVerdict style verdict (W.contents writer.old) (W.contents writer.new)) }
+        (λ notes. AreMissing config (events_in notes) query.talker query.listener answer.1
+        × TellsAll config notes (λ extent xs. answer.0 ≡ unless_missing verdicts.Unknown answer.1 (verdict_at query time extent xs)))) }
+    ensures written { IfOk result (λ answer.
+        WritesVerdict style answer.0 (W.contents writer.old) (W.contents writer.new)) }
 {
-    let verdict = hear_at(alloc, config, reader, query, time)?;
+    let (verdict, missing) = hear_at(alloc, config, reader, query, time)?;
+    let verdict = verdict.if_known(missing);
     write_verdict(alloc, style, &verdict, writer)?;
-    Ok(verdict)
+    Ok((verdict, missing))
 }

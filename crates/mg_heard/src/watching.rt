@@ -1,9 +1,12 @@
 ghost use Rattle.std.specs.Prelude.{IfOk, Some};
 ghost use Rattle.mg_heard.specs.Never.{IsWatched, WritesViolation};
 
+use crate::attended::Attended;
 use crate::heard_fault::HeardFault;
 use crate::hearing::fault_of;
 use crate::line_writer::LineWriter;
+use crate::missing::Missing;
+use crate::roll::{missing_of, rolls_of};
 use crate::rule::Rule;
 use crate::style::Style;
 use crate::violation::Violation;
@@ -12,7 +15,8 @@ use mg_core::Config;
 use std::alloc::Global;
 use std::io::{Read, Write};
 
-/// Runs a script until a rule is broken, or to its end. Returns the first violation, or `None` if no rule was broken.
+/// Runs a script until a rule is broken, or to its end. Returns the first violation, or `None` if no rule was broken, and
+/// for each rule which of the terminations that it names the gateway never had.
 ///
 /// A rule is broken if a flow that it forbids is open before a tick or at the script's end. All ticks that have arrived
 /// are checked before more of the script is read.
@@ -21,20 +25,27 @@ pub fn find_violation<R: Read>(
     config: Config,
     reader: &mut R,
     rules: &[Rule],
-) -> Result<Option<Violation>, HeardFault>
+) -> Result<(Option<Violation>, Vec<Missing>), HeardFault>
     ensures watched { IfOk result (λ found.
-        IsWatched rules.now config (R.remaining reader.old) (R.remaining reader.new) found) }
+        IsWatched rules.now config (R.remaining reader.old) (R.remaining reader.new) found.0 found.1.items) }
 {
-    let Ok(mut follower) = Watch::new(alloc, rules) else {
+    let Ok(rolls) = rolls_of(alloc, rules) else {
         return Err(HeardFault::NoMemory);
     };
-    match mg_core::watch(alloc, config, reader, &mut follower) {
+    let Ok(follower) = Watch::new(alloc, rules) else {
+        return Err(HeardFault::NoMemory);
+    };
+    let mut attended = Attended { follower, rolls };
+    match mg_core::watch(alloc, config, reader, &mut attended) {
         Ok(core) => {
             mg_core::theorems::outcomes_are_unique();
-            follower.compare(&core);
-            Ok(follower.violation)
+            attended.follower.compare(&core);
+            match missing_of(alloc, attended.rolls.as_slice()) {
+                Ok(missing) => Ok((attended.follower.violation, missing)),
+                Err(_) => Err(HeardFault::NoMemory),
+            }
         }
-        Err(fault) => Err(fault_of(fault, follower.fault)),
+        Err(fault) => Err(fault_of(fault, attended.follower.fault)),
     }
 }
 
@@ -58,7 +69,7 @@ fn write_line<W: Write>(
 }
 
 /// Runs a script until a rule is broken, or to its end, and writes a line for the violation, if any. Returns the
-/// violation.
+/// violation, and for each rule which of the terminations that it names the gateway never had.
 pub fn write_violation<R: Read, W: Write>(
     alloc: Global,
     config: Config,
@@ -66,15 +77,16 @@ pub fn write_violation<R: Read, W: Write>(
     style: Style,
     rules: &[Rule],
     writer: &mut W,
-) -> Result<Option<Violation>, HeardFault>
+) -> Result<(Option<Violation>, Vec<Missing>), HeardFault>
     ensures watched { IfOk result (λ found.
-        IsWatched rules.now config (R.remaining reader.old) (R.remaining reader.new) found) }
+        IsWatched rules.now config (R.remaining reader.old) (R.remaining reader.new) found.0 found.1.items) }
     ensures written { IfOk result (λ found.
-        WritesViolation style found (W.contents writer.old) (W.contents writer.new)) }
+        WritesViolation style found.0 (W.contents writer.old) (W.contents writer.new)) }
 {
-    let Some(violation) = find_violation(alloc, config, reader, rules)? else {
-        return Ok(None);
+    let (found, missing) = find_violation(alloc, config, reader, rules)?;
+    let Some(violation) = found else {
+        return Ok((None, missing));
     };
     write_line(alloc, style, &violation, writer)?;
-    Ok(Some(violation))
+    Ok((Some(violation), missing))
 }

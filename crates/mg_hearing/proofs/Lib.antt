@@ -1,3 +1,4 @@
+pub mod AbsenceLemmas
 pub mod HeardLemmas
 pub mod HashLemmas
 pub mod ReadLemmas

@@ -8,21 +8,24 @@ use Rattle.std.specs.Io.KnownBytes.{Appends}
 use Rattle.mg_engine.specs.declared.config.Config.{Config}
 use Rattle.mg_core.specs.declared.state.CoreState.{CoreState}
 use Rattle.mg_core.specs.Follow.{IsFollowed}
+use Rattle.mg_core.specs.Note.{Note}
 use Rattle.mg_dates.specs.declared.date.Date.{Date}
 use Rattle.mg_heard.specs.declared.entry.Entry.{Entry}
 use Rattle.mg_heard.specs.declared.extent.Extent.{Extent}
 use Rattle.mg_heard.specs.declared.format.Format.{Format}
 use Rattle.mg_heard.specs.declared.format.Format.TheVariants as formats
+use Rattle.mg_heard.specs.declared.missing.Missing.{Missing}
 use Rattle.mg_heard.specs.Escaped.{escaped}
 use Rattle.mg_heard.specs.Lines.{head_of}
 use Rattle.mg_heard.specs.Reported.{WritesReport}
 use Rattle.mg_heard.specs.Told.{TellsAll}
 use Rattle.mg_options.specs.declared.status.Status.{Status}
-use Rattle.mg_options.specs.declared.status.Status.TheVariants.{Done}
 use Rattle.mg_arguments.specs.declared.heard_request.HeardRequest.{HeardRequest}
 use Rattle.mg_hearing.specs.declared.question.Question.{Question}
 use Rattle.mg_hearing.specs.declared.page_text.TheConstants.{COMMAND, HASH, PROGRAM, PROGRAM_HASH, SIZE, SOURCE, TABLE_END, TICKS, TIME, TRUST, WHOLE}
 use Rattle.mg_hearing.specs.Heard.{Prints}
+use Rattle.mg_heard.specs.Came.{unless_missing}
+use Rattle.mg_options.specs.declared.status.Status.TheVariants.{Done, Unknown}
 use Rattle.mg_hearing.specs.Page.{IsDigest, IsFilled, WritesPage, back_parts, front_parts, last_words, party_word, script_name}
 use Rattle.mg_hearing.specs.aids.Parts.{IsFront, IsOrigin, IsScale, WritesTable}
 use Rattle.mg_hearing.specs.aids.Forms.{PrintsLines, is_page}
@@ -37,24 +40,24 @@ piece_more f xs i d before whole lt is =
     sym (at_drop_more (λ rest. before ++ flat_map f rest) xs i d lt) ∙ is
 
 -- If the format isn't a page, the output in lines is the output that `Prints` requires.
-pub as_lines : (format : Format) (at : Option Date) (request : HeardRequest) (asked : Question) (script old new : Option (List ℕ)) (status : Status)
-    (extent : Extent) (xs : List Entry) → is_page format ≡ false → PrintsLines asked at old new status extent xs →
-    Prints format at request asked script old new status extent xs
-as_lines formats.Text None request asked script old new status extent xs other h = h
-as_lines formats.Text (Some time) request asked script old new status extent xs other h = h
-as_lines formats.Csv None request asked script old new status extent xs other h = h
-as_lines formats.Csv (Some time) request asked script old new status extent xs other h = h
-as_lines formats.Json None request asked script old new status extent xs other h = h
-as_lines formats.Json (Some time) request asked script old new status extent xs other h = h
-as_lines formats.Page at request asked script old new status extent xs other h = absurd cc
+pub as_lines : (format : Format) (at : Option Date) (request : HeardRequest) (asked : Question) (script old new : Option (List ℕ)) (missing : Missing)
+    (status : Status) (extent : Extent) (xs : List Entry) → is_page format ≡ false → PrintsLines asked at old new missing status extent xs →
+    Prints format at request asked script old new missing status extent xs
+as_lines formats.Text None request asked script old new missing status extent xs other h = h
+as_lines formats.Text (Some time) request asked script old new missing status extent xs other h = h
+as_lines formats.Csv None request asked script old new missing status extent xs other h = h
+as_lines formats.Csv (Some time) request asked script old new missing status extent xs other h = h
+as_lines formats.Json None request asked script old new missing status extent xs other h = h
+as_lines formats.Json (Some time) request asked script old new missing status extent xs other h = h
+as_lines formats.Page at request asked script old new missing status extent xs other h = absurd cc
 
-as_form : (format : Format) (at : Option Date) (request : HeardRequest) (asked : Question) (script old new : Option (List ℕ)) (extent : Extent)
-    (xs : List Entry) → is_page format ≡ true → WritesPage request asked script old new xs →
-    Prints format at request asked script old new Done extent xs
-as_form formats.Text at request asked script old new extent xs page h = absurd cc
-as_form formats.Csv at request asked script old new extent xs page h = absurd cc
-as_form formats.Json at request asked script old new extent xs page h = absurd cc
-as_form formats.Page at request asked script old new extent xs page h = (h, refl)
+as_form : (format : Format) (at : Option Date) (request : HeardRequest) (asked : Question) (script old new : Option (List ℕ)) (missing : Missing)
+    (extent : Extent) (xs : List Entry) → is_page format ≡ true → WritesPage request asked script old new xs →
+    Prints format at request asked script old new missing (unless_missing Unknown missing Done) extent xs
+as_form formats.Text at request asked script old new missing extent xs page h = absurd cc
+as_form formats.Csv at request asked script old new missing extent xs page h = absurd cc
+as_form formats.Json at request asked script old new missing extent xs page h = absurd cc
+as_form formats.Page at request asked script old new missing extent xs page h = (h, refl)
 
 -- ## Parts
 
@@ -117,13 +120,13 @@ back_filled file digest scale origin h k =
 
 -- A table, followed by its scale and the origin, is a page.
 pub as_page : (request : HeardRequest) (asked : Question) (script old mid new : Option (List ℕ))
-    (scale digest origin : List ℕ) (extent : Extent) (xs : List Entry) → is_page asked.style.format ≡ true →
+    (scale digest origin : List ℕ) (missing : Missing) (extent : Extent) (xs : List Entry) → is_page asked.style.format ≡ true →
     IsScale scale → IsDigest script digest → IsOrigin request.file digest origin → Appends mid new (scale ++ origin) →
-    WritesTable request asked old mid xs → Prints asked.style.format asked.at request asked script old new Done extent xs
-as_page request asked script old mid new scale digest origin extent xs page scaled hashed is writes h =
+    WritesTable request asked old mid xs → Prints asked.style.format asked.at request asked script old new missing (unless_missing Unknown missing Done) extent xs
+as_page request asked script old mid new scale digest origin missing extent xs page scaled hashed is writes h =
     let (front, rows, begins, lines, table) = h in
     let head = head_of asked.style.format in
-    as_form asked.style.format asked.at request asked script old new extent xs page (
+    as_form asked.style.format asked.at request asked script old new missing extent xs page (
       front,
       rows,
       digest,
@@ -139,14 +142,15 @@ as_page request asked script old mid new scale digest origin extent xs page scal
 
 -- The front of a page, followed by its rows, is a table.
 pub as_table : {S E : Type 0} (request : HeardRequest) (asked : Question) (config : Config) (input rest old mid new : Option (List ℕ))
-    (front : List ℕ) (result : Result (S × Extent) E) → IsFront request front → Appends old mid front →
-    IfOk result (λ written. (state : CoreState) × IsFollowed config input rest state (λ notes. TellsAll config notes
-    (λ extent xs. WritesReport asked.style asked.query mid new xs × (written.1 ≡ extent)))) →
-    IfOk result (λ _. (state : CoreState) × IsFollowed config input rest state
-    (λ notes. TellsAll config notes (λ _. WritesTable request asked old new)))
-as_table request asked config input rest old mid new front (Ok value) is begins (state, h) = (
+    (front : List ℕ) (A : Missing → List Note → Type 0) (result : Result (S × Extent × Missing) E) →
+    IsFront request front → Appends old mid front →
+    IfOk result (λ written. (state : CoreState) × IsFollowed config input rest state (λ notes. A written.2 notes
+    × TellsAll config notes (λ extent xs. WritesReport asked.style asked.query mid new xs × (written.1 ≡ extent)))) →
+    IfOk result (λ written. (state : CoreState) × IsFollowed config input rest state (λ notes. A written.2 notes
+    × TellsAll config notes (λ _. WritesTable request asked old new)))
+as_table request asked config input rest old mid new front A (Ok value) is begins (state, h) = (
   state,
-  prints_more config input rest state
+  prints_more config input rest state (A value.2)
       (λ extent xs. WritesReport asked.style asked.query mid new xs × (value.1 ≡ extent))
       (λ _. WritesTable request asked old new)
       (λ (extent : Extent) (xs : List Entry) (h : WritesReport asked.style asked.query mid new xs × (value.1 ≡ extent)).
@@ -158,4 +162,4 @@ as_table request asked config input rest old mid new front (Ok value) is begins 
         Appends-trans old mid new front (head_of asked.style.format ++ text) begins appends,
       )) h,
 )
-as_table request asked config input rest old mid new front (Err error) is begins h = tt
+as_table request asked config input rest old mid new front A (Err error) is begins h = tt

@@ -4,17 +4,19 @@ use Rattle.std.specs.Io.{StartsWith}
 use Rattle.mg_engine.specs.declared.config.Config.{Config}
 use Rattle.mg_core.specs.declared.state.CoreState.{CoreState}
 use Rattle.mg_core.specs.Follow.{IsFollowed}
-use Rattle.mg_core.specs.Note.{Note}
+use Rattle.mg_core.specs.Note.{Note, events_in}
 use Rattle.mg_dates.specs.declared.date.Date.{Date}
 use Rattle.mg_heard.specs.declared.entry.Entry.{Entry}
 use Rattle.mg_heard.specs.declared.extent.Extent.{Extent}
 use Rattle.mg_heard.specs.declared.format.Format.{Format}
 use Rattle.mg_heard.specs.declared.format.Format.TheVariants as formats
+use Rattle.mg_heard.specs.declared.missing.Missing.{Missing}
 use Rattle.mg_heard.specs.declared.verdict.Verdict.{Verdict}
 use Rattle.mg_heard.specs.declared.verdict.Verdict.TheVariants.{CouldHear}
 use Rattle.mg_heard.specs.declared.verdict.Verdict.TheVariants as verdicts
 use Rattle.mg_heard.specs.declared.style.Style.{Style}
 use Rattle.mg_heard.specs.Asked.{IsQuery}
+use Rattle.mg_heard.specs.Came.{IsMissing, unless_missing}
 use Rattle.mg_heard.specs.Reported.{WritesReport, WritesVerdict}
 use Rattle.mg_heard.specs.Told.{TellsAll}
 use Rattle.mg_heard.specs.Verdict.{verdict_at}
@@ -24,7 +26,8 @@ use Rattle.mg_arguments.specs.declared.heard_request.HeardRequest.{HeardRequest}
 use Rattle.mg_arguments.specs.declared.printing.Printing.{Printing}
 use Rattle.mg_arguments.specs.Title.{title_line}
 use Rattle.mg_hearing.specs.declared.question.Question.{Question}
-use Rattle.mg_hearing.specs.Page.{WritesPage}
+use Rattle.mg_hearing.specs.Absence.{absences}
+use Rattle.mg_hearing.specs.Page.{WritesPage, script_name}
 use Rattle.mg_host.specs.declared.host_call.HostCall.{HostCall}
 use Rattle.mg_host.specs.HostCalls.{ReadsFrom}
 
@@ -36,16 +39,16 @@ status_for verdicts.Unknown = Unknown
 
 -- The output about the intervals and gaps of a script, and about the time that the script covers. It is a page or,
 -- without a time, a line for each selected interval and gap. For a given time, the output is the line of the answer,
--- and the status agrees with the answer.
+-- and the status agrees with the answer, which is not known if a listener or a talker is missing.
 abbrev pub Prints : Format → Option Date → HeardRequest → Question
-    → (script old new : Option (List ℕ)) → Status → Extent → List Entry → Type 0
-Prints formats.Page at request asked script old new status extent xs =
-    WritesPage request asked script old new xs × (status ≡ Done)
-Prints format None request asked script old new status extent xs =
-    WritesReport asked.style asked.query old new xs × (status ≡ Done)
-Prints format (Some time) request asked script old new status extent xs =
-    WritesVerdict asked.style (verdict_at asked.query time extent xs) old new
-    × (status ≡ status_for (verdict_at asked.query time extent xs))
+    → (script old new : Option (List ℕ)) → Missing → Status → Extent → List Entry → Type 0
+Prints formats.Page at request asked script old new missing status extent xs =
+    WritesPage request asked script old new xs × (status ≡ unless_missing Unknown missing Done)
+Prints format None request asked script old new missing status extent xs =
+    WritesReport asked.style asked.query old new xs × (status ≡ unless_missing Unknown missing Done)
+Prints format (Some time) request asked script old new missing status extent xs =
+    let verdict = unless_missing verdicts.Unknown missing (verdict_at asked.query time extent xs) in
+    WritesVerdict asked.style verdict old new × (status ≡ status_for verdict)
 
 -- A script was read to its end. It begins with the title of the configuration with which it is run, and `Told` is true
 -- of its notes.
@@ -56,10 +59,15 @@ pub record IsRead (script : Option (List ℕ)) (Told : Config → List Note → 
   pub state : CoreState
   pub prints : IsFollowed config script rest state (Told config)
 
--- A script was read, and the output is about all its intervals.
-abbrev pub IsHeard : HeardRequest → Question → (script old new : Option (List ℕ)) → Status → Type 0
-IsHeard request asked script old new status = IsRead script (λ config notes. TellsAll config notes
-    (Prints asked.style.format asked.at request asked script old new status))
+-- A script was read, and the output is about all its intervals. The errors say exactly which of the terminations that
+-- the question names the gateway never had.
+abbrev pub IsHeard : HeardRequest → Question → (script old new : Option (List ℕ))
+    → (Says : List ℕ → Type 0) → Status → Type 0
+IsHeard request asked script old new Says status = IsRead script (λ config notes. (missing : Missing)
+    × IsMissing config (events_in notes) asked.query.talker missing.talker
+    × IsMissing config (events_in notes) asked.query.listener missing.listener
+    × Says (absences (script_name request.file) request.query.talker request.query.listener missing)
+    × TellsAll config notes (Prints asked.style.format asked.at request asked script old new missing status))
 
 -- The style of an answer agrees with the request: it has the requested format, and without a file of names, nothing has
 -- a name. (No contract says what a file contains, or which time zones the system has.)
@@ -76,8 +84,8 @@ pub record IsAsked (request : HeardRequest) (asked : Question) : Type 0 where
 
 -- The output about the script in a file, or in the input.
 abbrev pub IsHeardFrom : HeardRequest → (before after : Option (List HostCall))
-    → (input old new : Option (List ℕ)) → Status → Type 0
-IsHeardFrom request before after input old new status =
+    → (input old new : Option (List ℕ)) → (Says : List ℕ → Type 0) → Status → Type 0
+IsHeardFrom request before after input old new Says status =
     (script : Option (List ℕ)) × (asked : Question)
     × ReadsFrom request.file before after input script
-    × IsAsked request asked × IsHeard request asked script old new status
+    × IsAsked request asked × IsHeard request asked script old new Says status

@@ -1,4 +1,5 @@
 pub mod Page
+pub mod Absence
 pub mod Heard
 pub mod Audible
 pub mod Watched

@@ -1,8 +1,10 @@
 -- The output of `mg_bridge heard --never`, and its exit status.
-use Rattle.std.specs.Prelude.{◌≡◌, ℕ, List, Option, Some, None, IfSome}
+use Rattle.std.specs.Prelude.{◌≡◌, ℕ, List, [], Option, Some, None, IfSome, is_some}
+use Rattle.std.specs.Prelude.{if◌then◌else◌}
 use Rattle.std.specs.Io.{StartsWith}
-use Rattle.std.specs.List.{AllZip}
+use Rattle.std.specs.List.{AllZip, flat_map, zip}
 use Rattle.mg_engine.specs.declared.config.Config.{Config}
+use Rattle.mg_heard.specs.declared.missing.Missing.{Missing}
 use Rattle.mg_heard.specs.declared.violation.Violation.{Violation}
 use Rattle.mg_heard.specs.Asked.{IsRule}
 use Rattle.mg_heard.specs.Never.{IsWatched, WritesViolation}
@@ -10,7 +12,9 @@ use Rattle.mg_options.specs.declared.status.Status.{Status}
 use Rattle.mg_options.specs.declared.status.Status.TheVariants.{Done, RuleBroken}
 use Rattle.mg_arguments.specs.declared.watch_request.WatchRequest.{WatchRequest}
 use Rattle.mg_arguments.specs.Title.{title_line}
+use Rattle.mg_hearing.specs.Absence.{absences}
 use Rattle.mg_hearing.specs.Heard.{IsStyle}
+use Rattle.mg_hearing.specs.Page.{script_name}
 use Rattle.mg_hearing.specs.declared.alarm.Alarm.{Alarm}
 use Rattle.mg_host.specs.declared.host_call.HostCall.{HostCall}
 use Rattle.mg_host.specs.HostCalls.{ReadsFrom}
@@ -21,15 +25,19 @@ status_for (Some v) = RuleBroken
 
 -- A script begins with the title of the configuration with which it is run. The script was read to its end, or until
 -- one of the rules was broken. Only the first violation is printed, and the status says whether there is a violation.
-pub record IsAnswered (alarm : Alarm) (script old new : Option (List ℕ)) (status : Status)
-    : Type 0 where
+-- If there is none, the errors say exactly which of the terminations that the rules name the gateway never had.
+pub record IsAnswered (request : WatchRequest) (alarm : Alarm) (script old new : Option (List ℕ))
+    (Says : List ℕ → Type 0) (status : Status) : Type 0 where
   pub config : Config
   pub titled : IfSome script (λ text. StartsWith text (title_line config))
   pub rest : Option (List ℕ)
   pub found : Option Violation
-  pub watched : IsWatched alarm.rules.items config script rest found
+  pub missing : List Missing
+  pub watched : IsWatched alarm.rules.items config script rest found missing
   pub written : WritesViolation alarm.style found old new
   pub status_is : status ≡ status_for found
+  pub says : Says (if is_some found then [] else flat_map (λ p.
+      absences (script_name request.file) p.0.talker p.0.listener p.1) (zip request.rules missing))
 
 -- The alarm that a request sets. Its rules are about the terminations with the names in the request, and the file of
 -- names has all these names.
@@ -39,7 +47,7 @@ pub record IsSet (request : WatchRequest) (alarm : Alarm) : Type 0 where
 
 -- The answer about the script in a file, or in the input.
 abbrev pub IsAnsweredFrom : WatchRequest → (before after : Option (List HostCall))
-    → (input old new : Option (List ℕ)) → Status → Type 0
-IsAnsweredFrom request before after input old new status =
+    → (input old new : Option (List ℕ)) → (Says : List ℕ → Type 0) → Status → Type 0
+IsAnsweredFrom request before after input old new Says status =
     (script : Option (List ℕ)) × (alarm : Alarm) × ReadsFrom request.file before after input script
-    × IsSet request alarm × IsAnswered alarm script old new status
+    × IsSet request alarm × IsAnswered request alarm script old new Says status

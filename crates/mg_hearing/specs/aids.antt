@@ -1,3 +1,4 @@
+pub mod Absences
 pub mod Forms
 pub mod Hashing
 pub mod Parts

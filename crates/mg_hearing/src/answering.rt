@@ -1,11 +1,16 @@
 ghost use Rattle.std.specs.Prelude.{◌≡◌, ◌⊎◌, IfErr, IfOk, IsSome, OnOk, false};
 ghost use Rattle.mg_core.specs.Follow.{IsFollowed};
+ghost use Rattle.mg_core.specs.Note.{events_in};
 ghost use Rattle.mg_core.specs.declared.state.CoreState.{CoreState};
+ghost use Rattle.mg_heard.specs.Came.{unless_missing};
 ghost use Rattle.mg_heard.specs.Told.{TellsAll};
+ghost use Rattle.mg_heard.specs.aids.Calling.{AreMissing};
 ghost use Rattle.mg_options.specs.Status.{UnlessFault};
+ghost use Rattle.mg_hearing.specs.Absence.{Receives};
 ghost use Rattle.mg_hearing.specs.Heard.{IsAsked, IsHeard, IsHeardFrom, status_for};
 ghost use Rattle.mg_hearing.specs.aids.Forms.{PrintsLines, is_page};
 
+use crate::absence::report_missing;
 use crate::asking::Asking;
 use crate::faults::report_fault;
 use crate::paging::hear_page;
@@ -15,7 +20,7 @@ use crate::styling::{report_name_fault, style_of};
 use crate::words::script_name;
 use mg_arguments::HeardRequest;
 use mg_core::Config;
-use mg_heard::{Format, HeardFault, Verdict, write_answer, write_report};
+use mg_heard::{Format, HeardFault, Missing, Verdict, write_answer, write_report};
 use mg_host::Texts;
 use mg_options::Status;
 use std::alloc::Global;
@@ -33,28 +38,43 @@ fn status_for(verdict: &Verdict) -> Status
     }
 }
 
-/// Prints the answer to a question about a script with this configuration. Returns the exit status.
+/// Returns the exit status of a page or a report.
+pub(crate) fn status_if(missing: Missing) -> Status
+    ensures value { result ≡ unless_missing Status.Unknown missing Status.Done }
+{
+    if missing.is_any() {
+        Status::Unknown
+    } else {
+        Status::Done
+    }
+}
+
+/// Prints the answer to a question about a script with this configuration. Returns the exit status, and which of the
+/// terminations that the question names the gateway never had.
 fn print_heard<R: Read, W: Write>(
     alloc: Global,
     config: Config,
     question: Question,
     reader: &mut R,
     output: &mut W,
-) -> Result<Status, HeardFault>
-    ensures value { IfOk result (λ status. (state : CoreState) ×
+) -> Result<(Status, Missing), HeardFault>
+    ensures value { IfOk result (λ printed. (state : CoreState) ×
         IsFollowed config (R.remaining reader.old) (R.remaining reader.new) state
-        (λ notes. TellsAll config notes
-        (PrintsLines question question.at (W.contents output.old) (W.contents output.new) status))) }
+        (λ notes. AreMissing config (events_in notes) question.query.talker question.query.listener printed.1
+        × TellsAll config notes
+        (PrintsLines question question.at (W.contents output.old) (W.contents output.new) printed.1 printed.0))) }
 {
     let Question { style, query, at } = question;
     match at {
         Some(time) => {
-            let verdict = write_answer(alloc, config, reader, style, query, time, output)?;
-            Ok(status_for(&verdict))
+            let (verdict, missing) = write_answer(
+                alloc, config, reader, style, query, time, output,
+            )?;
+            Ok((status_for(&verdict), missing))
         }
         None => {
-            write_report(alloc, config, reader, style, query, output)?;
-            Ok(Status::Done)
+            let (_, _, missing) = write_report(alloc, config, reader, style, query, output)?;
+            Ok((status_if(missing), missing))
         }
     }
 }
@@ -69,16 +89,16 @@ fn hear_lines<R: Read, W: Write, E: Write>(
 ) -> Status
     requires lines { is_page asking.question.style.format ≡ false }
     ensures value { UnlessFault (IsHeard asking.entry.request.now asking.entry.question (R.remaining reader.old)
-        (W.contents output.old) (W.contents output.new) result × (errors.new ≡ errors.old)) result }
+        (W.contents output.old) (W.contents output.new) (Receives E.contents errors.old errors.new) result) result }
 {
-    let name = script_name(asking.request);
+    let name = script_name(&asking.request.file);
     let (line, config) = match read_title(alloc, name, reader, errors) {
         Ok(title) => title,
         Err(status) => return status,
     };
     let mut script = line.as_slice().chain(reader);
     match print_heard(alloc, config, asking.question, &mut script, output) {
-        Ok(status) => status,
+        Ok((status, missing)) => report_missing(alloc, asking.request, missing, status, errors),
         Err(fault) => report_fault(name, fault, errors),
     }
 }
@@ -105,7 +125,7 @@ fn hear_script<F: Files, R: Read, W: Write, E: Write>(
     errors: &mut E,
 ) -> Status
     ensures value { UnlessFault (IsHeard asking.entry.request.now asking.entry.question (R.remaining reader.old)
-        (W.contents output.old) (W.contents output.new) result × (errors.new ≡ errors.old)) result }
+        (W.contents output.old) (W.contents output.new) (Receives E.contents errors.old errors.new) result) result }
 {
     if is_page(asking.question.style.format) {
         hear_page(files, alloc, asking, reader, output, errors)
@@ -142,7 +162,7 @@ pub(crate) fn question_of<F: Files, E: Write>(
 }
 
 /// Prints who could hear whom while a script ran, or answers a question about a given time. Returns the exit status. A
-/// fault is reported to `errors`.
+/// fault is reported to `errors`, and so are terminations that the question names and that the gateway never had.
 pub fn heard<H: Texts, F: Files, R: Read, W: Write, E: Write>(
     host: &mut H,
     files: &F,
@@ -153,7 +173,7 @@ pub fn heard<H: Texts, F: Files, R: Read, W: Write, E: Write>(
     errors: &mut E,
 ) -> Status
     ensures value { UnlessFault (IsHeardFrom request.now (H.calls host.old) (H.calls host.new) (R.remaining input.old) (W.contents output.old)
-        (W.contents output.new) result × (errors.new ≡ errors.old)) result }
+        (W.contents output.new) (Receives E.contents errors.old errors.new) result) result }
     ensures unread { IsSome request.now.file → input.new ≡ input.old }
 {
     let question = match question_of(files, alloc, request, errors) {

@@ -83,7 +83,7 @@ fn write_origin<W: Write>(
         Some(digest) => digest.digits(),
         None => b"not known".as_slice(),
     };
-    let name = escaped(alloc, script_name(request).as_bytes())?;
+    let name = escaped(alloc, script_name(&request.file).as_bytes())?;
     let size = escaped(alloc, size.as_bytes())?;
     let digest = escaped(alloc, origin.script.digits())?;
     let covered = escaped(alloc, covered_time(alloc, &origin.extent)?.as_slice())?;

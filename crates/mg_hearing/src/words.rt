@@ -7,7 +7,7 @@ ghost use Rattle.mg_hearing.specs.Page.{last_words, party_word, script_name};
 
 use crate::escaping::{escaped, quoted};
 use crate::faults::INPUT;
-use mg_arguments::{HeardRequest, Printing};
+use mg_arguments::{FilePath, HeardRequest, Printing};
 use mg_dates::{Date, TimeText};
 use mg_heard::{Asked, PartyName};
 use mg_reply::Bytes;
@@ -16,11 +16,11 @@ use std::alloc::{AllocError, Global};
 /// The maximum length of a key, in bytes.
 const KEY_ROOM: usize = 32;
 
-/// Returns the name of a request's script.
-pub(crate) fn script_name(request: &HeardRequest) -> &str
-    ensures value { result.now ≡ script_name request.now.file }
+/// Returns the name of the script in a file, or in standard input without a file.
+pub(crate) fn script_name(file: &Option<FilePath>) -> &str
+    ensures value { result.now ≡ script_name file.now }
 {
-    match &request.file {
+    match file {
         Some(path) => path.as_str(),
         None => INPUT,
     }
@@ -36,7 +36,7 @@ fn key_word(alloc: Global, key: &PartyName) -> Result<Vec<u8>, AllocError>
 }
 
 /// Returns the terminations that a question is about, as they are given on the command line.
-fn party_word(alloc: Global, asked: &Option<Asked>) -> Result<Vec<u8>, AllocError>
+pub(crate) fn party_word(alloc: Global, asked: &Option<Asked>) -> Result<Vec<u8>, AllocError>
     ensures value { IfOk result (λ word. word.items ≡ party_word asked.now) }
 {
     match asked {

@@ -24,37 +24,38 @@ Checks old new status =
     (status ≡ Done) ⊎ (status ≡ Failed) ⊎ ((status ≡ NoAnswer) × (new ≡ old))
 
 -- A run took place, and the status says how it ended. A successful run prints no error, unless it is asked when a
--- talker was audible and the script has no RTP datagrams. A clock-driven run reads no input. `before` and `after` are
--- the calls on the host, if they are known. `clock` has the readings and waits of the clock that was stopped.
+-- talker was audible and the script has no RTP datagrams, or the gateway of a script never had a termination that the
+-- run is asked about (`Says` is true of the errors). A clock-driven run reads no input. `before` and `after` are the
+-- calls on the host, if they are known. `clock` has the readings and waits of the clock that was stopped.
 abbrev pub Runs : {R W : Type 0} → (R → Option (List ℕ)) → (W → Option (List ℕ))
-    → (silent : Type 0) → (before after : Option (List HostCall)) → (clock : ClockSeen) → R → R → W
-    → W → Invocation → Status → Type 0
-Runs remaining contents silent before after clock input rest old new (Replay config shown) status =
+    → (silent : Type 0) → (Says : List ℕ → Type 0) → (before after : Option (List HostCall))
+    → (clock : ClockSeen) → R → R → W → W → Invocation → Status → Type 0
+Runs remaining contents silent _ before after clock input rest old new (Replay config shown) status =
     Replays config shown (remaining input) (remaining rest) (contents old) (contents new) status
     × (status ≡ Done → silent) × (after ≡ before)
-Runs remaining contents silent before after clock input rest old new (Serve config service) status =
+Runs remaining contents silent _ before after clock input rest old new (Serve config service) status =
     Serves (ByLines (remaining input) (remaining rest)) ((rest ≡ input) × (new ≡ old)) config
     service no_draws (contents old) (contents new) before after status × (status ≡ Done → silent)
-Runs remaining contents silent before after clock input rest old new (Live config service draws late) status =
+Runs remaining contents _ _ before after clock input rest old new (Live config service draws late) status =
     (rest ≡ input) × Serves (ByClock late clock) (new ≡ old) config service draws (contents old)
     (contents new) before after status
-Runs remaining contents silent before after clock input rest old new (Check gateway source) status =
+Runs remaining contents silent _ before after clock input rest old new (Check gateway source) status =
     (rest ≡ input) × Checks old new status × (status ≡ Done → silent) × (after ≡ before)
-Runs remaining contents silent before after clock input rest old new (Heard request) status =
+Runs remaining contents silent Says before after clock input rest old new (Heard request) status =
     (IsSome request.file → rest ≡ input)
     × UnlessFault (IsHeardFrom request before after (remaining input) (contents old) (contents new)
-    status × silent) status
-Runs remaining contents silent before after clock input rest old new (Watch request) status =
+    Says status) status
+Runs remaining contents silent Says before after clock input rest old new (Watch request) status =
     (IsSome request.file → rest ≡ input)
     × UnlessFault (IsAnsweredFrom request before after (remaining input) (contents old)
-    (contents new) status × silent) status
-Runs remaining contents silent before after clock input rest old new (Audible request) status =
+    (contents new) Says status) status
+Runs remaining contents silent Says before after clock input rest old new (Audible request) status =
     (IsSome request.heard.file → rest ≡ input)
     × UnlessFault ((status ≡ Done) × IsAudibleFrom request before after (remaining input)
     (contents old) (contents new) silent) status
-Runs remaining contents silent before after clock input rest old new (Verify file) status =
+Runs remaining contents silent Says before after clock input rest old new (Verify file) status =
     (IsSome file → rest ≡ input)
     × UnlessFault (IsVerifiedFrom file before after (remaining input) (contents old) (contents new)
     status × silent) status
-Runs remaining contents silent before after clock input rest old new Seal status =
+Runs remaining contents silent Says before after clock input rest old new Seal status =
     SealsInput (remaining input) (contents old) (contents new) silent status × (after ≡ before)

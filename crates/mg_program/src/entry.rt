@@ -2,6 +2,7 @@ ghost use Rattle.std.specs.Prelude.{◌≡◌, map};
 ghost use Rattle.mg_options.specs.Status.{code_of};
 ghost use Rattle.mg_options.specs.Ends.{EndsWith};
 ghost use Rattle.mg_arguments.specs.Options.{requested};
+ghost use Rattle.mg_hearing.specs.Absence.{Receives};
 ghost use Rattle.mg_program.specs.Program.{Runs};
 
 use crate::check::check;
@@ -45,7 +46,7 @@ fn run<
     errors: &mut E,
     reports: &mut T,
 ) -> Ended<H>
-    ensures runs { Runs R.remaining W.contents (errors.new ≡ errors.old) (H.calls host) (H.calls result.host)
+    ensures runs { Runs R.remaining W.contents (errors.new ≡ errors.old) (Receives E.contents errors.old errors.new) (H.calls host) (H.calls result.host)
         (H.stopped result.host) input.old input.new output.old output.new invocation.now result.status }
 {
     let mut host = host;
@@ -138,9 +139,10 @@ fn run<
 /// that can't be used. With these statuses, an error message goes to `errors`. A gateway's periodic reports go to
 /// `reports`.
 ///
-/// Some statuses are answers, without a message. For a question about a given time, 1 means that the talker could not
-/// be heard, and 2 that the script doesn't say. For rules, 1 means that the script breaks a rule. For a check of seals,
-/// 1 means that a text was changed, and 2 that it has no seals.
+/// Some statuses are answers. For a question about a given time, 1 means that the talker could not be heard, and 2 that
+/// the script doesn't say. For any question about who could be heard, 2 also means that the gateway never had one of
+/// the terminations that the question names, and a message says which. For rules, 1 means that the script breaks a
+/// rule. For a check of seals, 1 means that a text was changed, and 2 that it has no seals.
 pub fn program<
     'a,
     N: Net,
@@ -165,7 +167,7 @@ pub fn program<
 ) -> Ended<H>
     // The status says whether the program did what the arguments request and, if not, why.
     ensures ends { EndsWith
-        (Runs R.remaining W.contents (errors.new ≡ errors.old) (H.calls host) (H.calls result.host)
+        (Runs R.remaining W.contents (errors.new ≡ errors.old) (Receives E.contents errors.old errors.new) (H.calls host) (H.calls result.host)
         (H.stopped result.host) input.old input.new output.old output.new)
         (requested (map S.text words.now)) Status.Failed
         ((input.new ≡ input.old) × (H.calls result.host ≡ H.calls host)) (errors.new ≡ errors.old) output.old output.new

@@ -14,6 +14,12 @@ OnlyControlChangesFlows =
     (w next : World) (event : Event) (sent : List Sent) → is_control event ≡ false
     → Step w event sent next → open_flows next.gateway ≡ open_flows w.gateway
 
+-- Only control datagrams change the terminations and what a controller set for them.
+abbrev pub OnlyControlChangesTerminations : Type 0
+OnlyControlChangesTerminations =
+    (w next : World) (event : Event) (sent : List Sent) → is_control event ≡ false
+    → Step w event sent next → next.gateway.rooms ≡ w.gateway.rooms
+
 -- Equal moments in a row end no interval, and the open intervals stay open.
 abbrev pub EqualMomentsTellNothing : Type 0
 EqualMomentsTellNothing =

@@ -1,4 +1,6 @@
 use Rattle.std.proofs.Common.{◌≡◌, refl}
+use Rattle.mg_core.specs.Note.{events_in}
+use Rattle.mg_heard.specs.aids.Calling.{AreMissing}
 use Rattle.mg_heard.specs.aids.Reporting.{HasReported, Reported}
 use Rattle.mg_heard.proofs.ReportingLemmas.{reported_all, reported_none}
 use Rattle.mg_heard.proofs.reporting.hear_report.Goals as goal
@@ -8,12 +10,14 @@ returns g c =
     let held = g.W.Write.contents in
     let first = c.args.report in
     let last = c.in_ok-report.report in
-    let start : Reported = record { style = first.lines.now; query = first.query.now; written = held first.writer.now } in
+    let query = first.query.now in
+    let start : Reported = record { style = first.lines.now; query = query; written = held first.writer.now } in
     let now : Reported = record { style = last.lines.now; query = last.query.now; written = held last.writer.now } in
-    let told = c.in_ok-report.ensures.told (refl, reported_none start) in
+    let told = c.in_ok-report.ensures.told query.talker query.listener (refl, reported_none start) c.in-Ok.ensures.value in
     record {
-      same_reference = told.1.follows.told.0.0;
+      same_reference = told.1.follows.1.told.0.0;
       reported = reported_all c.args.config (g.R.Read.remaining c.args.reader.now)
-          (g.R.Read.remaining c.hear.new.reader) _ (λ extent xs. HasReported start now xs × (c.in_ok-report.extent ≡ extent))
-          (λ extent xs h. (h.0.1, h.1)) told;
+          (g.R.Read.remaining c.hear.new.reader)
+          (λ notes. AreMissing c.args.config (events_in notes) query.talker query.listener c.in_ok-report.missing) _
+          (λ extent xs. HasReported start now xs × (c.in_ok-report.extent ≡ extent)) (λ extent xs h. (h.0.1, h.1)) told;
     }

@@ -1,5 +1,7 @@
 use Rattle.std.proofs.Common.{◌≡◌, ◌∙◌, refl, rules, subst, sym}
 use Rattle.std.specs.Io.KnownBytes.{Appends}
+use Rattle.mg_core.specs.Note.{events_in}
+use Rattle.mg_heard.specs.aids.Calling.{AreMissing}
 use Rattle.mg_heard.specs.Lines.{head_of}
 use Rattle.mg_heard.specs.Reported.{WritesReport}
 use Rattle.mg_heard.specs.aids.Reporting.{HasReported, Reported}
@@ -24,6 +26,7 @@ returns g c =
     (if_done c.write_head.result (sym c.is_err.ensures.value ∙ c.if-is_err.false) c.write_head.ensures.value) in
     let (state, h) = reported_all c.args.config (g.R.Read.remaining c.args.reader.now)
     (g.R.Read.remaining c.hear_report.new.reader)
+    (λ notes. AreMissing c.args.config (events_in notes) c.args.query.talker c.args.query.listener c.in_ok-report.missing)
     (λ extent xs. HasReported start now xs × (c.in_ok-report.extent ≡ extent))
     (λ extent xs. WritesReport c.args.style c.args.query (held first.now) (held last.writer.now) xs
     × (c.in_ok-report.extent ≡ extent))
@@ -31,7 +34,7 @@ returns g c =
       reported_whole c.args.style c.args.query (held first.now) start now xs formed refl begins h.0,
       h.1,
     )) told in
-    let ((text, are, bytes), covers) = h.follows.told in
+    let ((text, are, bytes), covers) = h.follows.1.told in
     record {
       report = (
         state,
@@ -41,15 +44,18 @@ returns g c =
           notes = h.notes;
           are = h.are;
           run = h.run;
-          follows = record {
-            xs = h.follows.xs;
-            are = h.follows.are;
-            no_others = h.follows.no_others;
-            flow = h.follows.flow;
-            gaps = h.follows.gaps;
-            dated = h.follows.dated;
-            told = ((text, are, search rules), covers);
-          };
+          follows = (
+            h.follows.0,
+            record {
+              xs = h.follows.1.xs;
+              are = h.follows.1.are;
+              no_others = h.follows.1.no_others;
+              flow = h.follows.1.flow;
+              gaps = h.follows.1.gaps;
+              dated = h.follows.1.dated;
+              told = ((text, are, search rules), covers);
+            },
+          );
         },
       );
     }

@@ -1,21 +1,27 @@
-use Rattle.std.proofs.Common.{refl}
-use Rattle.mg_options.specs.declared.status.Status.TheVariants.{Done}
+use Rattle.mg_core.specs.Note.{events_in}
+use Rattle.mg_heard.specs.aids.Calling.{AreMissing}
 use Rattle.mg_hearing.proofs.HeardLemmas.{prints_answer, prints_report}
 use Rattle.mg_hearing.proofs.answering.print_heard.Goals as goal
 
 pub returns-in_ok-verdict-in-Some : goal.returns-in_ok-verdict-in-Some
 returns-in_ok-verdict-in-Some g c =
     let asked = c.args.question in
+    let config = c.args.config in
     let heard = c.in_ok-verdict-in-Some in
     record {
-      value = prints_answer asked asked.at c.in-Some.time c.args.config _ _ _ _ heard.verdict c.status_for.result
-          c.in-Some.is heard.ensures.written c.status_for.ensures.value heard.ensures.answer;
+      value = prints_answer asked asked.at c.in-Some.time config _ _ _ _
+          (λ notes. AreMissing config (events_in notes) asked.query.talker asked.query.listener heard.missing)
+          heard.missing heard.verdict c.status_for.result c.in-Some.is heard.ensures.written c.status_for.ensures.value
+          heard.ensures.answer;
     }
 
-pub returns-in_ok-write_report-in-None : goal.returns-in_ok-write_report-in-None
-returns-in_ok-write_report-in-None g c =
+pub returns-in_ok-missing-in-None : goal.returns-in_ok-missing-in-None
+returns-in_ok-missing-in-None g c =
     let asked = c.args.question in
+    let config = c.args.config in
+    let heard = c.in_ok-missing-in-None in
     record {
-      value = prints_report asked asked.at c.args.config _ _ _ _ Done _ c.in-None.is refl
-          c.in_ok-write_report-in-None.ensures.report;
+      value = prints_report asked asked.at config _ _ _ _
+          (λ notes. AreMissing config (events_in notes) asked.query.talker asked.query.listener heard.missing)
+          heard.missing c.status_if.result _ c.in-None.is c.status_if.ensures.value heard.ensures.report;
     }

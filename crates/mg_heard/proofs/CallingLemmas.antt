@@ -1,0 +1,368 @@
+-- Who has come after some events.
+use Rattle.std.proofs.Common.{◌≡◌, ◌∙◌, ◌⊎◌, ◌↔◌, ◌&&◌, ◌||◌, ◌+◌, ℕ, suc, zero, not, Bool, true, false, List, [], ◌∷◌, ◌++◌, Option, Some, arith, drop, get_or, length, map, set, take, replicate, slice_get, ◌<◌, Result, Ok, Err, OnOk, refl, sym, ap, subst, inl, inr, is_some}
+use Rattle.std.proofs.lemmas.Bool.{and_parts, false≢true}
+use Rattle.std.proofs.lemmas.List.{append-nil, append_assoc, at_drop_more, drop-set-lt, drop_more, map_push, take_more, take_more_set}
+use Rattle.std.proofs.lemmas.Option.{get_or_from_slice_get}
+use Rattle.std.specs.List.{AllZip, list_any}
+use Rattle.std.specs.Option.{option_map}
+use Rattle.mg_rooms.specs.Registry.{Registry}
+use Rattle.mg_rooms.specs.declared.record.Record.{Record}
+use Rattle.mg_engine.specs.declared.config.Config.{Config}
+use Rattle.mg_core.specs.Counting.{is_control}
+use Rattle.mg_core.specs.declared.state.CoreState.{CoreState}
+use Rattle.mg_core.specs.Follow.{HasRun, IsFollowed, ticks_of}
+use Rattle.mg_core.specs.Note.{Note, Comment, Happened, events_in}
+use Rattle.mg_core.specs.Step.{Run, Sent, Step}
+use Rattle.mg_core.specs.World.{World, start_of}
+use Rattle.mg_core.specs.declared.event.Event.{Event}
+use Rattle.mg_core.specs.declared.event.Event.TheVariants.{Tick}
+use Rattle.mg_heard.specs.declared.missing.Missing.{Missing}
+use Rattle.mg_heard.specs.declared.party.Party.{Party}
+use Rattle.mg_heard.specs.declared.party_name.PartyName.{PartyName}
+use Rattle.mg_heard.specs.declared.roll.Roll.{Roll}
+use Rattle.mg_heard.specs.declared.rule.Rule.{Rule}
+use Rattle.mg_heard.specs.Came.{HasCome, IsMissing, has_asked}
+use Rattle.mg_heard.specs.Query.{is_asked}
+use Rattle.mg_heard.specs.aids.Calling.{AreCalled, AreFor, AreMissing, IsCalled, IsNew, called}
+use Rattle.mg_heard.specs.aids.Changes.{OnlyControlChangesTerminations}
+use Rattle.mg_heard.specs.aids.Parties.{party_of}
+use Rattle.mg_heard.proofs.KeepingLemmas.{events_in_both, events_with_ticks}
+
+abbrev pub OneRun : Type 0
+OneRun = (w : World) (events : List Event) (a b : List Sent) (x y : World) →
+    Run w events a x → Run w events b y → (a ≡ b) × (x ≡ y)
+
+-- ## Terminations
+
+abbrev pub named_in : Option (List PartyName) → List Record → Bool
+named_in keys rs = list_any (λ r. is_asked keys r.number
+    (option_map (λ c. record { address = c.address; port = c.port }) r.remote)) rs
+
+-- One termination more is compared with the keys.
+pub named_step : (keys : Option (List PartyName)) (rs : List Record) (i : ℕ) (r : Record) (p : Party) (b : Bool) →
+    i < length rs → slice_get rs i ≡ Some r → p ≡ party_of r → b ≡ is_asked keys p.number p.at →
+    named_in keys (drop i rs) ≡ (b || named_in keys (drop (i + 1) rs))
+named_step keys rs i r p b there got is asked =
+    let rest = named_in keys (drop (i + 1) rs) in
+    at_drop_more (λ (l : List Record). named_in keys l) rs i r there
+    ∙ ap (λ (x : Record). is_asked keys (party_of x).number (party_of x).at || rest) (get_or_from_slice_get rs i r r got)
+    ∙ ap (λ (q : Party). is_asked keys q.number q.at || rest) (sym is)
+    ∙ ap (λ (c : Bool). c || rest) (sym asked)
+
+-- ## Events
+
+nil_left : (a b : List Event) → [] ≡ a ++ b → a ≡ []
+nil_left [] b h = refl
+nil_left (x ∷ a) b h = absurd cc
+
+-- The beginning of some events and one more event either is one of the events before it, or all of them.
+cut_last : (past future events : List Event) (e : Event) → events ++ e ∷ [] ≡ past ++ future →
+    ((rest : List Event) × (events ≡ past ++ rest)) ⊎ (past ≡ events ++ e ∷ [])
+cut_last [] future events e is = inl (events, refl)
+cut_last (x ∷ past) future [] e is =
+    let same : e ≡ x = cc is in
+    let none : [] ≡ past ++ future = cc is in
+    inr (ap (λ (l : List Event). x ∷ l) (nil_left past future none) ∙ ap (λ (y : Event). y ∷ []) (sym same))
+cut_last (x ∷ past) future (y ∷ events) e is =
+    let same : y ≡ x = cc is in
+    let tail : events ++ e ∷ [] ≡ past ++ future = cc is in
+    elim (cut_last past future events e tail) [
+      | inl k ↦ inl (k.0, ap (λ (l : List Event). y ∷ l) k.1 ∙ ap (λ (z : Event). z ∷ (past ++ k.0)) same)
+      | inr k ↦ inr (ap (λ (l : List Event). x ∷ l) k ∙ ap (λ (z : Event). z ∷ (events ++ e ∷ [])) (sym same))
+    ]
+
+run_last : (a w : World) (events : List Event) (e : Event) (sent : List Sent) → Run a (events ++ e ∷ []) sent w →
+    (before : List Sent) × (mid : World) × (last : List Sent) × Run a events before mid × Step mid e last w
+run_last a w [] e sent (first, others, next, step, run, is) =
+    ([], a, first, (refl, refl), subst (λ (v : World). Step a e first v) (sym run.1) step)
+run_last a w (x ∷ events) e sent (first, others, next, step, run, is) =
+    let (before, mid, last, k, s) = run_last next w events e others run in
+    (first ++ before, mid, last, (first, before, next, step, k, refl), s)
+
+-- ## Coming
+
+come_now : (config : Config) (events : List Event) (sent : List Sent) (w : World) (keys : Option (List PartyName)) →
+    Run (start_of config) events sent w → has_asked keys w.gateway ≡ true → HasCome config events keys
+come_now config events sent w keys run has = (events, [], sent, w, sym (append-nil events), run, has)
+
+come_more : (config : Config) (events more : List Event) (keys : Option (List PartyName)) →
+    HasCome config events keys → HasCome config (events ++ more) keys
+come_more config events more keys (past, future, sent, w, is, run, has) =
+    (past, future ++ more, sent, w, ap (λ (l : List Event). l ++ more) is ∙ append_assoc past future more, run, has)
+
+none_at : (config : Config) (keys : Option (List PartyName)) (past future : List Event) (sent : List Sent) (w : World) →
+    [] ≡ past ++ future → Run (start_of config) past sent w → ¬ has_asked keys w.gateway ≡ true
+none_at config keys [] future sent w is run has =
+    absurd (false≢true (sym (ap (λ (v : World). has_asked keys v.gateway) run.1) ∙ has))
+none_at config keys (e ∷ past) future sent w is run has = absurd cc
+
+none_come : (config : Config) (keys : Option (List PartyName)) → ¬ HasCome config [] keys
+none_come config keys (past, future, sent, w, is, run, has) = none_at config keys past future sent w is run has
+
+rooms_same : (keys : Option (List PartyName)) (v w : World) → v.gateway.rooms ≡ w.gateway.rooms →
+    has_asked keys v.gateway ≡ has_asked keys w.gateway
+rooms_same keys v w is = ap (λ (x : Registry). named_in keys x.terminations) is
+
+come_quiet : OnlyControlChangesTerminations → (config : Config) (events : List Event) (e : Event)
+    (keys : Option (List PartyName)) → is_control e ≡ false → HasCome config (events ++ e ∷ []) keys →
+    HasCome config events keys
+come_quiet only config events e keys quiet (past, future, sent, w, is, run, has) =
+    elim (cut_last past future events e is) [
+      | inl k ↦ (past, k.0, sent, w, k.1, run, has)
+      | inr k ↦
+          let (before, mid, last, r, step) = run_last (start_of config) w events e sent
+          (subst (λ (l : List Event). Run (start_of config) l sent w) k run) in
+          come_now config events before mid keys r (sym (rooms_same keys w mid (only mid w e last quiet step)) ∙ has)
+    ]
+
+come_ticks : OnlyControlChangesTerminations → (config : Config) (events : List Event) (n : ℕ)
+    (keys : Option (List PartyName)) → HasCome config (events ++ replicate n Tick) keys → HasCome config events keys
+come_ticks only config events zero keys h = subst (λ (l : List Event). HasCome config l keys) (append-nil events) h
+come_ticks only config events (suc n) keys h = come_quiet only config events Tick keys refl
+    (come_ticks only config (events ++ Tick ∷ []) n keys
+    (subst (λ (l : List Event). HasCome config l keys) (sym (append_assoc events (Tick ∷ []) (replicate n Tick))) h))
+
+come_control : OneRun → (config : Config) (events : List Event) (e : Event) (s : List Sent) (w : World)
+    (keys : Option (List PartyName)) → Run (start_of config) (events ++ e ∷ []) s w →
+    HasCome config (events ++ e ∷ []) keys → HasCome config events keys ⊎ (has_asked keys w.gateway ≡ true)
+come_control one config events e s w keys ran (past, future, sent, v, is, run, has) =
+    elim (cut_last past future events e is) [
+      | inl k ↦ inl (past, k.0, sent, v, k.1, run, has)
+      | inr k ↦
+          let same = (one (start_of config) (events ++ e ∷ []) sent s v w
+          (subst (λ (l : List Event). Run (start_of config) l sent v) k run) ran).1 in
+          inr (sym (ap (λ (u : World). has_asked keys u.gateway) same) ∙ has)
+    ]
+
+-- ## Who is missing
+
+waits_same : (config : Config) (old new : List Event) (keys : Option (List PartyName)) (m : Bool) →
+    (HasCome config old keys → HasCome config new keys) → (HasCome config new keys → HasCome config old keys) →
+    IsMissing config old keys m → IsMissing config new keys m
+waits_same config old new keys m on back h =
+    (λ t. ((h.0 t).0, λ come. (h.0 t).1 (back come)), λ k. h.1 (k.0, λ come. k.1 (on come)))
+
+both : (m b : Bool) → m ≡ true → ¬ b ≡ true → (m && not b) ≡ true
+both true true h none = absurd (none refl)
+both true false h none = refl
+both false b h none = absurd (false≢true h)
+
+waits_called : OneRun → (config : Config) (events : List Event) (e : Event) (s : List Sent) (w : World)
+    (keys : Option (List PartyName)) (m : Bool) → Run (start_of config) (events ++ e ∷ []) s w →
+    IsMissing config events keys m → IsMissing config (events ++ e ∷ []) keys (m && not (has_asked keys w.gateway))
+waits_called one config events e s w keys m run h =
+    let has = has_asked keys w.gateway in (
+      λ t.
+          let (still, away) = and_parts m (not has) t in (
+            (h.0 still).0,
+            λ come. elim (come_control one config events e s w keys run come) [
+              | inl before ↦ (h.0 still).1 before
+              | inr now ↦ absurd (false≢true (sym (ap not now) ∙ away))
+            ],
+          ),
+      λ k. both m has (h.1 (k.0, λ come. k.1 (come_more config events (e ∷ []) keys come)))
+          (λ now. k.1 (come_now config (events ++ e ∷ []) s w keys run now)),
+    )
+
+waits_new : (config : Config) (keys : Option (List PartyName)) (m : Bool) → m ≡ is_some keys → IsMissing config [] keys m
+waits_new config keys m is = (λ t. (sym is ∙ t, none_come config keys), λ k. is ∙ k.0)
+
+-- ## Rolls
+
+called_one : OneRun → (config : Config) (events : List Event) (e : Event) (s : List Sent) (w : World) (start r : Roll) →
+    Run (start_of config) (events ++ e ∷ []) s w → IsCalled config events start r →
+    IsCalled config (events ++ e ∷ []) start (called w.gateway r)
+called_one one config events e s w start r run h = record {
+  talker_is = h.talker_is;
+  listener_is = h.listener_is;
+  missing = (
+    subst
+        (λ (keys : Option (List PartyName)). IsMissing config (events ++ e ∷ []) start.talker
+        (r.missing.talker && not (has_asked keys w.gateway))) (sym h.talker_is)
+        (waits_called one config events e s w start.talker r.missing.talker run h.missing.0),
+    subst
+        (λ (keys : Option (List PartyName)). IsMissing config (events ++ e ∷ []) start.listener
+        (r.missing.listener && not (has_asked keys w.gateway))) (sym h.listener_is)
+        (waits_called one config events e s w start.listener r.missing.listener run h.missing.1),
+  );
+}
+
+same_one : (config : Config) (old new : List Event) (start r : Roll) →
+    ((keys : Option (List PartyName)) → HasCome config old keys → HasCome config new keys) →
+    ((keys : Option (List PartyName)) → HasCome config new keys → HasCome config old keys) →
+    IsCalled config old start r → IsCalled config new start r
+same_one config old new start r on back h = record {
+  talker_is = h.talker_is;
+  listener_is = h.listener_is;
+  missing = (
+    waits_same config old new start.talker r.missing.talker (on start.talker) (back start.talker)
+        h.missing.0,
+    waits_same config old new start.listener r.missing.listener (on start.listener) (back start.listener)
+        h.missing.1,
+  );
+}
+
+called_each : OneRun → (config : Config) (events : List Event) (e : Event) (s : List Sent) (w : World)
+    (start rolls : List Roll) → Run (start_of config) (events ++ e ∷ []) s w → AreCalled config events start rolls →
+    AreCalled config (events ++ e ∷ []) start (map (called w.gateway) rolls)
+called_each one config events e s w [] [] run h = tt
+called_each one config events e s w [] (r ∷ rolls) run h = absurd h
+called_each one config events e s w (start ∷ others) [] run h = absurd h
+called_each one config events e s w (start ∷ others) (r ∷ rolls) run h =
+    (called_one one config events e s w start r run h.0, called_each one config events e s w others rolls run h.1)
+
+same_each : (config : Config) (old new : List Event) (start rolls : List Roll) →
+    ((keys : Option (List PartyName)) → HasCome config old keys → HasCome config new keys) →
+    ((keys : Option (List PartyName)) → HasCome config new keys → HasCome config old keys) →
+    AreCalled config old start rolls → AreCalled config new start rolls
+same_each config old new [] [] on back h = tt
+same_each config old new [] (r ∷ rolls) on back h = absurd h
+same_each config old new (start ∷ others) [] on back h = absurd h
+same_each config old new (start ∷ others) (r ∷ rolls) on back h =
+    (same_one config old new start r on back h.0, same_each config old new others rolls on back h.1)
+
+-- ## Rolls that are called in turn
+
+same_items : (old rolls : List Roll) (i : ℕ) (d : Roll) → i < length old → i < length rolls →
+    drop i rolls ≡ drop i old → get_or rolls i d ∷ drop (i + 1) rolls ≡ get_or old i d ∷ drop (i + 1) old
+same_items old rolls i d there within rest = sym (drop_more rolls i d within) ∙ rest ∙ drop_more old i d there
+
+pub step_begun : (f : Roll → Roll) (old rolls : List Roll) (i : ℕ) (x d : Roll) → i < length old → i < length rolls →
+    take i rolls ≡ map f (take i old) → drop i rolls ≡ drop i old → x ≡ f (get_or rolls i d) →
+    take (i + 1) (set rolls i x) ≡ map f (take (i + 1) old)
+step_begun f old rolls i x d there within begun rest is =
+    let items = same_items old rolls i d there within rest in
+    let same : get_or rolls i d ≡ get_or old i d = cc items in
+    take_more_set rolls i x within
+    ∙ ap (λ (l : List Roll). l ++ x ∷ []) begun
+    ∙ ap (λ (y : Roll). map f (take i old) ++ y ∷ []) (is ∙ ap f same)
+    ∙ sym (map_push f (take i old) (get_or old i d))
+    ∙ ap (λ (l : List Roll). map f l) (sym (take_more old i d there))
+
+pub step_rest : (old rolls : List Roll) (i : ℕ) (x d : Roll) → i < length old → i < length rolls →
+    drop i rolls ≡ drop i old → drop (i + 1) (set rolls i x) ≡ drop (i + 1) old
+step_rest old rolls i x d there within rest =
+    let items = same_items old rolls i d there within rest in
+    let same : drop (i + 1) rolls ≡ drop (i + 1) old = cc items in
+    drop-set-lt (i + 1) rolls i x (omega arith) ∙ same
+
+-- ## Notes
+
+pub called_comment : (config : Config) (notes : List Note) (line : List ℕ) (start rolls : List Roll) →
+    AreCalled config (events_in notes) start rolls →
+    AreCalled config (events_in (notes ++ Comment line ∷ [])) start rolls
+called_comment config notes line start rolls h =
+    subst (λ (l : List Event). AreCalled config l start rolls)
+    (sym (events_in_both notes (Comment line ∷ []) ∙ append-nil (events_in notes))) h
+
+pub called_quiet : OnlyControlChangesTerminations → (config : Config) (notes : List Note) (e : Event)
+    (start rolls : List Roll) → is_control e ≡ false → AreCalled config (events_in notes) start rolls →
+    AreCalled config (events_in (notes ++ Happened e ∷ [])) start rolls
+called_quiet only config notes e start rolls quiet h =
+    subst (λ (l : List Event). AreCalled config l start rolls) (sym (events_in_both notes (Happened e ∷ [])))
+    (same_each config (events_in notes) (events_in notes ++ e ∷ []) start rolls
+    (λ keys come. come_more config (events_in notes) (e ∷ []) keys come)
+    (λ keys come. come_quiet only config (events_in notes) e keys quiet come) h)
+
+pub called_ticks : OnlyControlChangesTerminations → (config : Config) (notes : List Note) (n : ℕ)
+    (start rolls : List Roll) → AreCalled config (events_in notes) start rolls →
+    AreCalled config (events_in (notes ++ ticks_of n)) start rolls
+called_ticks only config notes n start rolls h =
+    subst (λ (l : List Event). AreCalled config l start rolls) (sym (events_with_ticks notes n))
+    (same_each config (events_in notes) (events_in notes ++ replicate n Tick) start rolls
+    (λ keys come. come_more config (events_in notes) (replicate n Tick) keys come)
+    (λ keys come. come_ticks only config (events_in notes) n keys come) h)
+
+pub called_control : OneRun → (config : Config) (notes : List Note) (e : Event) (s : List Sent) (w : World)
+    (start rolls new : List Roll) → new ≡ map (called w.gateway) rolls →
+    Run (start_of config) (events_in (notes ++ Happened e ∷ [])) s w → AreCalled config (events_in notes) start rolls →
+    AreCalled config (events_in (notes ++ Happened e ∷ [])) start new
+called_control one config notes e s w start rolls new is run h =
+    let both = events_in_both notes (Happened e ∷ []) in
+    subst (λ (l : List Event). AreCalled config l start new) (sym both)
+    (subst (λ (l : List Roll). AreCalled config (events_in notes ++ e ∷ []) start l) (sym is)
+    (called_each one config (events_in notes) e s w start rolls
+    (subst (λ (l : List Event). Run (start_of config) l s w) both run) h))
+
+-- ## The beginning and the end
+
+new_one : (config : Config) (talker listener : Option (List PartyName)) (r : Roll) → IsNew talker listener r →
+    IsCalled config [] r r
+new_one config talker listener r h = record {
+  talker_is = refl;
+  listener_is = refl;
+  missing = (
+    waits_new config r.talker r.missing.talker (h.talker_waits ∙ ap is_some (sym h.talker_is)),
+    waits_new config r.listener r.missing.listener (h.listener_waits ∙ ap is_some (sym h.listener_is)),
+  );
+}
+
+pub new_single : (config : Config) (talker listener : Option (List PartyName)) (r : Roll) (rolls : List Roll) →
+    rolls ≡ r ∷ [] → IsNew talker listener r → AreCalled config [] rolls rolls
+new_single config talker listener r rolls is h =
+    subst (λ (l : List Roll). AreCalled config [] l l) (sym is) (new_one config talker listener r h, tt)
+
+pub new_for : (config : Config) (rules : List Rule) (rolls : List Roll) → AreFor rules rolls →
+    AreCalled config [] rolls rolls
+new_for config [] [] h = tt
+new_for config [] (r ∷ rolls) h = absurd h
+new_for config (rule ∷ rules) [] h = absurd h
+new_for config (rule ∷ rules) (r ∷ rolls) h =
+    (new_one config rule.talker rule.listener r h.0, new_for config rules rolls h.1)
+
+only_one : (config : Config) (events : List Event) (r : Roll) (last : List Roll) (missing : Missing) →
+    ((x : Roll) → last ≡ x ∷ [] → missing ≡ x.missing) → AreCalled config events (r ∷ []) last →
+    AreMissing config events r.talker r.listener missing
+only_one config events r [] missing found h = absurd h
+only_one config events r (x ∷ []) missing found h =
+    subst (λ (m : Missing). AreMissing config events r.talker r.listener m) (sym (found x refl)) h.0.missing
+only_one config events r (x ∷ y ∷ more) missing found h = absurd h.1
+
+pub for_more : (rules : List Rule) (rolls : List Roll) (rule : Rule) (r : Roll) → AreFor rules rolls →
+    IsNew rule.talker rule.listener r → AreFor (rules ++ rule ∷ []) (rolls ++ r ∷ [])
+for_more [] [] rule r h new = (new, tt)
+for_more [] (x ∷ rolls) rule r h new = absurd h
+for_more (one ∷ rules) [] rule r h new = absurd h
+for_more (one ∷ rules) (x ∷ rolls) rule r h new = (h.0, for_more rules rolls rule r h.1 new)
+
+-- The only roll has the answer.
+pub single : (config : Config) (events : List Event) (talker listener : Option (List PartyName)) (r : Roll)
+    (rolls last : List Roll) (missing : Missing) → rolls ≡ r ∷ [] → IsNew talker listener r →
+    ((x : Roll) → last ≡ x ∷ [] → missing ≡ x.missing) → AreCalled config events rolls last →
+    AreMissing config events talker listener missing
+single config events talker listener r rolls last missing is new found h =
+    subst (λ (keys : Option (List PartyName)). AreMissing config events talker keys missing) new.listener_is
+    (subst (λ (keys : Option (List PartyName)). AreMissing config events keys r.listener missing) new.talker_is
+    (only_one config events r last missing found (subst (λ (l : List Roll). AreCalled config events l last) is h)))
+
+pub for_rules : (config : Config) (events : List Event) (rules : List Rule) (rolls last : List Roll) →
+    AreFor rules rolls → AreCalled config events rolls last →
+    AllZip (λ rule m. AreMissing config events rule.talker rule.listener m) rules (map (λ r. r.missing) last)
+for_rules config events [] [] [] h k = tt
+for_rules config events [] [] (x ∷ last) h k = absurd k
+for_rules config events [] (r ∷ rolls) last h k = absurd h
+for_rules config events (rule ∷ rules) [] last h k = absurd h
+for_rules config events (rule ∷ rules) (r ∷ rolls) [] h k = absurd k
+for_rules config events (rule ∷ rules) (r ∷ rolls) (x ∷ last) h k = (
+  subst (λ (keys : Option (List PartyName)). AreMissing config events rule.talker keys x.missing) h.0.listener_is
+      (subst (λ (keys : Option (List PartyName)). AreMissing config events keys r.listener x.missing) h.0.talker_is
+      k.0.missing),
+  for_rules config events rules rolls last h.1 k.1,
+)
+
+pub with_called : {A E : Type 0} (result : Result A E) (P Q : Type 0) → OnOk result P → Q → OnOk result (P × Q)
+with_called (Ok done) P Q h k = (h, k)
+with_called (Err error) P Q h k = tt
+
+-- What follows from a run and from a follower's notes is true of the notes.
+pub followed_more : (config : Config) (input rest : Option (List ℕ)) (state : CoreState)
+    (Follows More : List Note → Type 0) → ((notes : List Note) → HasRun config notes state → Follows notes → More notes) →
+    IsFollowed config input rest state Follows → IsFollowed config input rest state More
+followed_more config input rest state Follows More more h = record {
+  script = h.script;
+  read = h.read;
+  notes = h.notes;
+  are = h.are;
+  run = h.run;
+  follows = more h.notes h.run h.follows;
+}

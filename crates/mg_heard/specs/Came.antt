@@ -1,0 +1,30 @@
+-- Whether the gateway of a script ever has a termination that a question or a rule names.
+use Rattle.std.specs.Prelude.{◌≡◌, ◌↔◌, ◌++◌, ◌||◌, true, Bool, List, Option, is_some, if◌then◌else◌}
+use Rattle.std.specs.List.{list_any}
+use Rattle.std.specs.Option.{option_map}
+use Rattle.mg_engine.specs.Gateway.{Gateway}
+use Rattle.mg_engine.specs.declared.config.Config.{Config}
+use Rattle.mg_core.specs.declared.event.Event.{Event}
+use Rattle.mg_core.specs.Step.{Run, Sent}
+use Rattle.mg_core.specs.World.{World, start_of}
+use Rattle.mg_heard.specs.declared.missing.Missing.{Missing}
+use Rattle.mg_heard.specs.declared.party_name.PartyName.{PartyName}
+use Rattle.mg_heard.specs.Query.{is_asked}
+
+-- Whether the gateway has a termination that a question with these keys asks about.
+abbrev pub has_asked : Option (List PartyName) → Gateway → Bool
+has_asked keys w = list_any (λ r. is_asked keys r.number
+    (option_map (λ c. record { address = c.address; port = c.port }) r.remote)) w.rooms.terminations
+
+-- After some of these events, from the first event on, the gateway has such a termination.
+abbrev pub HasCome : Config → List Event → Option (List PartyName) → Type 0
+HasCome config events keys = (past : List Event) × (future : List Event) × (sent : List Sent) × (w : World)
+    × (events ≡ past ++ future) × Run (start_of config) past sent w × (has_asked keys w.gateway ≡ true)
+
+-- A listener or a talker is missing if keys name it, and the gateway has none of these terminations at any time.
+abbrev pub IsMissing : Config → List Event → Option (List PartyName) → Bool → Type 0
+IsMissing config events keys m = m ≡ true ↔ (is_some keys ≡ true) × ¬ HasCome config events keys
+
+-- The answer, unless a talker or a listener is missing.
+abbrev pub unless_missing : {A : Type 0} → (unknown : A) → Missing → (answer : A) → A
+unless_missing unknown missing answer = if missing.talker || missing.listener then unknown else answer

@@ -1,0 +1,65 @@
+-- The lines about missing terminations.
+use Rattle.std.proofs.Common.{◌≡◌, ◌∙◌, ◌⊎◌, ◌+◌, ◌<◌, ◌≤◌, ◌++◌, ◌∷◌, [], ℕ, List, Option, Some, None, ap, drop, get_or, length, refl, subst, sym, inl, inr}
+use Rattle.std.proofs.lemmas.List.{append-nil, append_assoc, at_drop_all, at_drop_more}
+use Rattle.std.specs.Io.KnownBytes.{Appends}
+use Rattle.mg_options.specs.Status.{UnlessFault}
+use Rattle.mg_options.specs.declared.status.Status.{Status}
+use Rattle.mg_heard.specs.declared.asked_rule.AskedRule.{AskedRule}
+use Rattle.mg_heard.specs.declared.missing.Missing.{Missing}
+use Rattle.mg_hearing.specs.Absence.{Receives, absence_line, absences}
+use Rattle.mg_hearing.specs.aids.Absences.{all_absences}
+
+appends_nothing : (known : Option (List ℕ)) → Appends known known []
+appends_nothing None = tt
+appends_nothing (Some xs) = sym (append-nil xs)
+
+-- A writer that is unchanged has received nothing.
+pub receives_nothing : {E : Type 0} (contents : E → Option (List ℕ)) (old new : E) → new ≡ old →
+    Receives contents old new []
+receives_nothing contents old new is =
+    subst (λ e. Receives contents old e []) (sym is) (λ none. refl, appends_nothing (contents old))
+
+pub receives_from : {E : Type 0} (contents : E → Option (List ℕ)) (old mid new : E) (text : List ℕ) → mid ≡ old →
+    Receives contents mid new text → Receives contents old new text
+receives_from contents old mid new text is h = subst (λ e. Receives contents e new text) is h
+
+-- A report of who is missing keeps the status unless it fails.
+pub reported : (Heard : Status → Type 0) (given status : Status) (says : Type 0) → (says → Heard given) →
+    UnlessFault ((status ≡ given) × says) status → UnlessFault (Heard status) status
+reported Heard given status says more (inl fault) = inl fault
+reported Heard given status says more (inr (is, said)) = inr (subst Heard (sym is) (more said))
+
+-- ## Lines for rules
+
+none_missing : (name : List ℕ) (rules : List AskedRule) → all_absences name rules [] ≡ []
+none_missing name [] = refl
+none_missing name (rule ∷ rules) = refl
+
+pub absences_done : (name : List ℕ) (rules : List AskedRule) (missing : List Missing) (i : ℕ) →
+    (length rules ≤ i) ⊎ (length missing ≤ i) → all_absences name (drop i rules) (drop i missing) ≡ []
+absences_done name rules missing i (inl h) =
+    at_drop_all (λ (l : List AskedRule). all_absences name l (drop i missing)) rules i h
+absences_done name rules missing i (inr h) =
+    at_drop_all (λ (l : List Missing). all_absences name (drop i rules) l) missing i h ∙ none_missing name (drop i rules)
+
+-- The lines for one more rule move from the remaining lines to the text.
+pub absences_more : (name : List ℕ) (rules : List AskedRule) (missing : List Missing) (i : ℕ) (r : AskedRule)
+    (m : Missing) (before whole : List ℕ) → i < length rules → i < length missing → get_or rules i r ≡ r →
+    get_or missing i m ≡ m → before ++ all_absences name (drop i rules) (drop i missing) ≡ whole →
+    ((before ++ absence_line name r.talker m.talker) ++ absence_line name r.listener m.listener)
+    ++ all_absences name (drop (i + 1) rules) (drop (i + 1) missing) ≡ whole
+absences_more name rules missing i r m before whole there within rule_is missing_is is =
+    let rest = all_absences name (drop (i + 1) rules) (drop (i + 1) missing) in
+    let talker = absence_line name r.talker m.talker in
+    let listener = absence_line name r.listener m.listener in
+    ap (λ (l : List ℕ). l ++ rest) (append_assoc before talker listener)
+    ∙ append_assoc before (talker ++ listener) rest
+    ∙ ap (λ (l : List ℕ). before ++ l) (
+    ap (λ (x : AskedRule). absences name x.talker x.listener m ++ rest) (sym rule_is)
+    ∙ ap (λ (x : Missing). absences name (get_or rules i r).talker (get_or rules i r).listener x ++ rest) (sym missing_is)
+    ∙ sym (
+    at_drop_more (λ (l : List AskedRule). all_absences name l (drop i missing)) rules i r there
+    ∙ at_drop_more (λ (l : List Missing). all_absences name (get_or rules i r ∷ drop (i + 1) rules) l) missing i m within
+    )
+    )
+    ∙ is
